@@ -1,0 +1,41 @@
+-- What is asked of one event.
+use Rattle.std.specs.Prelude.{ℕ, ◌&&◌, ◌||◌, not, nat_le, Bool, true, false, List, [], ◌∷◌}
+use Rattle.qa_base.specs.declared.event.Event.{Event}
+use Rattle.qa_base.specs.declared.event.Event.TheVariants.{Sent, Ack, Lost, Timer, Discard, Confirmed, Keys, Metrics}
+use Rattle.qa_base.specs.declared.space.Space.{Space}
+use Rattle.qa_base.specs.declared.space.Space.TheVariants.{Initial, Handshake, App}
+use Rattle.qa_base.specs.Limits.{max_packet_size}
+
+abbrev pub is_space : Space → Space → Bool
+is_space Initial Initial = true
+is_space Handshake Handshake = true
+is_space App App = true
+is_space _ _ = false
+
+abbrev pub time_of : Event → ℕ
+time_of (Sent time space number size eliciting in_flight leave) = time
+time_of (Ack time space ranges delay limited) = time
+time_of (Lost time space ranges) = time
+time_of (Timer time kind space) = time
+time_of (Discard time space) = time
+time_of (Confirmed time) = time
+time_of (Keys time) = time
+time_of (Metrics time values) = time
+
+-- a packet was sent
+abbrev pub is_sent : Event → Bool
+is_sent (Sent time space number size eliciting in_flight leave) = true
+is_sent _ = false
+
+abbrev pub has_ranges : List (ℕ × ℕ) → Bool
+has_ranges [] = false
+has_ranges (range ∷ ranges) = true
+
+-- the event is one that a line can say: a packet has bytes and is in flight if it is ack-eliciting,
+-- ranges are not empty, and a discarded space is not the application's
+abbrev pub fits : Event → Bool
+fits (Sent time space number size eliciting in_flight leave) = nat_le 1 size && nat_le size max_packet_size && (not eliciting || in_flight)
+fits (Ack time space ranges delay limited) = has_ranges ranges
+fits (Lost time space ranges) = has_ranges ranges
+fits (Discard time space) = not (is_space App space)
+fits _ = true

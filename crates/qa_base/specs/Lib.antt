@@ -1,0 +1,13 @@
+pub mod Limits
+pub mod Names
+pub mod Settings
+pub mod Events
+pub mod Packets
+pub mod Loss
+pub mod Rules
+pub mod State
+pub mod Lines
+pub mod Keys
+pub mod Sends
+pub mod Verdict
+pub mod Report

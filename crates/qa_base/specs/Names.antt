@@ -1,0 +1,144 @@
+-- The names and numbers of keys, fields, rules and faults, and what a text names.
+use Rattle.std.specs.Prelude.{ℕ, List, [], ◌∷◌, codes, bytes_eq, Option, Some, None, if◌then◌else◌}
+use Rattle.qa_base.specs.declared.fault.Key.{Key}
+use Rattle.qa_base.specs.declared.fault.Key.TheVariants as key
+use Rattle.qa_base.specs.declared.fault.Fault.{Fault}
+use Rattle.qa_base.specs.declared.fault.Fault.TheVariants as fault
+use Rattle.qa_base.specs.declared.rule.Field.{Field}
+use Rattle.qa_base.specs.declared.rule.Field.TheVariants as field
+use Rattle.qa_base.specs.declared.rule.Rule.{Rule}
+use Rattle.qa_base.specs.declared.rule.Rule.TheVariants as rule
+use Rattle.qa_base.specs.declared.space.Role.{Role}
+use Rattle.qa_base.specs.declared.space.Role.TheVariants.{Client, Server}
+use Rattle.qa_base.specs.declared.space.Space.{Space}
+use Rattle.qa_base.specs.declared.space.Space.TheVariants.{Initial, Handshake, App}
+use Rattle.qa_base.specs.declared.space.Leave.{Leave}
+use Rattle.qa_base.specs.declared.space.Leave.TheVariants.{Window, Probe, Recovery}
+
+-- ---- keys and fields
+
+abbrev pub field_name : Field → List ℕ
+field_name field.Window = codes "window"
+field_name field.Ssthresh = codes "ssthresh"
+field_name field.BytesInFlight = codes "bytes_in_flight"
+field_name field.LatestRtt = codes "latest_rtt"
+field_name field.MinRtt = codes "min_rtt"
+field_name field.SmoothedRtt = codes "smoothed_rtt"
+field_name field.Rttvar = codes "rttvar"
+
+abbrev pub key_name : Key → List ℕ
+key_name key.Event = codes "event"
+key_name key.Version = codes "version"
+key_name key.Role = codes "role"
+key_name key.MaxDatagramSize = codes "max_datagram_size"
+key_name key.MaxAckDelay = codes "max_ack_delay"
+key_name key.InitialRtt = codes "initial_rtt"
+key_name key.InitialWindow = codes "initial_window"
+key_name key.Time = codes "time"
+key_name key.Space = codes "space"
+key_name key.Number = codes "number"
+key_name key.Size = codes "size"
+key_name key.Eliciting = codes "eliciting"
+key_name key.InFlight = codes "in_flight"
+key_name key.Leave = codes "leave"
+key_name key.Ranges = codes "ranges"
+key_name key.Delay = codes "delay"
+key_name key.Limited = codes "limited"
+key_name key.Kind = codes "kind"
+key_name (key.Metric f) = field_name f
+
+-- ---- what a text names
+
+-- what stands beside the first of these words that the text is
+abbrev pub named : {A : Type 0} → List (List ℕ × A) → List ℕ → Option A
+named [] text = None
+named (word ∷ words) text = if bytes_eq text word.0 then Some word.1 else named words text
+
+abbrev pub role_named : List ℕ → Option Role
+role_named = named ((codes "client", Client) ∷ (codes "server", Server) ∷ [])
+
+abbrev pub space_named : List ℕ → Option Space
+space_named = named ((codes "initial", Initial) ∷ (codes "handshake", Handshake) ∷ (codes "app", App) ∷ [])
+
+abbrev pub leave_named : List ℕ → Option Leave
+leave_named = named ((codes "window", Window) ∷ (codes "probe", Probe) ∷ (codes "recovery", Recovery) ∷ [])
+
+-- ---- rules
+
+abbrev pub rule_name : Rule → List ℕ
+rule_name rule.TimeBack = codes "time-back"
+rule_name rule.LossOwed = codes "loss-owed"
+rule_name rule.LossNotOwed = codes "loss-not-owed"
+rule_name rule.LossSet = codes "loss-set"
+rule_name rule.SpaceGone = codes "space-gone"
+rule_name rule.NumberNotHigher = codes "number-not-higher"
+rule_name rule.PastWindow = codes "past-window"
+rule_name rule.PastProbe = codes "past-probe"
+rule_name rule.PastRecovery = codes "past-recovery"
+rule_name rule.AckUnsent = codes "ack-unsent"
+rule_name rule.TimerNotSet = codes "timer-not-set"
+rule_name rule.TimerOther = codes "timer-other"
+rule_name rule.TimerEarly = codes "timer-early"
+rule_name rule.ProbeOwed = codes "probe-owed"
+rule_name rule.NotConfirmed = codes "not-confirmed"
+rule_name (rule.Metric f) = codes "metric"
+rule_name rule.OwedAtEnd = codes "owed-at-end"
+
+abbrev pub rule_number : Rule → ℕ
+rule_number rule.TimeBack = 1
+rule_number rule.LossOwed = 2
+rule_number rule.LossNotOwed = 3
+rule_number rule.LossSet = 4
+rule_number rule.SpaceGone = 5
+rule_number rule.NumberNotHigher = 6
+rule_number rule.PastWindow = 7
+rule_number rule.PastProbe = 8
+rule_number rule.PastRecovery = 9
+rule_number rule.AckUnsent = 10
+rule_number rule.TimerNotSet = 11
+rule_number rule.TimerOther = 12
+rule_number rule.TimerEarly = 13
+rule_number rule.ProbeOwed = 14
+rule_number rule.NotConfirmed = 15
+rule_number (rule.Metric f) = 16
+rule_number rule.OwedAtEnd = 17
+
+-- the reported value that differs, of a metric
+abbrev pub field_of : Rule → Option Field
+field_of (rule.Metric f) = Some f
+field_of _ = None
+
+-- ---- faults
+
+abbrev pub fault_name : Fault → List ℕ
+fault_name fault.NotJson = codes "not-json"
+fault_name fault.NotObject = codes "not-object"
+fault_name (fault.Missing k) = codes "missing"
+fault_name (fault.WrongKind k) = codes "wrong-kind"
+fault_name (fault.OutOfRange k) = codes "out-of-range"
+fault_name fault.UnknownEvent = codes "unknown-event"
+fault_name fault.HeaderPlace = codes "header-place"
+fault_name fault.LineTooLong = codes "line-too-long"
+fault_name fault.FlagsClash = codes "flags-clash"
+fault_name fault.Version = codes "version"
+fault_name fault.TooManyLines = codes "too-many-lines"
+
+abbrev pub fault_number : Fault → ℕ
+fault_number fault.NotJson = 1
+fault_number fault.NotObject = 2
+fault_number (fault.Missing k) = 3
+fault_number (fault.WrongKind k) = 4
+fault_number (fault.OutOfRange k) = 5
+fault_number fault.UnknownEvent = 6
+fault_number fault.HeaderPlace = 7
+fault_number fault.LineTooLong = 8
+fault_number fault.FlagsClash = 9
+fault_number fault.Version = 10
+fault_number fault.TooManyLines = 11
+
+-- the key that a fault is about
+abbrev pub key_of : Fault → Option Key
+key_of (fault.Missing k) = Some k
+key_of (fault.WrongKind k) = Some k
+key_of (fault.OutOfRange k) = Some k
+key_of _ = None

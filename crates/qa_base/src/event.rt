@@ -1,0 +1,95 @@
+//! What a sender did, one event a line.
+ghost use Rattle.std.specs.Prelude.{◌≡◌};
+ghost use Rattle.qa_base.specs.Events.{fits as fits_of};
+
+use crate::number::{Micros, PacketNumber, Spans};
+use crate::space::{Kind, Leave, Space};
+
+/// What a sender reports of its own state, each value where it reports it.
+///
+/// Window, threshold and bytes in flight are in bytes, the others in microseconds.
+#[derive(Clone, Copy, Debug, PartialEq, Eq)]
+pub struct MetricValues {
+    pub window: Option<u64>,
+    pub ssthresh: Option<u64>,
+    pub bytes_in_flight: Option<u64>,
+    pub latest_rtt: Option<u64>,
+    pub min_rtt: Option<u64>,
+    pub smoothed_rtt: Option<u64>,
+    pub rttvar: Option<u64>,
+}
+
+/// One thing that a sender did or learned, at a time.
+#[derive(Debug, PartialEq, Eq, Drop)]
+pub enum Event {
+    /// A packet was sent (RFC 9002, A.5): `size` bytes, ack-eliciting or not, in flight or not.
+    Sent {
+        time: Micros,
+        space: Space,
+        number: PacketNumber,
+        size: u64,
+        eliciting: bool,
+        in_flight: bool,
+        leave: Leave,
+    },
+    /// An acknowledgment came (A.7). `delay` is in microseconds, as the sender used it before it
+    /// limited it; `limited` says that the sender did not use the window it had (7.8).
+    Ack {
+        time: Micros,
+        space: Space,
+        ranges: Spans,
+        delay: u64,
+        limited: bool,
+    },
+    /// The sender declared packets lost (A.10).
+    Lost {
+        time: Micros,
+        space: Space,
+        ranges: Spans,
+    },
+    /// The loss detection timer fired (A.9).
+    Timer {
+        time: Micros,
+        kind: Kind,
+        space: Space,
+    },
+    /// The keys of a space were discarded, and with them its packets (6.4).
+    Discard {
+        time: Micros,
+        space: Space,
+    },
+    /// The handshake was confirmed.
+    Confirmed {
+        time: Micros,
+    },
+    /// The keys of the Handshake space are there.
+    Keys {
+        time: Micros,
+    },
+    /// The sender reports its own state, to be compared.
+    Metrics {
+        time: Micros,
+        values: MetricValues,
+    },
+}
+
+impl Event {
+    /// Whether the event is one that a line of a trace can say: a packet has 1 to 65527 bytes and
+    /// is in flight if it is ack-eliciting, a list of ranges is not empty, and a discarded space is
+    /// not the application's.
+    pub fn fits(&self) -> bool
+        ensures { result ≡ fits_of self.now }
+    {
+        match self {
+            Event::Sent {
+                size,
+                eliciting,
+                in_flight,
+                ..
+            } => 1 <= *size && *size <= 65527 && (!*eliciting || *in_flight),
+            Event::Ack { ranges, .. } | Event::Lost { ranges, .. } => !ranges.as_slice().is_empty(),
+            Event::Discard { space, .. } => *space != Space::App,
+            _ => true,
+        }
+    }
+}

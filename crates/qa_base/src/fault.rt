@@ -1,0 +1,145 @@
+//! Why a line of a trace cannot be read.
+use crate::rule::Field;
+use thiserror::Error;
+
+/// A key of a line that is read.
+#[derive(Clone, Copy, Debug, PartialEq, Eq)]
+pub enum Key {
+    Event,
+    Version,
+    Role,
+    MaxDatagramSize,
+    MaxAckDelay,
+    InitialRtt,
+    InitialWindow,
+    Time,
+    Space,
+    Number,
+    Size,
+    Eliciting,
+    InFlight,
+    Leave,
+    Ranges,
+    Delay,
+    Limited,
+    Kind,
+    /// The key of a reported value.
+    Metric(Field),
+}
+
+impl Key {
+    ghost use Rattle.std.specs.Prelude.{◌≡◌};
+    ghost use Rattle.qa_base.specs.Names.{key_name};
+
+    /// The key's text.
+    pub fn name(self) -> &'static str
+        ensures { result.now ≡ key_name self }
+    {
+        match self {
+            Key::Event => "event",
+            Key::Version => "version",
+            Key::Role => "role",
+            Key::MaxDatagramSize => "max_datagram_size",
+            Key::MaxAckDelay => "max_ack_delay",
+            Key::InitialRtt => "initial_rtt",
+            Key::InitialWindow => "initial_window",
+            Key::Time => "time",
+            Key::Space => "space",
+            Key::Number => "number",
+            Key::Size => "size",
+            Key::Eliciting => "eliciting",
+            Key::InFlight => "in_flight",
+            Key::Leave => "leave",
+            Key::Ranges => "ranges",
+            Key::Delay => "delay",
+            Key::Limited => "limited",
+            Key::Kind => "kind",
+            Key::Metric(field) => field.name(),
+        }
+    }
+}
+
+/// Why a line cannot be read, F1 to F11.
+#[derive(Clone, Copy, Debug, PartialEq, Eq)]
+pub enum Fault {
+    /// F1: the bytes are no JSON value.
+    NotJson,
+    /// F2: the value is no object.
+    NotObject,
+    /// F3: a required key is absent.
+    Missing(Key),
+    /// F4: a key's value is of another kind.
+    WrongKind(Key),
+    /// F5: a key's value is outside its values.
+    OutOfRange(Key),
+    /// F6: the text at `event` names no event.
+    UnknownEvent,
+    /// F7: the first line that is not blank is no header, a later one is, or there is none.
+    HeaderPlace,
+    /// F8: more than 65,536 bytes stand before the line's end.
+    LineTooLong,
+    /// F9: an ack-eliciting packet that is not in flight.
+    FlagsClash,
+    /// F10: the header's version is not 1.
+    Version,
+    /// F11: a line after line 4294967295.
+    TooManyLines,
+}
+
+impl Fault {
+    ghost use Rattle.std.specs.Prelude.{◌≡◌};
+    ghost use Rattle.qa_base.specs.Names.{fault_name, fault_number, key_of};
+
+    /// The fault's name, without the key that it is about.
+    pub fn name(self) -> &'static str
+        ensures { result.now ≡ fault_name self }
+    {
+        match self {
+            Fault::NotJson => "not-json",
+            Fault::NotObject => "not-object",
+            Fault::Missing(_) => "missing",
+            Fault::WrongKind(_) => "wrong-kind",
+            Fault::OutOfRange(_) => "out-of-range",
+            Fault::UnknownEvent => "unknown-event",
+            Fault::HeaderPlace => "header-place",
+            Fault::LineTooLong => "line-too-long",
+            Fault::FlagsClash => "flags-clash",
+            Fault::Version => "version",
+            Fault::TooManyLines => "too-many-lines",
+        }
+    }
+
+    /// The fault's number, 1 for F1.
+    pub fn number(self) -> u64
+        ensures { result ≡ fault_number self }
+    {
+        match self {
+            Fault::NotJson => 1,
+            Fault::NotObject => 2,
+            Fault::Missing(_) => 3,
+            Fault::WrongKind(_) => 4,
+            Fault::OutOfRange(_) => 5,
+            Fault::UnknownEvent => 6,
+            Fault::HeaderPlace => 7,
+            Fault::LineTooLong => 8,
+            Fault::FlagsClash => 9,
+            Fault::Version => 10,
+            Fault::TooManyLines => 11,
+        }
+    }
+
+    /// The key that the fault is about, of F3, F4 and F5 alone.
+    pub fn key(self) -> Option<Key>
+        ensures { result ≡ key_of self }
+    {
+        match self {
+            Fault::Missing(key) | Fault::WrongKind(key) | Fault::OutOfRange(key) => Some(key),
+            _ => None,
+        }
+    }
+}
+
+/// A value of a header is outside its range: the key of the first such.
+#[derive(Clone, Copy, Debug, PartialEq, Eq, Error)]
+#[error("the value of {} is out of range", .0.name())]
+pub struct RangeFault(pub Key);

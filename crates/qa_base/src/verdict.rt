@@ -1,0 +1,41 @@
+//! What is said of a trace.
+use crate::fault::Fault;
+use crate::rule::Rule;
+
+/// The state of the machine after the events that were admitted.
+///
+/// Window, threshold and bytes in flight are in bytes, the four values of the RTT in microseconds.
+#[derive(Clone, Copy, Debug, PartialEq, Eq)]
+pub struct Totals {
+    /// How many events were admitted.
+    pub events: u64,
+    /// The congestion window (RFC 9002, appendix B).
+    pub window: u64,
+    /// The slow start threshold, where there is one.
+    pub ssthresh: Option<u64>,
+    /// The sum of the sizes of open in-flight packets.
+    pub bytes_in_flight: u64,
+    /// The latest RTT sample; 0 before the first.
+    pub latest: u64,
+    /// The least RTT sample; 0 before the first.
+    pub min: u64,
+    /// The smoothed RTT.
+    pub smoothed: u64,
+    /// The variation of the RTT.
+    pub var: u64,
+    /// How many probe timeouts there were since the last reset.
+    pub pto_count: u64,
+    /// How many packets are detected as lost and not yet declared.
+    pub owed: u64,
+}
+
+/// What is said of a trace.
+#[derive(Clone, Copy, Debug, PartialEq, Eq)]
+pub enum Verdict {
+    /// A header and events that form a whole run.
+    Accepted(Totals),
+    /// The first line that is not good breaks this rule; the totals are those before it.
+    Refused(u64, Rule, Totals),
+    /// The first line that is not good has this fault; the totals are those before it, none before a header.
+    Unreadable(u64, Fault, Option<Totals>),
+}
