@@ -1,3 +1,4 @@
 pub mod Cuts
 pub mod Stops
 pub mod Fixed
+pub mod SendsAlone

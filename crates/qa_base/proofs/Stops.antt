@@ -3,15 +3,15 @@ use Rattle.std.proofs.Common.{◌≡◌, ◌∙◌, ◌+◌, ◌<◌, ◌≤◌,
 use Rattle.std.proofs.lemmas.Bool.{leb-false}
 use Rattle.std.proofs.lemmas.List.{append-nil}
 use Rattle.std.specs.Option.{option_or}
-use Rattle.std.specs.Prelude.{nat_le, nat_lt, unwrap_or, IsSome}
+use Rattle.std.specs.Prelude.{nat_le, nat_lt, IsSome}
 use Rattle.qa_base.specs.declared.event.Event.{Event}
 use Rattle.qa_base.specs.declared.line.Line.{Line}
 use Rattle.qa_base.specs.declared.fault.Fault.{Fault}
 use Rattle.qa_base.specs.declared.verdict.Verdict.{Verdict}
-use Rattle.qa_base.specs.Lines.{line_limit, max_lines}
+use Rattle.qa_base.specs.Lines.{max_lines}
 use Rattle.qa_base.specs.Packets.{history_of}
 use Rattle.qa_base.specs.Settings.{Settings}
-use Rattle.qa_base.specs.Verdict.{Reading, header_said, header_in, events_in, said, stop_at, stop_after, first_stop, end_at, verdict_of, AreGood, AreDecided}
+use Rattle.qa_base.specs.Verdict.{Reading, header_said, header_in, events_in, said, stop_at, stop_after, first_stop, verdict_of, AreDecided}
 
 -- ---- which of two stops comes first
 

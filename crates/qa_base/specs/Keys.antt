@@ -54,6 +54,10 @@ truth k v = ok_or (as_bool v) (WrongKind k)
 abbrev pub ranged : {A : Type 0} → Key → Option A → Result A Fault
 ranged k found = ok_or found (OutOfRange k)
 
+-- a required text
+abbrev pub required_text : Key → Data → Result (List ℕ) Fault
+required_text k d = required k d >>= text k
+
 -- a required whole number of 64 bits
 abbrev pub required_whole : Key → Data → Result ℕ Fault
 required_whole k d = required k d >>= whole k
@@ -64,7 +68,7 @@ number k lo hi d = required_whole k d >>= λ n. ranged k (in_range lo hi n)
 
 -- a required text that names something
 abbrev pub word : {A : Type 0} → Key → (List ℕ → Option A) → Data → Result A Fault
-word k names d = required k d >>= text k >>= λ t. ranged k (names t)
+word k names d = required_text k d >>= λ t. ranged k (names t)
 
 -- a required truth value
 abbrev pub flag : Key → Data → Result Bool Fault

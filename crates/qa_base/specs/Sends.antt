@@ -1,5 +1,5 @@
 -- What a line says where the only lines are a header and packets that were sent.
-use Rattle.std.specs.Prelude.{ℕ, ◌==◌, ◌||◌, ◌&&◌, not, List, [], ◌∷◌, codes, Bool, Option, Some, None, is_some, ok_or, Result, Ok, Err, if◌then◌else◌}
+use Rattle.std.specs.Prelude.{ℕ, ◌==◌, ◌||◌, ◌&&◌, not, List, [], ◌∷◌, codes, Bool, Option, is_some, ok_or, Result, Ok, Err, if◌then◌else◌}
 use Rattle.std.specs.List.{list_all}
 use Rattle.std.specs.Str.{is_utf8}
 use Rattle.std.specs.Result.{result_map_both}
@@ -17,7 +17,7 @@ use Rattle.qa_base.specs.declared.space.Space.{Space}
 use Rattle.qa_base.specs.declared.space.Role.{Role}
 use Rattle.qa_base.specs.declared.line.Line.{Line}
 use Rattle.qa_base.specs.declared.line.Line.TheVariants as line
-use Rattle.qa_base.specs.Keys.{◌>>=◌, both, required, text, required_whole, number, word, flag, optional_whole, optional_word}
+use Rattle.qa_base.specs.Keys.{◌>>=◌, both, required_text, required_whole, number, word, flag, optional_whole, optional_word}
 use Rattle.qa_base.specs.Limits.{max_time, max_packet_number, max_packet_size}
 use Rattle.qa_base.specs.Names.{named, role_named, space_named, leave_named}
 use Rattle.qa_base.specs.Settings.{Settings, settings_of}
@@ -81,7 +81,7 @@ reader_named = named ((codes "header", header_line) ∷ (codes "sent", sent_line
 -- what an object says, by its key `event`
 unfoldable pub line_of : Data → Result Line Fault
 line_of d = if not (is_some (as_object d)) then Err NotObject else
-    (required key.Event d >>= text key.Event >>= λ t. ok_or (reader_named t) UnknownEvent >>= λ reader. reader d)
+    (required_text key.Event d >>= λ t. ok_or (reader_named t) UnknownEvent >>= λ reader. reader d)
 
 -- a space, a tab or a carriage return
 abbrev pub is_blank : ℕ → Bool

@@ -1,8 +1,17 @@
 //! Facts over the definitions alone. Each is the contract of a function that does nothing.
-ghost use Rattle.std.specs.Prelude.{◌≡◌, ◌++◌, List, ℕ};
+ghost use Rattle.std.specs.Prelude.{◌≡◌, ◌++◌, List, ℕ, true, Ok};
+ghost use Rattle.qa_base.specs.declared.event.Event.{Event};
+ghost use Rattle.qa_base.specs.declared.line.Line.TheVariants as line;
+ghost use Rattle.qa_base.specs.Events.{fits, is_sent};
+ghost use Rattle.qa_base.specs.Sends.{reading as sends};
 ghost use Rattle.qa_base.specs.Verdict.{Reading, IsFixed, verdict};
 
 /// No byte that follows changes a verdict that is fixed, whatever the reading of lines.
 pub fn fixed_stays()
     ensures { (reading : Reading) (f g : List ℕ) → IsFixed reading f → verdict reading (f ++ g) ≡ verdict reading f }
+{}
+
+/// The reading of headers and sent packets gives no other event, and those that it gives fit.
+pub fn sends_alone()
+    ensures { (l : List ℕ) (e : Event) → sends l ≡ Ok (line.Event e) → (is_sent e ≡ true) × (fits e ≡ true) }
 {}
