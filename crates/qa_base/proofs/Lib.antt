@@ -2,3 +2,4 @@ pub mod Cuts
 pub mod Stops
 pub mod Fixed
 pub mod SendsAlone
+pub mod Histories
