@@ -1,0 +1,37 @@
+# What this repository is built, tested and installed with.
+# It needs `rt`, which proves and builds Rattle crates, and Python 3.
+
+PREFIX ?= /usr/local
+DESTDIR ?=
+
+program := crates/qaudit/out/qaudit
+example := examples/ten-packets.trace
+
+.PHONY: help build run test install clean
+
+help:
+	@echo 'make build     proves the program and builds $(program)'
+	@echo 'make run       builds it and audits $(example)'
+	@echo 'make test      runs the merge gate, and then the program over conformance/'
+	@echo 'make install   builds it and installs it in $$(DESTDIR)$$(PREFIX)/bin; PREFIX is $(PREFIX)'
+	@echo 'make clean     removes what was built'
+
+# `rt run` proves, builds and then runs the program; with no change since, it only runs it.
+build:
+	@cd crates/qaudit && rt run -- check < ../../$(example) > /dev/null
+
+run: build
+	@$(program) check < $(example)
+
+test:
+	rt ci
+	python3 conformance/test_run.py
+	$(MAKE) --no-print-directory build
+	conformance/run $(program)
+
+install: build
+	install -d '$(DESTDIR)$(PREFIX)/bin'
+	install -m 755 $(program) '$(DESTDIR)$(PREFIX)/bin/qaudit'
+
+clean:
+	rm -rf crates/*/out

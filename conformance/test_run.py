@@ -1,0 +1,194 @@
+#!/usr/bin/env python3
+"""Shows that conformance/run passes what is right and fails what is not.
+
+Each test gives the runner a small corpus of its own and a fake program, both
+in a temporary folder.
+"""
+
+import json
+import subprocess
+import sys
+import tempfile
+import unittest
+from pathlib import Path
+
+RUNNER = Path(__file__).resolve().parent / "run"
+TRACE = b"a line\nanother line\n"
+REPORT = b"accepted\nevents 0\n"
+
+# Reads to the end of its input, and writes the report if all of it came.
+HONEST = """
+import os, sys
+if sys.argv[1:] != ["check"]:
+    sys.stderr.write("usage\\n")
+    sys.exit(64)
+read = b""
+while True:
+    piece = os.read(0, 4096)
+    if not piece:
+        break
+    read += piece
+os.write(1, {report!r} if read == {trace!r} else b"unreadable line 1 F1 not-json\\n")
+sys.exit({status})
+"""
+# Takes the first piece for the whole input.
+READS_ONCE = """
+import os, sys
+whole = os.read(0, 4096) == {trace!r}
+os.write(1, {report!r} if whole else b"unreadable line 1 F1 not-json\\n")
+sys.exit(0 if whole else 2)
+"""
+USAGE_CASE = {
+    "name": "no-words", "words": [], "input": {"file": ""}, "status": 64, "stdout": "", "stderr": "usage\n"
+}
+
+
+class RunnerTest(unittest.TestCase):
+    def setUp(self):
+        folder = tempfile.TemporaryDirectory()
+        self.addCleanup(folder.cleanup)
+        self.corpus = Path(folder.name)
+        (self.corpus / "traces").mkdir()
+        self.program = self.corpus / "program"
+        self.write_program(self.honest())
+        self.write_trace("one", TRACE, REPORT)
+        self.write_cases([USAGE_CASE])
+
+    def honest(self, report=REPORT, status=0):
+        return HONEST.format(trace=TRACE, report=report, status=status)
+
+    def write_program(self, body):
+        self.program.write_text(f"#!{sys.executable}\n{body}")
+        self.program.chmod(0o755)
+
+    def write_trace(self, name, trace, report):
+        for suffix, data in (("trace", trace), ("report", report)):
+            if data is not None:
+                (self.corpus / "traces" / f"{name}.{suffix}").write_bytes(data)
+
+    def write_cases(self, cases):
+        (self.corpus / "devices.json").write_text(json.dumps({"cases": cases}))
+
+    def lines(self, status):
+        """Runs the runner, which must end with this status, and answers what it printed."""
+        command = [sys.executable, str(RUNNER), str(self.program), str(self.corpus)]
+        ended = subprocess.run(command, capture_output=True, text=True, check=False)
+        self.assertEqual(ended.stderr, "")
+        self.assertEqual(ended.returncode, status, ended.stdout)
+        return ended.stdout.splitlines()
+
+    def assert_passes(self, count):
+        self.assertEqual(self.lines(0), [f"{count} passed, 0 failed"])
+
+    def assert_fails(self, *names):
+        """The runner fails, and the lines before the last name just these failures."""
+        *failures, last = self.lines(1)
+        self.assertEqual([line.split(":")[0] for line in failures], [f"FAILED {name}" for name in names])
+        self.assertTrue(last.endswith(f" passed, {len(names)} failed"), last)
+
+    def test_right_program(self):
+        self.assert_passes(3)
+
+    def test_long_trace_is_run_once(self):
+        self.write_program("import os\nos.write(1, b'accepted\\n')")
+        self.write_trace("one", b" " * 4097, b"accepted\n")
+        self.write_cases([{**USAGE_CASE, "status": 0, "stdout": "accepted\n", "stderr": ""}])
+        self.assert_passes(2)
+
+    def test_no_program(self):
+        self.program.unlink()
+        self.assert_fails(str(self.program))
+
+    def test_empty_corpus(self):
+        for path in (self.corpus / "traces").iterdir():
+            path.unlink()
+        (self.corpus / "traces").rmdir()
+        (self.corpus / "devices.json").unlink()
+        self.assert_fails("traces", "devices.json")
+
+    def test_no_trace(self):
+        for path in (self.corpus / "traces").iterdir():
+            path.unlink()
+        self.assert_fails("traces")
+
+    def test_no_case(self):
+        self.write_cases([])
+        self.assert_fails("devices.json")
+
+    def test_cases_that_are_no_json(self):
+        (self.corpus / "devices.json").write_text("{")
+        self.assert_fails("devices.json")
+
+    def test_trace_without_report(self):
+        self.write_trace("two", TRACE, None)
+        self.assert_fails("traces/two")
+
+    def test_report_without_trace(self):
+        self.write_trace("two", None, REPORT)
+        self.assert_fails("traces/two")
+
+    def test_report_without_verdict(self):
+        self.write_trace("one", TRACE, b"")
+        self.assert_fails("traces/one")
+
+    def test_wrong_report(self):
+        self.write_program(self.honest(report=b"accepted\nevents 1\n"))
+        self.assert_fails("traces/one", "traces/one byte by byte")
+
+    def test_report_with_a_byte_too_many(self):
+        self.write_program(self.honest(report=REPORT + b"\n"))
+        self.assert_fails("traces/one", "traces/one byte by byte")
+
+    def test_wrong_status(self):
+        self.write_program(self.honest(status=1))
+        self.assert_fails("traces/one", "traces/one byte by byte")
+
+    def test_text_on_standard_error(self):
+        self.write_program("import sys\nsys.stderr.write('noise')\n" + self.honest())
+        self.write_cases([{**USAGE_CASE, "stderr": "noiseusage\n"}])
+        self.assert_fails("traces/one", "traces/one byte by byte")
+
+    def test_program_that_reads_once(self):
+        self.write_program(READS_ONCE.format(trace=TRACE, report=REPORT))
+        self.write_cases([{**USAGE_CASE, "status": 2, "stdout": "unreadable line 1 F1 not-json\n", "stderr": ""}])
+        self.assert_fails("traces/one byte by byte")
+
+    def test_wrong_status_of_a_case(self):
+        self.write_cases([{**USAGE_CASE, "status": 0}])
+        self.assert_fails("devices/no-words")
+
+    def test_wrong_error_of_a_case(self):
+        self.write_cases([{**USAGE_CASE, "stderr": "usage"}])
+        self.assert_fails("devices/no-words")
+
+    def test_wrong_output_of_a_case(self):
+        self.write_cases([{**USAGE_CASE, "stdout": "usage\n"}])
+        self.assert_fails("devices/no-words")
+
+    def test_failing_streams_reach_the_program(self):
+        write = "import os\ntry:\n os.write({}, b'x')\nexcept OSError as error:\n os._exit(error.errno)\n"
+        cases = [("closed", 9), ("read-only", 9), ("full", 28), ("nobody reads", 32)]
+        for stream, number in (("output", 1), ("error", 2)):
+            self.write_program(write.format(number))
+            other = {"stdout": "", "stderr": "", {"output": "stdout", "error": "stderr"}[stream]: None}
+            self.write_cases([{**USAGE_CASE, **other, "name": kind, stream: kind, "status": status} for kind, status in cases])
+            self.write_trace("one", TRACE, b"accepted\n")
+            *failures, last = self.lines(1)
+            self.assertFalse([line for line in failures if line.startswith("FAILED devices/")], failures)
+            self.assertTrue(last.startswith("4 passed"), last)
+
+    def test_case_that_takes_too_long(self):
+        self.write_program("import sys, time\nif len(sys.argv) == 1:\n time.sleep(1000)\n" + self.honest())
+        self.write_cases([{**USAGE_CASE, "seconds": 0.5}])
+        self.assert_fails("devices/no-words")
+
+    def test_program_that_stops_reading(self):
+        self.write_program("import os\nos.read(0, 1)\nos.write(1, b'accepted\\n')")
+        self.write_trace("one", TRACE, b"accepted\n")
+        case = {**USAGE_CASE, "status": 0, "stdout": "accepted\n", "stderr": ""}
+        self.write_cases([{**case, "input": {"repeated": {"text": "ab", "times": 10**12}}, "seconds": 30}])
+        self.assert_passes(3)
+
+
+if __name__ == "__main__":
+    unittest.main()
