@@ -3,7 +3,7 @@ use Rattle.std.proofs.Common.{◌≡◌, ◌∙◌, ◌+◌, ◌≤◌, ◌<◌,
 use Rattle.std.proofs.lemmas.List.{append-nil}
 use Rattle.std.proofs.lemmas.List.Sums.{fold_push, sum_by-cons}
 use Rattle.std.specs.List.{fold, list_any, sum_by}
-use Rattle.std.specs.Prelude.{if◌then◌else◌}
+use Rattle.std.specs.Prelude.{nat_le, if◌then◌else◌}
 use Rattle.qa_base.specs.declared.event.Event.{Event}
 use Rattle.qa_base.specs.declared.event.Event.TheVariants.{Sent, Ack, Lost, Timer, Discard, Confirmed, Keys, Metrics}
 use Rattle.qa_base.specs.declared.space.Space.{Space}
@@ -11,6 +11,7 @@ use Rattle.qa_base.specs.declared.space.Leave.{Leave}
 use Rattle.qa_base.specs.Events.{is_space}
 use Rattle.qa_base.specs.Packets.{Packet, history_of, packet_of, packets, packets_of}
 use Rattle.qa_base.specs.Loss.{flight_size, bytes_in_flight}
+use Rattle.qa_base.specs.Rules.{has_at_or_above}
 
 -- ---- one more event
 
@@ -64,3 +65,15 @@ bytes_in_flight-sent time space number size eliciting in_flight leave h =
     } in
     let more : sum_by flight_size (p ∷ packets h) ≡ flight_size p + sum_by flight_size (packets h) = sum_by-cons flight_size p (packets h) in
     omega (arith, more)
+
+kept_or_not : (in_space : Bool) (number : ℕ) (p : Packet) (ps : List Packet)
+    → list_any (λ p. nat_le number p.number) (if in_space then p ∷ ps else ps)
+    ≡ ((in_space && nat_le number p.number) || list_any (λ p. nat_le number p.number) ps)
+kept_or_not true number p ps = refl
+kept_or_not false number p ps = refl
+
+pub has_at_or_above-sent : (s : Space) (lowest : ℕ) (time : ℕ) (space : Space) (number size : ℕ) (eliciting in_flight : Bool) (leave : Leave) (h : List Event)
+    → has_at_or_above s lowest (Sent time space number size eliciting in_flight leave ∷ h) ≡ ((is_space s space && nat_le lowest number) || has_at_or_above s lowest h)
+has_at_or_above-sent s lowest time space number size eliciting in_flight leave h = kept_or_not (is_space s space) lowest (record {
+  place = length h; time = time; space = space; number = number; size = size; eliciting = eliciting; in_flight = in_flight; leave = leave;
+}) (packets_of h s)

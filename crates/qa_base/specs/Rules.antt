@@ -1,10 +1,11 @@
 -- The rules that a sent packet can break where nothing but packets was sent before, and runs.
-use Rattle.std.specs.Prelude.{◌≡◌, ◌+◌, ◌&&◌, nat_lt, nat_le, Bool, false, List, [], ◌∷◌, Option, Some, None, if◌then◌else◌}
+use Rattle.std.specs.Prelude.{◌≡◌, ℕ, ◌+◌, ◌&&◌, nat_lt, nat_le, Bool, false, List, [], ◌∷◌, Option, Some, None, if◌then◌else◌}
 use Rattle.std.specs.List.{list_any}
 use Rattle.qa_base.specs.declared.event.Event.{Event}
 use Rattle.qa_base.specs.declared.event.Event.TheVariants.{Sent}
 use Rattle.qa_base.specs.declared.rule.Rule.{Rule}
 use Rattle.qa_base.specs.declared.rule.Rule.TheVariants as rule
+use Rattle.qa_base.specs.declared.space.Space.{Space}
 use Rattle.qa_base.specs.declared.space.Leave.TheVariants.{Window, Probe, Recovery}
 use Rattle.qa_base.specs.Events.{time_of}
 use Rattle.qa_base.specs.Packets.{packets_of}
@@ -16,9 +17,13 @@ abbrev pub is_time_back : List Event → Event → Bool
 is_time_back [] e = false
 is_time_back (last ∷ before) e = nat_lt (time_of e) (time_of last)
 
--- V6: a packet was sent in its space with this number or a higher one (RFC 9002, section 4.2)
+-- a packet of the space has this number or a higher one
+abbrev pub has_at_or_above : Space → ℕ → List Event → Bool
+has_at_or_above space number h = list_any (λ p. nat_le number p.number) (packets_of h space)
+
+-- V6: a packet was sent in its space with its number or a higher one (RFC 9002, section 4.2)
 abbrev pub is_number_not_higher : List Event → Event → Bool
-is_number_not_higher h (Sent time space number size eliciting in_flight leave) = list_any (λ p. nat_le number p.number) (packets_of h space)
+is_number_not_higher h (Sent time space number size eliciting in_flight leave) = has_at_or_above space number h
 is_number_not_higher h _ = false
 
 -- V7: it takes the bytes in flight past the congestion window (RFC 9002, section 7), still the initial one

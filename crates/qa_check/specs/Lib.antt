@@ -1,0 +1,4 @@
+pub mod Device
+pub mod Judge
+pub mod Taking
+pub mod Standing

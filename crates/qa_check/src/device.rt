@@ -1,0 +1,111 @@
+//! What a trace is read from and a report is written to.
+ghost use Rattle.std.specs.Prelude.{◌≡◌, ◌≤◌, ℕ, List, Option, IfOk, length};
+ghost use Rattle.std.specs.Io.KnownBytes.{ReadConsumes, WriteAppends};
+ghost use Rattle.qa_check.specs.Device.{failures_after, read_failed, write_failed};
+
+use std::io;
+use std::io::{Read, Write};
+use std::marker::Model;
+
+/// Gives the bytes of a trace, a piece at a time, and counts its failures.
+///
+/// A failure is an error that was answered. It gives no byte, and adds one to the count, which
+/// wraps at 2^64. Every other call leaves the count.
+pub trait Source {
+    // The bytes that are left to be read, where the source tells them.
+    ghost left: { Self → Option (List ℕ) };
+
+    // The count of failures.
+    ghost read_failures: { Self → ℕ };
+
+    /// Puts the next bytes at the front of `piece`, and answers how many: at most its length, and
+    /// where the bytes are told, 0 for a piece that is not empty only at their end.
+    fn read_piece(&mut self, piece: &mut [u8]) -> io::Result<usize>
+        ensures bound { IfOk result (λ n. n ≤ length piece.new) }
+        ensures bytes { ReadConsumes (left self.old) (left self.new) result piece.new }
+        ensures failures { read_failures self.new ≡ failures_after (read_failed result) (read_failures self.old) };
+}
+
+/// Takes the bytes of a report, a piece at a time, and counts its failures.
+///
+/// A failure is an error that was answered, or 0 for a piece that is not empty. It takes no byte,
+/// and adds one to the count, which wraps at 2^64. Every other call leaves the count.
+pub trait Sink {
+    // The bytes that were put so far, where the sink tells them.
+    ghost held: { Self → Option (List ℕ) };
+
+    // The count of failures.
+    ghost write_failures: { Self → ℕ };
+
+    /// Takes bytes from the front of `piece`, and answers how many: at most its length.
+    fn write_piece(&mut self, piece: &[u8]) -> io::Result<usize>
+        ensures bound { IfOk result (λ n. n ≤ length piece.now) }
+        ensures bytes { WriteAppends (held self.old) (held self.new) result piece.now }
+        ensures failures { write_failures self.new ≡ failures_after (write_failed result piece.now) (write_failures self.old) };
+}
+
+/// A reader or a writer of std as a `Source` or a `Sink`.
+///
+/// Over memory it tells its bytes. A `Vec` that finds no memory fails as a sink.
+#[derive(Drop)]
+pub struct Metered<T> {
+    inner: T,
+    failures: u64,
+}
+
+impl<T> Model for Metered<T> {
+    ghost use Rattle.std.specs.Prelude.{ℕ};
+
+    ghost Value = { T × ℕ };
+
+    ghost view = { λ m. (m.inner, m.failures) };
+}
+
+impl<T> Metered<T> {
+    /// The device over this reader or writer, with no failure so far. Takes no memory.
+    pub fn new(inner: T) -> Metered<T>
+        ensures { result ≡ (inner, 0) }
+    {
+        Metered { inner, failures: 0 }
+    }
+
+    /// The reader or writer itself.
+    pub fn into_inner(self) -> T
+        ensures { result ≡ self.0 }
+    {
+        let Metered { inner, failures: _ } = self;
+        inner
+    }
+}
+
+impl<T: Read> Source for Metered<T> {
+    ghost left = { λ m. T.remaining m.0 };
+
+    ghost read_failures = { λ m. m.1 };
+
+    fn read_piece(&mut self, piece: &mut [u8]) -> io::Result<usize> {
+        let result = self.inner.read(piece);
+        if result.is_err() {
+            self.failures = self.failures.wrapping_add(1);
+        }
+        result
+    }
+}
+
+impl<T: Write> Sink for Metered<T> {
+    ghost held = { λ m. T.contents m.0 };
+
+    ghost write_failures = { λ m. m.1 };
+
+    fn write_piece(&mut self, piece: &[u8]) -> io::Result<usize> {
+        let result = self.inner.write(piece);
+        let failed = match &result {
+            Ok(n) => *n == 0 && !piece.is_empty(),
+            Err(_) => true,
+        };
+        if failed {
+            self.failures = self.failures.wrapping_add(1);
+        }
+        result
+    }
+}

@@ -1,0 +1,12 @@
+//! The audit of a trace: from a source of bytes to a report on a sink.
+#![tactic(auto)]
+
+mod checker;
+mod device;
+mod judge;
+mod text;
+
+pub use checker::{Checker, Stop};
+pub use device::{Metered, Sink, Source};
+pub use qa_base::{Fault, Line, Totals, Verdict};
+pub use text::report;

@@ -1,0 +1,159 @@
+//! The text of a report.
+ghost use Rattle.std.specs.Prelude.{◌≡◌, ◌++◌, IfOk, OnOk, string_bytes, decimal};
+ghost use Rattle.qa_base.specs.Report as text;
+
+use itoa::Buffer;
+use qa_base::{Fault, Field, Key, Rule, Totals, Verdict};
+use std::alloc::{AllocError, Global};
+
+fn push_number(out: &mut String, number: u64) -> Result<(), AllocError>
+    ensures { OnOk result (string_bytes out.new ≡ string_bytes out.old ++ decimal number) }
+{
+    let mut buffer = Buffer::new();
+    out.push_str(buffer.format(number))
+}
+
+// ---- the first line
+
+fn push_field(out: &mut String, field: Option<Field>) -> Result<(), AllocError>
+    ensures { OnOk result (string_bytes out.new ≡ string_bytes out.old ++ text.field_text field) }
+{
+    if let Some(field) = field {
+        out.push_str(" ")?;
+        out.push_str(field.name())?;
+    }
+    Ok(())
+}
+
+#[tactic(auto, unfolding(qa_base::specs::Report::rule_text))]
+fn push_rule(out: &mut String, rule: Rule) -> Result<(), AllocError>
+    ensures { OnOk result (string_bytes out.new ≡ string_bytes out.old ++ text.rule_text rule) }
+{
+    out.push_str("V")?;
+    push_number(out, rule.number())?;
+    out.push_str(" ")?;
+    out.push_str(rule.name())?;
+    push_field(out, rule.field())
+}
+
+fn push_key(out: &mut String, key: Option<Key>) -> Result<(), AllocError>
+    ensures { OnOk result (string_bytes out.new ≡ string_bytes out.old ++ text.key_text key) }
+{
+    if let Some(key) = key {
+        out.push_str(" ")?;
+        out.push_str(key.name())?;
+    }
+    Ok(())
+}
+
+#[tactic(auto, unfolding(qa_base::specs::Report::fault_text))]
+fn push_fault(out: &mut String, fault: Fault) -> Result<(), AllocError>
+    ensures { OnOk result (string_bytes out.new ≡ string_bytes out.old ++ text.fault_text fault) }
+{
+    out.push_str("F")?;
+    push_number(out, fault.number())?;
+    out.push_str(" ")?;
+    out.push_str(fault.name())?;
+    push_key(out, fault.key())
+}
+
+#[tactic(auto, unfolding(qa_base::specs::Report::place_text))]
+fn push_place(out: &mut String, word: &str, line: u64) -> Result<(), AllocError>
+    ensures { OnOk result (string_bytes out.new ≡ string_bytes out.old ++ text.place_text word.now line) }
+{
+    out.push_str(word)?;
+    out.push_str(" line ")?;
+    push_number(out, line)?;
+    out.push_str(" ")
+}
+
+#[tactic(auto, unfolding(qa_base::specs::Report::verdict_text))]
+fn push_verdict(out: &mut String, verdict: &Verdict) -> Result<(), AllocError>
+    ensures { OnOk result (string_bytes out.new ≡ string_bytes out.old ++ text.verdict_text verdict.now) }
+{
+    match verdict {
+        Verdict::Accepted(_) => out.push_str("accepted\n"),
+        Verdict::Refused(line, rule, _) => {
+            push_place(out, "refused", *line)?;
+            push_rule(out, *rule)?;
+            out.push_str("\n")
+        }
+        Verdict::Unreadable(line, fault, _) => {
+            push_place(out, "unreadable", *line)?;
+            push_fault(out, *fault)?;
+            out.push_str("\n")
+        }
+    }
+}
+
+// ---- the totals
+
+#[tactic(auto, unfolding(qa_base::specs::Report::number_line))]
+fn push_number_line(out: &mut String, name: &str, number: u64) -> Result<(), AllocError>
+    ensures { OnOk result (string_bytes out.new ≡ string_bytes out.old ++ text.number_line name.now number) }
+{
+    out.push_str(name)?;
+    out.push_str(" ")?;
+    push_number(out, number)?;
+    out.push_str("\n")
+}
+
+#[tactic(auto, unfolding(qa_base::specs::Report::threshold_line))]
+fn push_threshold(out: &mut String, threshold: Option<u64>) -> Result<(), AllocError>
+    ensures { OnOk result (string_bytes out.new ≡ string_bytes out.old ++ text.threshold_line threshold) }
+{
+    match threshold {
+        None => out.push_str("ssthresh none\n"),
+        Some(bytes) => push_number_line(out, "ssthresh", bytes),
+    }
+}
+
+#[tactic(auto, unfolding(qa_base::specs::Report::bytes_text))]
+fn push_bytes(out: &mut String, totals: &Totals) -> Result<(), AllocError>
+    ensures { OnOk result (string_bytes out.new ≡ string_bytes out.old ++ text.bytes_text totals.now) }
+{
+    push_number_line(out, "events", totals.events)?;
+    push_number_line(out, "window", totals.window)?;
+    push_threshold(out, totals.ssthresh)?;
+    push_number_line(out, "bytes_in_flight", totals.bytes_in_flight)
+}
+
+#[tactic(auto, unfolding(qa_base::specs::Report::times_text))]
+fn push_times(out: &mut String, totals: &Totals) -> Result<(), AllocError>
+    ensures { OnOk result (string_bytes out.new ≡ string_bytes out.old ++ text.times_text totals.now) }
+{
+    push_number_line(out, "latest_rtt", totals.latest)?;
+    push_number_line(out, "min_rtt", totals.min)?;
+    push_number_line(out, "smoothed_rtt", totals.smoothed)?;
+    push_number_line(out, "rttvar", totals.var)?;
+    push_number_line(out, "pto_count", totals.pto_count)?;
+    push_number_line(out, "owed", totals.owed)
+}
+
+#[tactic(auto, unfolding(qa_base::specs::Report::totals_text))]
+fn push_totals(out: &mut String, totals: &Totals) -> Result<(), AllocError>
+    ensures { OnOk result (string_bytes out.new ≡ string_bytes out.old ++ text.totals_text totals.now) }
+{
+    push_bytes(out, totals)?;
+    push_times(out, totals)
+}
+
+// ---- the whole
+
+/// The report of a verdict: a line that says it, and the totals, where a header was read.
+///
+/// Fails only where memory is refused.
+#[tactic(auto, unfolding(qa_base::specs::Report::report, qa_base::specs::Report::known_totals_text))]
+pub fn report(alloc: Global, verdict: &Verdict) -> Result<String, AllocError>
+    ensures { IfOk result (λ s. string_bytes s ≡ text.report verdict.now) }
+{
+    let mut out = String::new(alloc);
+    push_verdict(&mut out, verdict)?;
+    match verdict {
+        Verdict::Accepted(totals) => push_totals(&mut out, totals)?,
+        Verdict::Refused(_, _, totals) => push_totals(&mut out, totals)?,
+        Verdict::Unreadable(_, _, Some(totals)) => push_totals(&mut out, totals)?,
+        Verdict::Unreadable(_, _, None) => {}
+    }
+    Ok(out)
+}
