@@ -1,2 +1,4 @@
 pub mod Appends
 pub mod Growing
+pub mod Following
+pub mod Reading

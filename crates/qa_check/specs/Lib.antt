@@ -2,3 +2,5 @@ pub mod Device
 pub mod Judge
 pub mod Taking
 pub mod Standing
+pub mod Following
+pub mod Audit

@@ -1,0 +1,58 @@
+-- What an audit reads, writes and tells.
+use Rattle.std.specs.Prelude.{◌≡◌, ◌⊎◌, ◌≤◌, ◌++◌, ℕ, Bool, true, false, List, length, take, Option, Result, Ok, Err}
+use Rattle.std.specs.Io.KnownBytes.{Appends, Consumes, IsAtEnd}
+use Rattle.qa_base.specs.declared.verdict.Verdict.{Verdict}
+use Rattle.qa_base.specs.declared.verdict.Verdict.TheVariants as verdicts
+use Rattle.qa_base.specs.Report.{report}
+use Rattle.qa_base.specs.Sends.{reading}
+use Rattle.qa_base.specs.Verdict.{verdict, IsFixed}
+use Rattle.qa_check.specs.declared.auditing.AuditFault.{AuditFault}
+use Rattle.qa_check.specs.declared.auditing.AuditFault.TheVariants as faults
+use Rattle.qa_check.specs.declared.auditing.Outcome.{Outcome}
+use Rattle.qa_check.specs.declared.auditing.Outcome.TheVariants.{Accepted, Refused, Unreadable}
+
+-- the kind of a verdict
+abbrev pub outcome_of : Verdict → Outcome
+outcome_of (verdicts.Accepted t) = Accepted
+outcome_of (verdicts.Refused n r t) = Refused
+outcome_of (verdicts.Unreadable n f t) = Unreadable
+
+-- ---- reading
+
+-- the verdict of the bytes without their last piece, of 4,096 bytes at most, was not fixed: no piece was read that did not count
+abbrev pub IsReadNoFurther : List ℕ → Type 0
+IsReadNoFurther bytes = (front : List ℕ) × (piece : List ℕ) × (bytes ≡ front ++ piece) × (length piece ≤ 4096) × (IsFixed reading front → ⊥)
+
+-- from a reader that had old left and has new left, some bytes were read, and none that did not count
+abbrev pub Reads : Option (List ℕ) → Option (List ℕ) → Type 0
+Reads old new = (bytes : List ℕ) × Consumes old new bytes × IsReadNoFurther bytes
+
+-- these bytes were read, which are all that counts
+abbrev pub ReadsEnough : Option (List ℕ) → Option (List ℕ) → List ℕ → Type 0
+ReadsEnough old new bytes = Consumes old new bytes × (IsAtEnd new ⊎ IsFixed reading bytes) × IsReadNoFurther bytes
+
+-- this is the verdict of bytes that were read and are all that counts
+abbrev pub JudgesRead : Option (List ℕ) → Option (List ℕ) → Verdict → Type 0
+JudgesRead old new v = (bytes : List ℕ) × ReadsEnough old new bytes × (v ≡ verdict reading bytes)
+
+-- ---- writing
+
+-- the report of the bytes was written, and the kind of their verdict is told
+abbrev pub Reports : Option (List ℕ) → Option (List ℕ) → Outcome → List ℕ → Type 0
+Reports held held' outcome bytes = Appends held held' (report (verdict reading bytes)) × (outcome ≡ outcome_of (verdict reading bytes))
+
+-- the beginning of the report of the bytes was written
+abbrev pub BeginsReport : Option (List ℕ) → Option (List ℕ) → List ℕ → Type 0
+BeginsReport held held' bytes = (n : ℕ) × Appends held held' (take n (report (verdict reading bytes)))
+
+-- ---- devices
+
+-- whether the answer is that the reader failed
+abbrev pub is_read_fault : {A : Type 0} → Result A AuditFault → Bool
+is_read_fault (Err faults.Read) = true
+is_read_fault _ = false
+
+-- whether it is that the writer failed
+abbrev pub is_write_fault : {A : Type 0} → Result A AuditFault → Bool
+is_write_fault (Err faults.Write) = true
+is_write_fault _ = false

@@ -1,0 +1,236 @@
+//! The audit: from a source of bytes to a report on a sink.
+ghost use Rattle.std.specs.Prelude.{◌≡◌, ◌≢◌, ◌++◌, ℕ, List, true, false, Some, None, Ok, Err, OnOk, OnErr, IfOk, IfErr, IfSome, IfNone, take};
+ghost use Rattle.std.specs.Io.KnownBytes.{Appends};
+ghost use Rattle.qa_base.specs.Sends.{reading};
+ghost use Rattle.qa_base.specs.Verdict.{IsFixed, verdict};
+ghost use Rattle.qa_trace.specs.Stream.{HasNoLine};
+ghost use Rattle.qa_check.specs.Audit.{outcome_of, Reads, ReadsEnough, JudgesRead, Reports, BeginsReport, is_read_fault, is_write_fault};
+ghost use Rattle.qa_check.specs.Device.{failures_after};
+ghost use Rattle.qa_check.specs.Following.{Follows, Answers, IsReady};
+ghost use Rattle.qa_check.specs.Standing.{has_failed};
+
+use crate::checker::{Checker, Stop};
+use crate::device::{Sink, Source};
+use crate::text::report;
+use qa_base::Verdict;
+use qa_trace::{SplitFault, Splitter};
+use std::alloc::Global;
+use thiserror::Error;
+
+/// The kind of verdict that an audit came to.
+#[derive(Clone, Copy, Debug, PartialEq, Eq)]
+pub enum Outcome {
+    Accepted,
+    Refused,
+    Unreadable,
+}
+
+/// Why an audit came to no end.
+#[derive(Clone, Copy, Debug, PartialEq, Eq, Error)]
+pub enum AuditFault {
+    /// The source failed, and nothing was written.
+    #[error("read fault")]
+    Read,
+    /// The sink failed after a part of the report.
+    #[error("write fault")]
+    Write,
+    /// Memory was refused, and nothing was written.
+    #[error("out of memory")]
+    OutOfMemory,
+}
+
+/// The most bytes that one read asks for.
+const PIECE: usize = 4096;
+
+/// Reads a trace and writes its report: for every sequence of bytes that the reader gives, however
+/// its reads are cut.
+///
+/// It reads pieces of at most 4,096 bytes, and none once the verdict is fixed. No error of a device
+/// is retried. Every reader is left, also one that never ends: line 4294967296 is a fault.
+pub fn audit<R: Source, W: Sink>(
+    alloc: Global,
+    reader: &mut R,
+    writer: &mut W,
+) -> Result<Outcome, AuditFault>
+    // For a reader that tells its bytes: their report was written, and the kind of their verdict is told.
+    ensures told { (bytes : List ℕ) → R.left reader.old ≡ Some bytes
+        → IfOk result (λ outcome. Reports (W.held writer.old) (W.held writer.new) outcome bytes) }
+
+    // For every reader: what was read decides, since it is all there is, or nothing behind it counts.
+    ensures ok { IfOk result (λ outcome. (bytes : List ℕ)
+        × ReadsEnough (R.left reader.old) (R.left reader.new) bytes
+        × Reports (W.held writer.old) (W.held writer.new) outcome bytes) }
+
+    // Nothing was read that does not count, whatever the answer.
+    ensures reads { Reads (R.left reader.old) (R.left reader.new) }
+
+    // After a failed write the beginning of the report was written, and else nothing.
+    ensures told_beginning { (bytes : List ℕ) → R.left reader.old ≡ Some bytes
+        → result ≡ Err AuditFault.Write → BeginsReport (W.held writer.old) (W.held writer.new) bytes }
+    ensures beginning { result ≡ Err AuditFault.Write → (bytes : List ℕ)
+        × ReadsEnough (R.left reader.old) (R.left reader.new) bytes
+        × BeginsReport (W.held writer.old) (W.held writer.new) bytes }
+    ensures unwritten { result ≢ Err AuditFault.Write → OnErr result (W.held writer.new ≡ W.held writer.old) }
+
+    // A fault of a device is answered exactly where that device failed, once.
+    ensures read_failures { R.read_failures reader.new ≡ failures_after (is_read_fault result) (R.read_failures reader.old) }
+    ensures write_failures { W.write_failures writer.new ≡ failures_after (is_write_fault result) (W.write_failures writer.old) }
+{
+    let verdict = judged(alloc, reader)?;
+    let Ok(text) = report(alloc, &verdict) else {
+        return Err(AuditFault::OutOfMemory);
+    };
+    write_whole(writer, text.as_bytes())?;
+    Ok(told(&verdict))
+}
+
+/// The verdict of what is read.
+fn judged<R: Source>(alloc: Global, reader: &mut R) -> Result<Verdict, AuditFault>
+    ensures verdict { IfOk result (JudgesRead (R.left reader.old) (R.left reader.new)) }
+    ensures reads { Reads (R.left reader.old) (R.left reader.new) }
+    ensures failures { R.read_failures reader.new ≡ failures_after (is_read_fault result) (R.read_failures reader.old) }
+    ensures write { is_write_fault result ≡ false }
+{
+    let mut splitter = Splitter::new(alloc);
+    let mut checker = Checker::new(alloc);
+    let mut piece = [0u8; PIECE];
+    'pieces: for _i in 0..u64::MAX {
+        let Ok(n) = reader.read_piece(&mut piece) else {
+            return Err(AuditFault::Read);
+        };
+        if n == 0 {
+            return conclude(&mut splitter, &mut checker);
+        }
+        let found = match take_piece(&mut splitter, &mut checker, &piece[..n]) {
+            Ok(found) => found,
+            Err(fault) => return Err(fault),
+        };
+        if let Some(verdict) = found {
+            return Ok(verdict);
+        }
+    }
+    // A line more than a trace may have is not good, so that a reader without end is left before.
+    unreachable!()
+}
+
+/// Takes the next piece, and gives the verdict where nothing behind it counts.
+fn take_piece(
+    splitter: &mut Splitter,
+    checker: &mut Checker,
+    piece: &[u8],
+) -> Result<Option<Verdict>, AuditFault>
+    requires ready { IsReady splitter.old }
+    requires whole { has_failed checker.old ≡ false }
+    ensures ready { IfOk result (λ found. IfNone found (IsReady splitter.new)) }
+    ensures empty { IfOk result (λ found. IfNone found (HasNoLine splitter.new)) }
+    ensures whole { IfOk result (λ found. IfNone found (has_failed checker.new ≡ false)) }
+    ensures open { IfOk result (λ found. IfNone found ((bytes : List ℕ) → Follows splitter.old.bytes checker.old bytes
+        → Follows splitter.new.bytes checker.new (bytes ++ piece.now))) }
+    ensures decided { IfOk result (λ found. IfSome found (λ v. (bytes : List ℕ) → Follows splitter.old.bytes checker.old bytes
+        → IsFixed reading (bytes ++ piece.now) × (v ≡ verdict reading (bytes ++ piece.now)))) }
+    ensures err { IfErr result (λ fault. fault ≡ AuditFault.OutOfMemory) }
+{
+    if splitter.feed(piece).is_err() {
+        return Err(AuditFault::OutOfMemory);
+    }
+    match drain(splitter, checker) {
+        Ok(()) => Ok(None),
+        Err(Stop::Decided) => match verdict_of(checker) {
+            Ok(verdict) => Ok(Some(verdict)),
+            Err(fault) => Err(fault),
+        },
+        Err(Stop::OutOfMemory) => Err(AuditFault::OutOfMemory),
+    }
+}
+
+/// Hands the checker each line that stands ready.
+fn drain(splitter: &mut Splitter, checker: &mut Checker) -> Result<(), Stop>
+    requires ready { IsReady splitter.old }
+    requires whole { has_failed checker.old ≡ false }
+    ensures ready { OnOk result (IsReady splitter.new) }
+    ensures empty { OnOk result (HasNoLine splitter.new) }
+    ensures whole { OnOk result (has_failed checker.new ≡ false) }
+    ensures good { OnOk result ((bytes : List ℕ) → Follows splitter.old.bytes checker.old bytes
+        → Follows splitter.new.bytes checker.new bytes) }
+    ensures decided { result ≡ Err Stop.Decided → (bytes : List ℕ) → Follows splitter.old.bytes checker.old bytes
+        → IsFixed reading bytes × Answers checker.new bytes }
+{
+    'lines: loop {
+        match splitter.next_line() {
+            Ok(Some(line)) => checker.line(line.as_slice())?,
+            Ok(None) => return Ok(()),
+            Err(SplitFault::TooLong) => return Err(checker.too_long()),
+            Err(SplitFault::OutOfMemory) => return Err(Stop::OutOfMemory),
+        }
+    }
+}
+
+/// The verdict where nothing more comes.
+fn conclude(splitter: &mut Splitter, checker: &mut Checker) -> Result<Verdict, AuditFault>
+    requires ready { IsReady splitter.old }
+    requires empty { HasNoLine splitter.old }
+    requires whole { has_failed checker.old ≡ false }
+    ensures ok { IfOk result (λ v. (bytes : List ℕ) → Follows splitter.old.bytes checker.old bytes → v ≡ verdict reading bytes) }
+    ensures err { IfErr result (λ fault. fault ≡ AuditFault.OutOfMemory) }
+{
+    match finish(splitter, checker) {
+        Ok(()) => verdict_of(checker),
+        Err(Stop::Decided) => verdict_of(checker),
+        Err(Stop::OutOfMemory) => Err(AuditFault::OutOfMemory),
+    }
+}
+
+/// Hands the checker what stands after the last LF.
+fn finish(splitter: &mut Splitter, checker: &mut Checker) -> Result<(), Stop>
+    requires ready { IsReady splitter.old }
+    requires empty { HasNoLine splitter.old }
+    requires whole { has_failed checker.old ≡ false }
+    ensures { result ≢ Err Stop.OutOfMemory → (bytes : List ℕ) → Follows splitter.old.bytes checker.old bytes
+        → Answers checker.new bytes }
+{
+    splitter.close();
+    match splitter.next_line() {
+        Ok(Some(line)) => checker.line(line.as_slice()),
+        Ok(None) => Ok(()),
+        Err(SplitFault::TooLong) => Err(checker.too_long()),
+        Err(SplitFault::OutOfMemory) => Err(Stop::OutOfMemory),
+    }
+}
+
+/// The verdict that a checker has come to.
+fn verdict_of(checker: &Checker) -> Result<Verdict, AuditFault>
+    ensures ok { IfOk result (λ v. (bytes : List ℕ) → Answers checker.now bytes → v ≡ verdict reading bytes) }
+    ensures err { IfErr result (λ fault. fault ≡ AuditFault.OutOfMemory) }
+{
+    checker.end().ok_or(AuditFault::OutOfMemory)
+}
+
+/// Writes all of the bytes, in as many pieces as the writer takes.
+fn write_whole<W: Sink>(writer: &mut W, bytes: &[u8]) -> Result<(), AuditFault>
+    ensures ok { OnOk result (Appends (W.held writer.old) (W.held writer.new) bytes.now) }
+    ensures err { OnErr result ((n : ℕ) × Appends (W.held writer.old) (W.held writer.new) (take n bytes.now)) }
+    ensures failures { W.write_failures writer.new ≡ failures_after (is_write_fault result) (W.write_failures writer.old) }
+    ensures write { IfErr result (λ fault. fault ≡ AuditFault.Write) }
+{
+    let mut at = 0;
+    while at < bytes.len() {
+        let Ok(n) = writer.write_piece(&bytes[at..]) else {
+            return Err(AuditFault::Write);
+        };
+        if n == 0 {
+            return Err(AuditFault::Write);
+        }
+        at += n;
+    }
+    Ok(())
+}
+
+fn told(verdict: &Verdict) -> Outcome
+    ensures { result ≡ outcome_of verdict.now }
+{
+    match verdict {
+        Verdict::Accepted(_) => Outcome::Accepted,
+        Verdict::Refused(..) => Outcome::Refused,
+        Verdict::Unreadable(..) => Outcome::Unreadable,
+    }
+}
