@@ -1,0 +1,32 @@
+//! The program `qaudit check`: audits the trace on standard input, and writes the report to standard output.
+#![tactic(auto)]
+
+mod ending;
+mod words;
+
+use crate::ending::{complaint, status};
+use crate::words::{Words, read_words};
+use qa_check::{Metered, audit};
+use std::process::ExitCode;
+
+fn main(rt: HostRuntime) -> ExitCode {
+    match read_words(&rt) {
+        Words::Check => {}
+        Words::Refused => {
+            let _ = eprintln!(rt; "usage: qaudit check");
+            return ExitCode::from(64);
+        }
+        Words::OutOfMemory => {
+            let _ = eprintln!(rt; "qaudit: out of memory");
+            return ExitCode::from(3);
+        }
+    }
+    let mut reader = Metered::new(rt.stdin());
+    let mut writer = Metered::new(rt.stdout());
+    let ended = audit(rt.alloc(), &mut reader, &mut writer);
+    if let Err(fault) = &ended {
+        // A failure of standard error changes nothing.
+        let _ = eprintln!(rt; "{}", complaint(*fault));
+    }
+    ExitCode::from(status(&ended))
+}
