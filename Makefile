@@ -5,6 +5,8 @@ PREFIX ?= /usr/local
 DESTDIR ?=
 
 program := crates/qaudit/out/qaudit
+# The same audit by devices that move one byte a call, a test of it.
+one_byte := crates/one_byte/out/one_byte
 example := examples/ten-packets.trace
 
 .PHONY: help build run test install clean
@@ -28,6 +30,8 @@ test:
 	python3 conformance/test_run.py
 	$(MAKE) --no-print-directory build
 	conformance/run $(program)
+	@cd crates/one_byte && rt run < stdin > /dev/null
+	conformance/run --traces $(one_byte)
 
 install: build
 	install -d '$(DESTDIR)$(PREFIX)/bin'

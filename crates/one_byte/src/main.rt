@@ -1,0 +1,55 @@
+//! A test of the audit: audits the trace on standard input as `qaudit check` does, but by a source
+//! that gives one byte a call and a sink that takes one byte a call.
+//!
+//! The traces of the conformance corpus are run through it too, so that no report depends on how
+//! reads and writes are cut. It takes no notice of its words, and ends with the status of `qaudit`.
+#![tactic(auto)]
+
+ghost use Rattle.std.specs.Prelude.{None};
+
+use qa_check::{Metered, Outcome, Sink, Source, audit};
+use std::io;
+use std::process::ExitCode;
+
+/// A device that moves at most one byte a call.
+#[derive(Drop)]
+struct OneByte<T> {
+    inner: T,
+}
+
+impl<T: Source> Source for OneByte<T> {
+    ghost left = { λ _. None };
+
+    ghost read_failures = { λ device. T.Source.read_failures device.inner };
+
+    fn read_piece(&mut self, piece: &mut [u8]) -> io::Result<usize> {
+        let most = piece.len().min(1);
+        self.inner.read_piece(&mut piece[..most])
+    }
+}
+
+impl<T: Sink> Sink for OneByte<T> {
+    ghost held = { λ _. None };
+
+    ghost write_failures = { λ device. T.Sink.write_failures device.inner };
+
+    fn write_piece(&mut self, piece: &[u8]) -> io::Result<usize> {
+        let most = piece.len().min(1);
+        self.inner.write_piece(&piece[..most])
+    }
+}
+
+fn main(rt: HostRuntime) -> ExitCode {
+    let mut reader = OneByte {
+        inner: Metered::new(rt.stdin()),
+    };
+    let mut writer = OneByte {
+        inner: Metered::new(rt.stdout()),
+    };
+    match audit(rt.alloc(), &mut reader, &mut writer) {
+        Ok(Outcome::Accepted) => ExitCode::from(0),
+        Ok(Outcome::Refused) => ExitCode::from(1),
+        Ok(Outcome::Unreadable) => ExitCode::from(2),
+        Err(_) => ExitCode::from(3),
+    }
+}
