@@ -1,15 +1,14 @@
 -- Histories of events that stand in order, and what one more event does.
-use Rattle.std.proofs.Common.{◌≡◌, ◌∙◌, ◌+◌, ◌≤◌, ◌<◌, ℕ, List, [], ◌∷◌, ◌++◌, length, Bool, true, false, ◌||◌, ◌&&◌, refl, sym, ap, arith, take, get_or, length-append}
-use Rattle.std.proofs.lemmas.List.{append-nil}
+use Rattle.std.proofs.Common.{◌≡◌, ◌∙◌, ◌+◌, ℕ, List, [], ◌∷◌, ◌++◌, length, Bool, true, false, ◌||◌, ◌&&◌, refl, ap, arith}
 use Rattle.std.proofs.lemmas.List.Sums.{fold_push, sum_by-cons}
 use Rattle.std.specs.List.{fold, list_any, sum_by}
 use Rattle.std.specs.Prelude.{nat_le, if◌then◌else◌}
 use Rattle.qa_base.specs.declared.event.Event.{Event}
-use Rattle.qa_base.specs.declared.event.Event.TheVariants.{Sent, Ack, Lost, Timer, Discard, Confirmed, Keys, Metrics}
+use Rattle.qa_base.specs.declared.event.Event.TheVariants.{Sent}
 use Rattle.qa_base.specs.declared.space.Space.{Space}
 use Rattle.qa_base.specs.declared.space.Leave.{Leave}
 use Rattle.qa_base.specs.Events.{is_space}
-use Rattle.qa_base.specs.Packets.{Packet, history_of, packet_of, packets, packets_of}
+use Rattle.qa_base.specs.Packets.{Packet, history_of, packets, packets_of}
 use Rattle.qa_base.specs.Loss.{flight_size, bytes_in_flight}
 use Rattle.qa_base.specs.Rules.{has_at_or_above}
 
@@ -61,7 +60,14 @@ pub bytes_in_flight-sent : (time : ℕ) (space : Space) (number size : ℕ) (eli
     → bytes_in_flight (Sent time space number size eliciting in_flight leave ∷ h) ≡ bytes_in_flight h + (if in_flight then size else 0)
 bytes_in_flight-sent time space number size eliciting in_flight leave h =
     let p : Packet = record {
-      place = length h; time = time; space = space; number = number; size = size; eliciting = eliciting; in_flight = in_flight; leave = leave;
+      place = length h;
+      time = time;
+      space = space;
+      number = number;
+      size = size;
+      eliciting = eliciting;
+      in_flight = in_flight;
+      leave = leave;
     } in
     let more : sum_by flight_size (p ∷ packets h) ≡ flight_size p + sum_by flight_size (packets h) = sum_by-cons flight_size p (packets h) in
     omega (arith, more)
@@ -75,5 +81,12 @@ kept_or_not false number p ps = refl
 pub has_at_or_above-sent : (s : Space) (lowest : ℕ) (time : ℕ) (space : Space) (number size : ℕ) (eliciting in_flight : Bool) (leave : Leave) (h : List Event)
     → has_at_or_above s lowest (Sent time space number size eliciting in_flight leave ∷ h) ≡ ((is_space s space && nat_le lowest number) || has_at_or_above s lowest h)
 has_at_or_above-sent s lowest time space number size eliciting in_flight leave h = kept_or_not (is_space s space) lowest (record {
-  place = length h; time = time; space = space; number = number; size = size; eliciting = eliciting; in_flight = in_flight; leave = leave;
+  place = length h;
+  time = time;
+  space = space;
+  number = number;
+  size = size;
+  eliciting = eliciting;
+  in_flight = in_flight;
+  leave = leave;
 }) (packets_of h s)

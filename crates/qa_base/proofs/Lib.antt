@@ -3,3 +3,4 @@ pub mod Stops
 pub mod Fixed
 pub mod SendsAlone
 pub mod Histories
+pub mod Accepted

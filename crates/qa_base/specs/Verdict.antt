@@ -6,11 +6,12 @@ use Rattle.qa_base.specs.declared.line.Line.{Line}
 use Rattle.qa_base.specs.declared.line.Line.TheVariants as line
 use Rattle.qa_base.specs.declared.fault.Fault.{Fault}
 use Rattle.qa_base.specs.declared.fault.Fault.TheVariants.{HeaderPlace, LineTooLong, TooManyLines}
+use Rattle.qa_base.specs.declared.verdict.Totals.{Totals}
 use Rattle.qa_base.specs.declared.verdict.Verdict.{Verdict}
 use Rattle.qa_base.specs.declared.verdict.Verdict.TheVariants.{Accepted, Refused, Unreadable}
 use Rattle.qa_base.specs.Lines.{line_limit, max_lines, lines, ended_lines, unended}
 use Rattle.qa_base.specs.Packets.{history_of}
-use Rattle.qa_base.specs.Rules.{first_broken}
+use Rattle.qa_base.specs.Rules.{first_broken, IsRun}
 use Rattle.qa_base.specs.Settings.{Settings}
 use Rattle.qa_base.specs.State.{totals}
 
@@ -91,3 +92,9 @@ verdict reading bytes = verdict_of reading (lines bytes)
 -- a line that an LF ended is not good, or too many bytes stand after the last LF: no byte that follows changes the verdict
 abbrev pub IsFixed : Reading → List ℕ → Type 0
 IsFixed reading bytes = AreDecided reading (ended_lines bytes) ⊎ (line_limit < length (unended bytes))
+
+-- the lines are a header and events that form a run, and these are its totals
+abbrev pub IsTraceOfRun : Reading → List (List ℕ) → Totals → Type 0
+IsTraceOfRun reading ls t =
+    (c : Settings) × (header_in reading ls ≡ Some c)
+    × IsRun c (history_of (events_in reading ls)) × (t ≡ totals c (history_of (events_in reading ls)))

@@ -4,7 +4,10 @@ ghost use Rattle.qa_base.specs.declared.event.Event.{Event};
 ghost use Rattle.qa_base.specs.declared.line.Line.TheVariants as line;
 ghost use Rattle.qa_base.specs.Events.{fits, is_sent};
 ghost use Rattle.qa_base.specs.Sends.{reading as sends};
-ghost use Rattle.qa_base.specs.Verdict.{Reading, IsFixed, verdict};
+ghost use Rattle.qa_base.specs.Verdict.{Reading, IsFixed, IsTraceOfRun, verdict};
+ghost use Rattle.qa_base.specs.declared.verdict.Totals.{Totals};
+ghost use Rattle.qa_base.specs.declared.verdict.Verdict.TheVariants as verdicts;
+ghost use Rattle.qa_base.specs.Lines.{lines};
 
 /// No byte that follows changes a verdict that is fixed, whatever the reading of lines.
 pub fn fixed_stays()
@@ -14,4 +17,10 @@ pub fn fixed_stays()
 /// The reading of headers and sent packets gives no other event, and those that it gives fit.
 pub fn sends_alone()
     ensures { (l : List ℕ) (e : Event) → sends l ≡ Ok (line.Event e) → (is_sent e ≡ true) × (fits e ≡ true) }
+{}
+
+/// A trace that is accepted is a header and the events of a run, and its totals are those of the
+/// run, whatever the reading of lines.
+pub fn accepted_is_run()
+    ensures { (reading : Reading) (bytes : List ℕ) (t : Totals) → verdict reading bytes ≡ verdicts.Accepted t → IsTraceOfRun reading (lines bytes) t }
 {}
