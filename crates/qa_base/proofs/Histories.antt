@@ -9,7 +9,6 @@ use Rattle.qa_base.specs.declared.space.Space.{Space}
 use Rattle.qa_base.specs.declared.space.Leave.{Leave}
 use Rattle.qa_base.specs.Events.{is_space}
 use Rattle.qa_base.specs.Packets.{Packet, history_of, packets, packets_of}
-use Rattle.qa_base.specs.Loss.{flight_size, bytes_in_flight}
 use Rattle.qa_base.specs.Rules.{has_at_or_above}
 
 -- ---- one more event
@@ -55,22 +54,6 @@ any_in_history test asked none step events =
     any_onto test asked step [] events ∙ (ap (λ b. list_any test events || b) none ∙ or_false (list_any test events))
 
 -- ---- packets
-
-pub bytes_in_flight-sent : (time : ℕ) (space : Space) (number size : ℕ) (eliciting in_flight : Bool) (leave : Leave) (h : List Event)
-    → bytes_in_flight (Sent time space number size eliciting in_flight leave ∷ h) ≡ bytes_in_flight h + (if in_flight then size else 0)
-bytes_in_flight-sent time space number size eliciting in_flight leave h =
-    let p : Packet = record {
-      place = length h;
-      time = time;
-      space = space;
-      number = number;
-      size = size;
-      eliciting = eliciting;
-      in_flight = in_flight;
-      leave = leave;
-    } in
-    let more : sum_by flight_size (p ∷ packets h) ≡ flight_size p + sum_by flight_size (packets h) = sum_by-cons flight_size p (packets h) in
-    omega (arith, more)
 
 kept_or_not : (in_space : Bool) (number : ℕ) (p : Packet) (ps : List Packet)
     → list_any (λ p. nat_le number p.number) (if in_space then p ∷ ps else ps)

@@ -4,3 +4,5 @@ pub mod Fixed
 pub mod SendsAlone
 pub mod Histories
 pub mod Accepted
+pub mod Shorthand
+pub mod rows

@@ -1,5 +1,6 @@
 -- What is asked of one event.
 use Rattle.std.specs.Prelude.{ℕ, ◌&&◌, ◌||◌, not, nat_le, Bool, true, false, List, [], ◌∷◌}
+use Rattle.std.specs.List.{list_any}
 use Rattle.qa_base.specs.declared.event.Event.{Event}
 use Rattle.qa_base.specs.declared.event.Event.TheVariants.{Sent, Ack, Lost, Timer, Discard, Confirmed, Keys, Metrics}
 use Rattle.qa_base.specs.declared.space.Space.{Space}
@@ -27,9 +28,32 @@ abbrev pub is_sent : Event → Bool
 is_sent (Sent time space number size eliciting in_flight leave) = true
 is_sent _ = false
 
+-- ---- ranges of packet numbers, each a pair of its least and its greatest number
+
 abbrev pub has_ranges : List (ℕ × ℕ) → Bool
 has_ranges [] = false
 has_ranges (range ∷ ranges) = true
+
+-- the number is in one of the ranges
+abbrev pub is_named : List (ℕ × ℕ) → ℕ → Bool
+is_named ranges n = list_any (λ range. nat_le range.0 n && nat_le n range.1) ranges
+
+-- the event is an acknowledgment of this number in this space
+abbrev pub acknowledges : Space → ℕ → Event → Bool
+acknowledges s n (Ack time space ranges delay limited) = is_space s space && is_named ranges n
+acknowledges s n _ = false
+
+-- the event declares this number of this space lost
+abbrev pub declares_lost : Space → ℕ → Event → Bool
+declares_lost s n (Lost time space ranges) = is_space s space && is_named ranges n
+declares_lost s n _ = false
+
+-- the event discards the keys of this space
+abbrev pub discards : Space → Event → Bool
+discards s (Discard time space) = is_space s space
+discards s _ = false
+
+-- ---- which events there are
 
 -- the event is one that a line can say: a packet has bytes and is in flight if it is ack-eliciting,
 -- ranges are not empty, and a discarded space is not the application's

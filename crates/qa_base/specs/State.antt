@@ -1,21 +1,23 @@
 -- What the machine holds after a history.
-use Rattle.std.specs.Prelude.{◌/◌, List, length, None}
+use Rattle.std.specs.Prelude.{ℕ, List, length}
 use Rattle.qa_base.specs.declared.event.Event.{Event}
 use Rattle.qa_base.specs.declared.verdict.Totals.{Totals}
-use Rattle.qa_base.specs.Loss.{bytes_in_flight}
+use Rattle.qa_base.specs.Loss.{bytes_in_flight, owed}
+use Rattle.qa_base.specs.Reno.{reno}
+use Rattle.qa_base.specs.Rtt.{rtt}
 use Rattle.qa_base.specs.Settings.{Settings}
+use Rattle.qa_base.specs.Timer.{backoff}
 
--- the window is the initial one and the RTT as it starts (RFC 9002, section 5.3), since nothing was acknowledged or lost
 abbrev pub totals : Settings → List Event → Totals
 totals c h = record {
   events = length h;
-  window = c.initial_window;
-  ssthresh = None;
-  bytes_in_flight = bytes_in_flight h;
-  latest = 0;
-  min = 0;
-  smoothed = c.initial_rtt;
-  var = c.initial_rtt / 2;
-  pto_count = 0;
-  owed = 0;
+  window = (reno c h).window;
+  ssthresh = (reno c h).threshold;
+  bytes_in_flight = bytes_in_flight c h;
+  latest = (rtt c h).latest;
+  min = (rtt c h).min;
+  smoothed = (rtt c h).smoothed;
+  var = (rtt c h).var;
+  pto_count = backoff c h;
+  owed = length (owed c h);
 }

@@ -1,0 +1,73 @@
+-- Short forms of settings and events, for histories that are written out.
+use Rattle.std.specs.Prelude.{ℕ, List, Bool, true, false, Option}
+use Rattle.qa_base.specs.declared.event.Event.{Event}
+use Rattle.qa_base.specs.declared.event.Event.TheVariants.{Sent, Ack, Lost, Timer, Metrics}
+use Rattle.qa_base.specs.declared.space.Kind.TheVariants as kind
+use Rattle.qa_base.specs.declared.space.Leave.TheVariants as leave
+use Rattle.qa_base.specs.declared.space.Role.TheVariants as role
+use Rattle.qa_base.specs.declared.space.Space.{Space}
+use Rattle.qa_base.specs.Settings.{Settings}
+
+-- a client or a server with this datagram size and initial window, and the other defaults
+abbrev pub client : ℕ → ℕ → Settings
+client datagram window = record { role = role.Client; max_datagram_size = datagram; max_ack_delay = 25000; initial_rtt = 333000; initial_window = window }
+
+abbrev pub server : ℕ → ℕ → Settings
+server datagram window = record { role = role.Server; max_datagram_size = datagram; max_ack_delay = 25000; initial_rtt = 333000; initial_window = window }
+
+-- ---- packets of a space and a number, sent at a time, with a size
+
+abbrev pub sent : Space → ℕ → ℕ → ℕ → Event
+sent space number time size = Sent time space number size true true leave.Window
+
+-- in flight, but not ack-eliciting
+abbrev pub padded : Space → ℕ → ℕ → ℕ → Event
+padded space number time size = Sent time space number size false true leave.Window
+
+-- not in flight
+abbrev pub bare : Space → ℕ → ℕ → ℕ → Event
+bare space number time size = Sent time space number size false false leave.Window
+
+abbrev pub probe : Space → ℕ → ℕ → ℕ → Event
+probe space number time size = Sent time space number size true true leave.Probe
+
+abbrev pub bare_probe : Space → ℕ → ℕ → ℕ → Event
+bare_probe space number time size = Sent time space number size false false leave.Probe
+
+abbrev pub recovery : Space → ℕ → ℕ → ℕ → Event
+recovery space number time size = Sent time space number size true true leave.Recovery
+
+-- ---- acknowledgments and losses of a space, with ranges, at a time
+
+abbrev pub ack : Space → List (ℕ × ℕ) → ℕ → Event
+ack space ranges time = Ack time space ranges 0 false
+
+abbrev pub delayed_ack : Space → List (ℕ × ℕ) → ℕ → ℕ → Event
+delayed_ack space ranges time delay = Ack time space ranges delay false
+
+abbrev pub limited_ack : Space → List (ℕ × ℕ) → ℕ → Event
+limited_ack space ranges time = Ack time space ranges 0 true
+
+abbrev pub lost : Space → List (ℕ × ℕ) → ℕ → Event
+lost space ranges time = Lost time space ranges
+
+-- ---- timers of a space, at a time
+
+abbrev pub loss_fires : Space → ℕ → Event
+loss_fires space time = Timer time kind.Loss space
+
+abbrev pub pto_fires : Space → ℕ → Event
+pto_fires space time = Timer time kind.Pto space
+
+-- ---- reports
+
+abbrev pub metrics : ℕ → Option ℕ → Option ℕ → Option ℕ → Option ℕ → Option ℕ → Option ℕ → Option ℕ → Event
+metrics time window ssthresh bytes_in_flight latest_rtt min_rtt smoothed_rtt rttvar = Metrics time (record {
+  window = window;
+  ssthresh = ssthresh;
+  bytes_in_flight = bytes_in_flight;
+  latest_rtt = latest_rtt;
+  min_rtt = min_rtt;
+  smoothed_rtt = smoothed_rtt;
+  rttvar = rttvar;
+})

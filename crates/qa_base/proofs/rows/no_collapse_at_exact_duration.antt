@@ -1,0 +1,39 @@
+-- The conformance trace `no-collapse-at-exact-duration`: accepted.
+use Rattle.std.specs.Prelude.{◌≡◌, List, [], ◌∷◌, Some, None, refl}
+use Rattle.qa_base.specs.declared.event.Event.{Event}
+use Rattle.qa_base.specs.declared.event.Event.TheVariants.{Discard, Confirmed, Keys}
+use Rattle.qa_base.specs.declared.rule.Rule.TheVariants as rule
+use Rattle.qa_base.specs.declared.rule.Field.TheVariants as field
+use Rattle.qa_base.specs.declared.space.Space.TheVariants.{Initial, Handshake, App}
+use Rattle.qa_base.specs.Rules.{first_broken, IsRun, IsComplete}
+use Rattle.qa_base.specs.Settings.{Settings}
+use Rattle.qa_base.specs.State.{totals}
+use Rattle.qa_base.proofs.Shorthand.{client, server, sent, padded, bare, probe, bare_probe, recovery, ack, delayed_ack, limited_ack, lost, loss_fires, pto_fires, metrics}
+
+abbrev settings : Settings
+settings = server 1200 12000
+
+abbrev history : List Event
+history =
+    lost App ((1, 2) ∷ []) 1275002 ∷
+    ack App ((5, 5) ∷ []) 1275002 ∷
+    padded App 5 1175002 1200 ∷
+    sent App 2 1175000 1200 ∷
+    sent App 1 200000 1200 ∷
+    ack App ((0, 0) ∷ []) 100000 ∷
+    sent App 0 0 1200 ∷ []
+
+pub no_collapse_at_exact_duration : IsRun settings history × (totals settings history ≡ record {
+      events = 7;
+      window = 6600;
+      ssthresh = Some 6600;
+      bytes_in_flight = 0;
+      latest = 100000;
+      min = 100000;
+      smoothed = 100000;
+      var = 50000;
+      pto_count = 0;
+      owed = 0;
+    }) × IsComplete settings history
+unfolding first_broken
+no_collapse_at_exact_duration = ((((((((tt, refl), refl), refl), refl), refl), refl), refl), refl, refl)
