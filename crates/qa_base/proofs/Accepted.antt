@@ -1,9 +1,9 @@
 -- Good lines are a header and the events of a run.
-use Rattle.std.proofs.Common.{◌≡◌, ◌∙◌, ◌+◌, ℕ, List, [], ◌∷◌, ◌++◌, length, Option, Some, None, Result, Ok, Err, refl, sym, ap, append_assoc}
+use Rattle.std.proofs.Common.{◌≡◌, ◌∙◌, ◌+◌, ℕ, List, [], ◌∷◌, ◌++◌, length, Bool, true, false, Option, Some, None, Result, Ok, Err, refl, sym, ap, append_assoc}
 use Rattle.std.proofs.lemmas.List.{append-nil}
 use Rattle.std.proofs.lemmas.List.Elements.{filter_map-append}
 use Rattle.std.specs.Option.{option_or}
-use Rattle.std.specs.Prelude.{filter_map, option_map, unwrap_or}
+use Rattle.std.specs.Prelude.{filter_map, option_map, unwrap_or, if◌then◌else◌}
 use Rattle.qa_base.specs.declared.event.Event.{Event}
 use Rattle.qa_base.specs.declared.line.Line.{Line}
 use Rattle.qa_base.specs.declared.line.Line.TheVariants as line
@@ -12,11 +12,13 @@ use Rattle.qa_base.specs.declared.rule.Rule.{Rule}
 use Rattle.qa_base.specs.declared.verdict.Totals.{Totals}
 use Rattle.qa_base.specs.declared.verdict.Verdict.{Verdict}
 use Rattle.qa_base.specs.declared.verdict.Verdict.TheVariants.{Accepted, Refused}
-use Rattle.qa_base.specs.Packets.{history_of}
-use Rattle.qa_base.specs.Rules.{first_broken, IsRun}
+use Rattle.qa_base.specs.Packets.{Packet, history_of, is_some_packet}
+use Rattle.qa_base.specs.Rules.{first_broken, IsRun, IsComplete}
+use Rattle.qa_base.specs.declared.rule.Rule.TheVariants.{OwedAtEnd}
+use Rattle.qa_base.specs.Loss.{owed}
 use Rattle.qa_base.specs.Settings.{Settings}
 use Rattle.qa_base.specs.State.{totals}
-use Rattle.qa_base.specs.Verdict.{Reading, header_said, event_said, header_in, events_in, said, stop_at, stop_after, first_stop, end_at, verdict_of, verdict, IsTraceOfRun}
+use Rattle.qa_base.specs.Verdict.{Reading, header_said, event_said, header_in, events_in, said, stop_at, stop_after, first_stop, end_at, last_event_line, verdict_of, verdict, IsTraceOfRun}
 use Rattle.qa_base.specs.Lines.{lines}
 use Rattle.qa_base.proofs.Histories.{history_of-snoc}
 use Rattle.qa_base.proofs.Stops.{or_parts, header_in-snoc, said_reading}
@@ -106,10 +108,20 @@ ends_accepted : (o : Option Verdict) (v : Verdict) (t : Totals) → (o ≡ Some 
 ends_accepted None v t never is = (refl, is)
 ends_accepted (Some w) v t never is = absurd (never (ap Some is))
 
-ends_in_run : (n : ℕ) (header : Option Settings) (events : List Event) (t : Totals) → end_at n header (history_of events) ≡ Accepted t → IsRunBy header events
-    → (c : Settings) × (header ≡ Some c) × IsRun c (history_of events) × (t ≡ totals c (history_of events))
-ends_in_run n None events t is run = cc
-ends_in_run n (Some c) events t is run = (c, refl, run, cc)
+no_packet : (ps : List Packet) → is_some_packet ps ≡ false → ps ≡ []
+no_packet [] none = refl
+no_packet (p ∷ ps) none = cc
+
+complete_end : (some : Bool) (last : ℕ) (u t : Totals) → (if some then Refused last OwedAtEnd u else Accepted u) ≡ Accepted t → (some ≡ false) × (t ≡ u)
+complete_end true last u t is = cc
+complete_end false last u t is = (refl, cc)
+
+ends_in_run : (n last : ℕ) (header : Option Settings) (events : List Event) (t : Totals) → end_at n last header (history_of events) ≡ Accepted t → IsRunBy header events
+    → (c : Settings) × (header ≡ Some c) × IsRun c (history_of events) × IsComplete c (history_of events) × (t ≡ totals c (history_of events))
+ends_in_run n last None events t is run = cc
+ends_in_run n last (Some c) events t is run =
+    let ends = complete_end (is_some_packet (owed c (history_of events))) last (totals c (history_of events)) t is in
+    (c, refl, run, no_packet (owed c (history_of events)) ends.0, ends.1)
 
 pub accepted_is_run : (reading : Reading) (bytes : List ℕ) (t : Totals) → verdict reading bytes ≡ Accepted t → IsTraceOfRun reading (lines bytes) t
 unfolding verdict_of
@@ -117,4 +129,4 @@ accepted_is_run reading bytes t is =
     let ls = lines bytes in
     let ends = ends_accepted (first_stop reading [] ls) _ t (first_stop_refuses reading [] ls t) is in
     let run = good_run reading [] ls ends.0 refl in
-    ends_in_run (length ls + 1) (header_in reading ls) (events_in reading ls) t ends.1 run
+    ends_in_run (length ls + 1) (last_event_line reading ls) (header_in reading ls) (events_in reading ls) t ends.1 run

@@ -6,3 +6,5 @@ pub mod Histories
 pub mod Accepted
 pub mod Shorthand
 pub mod rows
+pub mod Quiet
+pub mod SendsAndReports

@@ -63,3 +63,18 @@ fits (Ack time space ranges delay limited) = has_ranges ranges
 fits (Lost time space ranges) = has_ranges ranges
 fits (Discard time space) = not (is_space App space)
 fits _ = true
+
+-- ---- events that change little
+
+-- the event can change neither the RTT, the window nor the PTO count: no acknowledgment, timer or discard
+abbrev pub is_quiet : Event → Bool
+is_quiet (Ack time space ranges delay limited) = false
+is_quiet (Timer time kind space) = false
+is_quiet (Discard time space) = false
+is_quiet _ = true
+
+-- a packet was sent, or the sender reports its state
+abbrev pub is_sent_or_report : Event → Bool
+is_sent_or_report (Sent time space number size eliciting in_flight leave) = true
+is_sent_or_report (Metrics time values) = true
+is_sent_or_report _ = false

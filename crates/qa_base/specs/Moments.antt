@@ -1,5 +1,5 @@
 -- The moments of a history: what stood up to each of its events, that event as the last.
-use Rattle.std.specs.Prelude.{Bool, not, List, [], ◌∷◌, take_while}
+use Rattle.std.specs.Prelude.{Bool, List, [], ◌∷◌, if◌then◌else◌}
 use Rattle.qa_base.specs.declared.event.Event.{Event}
 
 -- the moments, the latest first
@@ -9,4 +9,5 @@ moments (e ∷ before) = (e ∷ before) ∷ moments before
 
 -- the moments after the last that passes the test; all of them where none does
 abbrev pub since : (List Event → Bool) → List Event → List (List Event)
-since test h = take_while (λ moment. not (test moment)) (moments h)
+since test [] = []
+since test (e ∷ before) = if test (e ∷ before) then [] else (e ∷ before) ∷ since test before

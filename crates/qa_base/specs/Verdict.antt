@@ -1,5 +1,5 @@
 -- What is said of a trace, by any reading of its lines.
-use Rattle.std.specs.Prelude.{◌≡◌, ℕ, ◌+◌, ◌⊎◌, ◌<◌, nat_lt, nat_le, List, [], ◌∷◌, ◌++◌, length, filter_map, Option, Some, None, option_map, unwrap_or, IsSome, Result, Ok, Err, if◌then◌else◌}
+use Rattle.std.specs.Prelude.{◌≡◌, ℕ, ◌+◌, ◌⊎◌, ◌<◌, nat_lt, nat_le, Bool, is_some, List, [], ◌∷◌, ◌++◌, length, filter_map, Option, Some, None, option_map, unwrap_or, IsSome, Result, Ok, Err, if◌then◌else◌}
 use Rattle.std.specs.Option.{option_or}
 use Rattle.qa_base.specs.declared.event.Event.{Event}
 use Rattle.qa_base.specs.declared.line.Line.{Line}
@@ -10,8 +10,10 @@ use Rattle.qa_base.specs.declared.verdict.Totals.{Totals}
 use Rattle.qa_base.specs.declared.verdict.Verdict.{Verdict}
 use Rattle.qa_base.specs.declared.verdict.Verdict.TheVariants.{Accepted, Refused, Unreadable}
 use Rattle.qa_base.specs.Lines.{line_limit, max_lines, lines, ended_lines, unended}
-use Rattle.qa_base.specs.Packets.{history_of}
-use Rattle.qa_base.specs.Rules.{first_broken, IsRun}
+use Rattle.qa_base.specs.Packets.{history_of, is_some_packet}
+use Rattle.qa_base.specs.Rules.{first_broken, IsRun, IsComplete}
+use Rattle.qa_base.specs.declared.rule.Rule.TheVariants.{OwedAtEnd}
+use Rattle.qa_base.specs.Loss.{owed}
 use Rattle.qa_base.specs.Settings.{Settings}
 use Rattle.qa_base.specs.State.{totals}
 
@@ -76,14 +78,26 @@ AreDecided reading ls = IsSome (first_stop reading [] ls)
 
 -- ---- the verdict
 
--- the verdict where each line is good and line n would be the next
-abbrev pub end_at : ℕ → Option Settings → List Event → Verdict
-end_at n None h = Unreadable n HeaderPlace None
-end_at n (Some c) h = Accepted (totals c h)
+-- one line further than a number that is not 0, and else this line if it says an event
+abbrev pub line_behind : Bool → ℕ → ℕ
+line_behind here n = if nat_lt 0 n then n + 1 else (if here then 1 else 0)
+
+-- the number of the last line that says an event; 0 where none does
+abbrev pub last_event_line : Reading → List (List ℕ) → ℕ
+last_event_line reading [] = 0
+last_event_line reading (l ∷ ls) = line_behind (is_some (event_said (reading l))) (last_event_line reading ls)
+
+-- the verdict where each line is good, line n would be the next and the last event is on a line before: a loss may be owed (V17)
+abbrev pub end_at : ℕ → ℕ → Option Settings → List Event → Verdict
+end_at n last None h = Unreadable n HeaderPlace None
+end_at n last (Some c) h = if is_some_packet (owed c h) then Refused last OwedAtEnd (totals c h) else Accepted (totals c h)
+
+abbrev pub end_of : Reading → List (List ℕ) → Verdict
+end_of reading ls = end_at (length ls + 1) (last_event_line reading ls) (header_in reading ls) (history_of (events_in reading ls))
 
 -- what is said of lines
 unfoldable pub verdict_of : Reading → List (List ℕ) → Verdict
-verdict_of reading ls = unwrap_or (first_stop reading [] ls) (end_at (length ls + 1) (header_in reading ls) (history_of (events_in reading ls)))
+verdict_of reading ls = unwrap_or (first_stop reading [] ls) (end_of reading ls)
 
 -- what is said of bytes
 abbrev pub verdict : Reading → List ℕ → Verdict
@@ -93,8 +107,10 @@ verdict reading bytes = verdict_of reading (lines bytes)
 abbrev pub IsFixed : Reading → List ℕ → Type 0
 IsFixed reading bytes = AreDecided reading (ended_lines bytes) ⊎ (line_limit < length (unended bytes))
 
--- the lines are a header and events that form a run, and these are its totals
+-- the lines are a header and events that form a complete run, and these are its totals
 abbrev pub IsTraceOfRun : Reading → List (List ℕ) → Totals → Type 0
 IsTraceOfRun reading ls t =
     (c : Settings) × (header_in reading ls ≡ Some c)
-    × IsRun c (history_of (events_in reading ls)) × (t ≡ totals c (history_of (events_in reading ls)))
+    × IsRun c (history_of (events_in reading ls))
+    × IsComplete c (history_of (events_in reading ls))
+    × (t ≡ totals c (history_of (events_in reading ls)))
