@@ -1,5 +1,5 @@
 -- What the machine is where packets were sent and the sender reported its state, and nothing else happened.
-use Rattle.std.proofs.Common.{◌≡◌, ◌∙◌, ◌+◌, ℕ, List, [], ◌∷◌, ◌++◌, length, Bool, true, false, ◌&&◌, ◌||◌, not, Option, Some, None, refl, sym, ap, arith, add_assoc, add-zero, zero-add}
+use Rattle.std.proofs.Common.{◌≡◌, ◌∙◌, ◌+◌, ◌/◌, ℕ, List, [], ◌∷◌, ◌++◌, length, Bool, true, false, ◌&&◌, ◌||◌, not, Option, Some, None, refl, sym, ap, arith, add_assoc, add-zero, zero-add}
 use Rattle.std.proofs.lemmas.Bool.{and_parts}
 use Rattle.std.proofs.lemmas.List.Sums.{sum_by-cons}
 use Rattle.std.specs.List.{list_any, list_all, sum_by, fold}
@@ -24,11 +24,10 @@ use Rattle.qa_base.specs.Rtt as estimates
 use Rattle.qa_base.specs.Rules.{first_broken, first_of, is_time_back, has_at_or_above}
 use Rattle.qa_base.specs.Settings.{Settings}
 use Rattle.qa_base.specs.Timer.{is_pto, backoff}
+use Rattle.qa_base.specs.Plain.{ArePlain, flight_of, sent_bytes, broken_leave}
+use Rattle.qa_base.specs.State.{totals}
+use Rattle.qa_base.proofs.Histories.{length-history_of}
 use Rattle.qa_base.proofs.Quiet.{owed-quiet, rtt-quiet, moves-quiet, moves_of_last-quiet, is_pto-quiet, backoff-quiet, bytes_in_flight-sent, bytes_in_flight-metrics}
-
--- packets were sent and the sender reported its state, and nothing else happened
-abbrev pub ArePlain : List Event → Type 0
-ArePlain h = list_all is_sent_or_report h ≡ true
 
 plain_quiet : (e : Event) → is_sent_or_report e ≡ true → is_quiet e ≡ true
 plain_quiet (Ack time space ranges delay limited) plain = cc
@@ -88,11 +87,6 @@ plain_recovery_spent c h plain = rw (no_entry c h plain) refl
 
 -- ---- the bytes in flight
 
--- what an event adds to them
-abbrev pub flight_of : Event → ℕ
-flight_of (Sent time space number size eliciting in_flight leave) = if in_flight then size else 0
-flight_of _ = 0
-
 open_space : (in_flight gone : Bool) (size : ℕ) → gone ≡ false → (if in_flight && not gone then size else 0) ≡ (if in_flight then size else 0)
 open_space true gone size h = rw h refl
 open_space false gone size h = refl
@@ -129,12 +123,6 @@ plain_history_of events plain = plain_onto [] events refl plain
 
 -- ---- the rules
 
--- what an in-flight packet breaks, by whose leave it goes out, where it makes the bytes in flight these
-abbrev pub broken_leave : Leave → ℕ → ℕ → Option Rule
-broken_leave Window bytes window = if nat_lt window bytes then Some rule.PastWindow else None
-broken_leave Probe bytes window = Some rule.PastProbe
-broken_leave Recovery bytes window = Some rule.PastRecovery
-
 pub first_broken-sent : (c : Settings) (h : List Event) (time : ℕ) (space : Space) (number size : ℕ) (eliciting in_flight : Bool) (leave : Leave) → ArePlain h
     → first_broken c h (Sent time space number size eliciting in_flight leave)
     ≡ (if is_time_back h (Sent time space number size eliciting in_flight leave) then Some rule.TimeBack else
@@ -153,3 +141,22 @@ pub first_broken-metrics : (c : Settings) (h : List Event) (time : ℕ) (values 
     ≡ (if is_time_back h (Metrics time values) then Some rule.TimeBack else first_of (metric_tests c h (Metrics time values)))
 unfolding first_broken
 first_broken-metrics c h time values plain = rw (plain_owed c h plain) refl
+
+-- ---- the totals
+
+pub totals-plain : (c : Settings) (events : List Event) → ArePlain events → totals c (history_of events) ≡ record {
+  events = length events;
+  window = c.initial_window;
+  ssthresh = None;
+  bytes_in_flight = sent_bytes events;
+  latest = 0;
+  min = 0;
+  smoothed = c.initial_rtt;
+  var = c.initial_rtt / 2;
+  pto_count = 0;
+  owed = 0;
+}
+totals-plain c events plain =
+    let h = history_of events in
+    let still : ArePlain h = plain_history_of events plain in
+    rw (plain_reno c h still, plain_rtt c h still, plain_backoff c h still, plain_owed c h still, bytes_in_flight-history_of c events plain, length-history_of events) refl

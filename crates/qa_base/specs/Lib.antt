@@ -14,6 +14,7 @@ pub mod Numbers
 pub mod State
 pub mod Metrics
 pub mod Rules
+pub mod Plain
 pub mod Lines
 pub mod Keys
 pub mod Sends

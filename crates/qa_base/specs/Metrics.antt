@@ -29,7 +29,11 @@ differences values held =
     ∷ (differs values.rttvar (Some held.var), Rttvar)
     ∷ []
 
+-- the rule that each value breaks, where it differs
+abbrev pub tests : MetricValues → Totals → List (Bool × Rule)
+tests values held = map (λ test. (test.0, rule.Metric test.1)) (differences values held)
+
 -- V16: whether the event breaks the rule by each value
 abbrev pub metric_tests : Settings → List Event → Event → List (Bool × Rule)
-metric_tests c h (Metrics time values) = map (λ test. (test.0, rule.Metric test.1)) (differences values (totals c h))
+metric_tests c h (Metrics time values) = tests values (totals c h)
 metric_tests c h _ = []

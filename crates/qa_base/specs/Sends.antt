@@ -1,4 +1,4 @@
--- What a line says where the only lines are a header and packets that were sent.
+-- What a line says where the only lines are a header, packets that were sent and reports of the sender's state.
 use Rattle.std.specs.Prelude.{ℕ, ◌==◌, ◌||◌, ◌&&◌, not, List, [], ◌∷◌, codes, Bool, Option, is_some, ok_or, Result, Ok, Err, if◌then◌else◌}
 use Rattle.std.specs.List.{list_all}
 use Rattle.std.specs.Str.{is_utf8}
@@ -10,9 +10,11 @@ use Rattle.qa_base.specs.declared.fault.Fault.{Fault}
 use Rattle.qa_base.specs.declared.fault.Fault.TheVariants.{NotJson, NotObject, OutOfRange, UnknownEvent, FlagsClash, Version}
 use Rattle.qa_base.specs.declared.fault.Key.TheVariants as key
 use Rattle.qa_base.specs.declared.event.Event.{Event}
-use Rattle.qa_base.specs.declared.event.Event.TheVariants.{Sent}
+use Rattle.qa_base.specs.declared.event.Event.TheVariants.{Sent, Metrics}
+use Rattle.qa_base.specs.declared.rule.Field.{Field}
+use Rattle.qa_base.specs.declared.rule.Field.TheVariants.{Window, Ssthresh, BytesInFlight, LatestRtt, MinRtt, SmoothedRtt, Rttvar}
 use Rattle.qa_base.specs.declared.space.Leave.{Leave}
-use Rattle.qa_base.specs.declared.space.Leave.TheVariants.{Window}
+use Rattle.qa_base.specs.declared.space.Leave.TheVariants as leaves
 use Rattle.qa_base.specs.declared.space.Space.{Space}
 use Rattle.qa_base.specs.declared.space.Role.{Role}
 use Rattle.qa_base.specs.declared.line.Line.{Line}
@@ -33,12 +35,40 @@ sent_fields d =
     (both (number key.Size 1 max_packet_size d)
     (both (flag key.Eliciting d)
     (both (flag key.InFlight d)
-    (optional_word key.Leave leave_named Window d))))))
+    (optional_word key.Leave leave_named leaves.Window d))))))
 
 -- an ack-eliciting packet is in flight (RFC 9002, section 2)
 unfoldable pub sent_of : Data → Result Event Fault
 sent_of d = sent_fields d >>= λ (time, (space, (number, (size, (eliciting, (in_flight, leave)))))).
     if eliciting && not in_flight then Err FlagsClash else Ok (Sent time space number size eliciting in_flight leave)
+
+-- ---- a report of the sender's state
+
+abbrev pub metric : Field → Data → Result (Option ℕ) Fault
+metric f d = optional_whole (key.Metric f) d
+
+-- the keys of a metrics line: time, and each value where it is reported
+abbrev pub metrics_fields : Data → Result (ℕ × (Option ℕ × (Option ℕ × (Option ℕ × (Option ℕ × (Option ℕ × (Option ℕ × Option ℕ))))))) Fault
+metrics_fields d =
+    both (number key.Time 0 max_time d)
+    (both (metric Window d)
+    (both (metric Ssthresh d)
+    (both (metric BytesInFlight d)
+    (both (metric LatestRtt d)
+    (both (metric MinRtt d)
+    (both (metric SmoothedRtt d)
+    (metric Rttvar d)))))))
+
+unfoldable pub metrics_of : Data → Result Event Fault
+metrics_of d = metrics_fields d >>= λ (time, (window, (ssthresh, (bytes_in_flight, (latest, (least, (smoothed, var))))))). Ok (Metrics time (record {
+  window = window;
+  ssthresh = ssthresh;
+  bytes_in_flight = bytes_in_flight;
+  latest_rtt = latest;
+  min_rtt = least;
+  smoothed_rtt = smoothed;
+  rttvar = var;
+}))
 
 -- ---- the header
 
@@ -74,9 +104,12 @@ header_line d = header_of d >>= λ s. Ok (line.Header s)
 abbrev pub sent_line : Data → Result Line Fault
 sent_line d = sent_of d >>= λ e. Ok (line.Event e)
 
+abbrev pub metrics_line : Data → Result Line Fault
+metrics_line d = metrics_of d >>= λ e. Ok (line.Event e)
+
 -- how the keys of a line are read whose `event` is this text
 abbrev pub reader_named : List ℕ → Option (Data → Result Line Fault)
-reader_named = named ((codes "header", header_line) ∷ (codes "sent", sent_line) ∷ [])
+reader_named = named ((codes "header", header_line) ∷ (codes "sent", sent_line) ∷ (codes "metrics", metrics_line) ∷ [])
 
 -- what an object says, by its key `event`
 unfoldable pub line_of : Data → Result Line Fault

@@ -78,7 +78,7 @@ AreDecided reading ls = IsSome (first_stop reading [] ls)
 
 -- ---- the verdict
 
--- one line further than a number that is not 0, and else this line if it says an event
+-- the number of a line counted from one line earlier: one more than it is, or 1 where it is none and this line is one
 abbrev pub line_behind : Bool → ℕ → ℕ
 line_behind here n = if nat_lt 0 n then n + 1 else (if here then 1 else 0)
 

@@ -9,35 +9,35 @@ use Rattle.qa_base.specs.declared.line.Line.{Line}
 use Rattle.qa_base.specs.declared.line.Line.TheVariants as line
 use Rattle.qa_base.specs.declared.fault.Fault.{Fault}
 use Rattle.qa_base.specs.declared.verdict.Verdict.{Verdict}
-use Rattle.qa_base.specs.Events.{is_sent}
+use Rattle.qa_base.specs.Events.{is_sent_or_report}
 use Rattle.qa_base.specs.Lines.{line_limit}
 use Rattle.qa_base.specs.Packets.{history_of}
 use Rattle.qa_base.specs.Sends.{reading}
 use Rattle.qa_base.specs.Settings.{Settings}
-use Rattle.qa_base.specs.Verdict.{header_said, event_said, header_in, events_in, said, stop_at, stop_after, first_stop, end_at, unreadable, verdict_of, AreGood, AreDecided}
+use Rattle.qa_base.specs.Verdict.{header_said, event_said, header_in, events_in, said, stop_at, stop_after, first_stop, end_at, last_event_line, unreadable, verdict_of, AreGood, AreDecided}
 use Rattle.qa_base.proofs.SendsAlone.{sends_alone}
 use Rattle.qa_base.proofs.Stops.{or_none, first_stop-snoc, first_stop-append, stop_there, verdict_at_stop, verdict_stays, decided_stays, header_in-snoc, said_reading}
-use Rattle.qa_check.specs.Taking.{header_after, events_after, says_sends, TakesIn}
+use Rattle.qa_check.specs.Taking.{header_after, events_after, says_plain, TakesIn}
 use Rattle.qa_check.specs.Standing.{Open, Decided, StandsBy}
 
 -- ---- what a line says
 
-sends_of : (r : Result Line Fault) → ((e : Event) → r ≡ Ok (line.Event e) → is_sent e ≡ true) → says_sends r ≡ true
-sends_of (Err f) sent = refl
-sends_of (Ok line.Blank) sent = refl
-sends_of (Ok (line.Header c)) sent = refl
-sends_of (Ok (line.Event e)) sent = sent e refl
+plain_of : (r : Result Line Fault) → ((e : Event) → r ≡ Ok (line.Event e) → is_sent_or_report e ≡ true) → says_plain r ≡ true
+plain_of (Err f) sent = refl
+plain_of (Ok line.Blank) sent = refl
+plain_of (Ok (line.Header c)) sent = refl
+plain_of (Ok (line.Event e)) sent = sent e refl
 
-sends_still : (many long : Bool) (e f : Fault) (r : Result Line Fault) → says_sends r ≡ true → says_sends (cond many (Err e) (cond long (Err f) r)) ≡ true
-sends_still true long e f r h = refl
-sends_still false true e f r h = refl
-sends_still false false e f r h = h
+plain_still : (many long : Bool) (e f : Fault) (r : Result Line Fault) → says_plain r ≡ true → says_plain (cond many (Err e) (cond long (Err f) r)) ≡ true
+plain_still true long e f r h = refl
+plain_still false true e f r h = refl
+plain_still false false e f r h = h
 
--- the only events that lines say are sent packets
-pub said_sends : (n : ℕ) (l : List ℕ) (s : Result Line Fault) → s ≡ said reading n l → says_sends s ≡ true
+-- the only events that lines say are sent packets and reports
+pub said_plain : (n : ℕ) (l : List ℕ) (s : Result Line Fault) → s ≡ said reading n l → says_plain s ≡ true
 unfolding said
-said_sends n l s h =
-    rw h (sends_still (nat_le 4294967295 n) (nat_lt 65536 (length l)) _ _ (reading l) (sends_of (reading l) (λ e is. (sends_alone l e is).0)))
+said_plain n l s h =
+    rw h (plain_still (nat_le 4294967295 n) (nat_lt 65536 (length l)) _ _ (reading l) (plain_of (reading l) (λ e is. (sends_alone l e is).0)))
 
 -- ---- with and without a verdict
 
@@ -117,6 +117,6 @@ good_adds header header' events events' count count' l x taken says good ls o =
 
 -- the verdict at the end, where each line is good
 pub end_stands : (header : Option Settings) (events : List Event) (count : ℕ) (ls : List (List ℕ)) → Open header events count ls
-    → end_at (count + 1) header (history_of events) ≡ verdict_of reading ls
+    → end_at (count + 1) (last_event_line reading ls) header (history_of events) ≡ verdict_of reading ls
 unfolding verdict_of
 end_stands header events count ls o = rw (o.header_is, o.events_are, o.count_is, o.good) refl

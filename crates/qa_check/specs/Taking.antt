@@ -4,8 +4,8 @@ use Rattle.qa_base.specs.declared.event.Event.{Event}
 use Rattle.qa_base.specs.declared.fault.Fault.{Fault}
 use Rattle.qa_base.specs.declared.line.Line.{Line}
 use Rattle.qa_base.specs.declared.line.Line.TheVariants as line
-use Rattle.qa_base.specs.Events.{is_sent}
-use Rattle.qa_base.specs.Packets.{history_of}
+use Rattle.qa_base.specs.Events.{is_sent_or_report}
+use Rattle.qa_base.specs.Plain.{flight_of}
 use Rattle.qa_base.specs.Settings.{Settings}
 
 abbrev pub header_after : Option Settings → Line → Option Settings
@@ -16,15 +16,15 @@ abbrev pub events_after : List Event → Line → List Event
 events_after old (line.Event e) = old ++ e ∷ []
 events_after old _ = old
 
--- the history after what a line says
-abbrev pub history_after : List Event → Result Line Fault → List Event
-history_after es (Ok (line.Event e)) = e ∷ history_of es
-history_after es _ = history_of es
+-- what a line adds to the bytes in flight where nothing but packets and reports stands before it
+abbrev pub flight_said : Result Line Fault → ℕ
+flight_said (Ok (line.Event e)) = flight_of e
+flight_said _ = 0
 
--- if the line says an event, a packet was sent
-abbrev pub says_sends : Result Line Fault → Bool
-says_sends (Ok (line.Event e)) = is_sent e
-says_sends _ = true
+-- if the line says an event, a packet was sent or the sender reports
+abbrev pub says_plain : Result Line Fault → Bool
+says_plain (Ok (line.Event e)) = is_sent_or_report e
+says_plain _ = true
 
 -- what a good line says was taken in: the header, the events and the number of lines before and after
 pub record TakesIn (header header' : Option Settings) (es es' : List Event) (n n' : ℕ) (l : Line) : Type 0 where

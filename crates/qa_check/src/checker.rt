@@ -1,13 +1,12 @@
 //! The verdict of lines that come one after another.
 ghost use Rattle.std.specs.Prelude.{◌≡◌, ◌≤◌, ◌<◌, ◌+◌, ◌^◌, ◌++◌, [], ◌∷◌, length, List, ℕ, true, false, Some, None, Ok, Err, OnOk, IfErr, IfOk, IfNone, not, is_some};
-ghost use Rattle.std.specs.List.{list_all};
-ghost use Rattle.qa_base.specs.Events.{is_sent};
+ghost use Rattle.qa_base.specs.Events.{is_sent_or_report};
 ghost use Rattle.qa_base.specs.Lines.{line_limit};
-ghost use Rattle.qa_base.specs.Loss.{bytes_in_flight};
 ghost use Rattle.qa_base.specs.Packets.{history_of};
+ghost use Rattle.qa_base.specs.Plain.{ArePlain, flight_of, sent_bytes};
 ghost use Rattle.qa_base.specs.Sends.{reading};
 ghost use Rattle.qa_base.specs.Verdict as verdicts;
-ghost use Rattle.qa_check.specs.Taking.{says_sends, history_after};
+ghost use Rattle.qa_check.specs.Taking.{says_plain, flight_said};
 
 use crate::judge;
 use qa_base::{Event, Fault, Header, Line, Verdict};
@@ -42,8 +41,8 @@ pub struct Checker {
     failed: bool,
     ghost few_lines: { lines ≤ 4294967295 },
     ghost few_events: { length events.items ≤ lines },
-    ghost sent: { list_all is_sent events.items ≡ true },
-    ghost small: { bytes_in_flight (history_of events.items) ≤ 4294967295 },
+    ghost plain: { ArePlain events.items },
+    ghost small: { sent_bytes events.items ≤ 4294967295 },
 }
 
 impl Checker {
@@ -152,8 +151,8 @@ impl Checker {
     /// Takes in what a good line says.
     fn add(&mut self, line: Line) -> Result<(), Stop>
         requires few { self.old.lines < 4294967295 }
-        requires sent { says_sends (Ok line) ≡ true }
-        requires small { bytes_in_flight (history_after self.old.events.items (Ok line)) ≤ 4294967295 }
+        requires plain { says_plain (Ok line) ≡ true }
+        requires small { sent_bytes self.old.events.items + flight_said (Ok line) ≤ 4294967295 }
         ensures ok { OnOk result (AddsLine self.old self.new line) }
         ensures err { IfErr result (λ stop. (stop ≡ Stop.OutOfMemory) × (has_failed self.new ≡ true)) }
     {
@@ -204,8 +203,8 @@ fn long_fault(lines: u64) -> Fault
 
 /// The verdict where a line cannot be read.
 fn unreadable(line: u64, header: &Option<Header>, events: &[Event], fault: Fault) -> Verdict
-    requires sent { list_all is_sent events.now ≡ true }
-    requires small { bytes_in_flight (history_of events.now) ≤ 4294967295 }
+    requires plain { ArePlain events.now }
+    requires small { sent_bytes events.now ≤ 4294967295 }
     ensures { result ≡ verdicts.unreadable line header.now (history_of events.now) fault }
 {
     match header {
@@ -217,11 +216,11 @@ fn unreadable(line: u64, header: &Option<Header>, events: &[Event], fault: Fault
 /// The verdict where an event breaks a rule after these.
 fn refused(line: u64, header: &Header, events: &[Event], event: &Event) -> Option<Verdict>
     requires few { length events.now < 2 ^ 32 }
-    requires sent_before { list_all is_sent events.now ≡ true }
-    requires sent { is_sent event.now ≡ true }
-    requires small { bytes_in_flight (history_of events.now) ≤ 4294967295 }
+    requires plain_before { ArePlain events.now }
+    requires plain { is_sent_or_report event.now ≡ true }
+    requires small { sent_bytes events.now ≤ 4294967295 }
     ensures verdict { result ≡ verdicts.stop_at line (Some header.now) (history_of events.now) (Ok (Line.Event event.now)) }
-    ensures small { IfNone result (bytes_in_flight (event.now ∷ history_of events.now) ≤ 4294967295) }
+    ensures small { IfNone result (sent_bytes events.now + flight_of event.now ≤ 4294967295) }
 {
     match judge::first_broken(header, events, event) {
         None => None,
@@ -241,11 +240,11 @@ fn stop_at(
     said: &Result<Line, Fault>,
 ) -> Option<Verdict>
     requires few { length events.now < 2 ^ 32 }
-    requires sent_before { list_all is_sent events.now ≡ true }
-    requires sent { says_sends said.now ≡ true }
-    requires small { bytes_in_flight (history_of events.now) ≤ 4294967295 }
+    requires plain_before { ArePlain events.now }
+    requires plain { says_plain said.now ≡ true }
+    requires small { sent_bytes events.now ≤ 4294967295 }
     ensures verdict { result ≡ verdicts.stop_at line header.now (history_of events.now) said.now }
-    ensures small { IfNone result (bytes_in_flight (history_after events.now said.now) ≤ 4294967295) }
+    ensures small { IfNone result (sent_bytes events.now + flight_said said.now ≤ 4294967295) }
 {
     match said {
         Err(fault) => Some(unreadable(line, header, events, *fault)),
@@ -263,9 +262,9 @@ fn stop_at(
 
 /// The verdict at the end, where each line is good and `line` would be the next.
 fn end_at(line: u64, header: &Option<Header>, events: &[Event]) -> Verdict
-    requires sent { list_all is_sent events.now ≡ true }
-    requires small { bytes_in_flight (history_of events.now) ≤ 4294967295 }
-    ensures { result ≡ verdicts.end_at line header.now (history_of events.now) }
+    requires plain { ArePlain events.now }
+    requires small { sent_bytes events.now ≤ 4294967295 }
+    ensures { (last : ℕ) → result ≡ verdicts.end_at line last header.now (history_of events.now) }
 {
     match header {
         None => Verdict::Unreadable(line, Fault::HeaderPlace, None),

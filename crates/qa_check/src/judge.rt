@@ -1,15 +1,16 @@
-//! The rules that a sent packet can break, judged from all the packets before it.
-ghost use Rattle.std.specs.Prelude.{◌≡◌, ◌≤◌, ◌+◌, ◌^◌, ◌<◌, ◌*◌, [], ◌∷◌, ℕ, List, true, length, nat_le, IfNone, if◌then◌else◌};
-ghost use Rattle.std.specs.List.{list_any, list_all};
-ghost use Rattle.qa_base.specs.declared.event.Event.{Event};
-ghost use Rattle.qa_base.specs.Events.{time_of as time_of_event, is_sent};
-ghost use Rattle.qa_base.specs.Loss.{bytes_in_flight as bytes_in_flight_of};
+//! The rules that a sent packet and a report can break, judged from all events before it.
+ghost use Rattle.std.specs.Prelude.{◌≡◌, ◌≤◌, ◌+◌, ◌^◌, ◌<◌, ◌*◌, true, length, IfNone, if◌then◌else◌};
+ghost use Rattle.std.specs.List.{list_any};
+ghost use Rattle.qa_base.specs.Events.{time_of as time_of_event, is_sent_or_report};
+ghost use Rattle.qa_base.specs.Metrics as metrics;
 ghost use Rattle.qa_base.specs.Packets.{history_of};
+ghost use Rattle.qa_base.specs.Plain as plain;
+ghost use Rattle.qa_base.specs.Plain.{ArePlain, flight_of, sent_bytes};
 ghost use Rattle.qa_base.specs.Rules as rules;
 ghost use Rattle.qa_base.specs.State as state;
 ghost use Rattle.qa_check.specs.Judge as judge;
 
-use qa_base::{Event, Header, Leave, PacketNumber, Rule, Space, Totals};
+use qa_base::{Event, Field, Header, Leave, MetricValues, PacketNumber, Rule, Space, Totals};
 
 fn time_of(event: &Event) -> u64
     ensures { result ≡ time_of_event event.now }
@@ -62,7 +63,7 @@ fn has_at_or_above(events: &[Event], space: Space, lowest: PacketNumber) -> bool
 
 /// What the event adds to the bytes in flight.
 fn flight_size(event: &Event) -> u64
-    ensures { (h : List Event) → bytes_in_flight_of (event.now ∷ h) ≡ bytes_in_flight_of h + result }
+    ensures { result ≡ flight_of event.now }
 {
     match event {
         Event::Sent {
@@ -76,7 +77,7 @@ fn flight_size(event: &Event) -> u64
 
 /// The bytes in flight after these events.
 fn bytes_in_flight(events: &[Event]) -> u128
-    ensures value { result ≡ bytes_in_flight_of (history_of events.now) }
+    ensures value { result ≡ sent_bytes events.now }
     ensures bound { result ≤ length events.now * 18446744073709551615 }
 {
     let mut bytes: u128 = 0;
@@ -88,54 +89,111 @@ fn bytes_in_flight(events: &[Event]) -> u128
 
 /// The rule that an in-flight packet breaks, by whose leave it goes out, where it makes the bytes in flight these.
 fn broken_leave(leave: Leave, bytes: u128, window: u64) -> Option<Rule>
-    ensures rule { result ≡ judge.broken_leave leave bytes window }
+    ensures rule { result ≡ plain.broken_leave leave bytes window }
     ensures within { IfNone result (bytes ≤ window) }
 {
     match leave {
-        Leave::Window if bytes <= u128::from(window) => None,
-        Leave::Window => Some(Rule::PastWindow),
+        Leave::Window if u128::from(window) < bytes => Some(Rule::PastWindow),
+        Leave::Window => None,
         Leave::Probe => Some(Rule::PastProbe),
         Leave::Recovery => Some(Rule::PastRecovery),
     }
 }
 
-/// The first rule that a sent packet breaks after other packets, and nothing else, were sent.
-#[tactic(auto, unfolding(qa_base::specs::Rules::first_broken))]
-pub fn first_broken(header: &Header, events: &[Event], event: &Event) -> Option<Rule>
-    requires sent_before { list_all is_sent events.now ≡ true }
-    requires sent { is_sent event.now ≡ true }
+/// The rule that a packet breaks which comes in time.
+fn packet_rule(
+    header: &Header,
+    events: &[Event],
+    space: Space,
+    number: PacketNumber,
+    size: u64,
+    in_flight: bool,
+    leave: Leave,
+) -> Option<Rule>
     requires few { length events.now < 2 ^ 32 }
-    requires small { bytes_in_flight_of (history_of events.now) ≤ 4294967295 }
-    ensures rule { result ≡ rules.first_broken header.now (history_of events.now) event.now }
-    ensures small { IfNone result (bytes_in_flight_of (event.now ∷ history_of events.now) ≤ 4294967295) }
+    requires small { sent_bytes events.now ≤ 4294967295 }
+    ensures rule { result ≡ judge.packet_rule header.now events.now space number size in_flight leave }
+    ensures small { IfNone result (sent_bytes events.now + (if in_flight then size else 0) ≤ 4294967295) }
 {
-    let Event::Sent {
-        space,
-        number,
-        in_flight,
-        leave,
-        ..
-    } = event
-    else {
-        unreachable!()
-    };
+    if has_at_or_above(events, space, number) {
+        return Some(Rule::NumberNotHigher);
+    }
+    if !in_flight {
+        return None;
+    }
+    let bytes = bytes_in_flight(events) + u128::from(size);
+    broken_leave(leave, bytes, header.initial_window())
+}
+
+/// Whether a reported value is another than the machine's, which may be none.
+fn differs(reported: Option<u64>, held: Option<u64>) -> bool
+    ensures { result ≡ metrics.differs reported held }
+{
+    match (reported, held) {
+        (None, _) => false,
+        (Some(_), None) => true,
+        (Some(reported), Some(held)) => reported != held,
+    }
+}
+
+/// The first of the reported values that differs from the machine's, as a rule that is broken.
+fn metric_rule(values: &MetricValues, held: &Totals) -> Option<Rule>
+    ensures { result ≡ rules.first_of (metrics.tests values.now held.now) }
+{
+    if differs(values.window, Some(held.window)) {
+        return Some(Rule::Metric(Field::Window));
+    }
+    if differs(values.ssthresh, held.ssthresh) {
+        return Some(Rule::Metric(Field::Ssthresh));
+    }
+    if differs(values.bytes_in_flight, Some(held.bytes_in_flight)) {
+        return Some(Rule::Metric(Field::BytesInFlight));
+    }
+    if differs(values.latest_rtt, Some(held.latest)) {
+        return Some(Rule::Metric(Field::LatestRtt));
+    }
+    if differs(values.min_rtt, Some(held.min)) {
+        return Some(Rule::Metric(Field::MinRtt));
+    }
+    if differs(values.smoothed_rtt, Some(held.smoothed)) {
+        return Some(Rule::Metric(Field::SmoothedRtt));
+    }
+    if differs(values.rttvar, Some(held.var)) {
+        return Some(Rule::Metric(Field::Rttvar));
+    }
+    None
+}
+
+/// The first rule that a sent packet or a report breaks, where nothing but such stands before it.
+pub fn first_broken(header: &Header, events: &[Event], event: &Event) -> Option<Rule>
+    requires plain_before { ArePlain events.now }
+    requires plain { is_sent_or_report event.now ≡ true }
+    requires few { length events.now < 2 ^ 32 }
+    requires small { sent_bytes events.now ≤ 4294967295 }
+    ensures rule { result ≡ rules.first_broken header.now (history_of events.now) event.now }
+    ensures small { IfNone result (sent_bytes events.now + flight_of event.now ≤ 4294967295) }
+{
     if is_time_back(events, event) {
         return Some(Rule::TimeBack);
     }
-    if has_at_or_above(events, *space, *number) {
-        return Some(Rule::NumberNotHigher);
+    match event {
+        Event::Sent {
+            space,
+            number,
+            size,
+            in_flight,
+            leave,
+            ..
+        } => packet_rule(header, events, *space, *number, *size, *in_flight, *leave),
+        Event::Metrics { values, .. } => metric_rule(values, &totals(header, events)),
+        _ => unreachable!(),
     }
-    if !*in_flight {
-        return None;
-    }
-    let bytes = bytes_in_flight(events) + u128::from(flight_size(event));
-    broken_leave(*leave, bytes, header.initial_window())
 }
 
-/// What the machine holds after packets, and nothing else, were sent.
+/// What the machine holds where packets were sent, the sender reported, and nothing else happened.
 pub fn totals(header: &Header, events: &[Event]) -> Totals
-    requires sent { list_all is_sent events.now ≡ true }
-    requires small { bytes_in_flight_of (history_of events.now) < 2 ^ 64 }
+    requires plain { ArePlain events.now }
+    requires small { sent_bytes events.now < 2 ^ 64 }
     ensures { result ≡ state.totals header.now (history_of events.now) }
 {
     Totals {

@@ -7,8 +7,9 @@ ghost use Rattle.serde_json.specs.View.{view};
 ghost use Rattle.qa_base.specs.Keys as keys;
 ghost use Rattle.qa_base.specs.Limits.{max_time, max_packet_number, max_packet_size};
 ghost use Rattle.qa_base.specs.Names.{space_named, role_named, leave_named};
+ghost use Rattle.qa_base.specs.Sends as sends;
 
-use qa_base::{Fault, Key, Leave, Micros, PacketNumber, Role, Space};
+use qa_base::{Fault, Field, Key, Leave, Micros, PacketNumber, Role, Space};
 use serde_json::Value;
 
 /// The values of both keys, or the fault that counts. The first key stands before the second in
@@ -102,6 +103,13 @@ pub fn optional_whole(key: Key, object: &Value) -> Result<Option<u64>, Fault>
         None => Ok(None),
         Some(value) => Ok(Some(whole(key, value)?)),
     }
+}
+
+/// A value that the sender reports.
+pub fn metric(field: Field, object: &Value) -> Result<Option<u64>, Fault>
+    ensures { result ≡ sends.metric field (view object.now) }
+{
+    optional_whole(Key::Metric(field), object)
 }
 
 /// The key `time`.

@@ -1,4 +1,4 @@
-//! What a line says: a header, a packet that was sent, or nothing.
+//! What a line says: a header, a packet that was sent, a report of the sender's state, or nothing.
 ghost use Rattle.std.specs.Prelude.{◌≡◌};
 ghost use Rattle.std.specs.List.{list_all};
 ghost use Rattle.serde_json.specs.View.{view};
@@ -7,7 +7,9 @@ ghost use Rattle.qa_trace.specs.Gives.{Gives};
 
 use crate::fields;
 use crate::fields::both;
-use qa_base::{Event, Fault, Header, Key, Leave, Line, Micros, PacketNumber, Role, Space};
+use qa_base::{
+    Event, Fault, Field, Header, Key, Leave, Line, MetricValues, Micros, PacketNumber, Role, Space,
+};
 use serde_json::Value;
 use std::alloc::Global;
 use thiserror::Error;
@@ -56,6 +58,56 @@ fn sent_of(object: &Value) -> Result<Event, Fault>
         eliciting,
         in_flight,
         leave,
+    })
+}
+
+/// What stands at the keys of a metrics line, in the order of their table.
+type MetricsFields = (
+    Micros,
+    (
+        Option<u64>,
+        (
+            Option<u64>,
+            (
+                Option<u64>,
+                (Option<u64>, (Option<u64>, (Option<u64>, Option<u64>))),
+            ),
+        ),
+    ),
+);
+
+fn metrics_fields(object: &Value) -> Result<MetricsFields, Fault>
+    ensures { result ≡ sends.metrics_fields (view object.now) }
+{
+    let rest = both(
+        fields::metric(Field::SmoothedRtt, object),
+        fields::metric(Field::Rttvar, object),
+    );
+    let rest = both(fields::metric(Field::MinRtt, object), rest);
+    let rest = both(fields::metric(Field::LatestRtt, object), rest);
+    let rest = both(fields::metric(Field::BytesInFlight, object), rest);
+    let rest = both(fields::metric(Field::Ssthresh, object), rest);
+    let rest = both(fields::metric(Field::Window, object), rest);
+    both(fields::time(object), rest)
+}
+
+#[tactic(auto, unfolding(qa_base::specs::Sends::metrics_of))]
+fn metrics_of(object: &Value) -> Result<Event, Fault>
+    ensures { result ≡ sends.metrics_of (view object.now) }
+{
+    let (time, (window, (ssthresh, (bytes_in_flight, rtt)))) = metrics_fields(object)?;
+    let (latest_rtt, (min_rtt, (smoothed_rtt, rttvar))) = rtt;
+    Ok(Event::Metrics {
+        time,
+        values: MetricValues {
+            window,
+            ssthresh,
+            bytes_in_flight,
+            latest_rtt,
+            min_rtt,
+            smoothed_rtt,
+            rttvar,
+        },
     })
 }
 
@@ -121,6 +173,7 @@ fn line_of(value: &Value) -> Result<Line, Fault>
     match fields::required_text(Key::Event, value)? {
         "header" => Ok(Line::Header(header_of(value)?)),
         "sent" => Ok(Line::Event(sent_of(value)?)),
+        "metrics" => Ok(Line::Event(metrics_of(value)?)),
         _ => Err(Fault::UnknownEvent),
     }
 }
@@ -152,7 +205,8 @@ fn json_of(alloc: Global, bytes: &[u8]) -> Result<Value, LineFault>
 
 /// What the bytes of a line say, its LF not among them, or the first of the line's faults.
 ///
-/// It reads a header and a packet that was sent; every other event is `Fault::UnknownEvent`.
+/// It reads a header, a packet that was sent and a report of the sender's state; every other event
+/// is `Fault::UnknownEvent`.
 /// A line of any length is read: how long a line of a trace may be is for its splitter to say.
 /// `LineFault::OutOfMemory` comes where memory was refused, and then the call can be made again.
 #[tactic(auto, unfolding(qa_base::specs::Sends::reading))]

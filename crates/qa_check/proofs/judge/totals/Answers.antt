@@ -1,5 +1,6 @@
-use Rattle.qa_base.proofs.Histories.{length-history_of}
+use Rattle.std.proofs.Common.{sym}
+use Rattle.qa_base.proofs.SendsAndReports.{totals-plain}
 use Rattle.qa_check.proofs.judge.totals.Goals as goal
 
 pub returns : goal.returns
-returns c = cc (length-history_of c.args.events.now)
+returns c = cc (totals-plain c.args.header.now c.args.events.now c.requires.plain)

@@ -4,20 +4,20 @@ use Rattle.qa_base.specs.Packets.{history_of}
 use Rattle.qa_base.specs.Sends.{reading}
 use Rattle.qa_base.specs.Verdict.{stop_at, said}
 use Rattle.qa_base.proofs.Stops.{said_few}
-use Rattle.qa_check.proofs.Growing.{said_sends, decided_adds, stop_adds, good_adds, open_from, stands_open, stands_decided, no_verdict}
+use Rattle.qa_check.proofs.Growing.{said_plain, decided_adds, stop_adds, good_adds, open_from, stands_open, stands_decided, no_verdict}
 use Rattle.qa_check.proofs.checker.Checker.line.Goals as goal
 
 pub returns-then-is_some-clause-decided : goal.returns-then-is_some-clause-decided
 returns-then-is_some-clause-decided c = λ is. (c.if-self.false, decided_adds _ _ _ _ _ (sym c.is_some.ensures ∙ c.if-is_some.true))
 
-pub stop_at-requires-clause-sent : goal.stop_at-requires-clause-sent
-stop_at-requires-clause-sent c = said_sends _ _ _ c.in-Ok.ensures.says
+pub stop_at-requires-clause-plain : goal.stop_at-requires-clause-plain
+stop_at-requires-clause-plain c = said_plain _ _ _ c.in-Ok.ensures.says
 
 pub add-requires-clause-few : goal.add-requires-clause-few
 add-requires-clause-few c = said_few reading _ _ (sym c.in-Ok.ensures.says ∙ c.in-Ok-said.is)
 
-pub add-requires-clause-sent : goal.add-requires-clause-sent
-add-requires-clause-sent c = said_sends _ _ _ (sym c.in-Ok-said.is ∙ c.in-Ok.ensures.says)
+pub add-requires-clause-plain : goal.add-requires-clause-plain
+add-requires-clause-plain c = said_plain _ _ _ (sym c.in-Ok-said.is ∙ c.in-Ok.ensures.says)
 
 -- what was computed is what stops at the line
 pub returns-in-Some-clause-decided : goal.returns-in-Some-clause-decided
