@@ -8,3 +8,5 @@ pub mod Shorthand
 pub mod rows
 pub mod Quiet
 pub mod SendsAndReports
+pub mod RunLaws
+pub mod Ranges

@@ -15,6 +15,7 @@ pub mod State
 pub mod Metrics
 pub mod Rules
 pub mod Plain
+pub mod Order
 pub mod Lines
 pub mod Keys
 pub mod Sends

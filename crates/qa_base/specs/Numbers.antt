@@ -1,6 +1,6 @@
 -- Which packet numbers ranges name, by tests that compute.
 use Rattle.std.specs.Prelude.{◌≡◌, ℕ, ◌+◌, ◌≤◌, ◌==◌, ◌&&◌, ◌||◌, not, nat_le, nat_lt, Bool, true, List}
-use Rattle.std.specs.List.{list_all, list_any}
+use Rattle.std.specs.List.{list_all, list_any, AllByRecursion}
 use Rattle.qa_base.specs.Events.{is_named}
 
 abbrev pub is_in : List ℕ → ℕ → Bool
@@ -32,3 +32,7 @@ pub record NamesOnly (ranges : List (ℕ × ℕ)) (numbers : List ℕ) : Type 0 
 pub record Names (ranges : List (ℕ × ℕ)) (numbers : List ℕ) : Type 0 where
   pub only : (n : ℕ) → is_named ranges n ≡ true → is_in numbers n ≡ true
   pub each : (n : ℕ) → is_in numbers n ≡ true → is_named ranges n ≡ true
+
+-- each range is from a number to one that is not below it
+abbrev pub AreRanges : List (ℕ × ℕ) → Type 0
+AreRanges ranges = AllByRecursion (λ range. range.0 ≤ range.1) ranges

@@ -1,13 +1,25 @@
 //! Facts over the definitions alone. Each is the contract of a function that does nothing.
-ghost use Rattle.std.specs.Prelude.{◌≡◌, ◌++◌, List, ℕ, true, Ok};
+ghost use Rattle.std.specs.Prelude.{◌≡◌, ◌++◌, ◌∷◌, ◌+◌, ◌&&◌, ◌↔◌, [], List, ℕ, Bool, true, not, Ok, if◌then◌else◌};
 ghost use Rattle.qa_base.specs.declared.event.Event.{Event};
+ghost use Rattle.qa_base.specs.declared.event.Event.TheVariants as events;
 ghost use Rattle.qa_base.specs.declared.line.Line.TheVariants as line;
-ghost use Rattle.qa_base.specs.Events.{fits, is_sent_or_report};
-ghost use Rattle.qa_base.specs.Sends.{reading as sends};
-ghost use Rattle.qa_base.specs.Verdict.{Reading, IsFixed, IsTraceOfRun, verdict};
+ghost use Rattle.qa_base.specs.declared.space.Leave.{Leave};
+ghost use Rattle.qa_base.specs.declared.space.Space.{Space};
 ghost use Rattle.qa_base.specs.declared.verdict.Totals.{Totals};
 ghost use Rattle.qa_base.specs.declared.verdict.Verdict.TheVariants as verdicts;
+ghost use Rattle.qa_base.specs.Events.{fits, is_quiet, is_sent_or_report};
 ghost use Rattle.qa_base.specs.Lines.{lines};
+ghost use Rattle.qa_base.specs.Loss.{bytes_in_flight, owed};
+ghost use Rattle.qa_base.specs.Numbers.{AreRanges, Names, NamesOnly, has_all, names_exactly};
+ghost use Rattle.qa_base.specs.Order.{NumbersFall};
+ghost use Rattle.qa_base.specs.Packets.{packets, is_gone, newly_acknowledged};
+ghost use Rattle.qa_base.specs.Reno.{moves};
+ghost use Rattle.qa_base.specs.Rtt.{rtt};
+ghost use Rattle.qa_base.specs.Rules.{IsRun};
+ghost use Rattle.qa_base.specs.Sends.{reading as sends};
+ghost use Rattle.qa_base.specs.Settings.{Settings};
+ghost use Rattle.qa_base.specs.Timer.{backoff};
+ghost use Rattle.qa_base.specs.Verdict.{Reading, IsFixed, IsTraceOfRun, verdict};
 
 /// No byte that follows changes a verdict that is fixed, whatever the reading of lines.
 pub fn fixed_stays()
@@ -23,4 +35,40 @@ pub fn sends_alone()
 /// run, whatever the reading of lines.
 pub fn accepted_is_run()
     ensures { (reading : Reading) (bytes : List ℕ) (t : Totals) → verdict reading bytes ≡ verdicts.Accepted t → IsTraceOfRun reading (lines bytes) t }
+{}
+
+/// A prefix of a run is a run.
+pub fn prefix_of_run()
+    ensures { (c : Settings) (more h : List Event) → IsRun c (more ++ h) → IsRun c h }
+{}
+
+/// Where nothing is owed, a packet that is sent adds its size to the bytes in flight; it adds
+/// nothing where it is not in flight or its space was discarded.
+pub fn sent_adds_its_size()
+    ensures { (c : Settings) (h : List Event) (time : ℕ) (space : Space) (number size : ℕ) (eliciting in_flight : Bool) (leave : Leave)
+        → owed c h ≡ []
+        → bytes_in_flight c (events.Sent time space number size eliciting in_flight leave ∷ h)
+        ≡ bytes_in_flight c h + (if in_flight && not (is_gone h space) then size else 0) }
+{}
+
+/// An event that is no acknowledgment, no timer and no discard leaves the RTT, the moves of the
+/// window and the PTO count as they were.
+pub fn quiet_events_change_little()
+    ensures rtt { (c : Settings) (e : Event) (h : List Event) → is_quiet e ≡ true → rtt c (e ∷ h) ≡ rtt c h }
+    ensures moves { (c : Settings) (e : Event) (h : List Event) → is_quiet e ≡ true → moves c (e ∷ h) ≡ moves c h }
+    ensures backoff { (c : Settings) (e : Event) (h : List Event) → is_quiet e ≡ true → backoff c (e ∷ h) ≡ backoff c h }
+{}
+
+/// In a run the packets of a space have rising numbers in the order of sending, and so have those
+/// that an acknowledgment newly acknowledges: both lists have the latest first.
+pub fn numbers_rise()
+    ensures packets { (c : Settings) (h : List Event) → IsRun c h → NumbersFall (packets h) }
+    ensures newly { (c : Settings) (e : Event) (h : List Event) → IsRun c h → NumbersFall (newly_acknowledged (e ∷ h)) }
+{}
+
+/// The tests of ranges are what they stand for, over all numbers: that no number is named but
+/// these, and that exactly these are.
+pub fn ranges_name()
+    ensures only { (numbers : List ℕ) (ranges : List (ℕ × ℕ)) → AreRanges ranges → (has_all numbers ranges ≡ true) ↔ NamesOnly ranges numbers }
+    ensures exactly { (ranges : List (ℕ × ℕ)) (numbers : List ℕ) → AreRanges ranges → (names_exactly ranges numbers ≡ true) ↔ Names ranges numbers }
 {}

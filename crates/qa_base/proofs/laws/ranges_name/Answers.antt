@@ -1,0 +1,5 @@
+use Rattle.qa_base.proofs.Ranges as lemmas
+use Rattle.qa_base.proofs.laws.ranges_name.Goals as goal
+
+pub returns : goal.returns
+returns c = record { only = lemmas.has_all_is; exactly = lemmas.names_exactly_is }
