@@ -16,6 +16,8 @@ pub mod Metrics
 pub mod Rules
 pub mod Plain
 pub mod Order
+pub mod Span
+pub mod Proper
 pub mod Lines
 pub mod Keys
 pub mod Sends
