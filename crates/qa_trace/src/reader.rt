@@ -12,6 +12,9 @@ use serde_json::Value;
 use std::alloc::Global;
 use thiserror::Error;
 
+#[cfg(test)]
+mod tests;
+
 /// Why a line was not read.
 #[derive(Clone, Copy, Debug, PartialEq, Eq, Error)]
 pub enum LineFault {
