@@ -254,6 +254,19 @@ fn other_events_fit_but_a_discarded_app(rt: HostRuntime) -> Result<(), Fail> {
 }
 
 #[test]
+fn spaces_and_numbers_are_ordered(rt: HostRuntime) -> Result<(), Fail> {
+    assert!(rt; Space::Initial < Space::Handshake);
+    assert!(rt; Space::Handshake < Space::App);
+    let low = Micros::new(999).ok_or("a time")?;
+    let high = Micros::new(1000).ok_or("a time")?;
+    assert!(rt; low < high);
+    let first = PacketNumber::new(999).ok_or("a packet number")?;
+    let second = PacketNumber::new(1000).ok_or("a packet number")?;
+    assert!(rt; first < second);
+    Ok(())
+}
+
+#[test]
 fn rules_have_names_and_numbers(rt: HostRuntime) {
     for (rule, number, name) in [
         (Rule::TimeBack, 1, "time-back"),
