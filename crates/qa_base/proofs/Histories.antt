@@ -60,14 +60,7 @@ pub bytes_in_flight-sent : (time : ℕ) (space : Space) (number size : ℕ) (eli
     → bytes_in_flight (Sent time space number size eliciting in_flight leave ∷ h) ≡ bytes_in_flight h + (if in_flight then size else 0)
 bytes_in_flight-sent time space number size eliciting in_flight leave h =
     let p : Packet = record {
-      place = length h;
-      time = time;
-      space = space;
-      number = number;
-      size = size;
-      eliciting = eliciting;
-      in_flight = in_flight;
-      leave = leave;
+      place = length h; time = time; space = space; number = number; size = size; eliciting = eliciting; in_flight = in_flight; leave = leave;
     } in
     let more : sum_by flight_size (p ∷ packets h) ≡ flight_size p + sum_by flight_size (packets h) = sum_by-cons flight_size p (packets h) in
     omega (arith, more)
