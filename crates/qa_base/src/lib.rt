@@ -12,6 +12,8 @@ mod line;
 mod number;
 mod rule;
 mod space;
+#[cfg(test)]
+mod tests;
 mod verdict;
 
 pub use event::{Event, MetricValues};

@@ -1,6 +1,7 @@
 //! What a line says: a header, a packet that was sent, a report of the sender's state, or nothing.
-ghost use Rattle.std.specs.Prelude.{◌≡◌};
+ghost use Rattle.std.specs.Prelude.{◌≡◌, true, Ok, IsErrOf};
 ghost use Rattle.std.specs.List.{list_all};
+ghost use Rattle.std.specs.Str.{is_utf8};
 ghost use Rattle.serde_json.specs.View.{view};
 ghost use Rattle.qa_base.specs.Sends as sends;
 ghost use Rattle.qa_trace.specs.Gives.{Gives};
@@ -13,6 +14,9 @@ use qa_base::{
 use serde_json::Value;
 use std::alloc::Global;
 use thiserror::Error;
+
+#[cfg(test)]
+mod tests;
 
 /// Why a line was not read.
 #[derive(Clone, Copy, Debug, PartialEq, Eq, Error)]
@@ -188,7 +192,8 @@ fn is_blank(bytes: &[u8]) -> bool
 
 #[tactic(auto, unfolding(qa_base::specs::Sends::json_of))]
 fn json_of(alloc: Global, bytes: &[u8]) -> Result<Value, LineFault>
-    ensures { Gives view result (sends.json_of bytes.now) }
+    ensures read { Gives view result (sends.json_of bytes.now) }
+    ensures memory { IsErrOf result LineFault.OutOfMemory → is_utf8 bytes.now ≡ true }
 {
     let Ok(text) = str::from_utf8(bytes) else {
         return Err(LineFault::Fault(Fault::NotJson));
@@ -208,10 +213,13 @@ fn json_of(alloc: Global, bytes: &[u8]) -> Result<Value, LineFault>
 /// It reads a header, a packet that was sent and a report of the sender's state; every other event
 /// is `Fault::UnknownEvent`.
 /// A line of any length is read: how long a line of a trace may be is for its splitter to say.
-/// `LineFault::OutOfMemory` comes where memory was refused, and then the call can be made again.
+/// `LineFault::OutOfMemory` comes where memory was refused, and then the call can be made again; a
+/// blank line and bytes that are not UTF-8 take no memory.
 #[tactic(auto, unfolding(qa_base::specs::Sends::reading))]
 pub fn read_line(alloc: Global, bytes: &[u8]) -> Result<Line, LineFault>
-    ensures { Gives (λ line. line) result (sends.reading bytes.now) }
+    ensures read { Gives (λ line. line) result (sends.reading bytes.now) }
+    ensures blank { list_all sends.is_blank bytes.now ≡ true → result ≡ Ok Line.Blank }
+    ensures memory { IsErrOf result LineFault.OutOfMemory → is_utf8 bytes.now ≡ true }
 {
     if is_blank(bytes) {
         return Ok(Line::Blank);

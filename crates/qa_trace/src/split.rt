@@ -8,6 +8,9 @@ use std::alloc::{AllocError, Global};
 use std::marker::Model;
 use thiserror::Error;
 
+#[cfg(test)]
+mod tests;
+
 /// Why a splitter gives no more lines.
 #[derive(Clone, Copy, Debug, PartialEq, Eq, Error)]
 pub enum SplitFault {
@@ -52,7 +55,7 @@ impl Model for Splitter {
 
 impl Splitter {
     ghost use Rattle.std.specs.Prelude.{[], true, Some, None, Err, OnOk, OnErr, IfSome, IfNone, IsErrOf, IfErr};
-    ghost use Rattle.qa_trace.specs.Stream.{TakesLine, HasNoLine, BeginsTooLong};
+    ghost use Rattle.qa_trace.specs.Stream.{TakesLine, HasLine, HasNoLine, BeginsTooLong};
 
     /// A splitter that holds no bytes. Takes no memory.
     pub fn new(alloc: Global) -> Splitter
@@ -107,13 +110,14 @@ impl Splitter {
     /// The next line without its LF, or None where no whole line stands ready.
     ///
     /// `SplitFault::TooLong` comes as soon as the next line has more than 65,536 bytes, whether
-    /// its end is there or not. After any refusal the splitter has failed and answers that refusal
-    /// from then on.
+    /// its end is there or not, and `SplitFault::OutOfMemory` only where a line stands ready. After
+    /// any refusal the splitter has failed and answers that refusal from then on.
     pub fn next_line(&mut self) -> Result<Option<Vec<u8>>, SplitFault>
         ensures refused { IfSome self.old.refused (λ fault. (result ≡ Err fault) × (self.new ≡ self.old)) }
         ensures line { IfOk result (λ found. IfSome found (λ line. TakesLine self.old self.new line.items)) }
         ensures none { IfOk result (λ found. IfNone found (HasNoLine self.old × (self.new ≡ self.old))) }
         ensures too_long { self.old.refused ≡ None → IsErrOf result SplitFault.TooLong → BeginsTooLong self.old.bytes }
+        ensures memory { self.old.refused ≡ None → IsErrOf result SplitFault.OutOfMemory → HasLine self.old }
         ensures err { IfErr result (λ fault. self.new ≡ record self.old { refused = Some fault }) }
     {
         if let Some(fault) = self.refused {
