@@ -472,3 +472,78 @@ fn faults_come_in_their_order(rt: HostRuntime) {
         assert_eq!(rt; answer, Err(LineFault::Fault(fault)), "{line}");
     }
 }
+
+const NOTHING_REPORTED: MetricValues = MetricValues {
+    window: None,
+    ssthresh: None,
+    bytes_in_flight: None,
+    latest_rtt: None,
+    min_rtt: None,
+    smoothed_rtt: None,
+    rttvar: None,
+};
+
+#[test]
+fn reports_are_read(rt: HostRuntime) -> Result<(), Fail> {
+    for (line, time, values) in [
+        (r#"{"event":"metrics","time":5}"#, 5, NOTHING_REPORTED),
+        (
+            r#"{"event":"metrics","time":0,"window":1,"ssthresh":2,"bytes_in_flight":3,"latest_rtt":4,"min_rtt":5,"smoothed_rtt":6,"rttvar":7}"#,
+            0,
+            MetricValues {
+                window: Some(1),
+                ssthresh: Some(2),
+                bytes_in_flight: Some(3),
+                latest_rtt: Some(4),
+                min_rtt: Some(5),
+                smoothed_rtt: Some(6),
+                rttvar: Some(7),
+            },
+        ),
+        (
+            r#"{"rttvar":18446744073709551615,"window":null,"time":1000000000000000,"event":"metrics","size":"x"}"#,
+            1_000_000_000_000_000,
+            MetricValues {
+                rttvar: Some(18_446_744_073_709_551_615),
+                ..NOTHING_REPORTED
+            },
+        ),
+    ] {
+        let time = Micros::new(time).ok_or("out of range")?;
+        assert_eq!(rt;
+            read_line(rt.alloc(), line.as_bytes()),
+            Ok(Line::Event(Event::Metrics { time, values })),
+            "{line}"
+        );
+    }
+    Ok(())
+}
+
+#[test]
+fn faults_of_reports(rt: HostRuntime) -> Result<(), Fail> {
+    for (line, fault) in [
+        (
+            r#"{"event":"metrics","window":-1}"#,
+            Fault::Missing(Key::Time),
+        ),
+        (
+            r#"{"event":"metrics","time":5,"rttvar":1.0,"min_rtt":"1"}"#,
+            Fault::WrongKind(Key::Metric(Field::MinRtt)),
+        ),
+        (
+            r#"{"event":"metrics","time":1000000000000001,"window":18446744073709551616}"#,
+            Fault::WrongKind(Key::Metric(Field::Window)),
+        ),
+        (
+            r#"{"event":"metrics","time":1000000000000001,"window":1}"#,
+            Fault::OutOfRange(Key::Time),
+        ),
+    ] {
+        assert_eq!(rt;
+            read_line(rt.alloc(), line.as_bytes()),
+            Err(LineFault::Fault(fault)),
+            "{line}"
+        );
+    }
+    Ok(())
+}
