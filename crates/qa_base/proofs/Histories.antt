@@ -1,14 +1,14 @@
 -- Histories of events that stand in order, and what one more event does.
 use Rattle.std.proofs.Common.{◌≡◌, ◌∙◌, ◌+◌, ℕ, List, [], ◌∷◌, ◌++◌, length, Bool, true, false, ◌||◌, ◌&&◌, refl, ap, arith}
-use Rattle.std.proofs.lemmas.List.Sums.{fold_push, sum_by-cons}
-use Rattle.std.specs.List.{fold, list_any, sum_by}
+use Rattle.std.proofs.lemmas.List.Sums.{fold_push}
+use Rattle.std.specs.List.{fold, list_any}
 use Rattle.std.specs.Prelude.{nat_le, if◌then◌else◌}
 use Rattle.qa_base.specs.declared.event.Event.{Event}
 use Rattle.qa_base.specs.declared.event.Event.TheVariants.{Sent}
 use Rattle.qa_base.specs.declared.space.Space.{Space}
 use Rattle.qa_base.specs.declared.space.Leave.{Leave}
 use Rattle.qa_base.specs.Events.{is_space}
-use Rattle.qa_base.specs.Packets.{Packet, history_of, packets, packets_of}
+use Rattle.qa_base.specs.Packets.{Packet, history_of, packets_of}
 use Rattle.qa_base.specs.Rules.{has_at_or_above}
 
 -- ---- one more event

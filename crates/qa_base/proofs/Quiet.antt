@@ -1,19 +1,19 @@
 -- What quiet events leave as it was.
-use Rattle.std.proofs.Common.{◌≡◌, ◌∙◌, ◌+◌, ◌<◌, ◌≤◌, ℕ, List, [], ◌∷◌, ◌++◌, length, Bool, true, false, ◌&&◌, ◌||◌, not, Option, Some, None, cond, refl, sym, ap, arith, add_comm}
+use Rattle.std.proofs.Common.{◌≡◌, ◌∙◌, ◌+◌, ◌≤◌, ℕ, List, [], ◌∷◌, ◌++◌, length, Bool, true, false, ◌&&◌, not, Option, Some, None, cond, refl, sym, ap, arith, add_comm}
 use Rattle.std.proofs.lemmas.List.{append-nil}
 use Rattle.std.proofs.lemmas.List.Sums.{sum_by-cons}
 use Rattle.std.proofs.lemmas.Bool.{le-ltb}
-use Rattle.std.specs.List.{filter, list_any, sum_by, count_by, AllByRecursion}
+use Rattle.std.specs.List.{filter, sum_by, count_by, AllByRecursion}
 use Rattle.std.specs.Prelude.{nat_lt, if◌then◌else◌}
 use Rattle.qa_base.specs.declared.event.Event.{Event}
 use Rattle.qa_base.specs.declared.event.Event.TheVariants.{Sent, Ack, Lost, Timer, Discard, Confirmed, Keys, Metrics}
 use Rattle.qa_base.specs.declared.event.MetricValues.{MetricValues}
 use Rattle.qa_base.specs.declared.space.Space.{Space}
 use Rattle.qa_base.specs.declared.space.Leave.{Leave}
-use Rattle.qa_base.specs.Events.{is_quiet, is_space}
-use Rattle.qa_base.specs.Loss.{is_found, is_found_at, is_owed, found_at, owed, detection, is_open, flight_size, bytes_in_flight}
-use Rattle.qa_base.specs.Moments.{moments, since}
-use Rattle.qa_base.specs.Packets.{Packet, packets, packets_of, newly_acknowledged, acknowledges_new, is_followed_by, is_gone, is_of, is_covered, is_lost}
+use Rattle.qa_base.specs.Events.{is_quiet}
+use Rattle.qa_base.specs.Loss.{is_found, is_found_at, is_owed, found_at, owed, detection, flight_size, bytes_in_flight}
+use Rattle.qa_base.specs.Moments.{since}
+use Rattle.qa_base.specs.Packets.{Packet, packets, newly_acknowledged, is_followed_by, is_gone, is_of, is_covered, is_lost}
 use Rattle.qa_base.specs.Reno.{moves, moves_of_last}
 use Rattle.qa_base.specs.Rtt.{rtt}
 use Rattle.qa_base.specs.Settings.{Settings}
@@ -165,7 +165,14 @@ pub bytes_in_flight-sent : (c : Settings) (h : List Event) (time : ℕ) (space :
 bytes_in_flight-sent c h time space number size eliciting in_flight leave none =
     let e = Sent time space number size eliciting in_flight leave in
     let p : Packet = record {
-      place = length h; time = time; space = space; number = number; size = size; eliciting = eliciting; in_flight = in_flight; leave = leave;
+      place = length h;
+      time = time;
+      space = space;
+      number = number;
+      size = size;
+      eliciting = eliciting;
+      in_flight = in_flight;
+      leave = leave;
     } in
     let all = sum_by-cons (flight_size c (e ∷ h)) p (packets h) in
     let rest = same_sum (flight_size c (e ∷ h)) (flight_size c h) (packets h) (still_open c h e (packets h) (not_owed c h none) (sent_leaves c h time space number size eliciting in_flight leave)) in

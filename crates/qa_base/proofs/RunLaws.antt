@@ -1,17 +1,14 @@
 -- Laws of every run.
-use Rattle.std.proofs.Common.{◌≡◌, ◌∙◌, ◌+◌, ◌<◌, ◌≤◌, ℕ, List, [], ◌∷◌, ◌++◌, length, Bool, true, false, ◌||◌, ◌&&◌, Option, Some, None, refl, sym, ap, arith}
+use Rattle.std.proofs.Common.{◌≡◌, ◌∙◌, List, [], ◌∷◌, ◌++◌, length, Bool, true, false, ◌||◌, Option, Some, None, refl, sym}
 use Rattle.std.proofs.lemmas.Bool.{leb-false}
 use Rattle.std.specs.List.{filter, list_any, AllByRecursion}
 use Rattle.std.specs.Prelude.{nat_le, if◌then◌else◌}
 use Rattle.qa_base.specs.declared.event.Event.{Event}
 use Rattle.qa_base.specs.declared.event.Event.TheVariants.{Sent}
 use Rattle.qa_base.specs.declared.rule.Rule.{Rule}
-use Rattle.qa_base.specs.declared.space.Space.{Space}
-use Rattle.qa_base.specs.declared.space.Space.TheVariants.{Initial, Handshake, App}
-use Rattle.qa_base.specs.Events.{is_space, acknowledges}
 use Rattle.qa_base.specs.Order.{IsLower, NumbersFall}
-use Rattle.qa_base.specs.Packets.{Packet, packets, packets_of, packet_of, is_of, newly_acknowledged, is_newly_acknowledged}
-use Rattle.qa_base.specs.Rules.{broken, first_of, first_broken, has_at_or_above, IsRun}
+use Rattle.qa_base.specs.Packets.{Packet, packets, is_of, newly_acknowledged, is_newly_acknowledged}
+use Rattle.qa_base.specs.Rules.{broken, first_of, first_broken, IsRun}
 use Rattle.qa_base.specs.Settings.{Settings}
 
 -- a prefix of a run is a run
@@ -61,7 +58,14 @@ event_falls : (c : Settings) (e : Event) (h : List Event) → first_broken c h e
 event_falls c (Sent time space number size eliciting in_flight leave) h allowed falls =
     let holds = all_hold c h (Sent time space number size eliciting in_flight leave) allowed in
     let p : Packet = record {
-      place = length h; time = time; space = space; number = number; size = size; eliciting = eliciting; in_flight = in_flight; leave = leave;
+      place = length h;
+      time = time;
+      space = space;
+      number = number;
+      size = size;
+      eliciting = eliciting;
+      in_flight = in_flight;
+      leave = leave;
     } in
     (all_lower p (packets h) holds.1.1.1.1.1.0, falls)
 event_falls c _ h allowed falls = falls

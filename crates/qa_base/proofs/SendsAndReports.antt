@@ -1,18 +1,17 @@
 -- What the machine is where packets were sent and the sender reported its state, and nothing else happened.
-use Rattle.std.proofs.Common.{◌≡◌, ◌∙◌, ◌+◌, ◌/◌, ℕ, List, [], ◌∷◌, ◌++◌, length, Bool, true, false, ◌&&◌, ◌||◌, not, Option, Some, None, refl, sym, ap, arith, add_assoc, add-zero, zero-add}
+use Rattle.std.proofs.Common.{◌≡◌, ◌∙◌, ◌+◌, ◌/◌, ℕ, List, [], ◌∷◌, length, Bool, true, false, ◌&&◌, not, Some, None, refl, sym, ap, add_assoc, add-zero, zero-add}
 use Rattle.std.proofs.lemmas.Bool.{and_parts}
 use Rattle.std.proofs.lemmas.List.Sums.{sum_by-cons}
 use Rattle.std.specs.List.{list_any, list_all, sum_by, fold}
-use Rattle.std.specs.Prelude.{nat_lt, if◌then◌else◌}
+use Rattle.std.specs.Prelude.{if◌then◌else◌}
 use Rattle.qa_base.specs.declared.event.Event.{Event}
-use Rattle.qa_base.specs.declared.event.Event.TheVariants.{Sent, Ack, Lost, Timer, Discard, Confirmed, Keys, Metrics}
+use Rattle.qa_base.specs.declared.event.Event.TheVariants.{Sent, Ack, Timer, Discard, Metrics}
 use Rattle.qa_base.specs.declared.event.MetricValues.{MetricValues}
-use Rattle.qa_base.specs.declared.rule.Rule.{Rule}
 use Rattle.qa_base.specs.declared.rule.Rule.TheVariants as rule
 use Rattle.qa_base.specs.declared.space.Leave.{Leave}
 use Rattle.qa_base.specs.declared.space.Leave.TheVariants.{Window, Probe, Recovery}
 use Rattle.qa_base.specs.declared.space.Space.{Space}
-use Rattle.qa_base.specs.Events.{is_quiet, is_sent_or_report, discards}
+use Rattle.qa_base.specs.Events.{is_quiet, is_sent_or_report}
 use Rattle.qa_base.specs.Leave.{probe_spent, recovery_spent}
 use Rattle.qa_base.specs.Loss.{owed, bytes_in_flight}
 use Rattle.qa_base.specs.Metrics.{metric_tests}

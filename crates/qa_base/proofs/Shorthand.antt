@@ -1,5 +1,5 @@
 -- Short forms of settings and events, for histories that are written out.
-use Rattle.std.specs.Prelude.{ℕ, List, Bool, true, false, Option}
+use Rattle.std.specs.Prelude.{ℕ, List, true, false, Option}
 use Rattle.qa_base.specs.declared.event.Event.{Event}
 use Rattle.qa_base.specs.declared.event.Event.TheVariants.{Sent, Ack, Lost, Timer, Metrics}
 use Rattle.qa_base.specs.declared.space.Kind.TheVariants as kind

@@ -1,5 +1,5 @@
 -- Which packets are detected as lost, which are open, and the bytes in flight.
-use Rattle.std.specs.Prelude.{ℕ, ◌+◌, ◌-◌, ◌*◌, ◌/◌, ◌&&◌, ◌||◌, not, nat_le, nat_lt, max, Bool, true, false, List, [], ◌∷◌, filter, sum_by, Option, Some, None, if◌then◌else◌}
+use Rattle.std.specs.Prelude.{ℕ, ◌-◌, ◌*◌, ◌&&◌, ◌||◌, not, nat_le, nat_lt, max, Bool, false, List, [], ◌∷◌, filter, sum_by, Option, Some, None, if◌then◌else◌}
 use Rattle.std.specs.List.{list_any}
 use Rattle.qa_base.specs.declared.event.Event.{Event}
 use Rattle.qa_base.specs.declared.event.Event.TheVariants.{Ack, Timer}

@@ -1,8 +1,8 @@
 -- The rules, the first that an event breaks, and runs.
-use Rattle.std.specs.Prelude.{◌≡◌, ℕ, ◌+◌, ◌*◌, ◌&&◌, ◌||◌, not, nat_lt, nat_le, Bool, true, false, List, [], ◌∷◌, ◌++◌, map, Option, Some, None, is_none, if◌then◌else◌}
+use Rattle.std.specs.Prelude.{◌≡◌, ℕ, ◌+◌, ◌*◌, ◌&&◌, not, nat_lt, nat_le, Bool, true, false, List, [], ◌∷◌, map, Option, Some, None, is_none, if◌then◌else◌}
 use Rattle.std.specs.List.{list_any}
 use Rattle.qa_base.specs.declared.event.Event.{Event}
-use Rattle.qa_base.specs.declared.event.Event.TheVariants.{Sent, Ack, Lost, Timer, Discard, Metrics}
+use Rattle.qa_base.specs.declared.event.Event.TheVariants.{Sent, Ack, Lost, Timer, Discard}
 use Rattle.qa_base.specs.declared.rule.Rule.{Rule}
 use Rattle.qa_base.specs.declared.rule.Rule.TheVariants as rule
 use Rattle.qa_base.specs.declared.space.Kind.{Kind}

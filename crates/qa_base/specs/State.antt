@@ -1,5 +1,5 @@
 -- What the machine holds after a history.
-use Rattle.std.specs.Prelude.{ℕ, List, length}
+use Rattle.std.specs.Prelude.{List, length}
 use Rattle.qa_base.specs.declared.event.Event.{Event}
 use Rattle.qa_base.specs.declared.verdict.Totals.{Totals}
 use Rattle.qa_base.specs.Loss.{bytes_in_flight, owed}

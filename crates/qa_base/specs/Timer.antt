@@ -1,9 +1,9 @@
 -- The loss detection timer (RFC 9002, section 6.2, A.8).
-use Rattle.std.specs.Prelude.{ℕ, ◌+◌, ◌*◌, ◌/◌, ◌^◌, ◌&&◌, ◌||◌, not, nat_le, nat_lt, min, max, count_by, Bool, true, false, List, [], ◌∷◌, filter, find, map, unwrap_or, Option, Some, None, option_map, option_and_then, if◌then◌else◌}
+use Rattle.std.specs.Prelude.{ℕ, ◌+◌, ◌*◌, ◌/◌, ◌^◌, ◌&&◌, nat_le, nat_lt, min, max, count_by, Bool, true, false, List, [], ◌∷◌, filter, find, map, unwrap_or, Option, Some, None, option_map, option_and_then, if◌then◌else◌}
 use Rattle.std.specs.List.{list_any}
 use Rattle.std.specs.Option.{option_or}
 use Rattle.qa_base.specs.declared.event.Event.{Event}
-use Rattle.qa_base.specs.declared.event.Event.TheVariants.{Sent, Ack, Timer, Discard}
+use Rattle.qa_base.specs.declared.event.Event.TheVariants.{Sent, Timer, Discard}
 use Rattle.qa_base.specs.declared.space.Kind.{Kind}
 use Rattle.qa_base.specs.declared.space.Kind.TheVariants.{Loss, Pto}
 use Rattle.qa_base.specs.declared.space.Space.{Space}
@@ -12,7 +12,7 @@ use Rattle.qa_base.specs.Events.{time_of}
 use Rattle.qa_base.specs.Handshake.{is_confirmed, is_validated, has_keys}
 use Rattle.qa_base.specs.Loss.{is_open}
 use Rattle.qa_base.specs.Moments.{moments, since}
-use Rattle.qa_base.specs.Packets.{Packet, packets, packets_of, acknowledges_new, largest_acknowledged}
+use Rattle.qa_base.specs.Packets.{Packet, packets_of, acknowledges_new, largest_acknowledged}
 use Rattle.qa_base.specs.Rtt.{Estimate, rtt, pto_base}
 use Rattle.qa_base.specs.Settings.{Settings}
 

@@ -1,14 +1,11 @@
 -- The conformance trace `ack-resets-count-of-server`: accepted.
-use Rattle.std.specs.Prelude.{◌≡◌, List, [], ◌∷◌, Some, None, refl}
+use Rattle.std.specs.Prelude.{◌≡◌, List, [], ◌∷◌, None, refl}
 use Rattle.qa_base.specs.declared.event.Event.{Event}
-use Rattle.qa_base.specs.declared.event.Event.TheVariants.{Discard, Confirmed, Keys}
-use Rattle.qa_base.specs.declared.rule.Rule.TheVariants as rule
-use Rattle.qa_base.specs.declared.rule.Field.TheVariants as field
-use Rattle.qa_base.specs.declared.space.Space.TheVariants.{Initial, Handshake, App}
+use Rattle.qa_base.specs.declared.space.Space.TheVariants.{Initial}
 use Rattle.qa_base.specs.Rules.{first_broken, IsRun, IsComplete}
 use Rattle.qa_base.specs.Settings.{Settings}
 use Rattle.qa_base.specs.State.{totals}
-use Rattle.qa_base.proofs.Shorthand.{client, server, sent, padded, bare, probe, bare_probe, recovery, ack, delayed_ack, limited_ack, lost, loss_fires, pto_fires, metrics}
+use Rattle.qa_base.proofs.Shorthand.{server, sent, ack, pto_fires}
 
 abbrev settings : Settings
 settings = server 1200 12000
@@ -22,16 +19,16 @@ history =
     sent Initial 0 0 1200 ∷ []
 
 pub ack_resets_count_of_server : IsRun settings history × (totals settings history ≡ record {
-      events = 5;
-      window = 13200;
-      ssthresh = None;
-      bytes_in_flight = 1200;
-      latest = 1000000;
-      min = 1000000;
-      smoothed = 1000000;
-      var = 500000;
-      pto_count = 1;
-      owed = 0;
-    }) × IsComplete settings history
+  events = 5;
+  window = 13200;
+  ssthresh = None;
+  bytes_in_flight = 1200;
+  latest = 1000000;
+  min = 1000000;
+  smoothed = 1000000;
+  var = 500000;
+  pto_count = 1;
+  owed = 0;
+}) × IsComplete settings history
 unfolding first_broken
 ack_resets_count_of_server = ((((((tt, refl), refl), refl), refl), refl), refl, refl)

@@ -1,14 +1,12 @@
 -- The conformance trace `anti-deadlock-keys-handshake`: accepted.
-use Rattle.std.specs.Prelude.{◌≡◌, List, [], ◌∷◌, Some, None, refl}
+use Rattle.std.specs.Prelude.{◌≡◌, List, [], ◌∷◌, None, refl}
 use Rattle.qa_base.specs.declared.event.Event.{Event}
-use Rattle.qa_base.specs.declared.event.Event.TheVariants.{Discard, Confirmed, Keys}
-use Rattle.qa_base.specs.declared.rule.Rule.TheVariants as rule
-use Rattle.qa_base.specs.declared.rule.Field.TheVariants as field
-use Rattle.qa_base.specs.declared.space.Space.TheVariants.{Initial, Handshake, App}
+use Rattle.qa_base.specs.declared.event.Event.TheVariants.{Keys}
+use Rattle.qa_base.specs.declared.space.Space.TheVariants.{Initial, Handshake}
 use Rattle.qa_base.specs.Rules.{first_broken, IsRun, IsComplete}
 use Rattle.qa_base.specs.Settings.{Settings}
 use Rattle.qa_base.specs.State.{totals}
-use Rattle.qa_base.proofs.Shorthand.{client, server, sent, padded, bare, probe, bare_probe, recovery, ack, delayed_ack, limited_ack, lost, loss_fires, pto_fires, metrics}
+use Rattle.qa_base.proofs.Shorthand.{client, padded, pto_fires}
 
 abbrev settings : Settings
 settings = client 1200 12000
@@ -20,16 +18,16 @@ history =
     padded Initial 0 1000 1200 ∷ []
 
 pub anti_deadlock_keys_handshake : IsRun settings history × (totals settings history ≡ record {
-      events = 3;
-      window = 12000;
-      ssthresh = None;
-      bytes_in_flight = 1200;
-      latest = 0;
-      min = 0;
-      smoothed = 333000;
-      var = 166500;
-      pto_count = 1;
-      owed = 0;
-    }) × IsComplete settings history
+  events = 3;
+  window = 12000;
+  ssthresh = None;
+  bytes_in_flight = 1200;
+  latest = 0;
+  min = 0;
+  smoothed = 333000;
+  var = 166500;
+  pto_count = 1;
+  owed = 0;
+}) × IsComplete settings history
 unfolding first_broken
 anti_deadlock_keys_handshake = ((((tt, refl), refl), refl), refl, refl)

@@ -1,14 +1,13 @@
 -- The conformance trace `app-pto-early`: V13 timer-early.
 use Rattle.std.specs.Prelude.{◌≡◌, List, [], ◌∷◌, Some, None, refl}
 use Rattle.qa_base.specs.declared.event.Event.{Event}
-use Rattle.qa_base.specs.declared.event.Event.TheVariants.{Discard, Confirmed, Keys}
+use Rattle.qa_base.specs.declared.event.Event.TheVariants.{Confirmed}
 use Rattle.qa_base.specs.declared.rule.Rule.TheVariants as rule
-use Rattle.qa_base.specs.declared.rule.Field.TheVariants as field
-use Rattle.qa_base.specs.declared.space.Space.TheVariants.{Initial, Handshake, App}
-use Rattle.qa_base.specs.Rules.{first_broken, IsRun, IsComplete}
+use Rattle.qa_base.specs.declared.space.Space.TheVariants.{App}
+use Rattle.qa_base.specs.Rules.{first_broken, IsRun}
 use Rattle.qa_base.specs.Settings.{Settings}
 use Rattle.qa_base.specs.State.{totals}
-use Rattle.qa_base.proofs.Shorthand.{client, server, sent, padded, bare, probe, bare_probe, recovery, ack, delayed_ack, limited_ack, lost, loss_fires, pto_fires, metrics}
+use Rattle.qa_base.proofs.Shorthand.{server, sent, pto_fires}
 
 abbrev settings : Settings
 settings = server 1200 12000
@@ -19,16 +18,16 @@ history =
     sent App 0 0 1200 ∷ []
 
 pub app_pto_early : IsRun settings history × (totals settings history ≡ record {
-      events = 2;
-      window = 12000;
-      ssthresh = None;
-      bytes_in_flight = 1200;
-      latest = 0;
-      min = 0;
-      smoothed = 333000;
-      var = 166500;
-      pto_count = 0;
-      owed = 0;
-    }) × (first_broken settings history (pto_fires App 1023999) ≡ Some rule.TimerEarly)
+  events = 2;
+  window = 12000;
+  ssthresh = None;
+  bytes_in_flight = 1200;
+  latest = 0;
+  min = 0;
+  smoothed = 333000;
+  var = 166500;
+  pto_count = 0;
+  owed = 0;
+}) × (first_broken settings history (pto_fires App 1023999) ≡ Some rule.TimerEarly)
 unfolding first_broken
 app_pto_early = (((tt, refl), refl), refl, refl)

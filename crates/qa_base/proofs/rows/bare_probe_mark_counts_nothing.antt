@@ -1,14 +1,11 @@
 -- The conformance trace `bare-probe-mark-counts-nothing`: accepted.
-use Rattle.std.specs.Prelude.{◌≡◌, List, [], ◌∷◌, Some, None, refl}
+use Rattle.std.specs.Prelude.{◌≡◌, List, [], ◌∷◌, None, refl}
 use Rattle.qa_base.specs.declared.event.Event.{Event}
-use Rattle.qa_base.specs.declared.event.Event.TheVariants.{Discard, Confirmed, Keys}
-use Rattle.qa_base.specs.declared.rule.Rule.TheVariants as rule
-use Rattle.qa_base.specs.declared.rule.Field.TheVariants as field
-use Rattle.qa_base.specs.declared.space.Space.TheVariants.{Initial, Handshake, App}
+use Rattle.qa_base.specs.declared.space.Space.TheVariants.{App}
 use Rattle.qa_base.specs.Rules.{first_broken, IsRun, IsComplete}
 use Rattle.qa_base.specs.Settings.{Settings}
 use Rattle.qa_base.specs.State.{totals}
-use Rattle.qa_base.proofs.Shorthand.{client, server, sent, padded, bare, probe, bare_probe, recovery, ack, delayed_ack, limited_ack, lost, loss_fires, pto_fires, metrics}
+use Rattle.qa_base.proofs.Shorthand.{server, bare_probe}
 
 abbrev settings : Settings
 settings = server 1200 12000
@@ -18,16 +15,16 @@ history =
     bare_probe App 0 0 1200 ∷ []
 
 pub bare_probe_mark_counts_nothing : IsRun settings history × (totals settings history ≡ record {
-      events = 1;
-      window = 12000;
-      ssthresh = None;
-      bytes_in_flight = 0;
-      latest = 0;
-      min = 0;
-      smoothed = 333000;
-      var = 166500;
-      pto_count = 0;
-      owed = 0;
-    }) × IsComplete settings history
+  events = 1;
+  window = 12000;
+  ssthresh = None;
+  bytes_in_flight = 0;
+  latest = 0;
+  min = 0;
+  smoothed = 333000;
+  var = 166500;
+  pto_count = 0;
+  owed = 0;
+}) × IsComplete settings history
 unfolding first_broken
 bare_probe_mark_counts_nothing = ((tt, refl), refl, refl)

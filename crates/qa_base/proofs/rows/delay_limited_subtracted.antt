@@ -1,14 +1,12 @@
 -- The conformance trace `delay-limited-subtracted`: accepted.
-use Rattle.std.specs.Prelude.{◌≡◌, List, [], ◌∷◌, Some, None, refl}
+use Rattle.std.specs.Prelude.{◌≡◌, List, [], ◌∷◌, None, refl}
 use Rattle.qa_base.specs.declared.event.Event.{Event}
-use Rattle.qa_base.specs.declared.event.Event.TheVariants.{Discard, Confirmed, Keys}
-use Rattle.qa_base.specs.declared.rule.Rule.TheVariants as rule
-use Rattle.qa_base.specs.declared.rule.Field.TheVariants as field
-use Rattle.qa_base.specs.declared.space.Space.TheVariants.{Initial, Handshake, App}
+use Rattle.qa_base.specs.declared.event.Event.TheVariants.{Confirmed}
+use Rattle.qa_base.specs.declared.space.Space.TheVariants.{App}
 use Rattle.qa_base.specs.Rules.{first_broken, IsRun, IsComplete}
 use Rattle.qa_base.specs.Settings.{Settings}
 use Rattle.qa_base.specs.State.{totals}
-use Rattle.qa_base.proofs.Shorthand.{client, server, sent, padded, bare, probe, bare_probe, recovery, ack, delayed_ack, limited_ack, lost, loss_fires, pto_fires, metrics}
+use Rattle.qa_base.proofs.Shorthand.{server, sent, ack, delayed_ack}
 
 abbrev settings : Settings
 settings = server 1200 12000
@@ -22,16 +20,16 @@ history =
     sent App 0 0 1200 ∷ []
 
 pub delay_limited_subtracted : IsRun settings history × (totals settings history ≡ record {
-      events = 5;
-      window = 14400;
-      ssthresh = None;
-      bytes_in_flight = 0;
-      latest = 130000;
-      min = 100000;
-      smoothed = 100625;
-      var = 38750;
-      pto_count = 0;
-      owed = 0;
-    }) × IsComplete settings history
+  events = 5;
+  window = 14400;
+  ssthresh = None;
+  bytes_in_flight = 0;
+  latest = 130000;
+  min = 100000;
+  smoothed = 100625;
+  var = 38750;
+  pto_count = 0;
+  owed = 0;
+}) × IsComplete settings history
 unfolding first_broken
 delay_limited_subtracted = ((((((tt, refl), refl), refl), refl), refl), refl, refl)

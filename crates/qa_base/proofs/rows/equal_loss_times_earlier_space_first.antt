@@ -1,14 +1,12 @@
 -- The conformance trace `equal-loss-times-earlier-space-first`: V12 timer-other.
 use Rattle.std.specs.Prelude.{◌≡◌, List, [], ◌∷◌, Some, None, refl}
 use Rattle.qa_base.specs.declared.event.Event.{Event}
-use Rattle.qa_base.specs.declared.event.Event.TheVariants.{Discard, Confirmed, Keys}
 use Rattle.qa_base.specs.declared.rule.Rule.TheVariants as rule
-use Rattle.qa_base.specs.declared.rule.Field.TheVariants as field
-use Rattle.qa_base.specs.declared.space.Space.TheVariants.{Initial, Handshake, App}
-use Rattle.qa_base.specs.Rules.{first_broken, IsRun, IsComplete}
+use Rattle.qa_base.specs.declared.space.Space.TheVariants.{Initial, Handshake}
+use Rattle.qa_base.specs.Rules.{first_broken, IsRun}
 use Rattle.qa_base.specs.Settings.{Settings}
 use Rattle.qa_base.specs.State.{totals}
-use Rattle.qa_base.proofs.Shorthand.{client, server, sent, padded, bare, probe, bare_probe, recovery, ack, delayed_ack, limited_ack, lost, loss_fires, pto_fires, metrics}
+use Rattle.qa_base.proofs.Shorthand.{server, sent, ack, loss_fires}
 
 abbrev settings : Settings
 settings = server 1200 12000
@@ -23,16 +21,16 @@ history =
     sent Initial 0 0 1200 ∷ []
 
 pub equal_loss_times_earlier_space_first : IsRun settings history × (totals settings history ≡ record {
-      events = 6;
-      window = 14400;
-      ssthresh = None;
-      bytes_in_flight = 2400;
-      latest = 100000;
-      min = 100000;
-      smoothed = 100000;
-      var = 37500;
-      pto_count = 0;
-      owed = 0;
-    }) × (first_broken settings history (loss_fires Handshake 112500) ≡ Some rule.TimerOther)
+  events = 6;
+  window = 14400;
+  ssthresh = None;
+  bytes_in_flight = 2400;
+  latest = 100000;
+  min = 100000;
+  smoothed = 100000;
+  var = 37500;
+  pto_count = 0;
+  owed = 0;
+}) × (first_broken settings history (loss_fires Handshake 112500) ≡ Some rule.TimerOther)
 unfolding first_broken
 equal_loss_times_earlier_space_first = (((((((tt, refl), refl), refl), refl), refl), refl), refl, refl)

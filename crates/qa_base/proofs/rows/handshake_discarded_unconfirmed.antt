@@ -1,14 +1,13 @@
 -- The conformance trace `handshake-discarded-unconfirmed`: V15 not-confirmed.
 use Rattle.std.specs.Prelude.{◌≡◌, List, [], ◌∷◌, Some, None, refl}
 use Rattle.qa_base.specs.declared.event.Event.{Event}
-use Rattle.qa_base.specs.declared.event.Event.TheVariants.{Discard, Confirmed, Keys}
+use Rattle.qa_base.specs.declared.event.Event.TheVariants.{Discard}
 use Rattle.qa_base.specs.declared.rule.Rule.TheVariants as rule
-use Rattle.qa_base.specs.declared.rule.Field.TheVariants as field
-use Rattle.qa_base.specs.declared.space.Space.TheVariants.{Initial, Handshake, App}
-use Rattle.qa_base.specs.Rules.{first_broken, IsRun, IsComplete}
+use Rattle.qa_base.specs.declared.space.Space.TheVariants.{Initial, Handshake}
+use Rattle.qa_base.specs.Rules.{first_broken, IsRun}
 use Rattle.qa_base.specs.Settings.{Settings}
 use Rattle.qa_base.specs.State.{totals}
-use Rattle.qa_base.proofs.Shorthand.{client, server, sent, padded, bare, probe, bare_probe, recovery, ack, delayed_ack, limited_ack, lost, loss_fires, pto_fires, metrics}
+use Rattle.qa_base.proofs.Shorthand.{client, sent}
 
 abbrev settings : Settings
 settings = client 1200 12000
@@ -20,16 +19,16 @@ history =
     sent Initial 0 0 1200 ∷ []
 
 pub handshake_discarded_unconfirmed : IsRun settings history × (totals settings history ≡ record {
-      events = 3;
-      window = 12000;
-      ssthresh = None;
-      bytes_in_flight = 1000;
-      latest = 0;
-      min = 0;
-      smoothed = 333000;
-      var = 166500;
-      pto_count = 0;
-      owed = 0;
-    }) × (first_broken settings history (Discard 30 Handshake) ≡ Some rule.NotConfirmed)
+  events = 3;
+  window = 12000;
+  ssthresh = None;
+  bytes_in_flight = 1000;
+  latest = 0;
+  min = 0;
+  smoothed = 333000;
+  var = 166500;
+  pto_count = 0;
+  owed = 0;
+}) × (first_broken settings history (Discard 30 Handshake) ≡ Some rule.NotConfirmed)
 unfolding first_broken
 handshake_discarded_unconfirmed = ((((tt, refl), refl), refl), refl, refl)

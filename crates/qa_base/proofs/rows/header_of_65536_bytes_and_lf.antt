@@ -1,14 +1,10 @@
 -- The conformance trace `header-of-65536-bytes-and-lf`: accepted.
-use Rattle.std.specs.Prelude.{◌≡◌, List, [], ◌∷◌, Some, None, refl}
+use Rattle.std.specs.Prelude.{◌≡◌, List, [], None, refl}
 use Rattle.qa_base.specs.declared.event.Event.{Event}
-use Rattle.qa_base.specs.declared.event.Event.TheVariants.{Discard, Confirmed, Keys}
-use Rattle.qa_base.specs.declared.rule.Rule.TheVariants as rule
-use Rattle.qa_base.specs.declared.rule.Field.TheVariants as field
-use Rattle.qa_base.specs.declared.space.Space.TheVariants.{Initial, Handshake, App}
 use Rattle.qa_base.specs.Rules.{first_broken, IsRun, IsComplete}
 use Rattle.qa_base.specs.Settings.{Settings}
 use Rattle.qa_base.specs.State.{totals}
-use Rattle.qa_base.proofs.Shorthand.{client, server, sent, padded, bare, probe, bare_probe, recovery, ack, delayed_ack, limited_ack, lost, loss_fires, pto_fires, metrics}
+use Rattle.qa_base.proofs.Shorthand.{server}
 
 abbrev settings : Settings
 settings = server 1200 12000
@@ -17,16 +13,16 @@ abbrev history : List Event
 history = []
 
 pub header_of_65536_bytes_and_lf : IsRun settings history × (totals settings history ≡ record {
-      events = 0;
-      window = 12000;
-      ssthresh = None;
-      bytes_in_flight = 0;
-      latest = 0;
-      min = 0;
-      smoothed = 333000;
-      var = 166500;
-      pto_count = 0;
-      owed = 0;
-    }) × IsComplete settings history
+  events = 0;
+  window = 12000;
+  ssthresh = None;
+  bytes_in_flight = 0;
+  latest = 0;
+  min = 0;
+  smoothed = 333000;
+  var = 166500;
+  pto_count = 0;
+  owed = 0;
+}) × IsComplete settings history
 unfolding first_broken
 header_of_65536_bytes_and_lf = (tt, refl, refl)

@@ -1,14 +1,12 @@
 -- The conformance trace `loss-timer-early`: V13 timer-early.
-use Rattle.std.specs.Prelude.{◌≡◌, List, [], ◌∷◌, Some, None, refl}
+use Rattle.std.specs.Prelude.{◌≡◌, List, [], ◌∷◌, Some, refl}
 use Rattle.qa_base.specs.declared.event.Event.{Event}
-use Rattle.qa_base.specs.declared.event.Event.TheVariants.{Discard, Confirmed, Keys}
 use Rattle.qa_base.specs.declared.rule.Rule.TheVariants as rule
-use Rattle.qa_base.specs.declared.rule.Field.TheVariants as field
-use Rattle.qa_base.specs.declared.space.Space.TheVariants.{Initial, Handshake, App}
-use Rattle.qa_base.specs.Rules.{first_broken, IsRun, IsComplete}
+use Rattle.qa_base.specs.declared.space.Space.TheVariants.{App}
+use Rattle.qa_base.specs.Rules.{first_broken, IsRun}
 use Rattle.qa_base.specs.Settings.{Settings}
 use Rattle.qa_base.specs.State.{totals}
-use Rattle.qa_base.proofs.Shorthand.{client, server, sent, padded, bare, probe, bare_probe, recovery, ack, delayed_ack, limited_ack, lost, loss_fires, pto_fires, metrics}
+use Rattle.qa_base.proofs.Shorthand.{server, sent, ack, lost, loss_fires}
 
 abbrev settings : Settings
 settings = server 1200 12000
@@ -29,16 +27,16 @@ history =
     sent App 0 0 1200 ∷ []
 
 pub loss_timer_early : IsRun settings history × (totals settings history ≡ record {
-      events = 12;
-      window = 6000;
-      ssthresh = Some 6000;
-      bytes_in_flight = 9600;
-      latest = 100000;
-      min = 100000;
-      smoothed = 100000;
-      var = 50000;
-      pto_count = 0;
-      owed = 0;
-    }) × (first_broken settings history (loss_fires App 112499) ≡ Some rule.TimerEarly)
+  events = 12;
+  window = 6000;
+  ssthresh = Some 6000;
+  bytes_in_flight = 9600;
+  latest = 100000;
+  min = 100000;
+  smoothed = 100000;
+  var = 50000;
+  pto_count = 0;
+  owed = 0;
+}) × (first_broken settings history (loss_fires App 112499) ≡ Some rule.TimerEarly)
 unfolding first_broken
 loss_timer_early = (((((((((((((tt, refl), refl), refl), refl), refl), refl), refl), refl), refl), refl), refl), refl), refl, refl)

@@ -1,14 +1,12 @@
 -- The conformance trace `pto-after-reset-early`: V13 timer-early.
 use Rattle.std.specs.Prelude.{◌≡◌, List, [], ◌∷◌, Some, None, refl}
 use Rattle.qa_base.specs.declared.event.Event.{Event}
-use Rattle.qa_base.specs.declared.event.Event.TheVariants.{Discard, Confirmed, Keys}
 use Rattle.qa_base.specs.declared.rule.Rule.TheVariants as rule
-use Rattle.qa_base.specs.declared.rule.Field.TheVariants as field
-use Rattle.qa_base.specs.declared.space.Space.TheVariants.{Initial, Handshake, App}
-use Rattle.qa_base.specs.Rules.{first_broken, IsRun, IsComplete}
+use Rattle.qa_base.specs.declared.space.Space.TheVariants.{Initial}
+use Rattle.qa_base.specs.Rules.{first_broken, IsRun}
 use Rattle.qa_base.specs.Settings.{Settings}
 use Rattle.qa_base.specs.State.{totals}
-use Rattle.qa_base.proofs.Shorthand.{client, server, sent, padded, bare, probe, bare_probe, recovery, ack, delayed_ack, limited_ack, lost, loss_fires, pto_fires, metrics}
+use Rattle.qa_base.proofs.Shorthand.{server, sent, ack, pto_fires}
 
 abbrev settings : Settings
 settings = server 1200 12000
@@ -21,16 +19,16 @@ history =
     sent Initial 0 0 1200 ∷ []
 
 pub pto_after_reset_early : IsRun settings history × (totals settings history ≡ record {
-      events = 4;
-      window = 13200;
-      ssthresh = None;
-      bytes_in_flight = 1200;
-      latest = 1000000;
-      min = 1000000;
-      smoothed = 1000000;
-      var = 500000;
-      pto_count = 0;
-      owed = 0;
-    }) × (first_broken settings history (pto_fires Initial 2999999) ≡ Some rule.TimerEarly)
+  events = 4;
+  window = 13200;
+  ssthresh = None;
+  bytes_in_flight = 1200;
+  latest = 1000000;
+  min = 1000000;
+  smoothed = 1000000;
+  var = 500000;
+  pto_count = 0;
+  owed = 0;
+}) × (first_broken settings history (pto_fires Initial 2999999) ≡ Some rule.TimerEarly)
 unfolding first_broken
 pto_after_reset_early = (((((tt, refl), refl), refl), refl), refl, refl)

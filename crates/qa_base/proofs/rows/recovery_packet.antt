@@ -1,14 +1,11 @@
 -- The conformance trace `recovery-packet`: accepted.
-use Rattle.std.specs.Prelude.{◌≡◌, List, [], ◌∷◌, Some, None, refl}
+use Rattle.std.specs.Prelude.{◌≡◌, List, [], ◌∷◌, Some, refl}
 use Rattle.qa_base.specs.declared.event.Event.{Event}
-use Rattle.qa_base.specs.declared.event.Event.TheVariants.{Discard, Confirmed, Keys}
-use Rattle.qa_base.specs.declared.rule.Rule.TheVariants as rule
-use Rattle.qa_base.specs.declared.rule.Field.TheVariants as field
-use Rattle.qa_base.specs.declared.space.Space.TheVariants.{Initial, Handshake, App}
+use Rattle.qa_base.specs.declared.space.Space.TheVariants.{App}
 use Rattle.qa_base.specs.Rules.{first_broken, IsRun, IsComplete}
 use Rattle.qa_base.specs.Settings.{Settings}
 use Rattle.qa_base.specs.State.{totals}
-use Rattle.qa_base.proofs.Shorthand.{client, server, sent, padded, bare, probe, bare_probe, recovery, ack, delayed_ack, limited_ack, lost, loss_fires, pto_fires, metrics}
+use Rattle.qa_base.proofs.Shorthand.{server, sent, recovery, ack, lost}
 
 abbrev settings : Settings
 settings = server 1200 12000
@@ -30,16 +27,16 @@ history =
     sent App 0 0 1200 ∷ []
 
 pub recovery_packet : IsRun settings history × (totals settings history ≡ record {
-      events = 13;
-      window = 6000;
-      ssthresh = Some 6000;
-      bytes_in_flight = 10800;
-      latest = 100000;
-      min = 100000;
-      smoothed = 100000;
-      var = 50000;
-      pto_count = 0;
-      owed = 0;
-    }) × IsComplete settings history
+  events = 13;
+  window = 6000;
+  ssthresh = Some 6000;
+  bytes_in_flight = 10800;
+  latest = 100000;
+  min = 100000;
+  smoothed = 100000;
+  var = 50000;
+  pto_count = 0;
+  owed = 0;
+}) × IsComplete settings history
 unfolding first_broken
 recovery_packet = ((((((((((((((tt, refl), refl), refl), refl), refl), refl), refl), refl), refl), refl), refl), refl), refl), refl, refl)

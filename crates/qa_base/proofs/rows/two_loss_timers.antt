@@ -1,14 +1,11 @@
 -- The conformance trace `two-loss-timers`: accepted.
-use Rattle.std.specs.Prelude.{◌≡◌, List, [], ◌∷◌, Some, None, refl}
+use Rattle.std.specs.Prelude.{◌≡◌, List, [], ◌∷◌, Some, refl}
 use Rattle.qa_base.specs.declared.event.Event.{Event}
-use Rattle.qa_base.specs.declared.event.Event.TheVariants.{Discard, Confirmed, Keys}
-use Rattle.qa_base.specs.declared.rule.Rule.TheVariants as rule
-use Rattle.qa_base.specs.declared.rule.Field.TheVariants as field
-use Rattle.qa_base.specs.declared.space.Space.TheVariants.{Initial, Handshake, App}
+use Rattle.qa_base.specs.declared.space.Space.TheVariants.{Initial, Handshake}
 use Rattle.qa_base.specs.Rules.{first_broken, IsRun, IsComplete}
 use Rattle.qa_base.specs.Settings.{Settings}
 use Rattle.qa_base.specs.State.{totals}
-use Rattle.qa_base.proofs.Shorthand.{client, server, sent, padded, bare, probe, bare_probe, recovery, ack, delayed_ack, limited_ack, lost, loss_fires, pto_fires, metrics}
+use Rattle.qa_base.proofs.Shorthand.{server, sent, ack, lost, loss_fires}
 
 abbrev settings : Settings
 settings = server 1200 12000
@@ -27,16 +24,16 @@ history =
     sent Initial 0 0 1200 ∷ []
 
 pub two_loss_timers : IsRun settings history × (totals settings history ≡ record {
-      events = 10;
-      window = 7200;
-      ssthresh = Some 7200;
-      bytes_in_flight = 0;
-      latest = 100000;
-      min = 100000;
-      smoothed = 100000;
-      var = 37500;
-      pto_count = 0;
-      owed = 0;
-    }) × IsComplete settings history
+  events = 10;
+  window = 7200;
+  ssthresh = Some 7200;
+  bytes_in_flight = 0;
+  latest = 100000;
+  min = 100000;
+  smoothed = 100000;
+  var = 37500;
+  pto_count = 0;
+  owed = 0;
+}) × IsComplete settings history
 unfolding first_broken
 two_loss_timers = (((((((((((tt, refl), refl), refl), refl), refl), refl), refl), refl), refl), refl), refl, refl)

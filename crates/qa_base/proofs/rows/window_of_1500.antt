@@ -1,14 +1,10 @@
 -- The conformance trace `window-of-1500`: accepted.
-use Rattle.std.specs.Prelude.{◌≡◌, List, [], ◌∷◌, Some, None, refl}
+use Rattle.std.specs.Prelude.{◌≡◌, List, [], None, refl}
 use Rattle.qa_base.specs.declared.event.Event.{Event}
-use Rattle.qa_base.specs.declared.event.Event.TheVariants.{Discard, Confirmed, Keys}
-use Rattle.qa_base.specs.declared.rule.Rule.TheVariants as rule
-use Rattle.qa_base.specs.declared.rule.Field.TheVariants as field
-use Rattle.qa_base.specs.declared.space.Space.TheVariants.{Initial, Handshake, App}
 use Rattle.qa_base.specs.Rules.{first_broken, IsRun, IsComplete}
 use Rattle.qa_base.specs.Settings.{Settings}
 use Rattle.qa_base.specs.State.{totals}
-use Rattle.qa_base.proofs.Shorthand.{client, server, sent, padded, bare, probe, bare_probe, recovery, ack, delayed_ack, limited_ack, lost, loss_fires, pto_fires, metrics}
+use Rattle.qa_base.proofs.Shorthand.{server}
 
 abbrev settings : Settings
 settings = server 1500 14720
@@ -17,16 +13,16 @@ abbrev history : List Event
 history = []
 
 pub window_of_1500 : IsRun settings history × (totals settings history ≡ record {
-      events = 0;
-      window = 14720;
-      ssthresh = None;
-      bytes_in_flight = 0;
-      latest = 0;
-      min = 0;
-      smoothed = 333000;
-      var = 166500;
-      pto_count = 0;
-      owed = 0;
-    }) × IsComplete settings history
+  events = 0;
+  window = 14720;
+  ssthresh = None;
+  bytes_in_flight = 0;
+  latest = 0;
+  min = 0;
+  smoothed = 333000;
+  var = 166500;
+  pto_count = 0;
+  owed = 0;
+}) × IsComplete settings history
 unfolding first_broken
 window_of_1500 = (tt, refl, refl)
