@@ -1,7 +1,7 @@
 //! Devices that give and take little at a call, and fail once.
 ghost use Rattle.std.specs.Prelude.{◌≡◌, None};
 
-use super::{HEADER, audited, report_of, sent, trace_of};
+use super::{audited, report_of, sent, trace_of};
 use crate::auditing::{AuditFault, Outcome, audit};
 use crate::device::{Metered, Sink, Source};
 use std::io;
@@ -138,15 +138,35 @@ fn a_read_fails(rt: HostRuntime) -> Result<(), Fail> {
 #[test]
 fn no_read_after_the_verdict(rt: HostRuntime) -> Result<(), Fail> {
     let packet = sent(rt.alloc(), 0)?;
-    let trace = format!(in rt.alloc(); "{HEADER}\n{packet}\n{packet}\n")?;
-    let mut reader = Faulty::new(trace.as_bytes(), 4096, 1);
-    let mut writer = Metered::new(Vec::new(rt.alloc()));
-    let ended = audit(rt.alloc(), &mut reader, &mut writer);
-    let report = report_of(rt.alloc(), "refused line 3 V6 number-not-higher", 1, 1200)?;
-    assert_eq!(rt; ended, Ok(Outcome::Refused));
-    assert_eq!(rt; writer.into_inner().as_slice(), report.as_bytes());
-    assert_eq!(rt; reader.calls, 1);
-    assert_eq!(rt; reader.failures, 0);
+    for (lines, outcome, first, events, bytes, reads) in [
+        (0, Outcome::Accepted, "accepted", 0, 0, 2),
+        (
+            2,
+            Outcome::Refused,
+            "refused line 3 V6 number-not-higher",
+            1,
+            1200,
+            1,
+        ),
+    ] {
+        let mut trace = trace_of(rt.alloc(), 0)?;
+        for _ in 0..lines {
+            trace.push_str(packet.as_str())?;
+            trace.push_str("\n")?;
+        }
+        let mut reader = Faulty::new(trace.as_bytes(), 4096, reads);
+        let mut writer = Metered::new(Vec::new(rt.alloc()));
+        let ended = audit(rt.alloc(), &mut reader, &mut writer);
+        let report = report_of(rt.alloc(), first, events, bytes)?;
+        assert_eq!(rt; ended, Ok(outcome), "at {first}");
+        assert_eq!(rt;
+            writer.into_inner().as_slice(),
+            report.as_bytes(),
+            "at {first}"
+        );
+        assert_eq!(rt; reader.calls, reads, "at {first}");
+        assert_eq!(rt; reader.failures, 0, "at {first}");
+    }
     Ok(())
 }
 
