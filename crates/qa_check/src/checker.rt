@@ -122,11 +122,7 @@ impl Checker {
         }
         match &self.verdict {
             Some(verdict) => Some(*verdict),
-            None => Some(end_at(
-                self.lines + 1,
-                &self.header,
-                self.events.as_slice(),
-            )),
+            None => Some(end_at(self.lines + 1, &self.header, self.events.as_slice())),
         }
     }
 
@@ -224,11 +220,7 @@ fn refused(line: u64, header: &Header, events: &[Event], event: &Event) -> Optio
 {
     match judge::first_broken(header, events, event) {
         None => None,
-        Some(rule) => Some(Verdict::Refused(
-            line,
-            rule,
-            judge::totals(header, events),
-        )),
+        Some(rule) => Some(Verdict::Refused(line, rule, judge::totals(header, events))),
     }
 }
 

@@ -51,7 +51,9 @@ fn sends_at_or_above(event: &Event, in_space: Space, lowest: PacketNumber) -> bo
 fn some_sends_at_or_above(events: &[Event], space: Space, lowest: PacketNumber) -> bool
     ensures { result ≡ list_any (judge.sends_at_or_above space lowest) events.now }
 {
-    events.iter().any(|event| sends_at_or_above(event, space, lowest))
+    events
+        .iter()
+        .any(|event| sends_at_or_above(event, space, lowest))
 }
 
 /// Whether a packet of this space has this number or a higher one.

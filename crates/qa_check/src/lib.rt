@@ -5,6 +5,8 @@ mod auditing;
 mod checker;
 mod device;
 mod judge;
+#[cfg(test)]
+mod tests;
 mod text;
 
 pub use auditing::{AuditFault, Outcome, audit};

@@ -2,6 +2,8 @@
 #![tactic(auto)]
 
 mod ending;
+#[cfg(test)]
+mod tests;
 mod words;
 
 use crate::ending::{complaint, status};

@@ -1,0 +1,28 @@
+//! Exit statuses and complaints, from outside.
+use crate::ending::{complaint, status};
+use qa_check::{AuditFault, Outcome};
+
+#[test]
+fn statuses(rt: HostRuntime) {
+    for (ended, wanted) in [
+        (Ok(Outcome::Accepted), 0),
+        (Ok(Outcome::Refused), 1),
+        (Ok(Outcome::Unreadable), 2),
+        (Err(AuditFault::Read), 3),
+        (Err(AuditFault::Write), 3),
+        (Err(AuditFault::OutOfMemory), 3),
+    ] {
+        assert_eq!(rt; status(&ended), wanted, "at {ended:?}");
+    }
+}
+
+#[test]
+fn complaints(rt: HostRuntime) {
+    for (fault, wanted) in [
+        (AuditFault::Read, "qaudit: read fault: standard input"),
+        (AuditFault::Write, "qaudit: write fault"),
+        (AuditFault::OutOfMemory, "qaudit: out of memory"),
+    ] {
+        assert_eq!(rt; complaint(fault), wanted);
+    }
+}
