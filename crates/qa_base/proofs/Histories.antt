@@ -9,7 +9,7 @@ use Rattle.qa_base.specs.declared.space.Space.{Space}
 use Rattle.qa_base.specs.declared.space.Leave.{Leave}
 use Rattle.qa_base.specs.Events.{is_space}
 use Rattle.qa_base.specs.Packets.{Packet, history_of, packets_of}
-use Rattle.qa_base.specs.Rules.{has_at_or_above}
+use Rattle.qa_base.specs.Breaches.{has_at_or_above}
 
 -- ---- one more event
 

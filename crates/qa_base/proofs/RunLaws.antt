@@ -1,6 +1,6 @@
 -- Laws of every run.
-use Rattle.std.proofs.Common.{◌≡◌, ◌∙◌, List, [], ◌∷◌, ◌++◌, length, Bool, true, false, ◌||◌, Option, Some, None, refl, sym}
-use Rattle.std.proofs.lemmas.Bool.{leb-false}
+use Rattle.std.proofs.Common.{ℕ, ◌&&◌, ◌-◌, ◌*◌, ◌/◌, max, ◌↔◌, ◌+◌, ◌≤◌, arith, ◌≡◌, ◌∙◌, List, [], ◌∷◌, ◌++◌, length, Bool, true, false, ◌||◌, Option, Some, None, refl, sym}
+use Rattle.std.proofs.lemmas.Bool.{leb-false, leb-true, le-leb, and_parts, and_from}
 use Rattle.std.specs.List.{filter, list_any, AllByRecursion}
 use Rattle.std.specs.Prelude.{nat_le, if◌then◌else◌}
 use Rattle.qa_base.specs.declared.event.Event.{Event}
@@ -9,6 +9,9 @@ use Rattle.qa_base.specs.declared.rule.Rule.{Rule}
 use Rattle.qa_base.specs.Order.{IsLower, NumbersFall}
 use Rattle.qa_base.specs.Packets.{Packet, packets, is_of, newly_acknowledged, is_newly_acknowledged}
 use Rattle.qa_base.specs.Rules.{broken, first_of, first_broken, IsRun}
+use Rattle.qa_base.specs.Loss.{is_old}
+use Rattle.qa_base.specs.Rtt.{Estimate}
+use Rattle.qa_base.specs.Timer.{loss_delay}
 use Rattle.qa_base.specs.Settings.{Settings}
 
 -- a prefix of a run is a run
@@ -97,3 +100,19 @@ falls_in_part kept (p ∷ ps) falls = first_or_not kept p ps (kept p) falls (fal
 -- the packets that an acknowledgment newly acknowledges have rising numbers in the order of sending
 pub newly_acknowledged_fall : (c : Settings) (e : Event) (h : List Event) → IsRun c h → NumbersFall (newly_acknowledged (e ∷ h))
 newly_acknowledged_fall c e h run = falls_in_part (is_newly_acknowledged e h) (packets h) (numbers_fall c h run)
+
+-- ---- when a packet is old
+
+old_after : (m age : ℕ) → max ((9 * m + 7) / 8) 1000 ≤ age → (nat_le (9 * m) (8 * age) && nat_le 1000 age) ≡ true
+old_after m age waited = and_from (nat_le (9 * m) (8 * age)) (nat_le 1000 age) (le-leb (9 * m) (8 * age) (omega arith)) (le-leb 1000 age (omega arith))
+
+after_old : (m age : ℕ) → (nat_le (9 * m) (8 * age) && nat_le 1000 age) ≡ true → max ((9 * m + 7) / 8) 1000 ≤ age
+after_old m age old =
+    let both = and_parts (nat_le (9 * m) (8 * age)) (nat_le 1000 age) old in
+    let fraction = leb-true (9 * m) (8 * age) both.0 in
+    let granularity = leb-true 1000 age both.1 in
+    omega arith
+
+-- a packet is old exactly when the loss delay has passed since it was sent
+pub old_is_after_loss_delay : (r : Estimate) (now : ℕ) (p : Packet) → (is_old r now p ≡ true) ↔ (loss_delay r ≤ now - p.time)
+old_is_after_loss_delay r now p = (after_old (max r.latest r.smoothed) (now - p.time), old_after (max r.latest r.smoothed) (now - p.time))

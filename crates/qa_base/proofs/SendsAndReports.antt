@@ -20,7 +20,8 @@ use Rattle.qa_base.specs.Packets.{history_of, is_gone}
 use Rattle.qa_base.specs.Reno.{moves, reno, is_entry, enters, start}
 use Rattle.qa_base.specs.Rtt.{rtt}
 use Rattle.qa_base.specs.Rtt as estimates
-use Rattle.qa_base.specs.Rules.{first_broken, first_of, is_time_back, has_at_or_above}
+use Rattle.qa_base.specs.Breaches.{is_time_back, has_at_or_above}
+use Rattle.qa_base.specs.Rules.{first_broken, first_of}
 use Rattle.qa_base.specs.Settings.{Settings}
 use Rattle.qa_base.specs.Timer.{is_pto, backoff}
 use Rattle.qa_base.specs.Plain.{ArePlain, flight_of, sent_bytes, broken_leave}

@@ -13,6 +13,7 @@ pub mod Leave
 pub mod Numbers
 pub mod State
 pub mod Metrics
+pub mod Breaches
 pub mod Rules
 pub mod Plain
 pub mod Order

@@ -1,5 +1,5 @@
 //! Facts over the definitions alone. Each is the contract of a function that does nothing.
-ghost use Rattle.std.specs.Prelude.{◌≡◌, ◌++◌, ◌∷◌, ◌+◌, ◌&&◌, ◌↔◌, [], List, ℕ, Bool, true, not, Ok, if◌then◌else◌};
+ghost use Rattle.std.specs.Prelude.{◌≡◌, ◌≤◌, ◌++◌, ◌∷◌, ◌+◌, ◌-◌, ◌&&◌, ◌↔◌, [], List, ℕ, Bool, true, not, Ok, if◌then◌else◌};
 ghost use Rattle.qa_base.specs.declared.event.Event.{Event};
 ghost use Rattle.qa_base.specs.declared.event.Event.TheVariants as events;
 ghost use Rattle.qa_base.specs.declared.line.Line.TheVariants as line;
@@ -9,16 +9,16 @@ ghost use Rattle.qa_base.specs.declared.verdict.Totals.{Totals};
 ghost use Rattle.qa_base.specs.declared.verdict.Verdict.TheVariants as verdicts;
 ghost use Rattle.qa_base.specs.Events.{fits, is_quiet, is_sent_or_report};
 ghost use Rattle.qa_base.specs.Lines.{lines};
-ghost use Rattle.qa_base.specs.Loss.{bytes_in_flight, owed};
+ghost use Rattle.qa_base.specs.Loss.{bytes_in_flight, is_old, owed};
 ghost use Rattle.qa_base.specs.Numbers.{AreRanges, Names, NamesOnly, has_all, names_exactly};
 ghost use Rattle.qa_base.specs.Order.{NumbersFall};
-ghost use Rattle.qa_base.specs.Packets.{packets, is_gone, newly_acknowledged};
+ghost use Rattle.qa_base.specs.Packets.{Packet, packets, is_gone, newly_acknowledged};
 ghost use Rattle.qa_base.specs.Reno.{moves};
-ghost use Rattle.qa_base.specs.Rtt.{rtt};
+ghost use Rattle.qa_base.specs.Rtt.{Estimate, rtt};
 ghost use Rattle.qa_base.specs.Rules.{IsRun};
 ghost use Rattle.qa_base.specs.Sends.{reading as sends};
 ghost use Rattle.qa_base.specs.Settings.{Settings};
-ghost use Rattle.qa_base.specs.Timer.{backoff};
+ghost use Rattle.qa_base.specs.Timer.{backoff, loss_delay};
 ghost use Rattle.qa_base.specs.Verdict.{Reading, IsFixed, IsTraceOfRun, verdict};
 
 /// No byte that follows changes a verdict that is fixed, whatever the reading of lines.
@@ -71,4 +71,10 @@ pub fn numbers_rise()
 pub fn ranges_name()
     ensures only { (numbers : List ℕ) (ranges : List (ℕ × ℕ)) → AreRanges ranges → (has_all numbers ranges ≡ true) ↔ NamesOnly ranges numbers }
     ensures exactly { (ranges : List (ℕ × ℕ)) (numbers : List ℕ) → AreRanges ranges → (names_exactly ranges numbers ≡ true) ↔ Names ranges numbers }
+{}
+
+/// A packet is old, by the exact fraction 9/8 of the RTT, exactly when the loss delay, which is
+/// rounded up, has passed since it was sent.
+pub fn old_is_after_loss_delay()
+    ensures { (r : Estimate) (now : ℕ) (p : Packet) → (is_old r now p ≡ true) ↔ (loss_delay r ≤ now - p.time) }
 {}

@@ -10,7 +10,8 @@ use Rattle.qa_base.specs.declared.verdict.Verdict.TheVariants.{Accepted}
 use Rattle.qa_base.specs.Metrics.{tests}
 use Rattle.qa_base.specs.Packets.{history_of}
 use Rattle.qa_base.specs.Plain.{ArePlain, sent_bytes}
-use Rattle.qa_base.specs.Rules.{first_broken, first_of, is_time_back}
+use Rattle.qa_base.specs.Breaches.{is_time_back}
+use Rattle.qa_base.specs.Rules.{first_broken, first_of}
 use Rattle.qa_base.specs.Settings.{Settings}
 use Rattle.qa_base.specs.State.{totals}
 use Rattle.qa_base.specs.Verdict.{end_at}

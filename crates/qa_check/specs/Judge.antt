@@ -9,7 +9,7 @@ use Rattle.qa_base.specs.declared.space.Leave.{Leave}
 use Rattle.qa_base.specs.Events.{is_space}
 use Rattle.qa_base.specs.Packets.{history_of}
 use Rattle.qa_base.specs.Plain.{sent_bytes, broken_leave}
-use Rattle.qa_base.specs.Rules.{has_at_or_above}
+use Rattle.qa_base.specs.Breaches.{has_at_or_above}
 use Rattle.qa_base.specs.Settings.{Settings}
 
 -- the event sent a packet of the space with this number or a higher one

@@ -1,6 +1,7 @@
 //! The rules that a sent packet and a report can break, judged from all events before it.
 ghost use Rattle.std.specs.Prelude.{◌≡◌, ◌≤◌, ◌+◌, ◌^◌, ◌<◌, ◌*◌, true, length, IfNone, if◌then◌else◌};
 ghost use Rattle.std.specs.List.{list_any};
+ghost use Rattle.qa_base.specs.Breaches as breaches;
 ghost use Rattle.qa_base.specs.Events.{time_of as time_of_event, is_sent_or_report};
 ghost use Rattle.qa_base.specs.Metrics as metrics;
 ghost use Rattle.qa_base.specs.Packets.{history_of};
@@ -29,7 +30,7 @@ fn time_of(event: &Event) -> u64
 
 /// Whether the event is earlier than the last of these.
 fn is_time_back(events: &[Event], event: &Event) -> bool
-    ensures { result ≡ rules.is_time_back (history_of events.now) event.now }
+    ensures { result ≡ breaches.is_time_back (history_of events.now) event.now }
 {
     match events.last() {
         Some(last) => time_of(event) < time_of(last),
@@ -58,7 +59,7 @@ fn some_sends_at_or_above(events: &[Event], space: Space, lowest: PacketNumber) 
 
 /// Whether a packet of this space has this number or a higher one.
 fn has_at_or_above(events: &[Event], space: Space, lowest: PacketNumber) -> bool
-    ensures { result ≡ rules.has_at_or_above space lowest (history_of events.now) }
+    ensures { result ≡ breaches.has_at_or_above space lowest (history_of events.now) }
 {
     some_sends_at_or_above(events, space, lowest)
 }
