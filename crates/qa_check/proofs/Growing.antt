@@ -10,13 +10,12 @@ use Rattle.qa_base.specs.declared.line.Line.TheVariants as line
 use Rattle.qa_base.specs.declared.fault.Fault.{Fault}
 use Rattle.qa_base.specs.declared.verdict.Verdict.{Verdict}
 use Rattle.qa_base.specs.Events.{is_sent_or_report}
-use Rattle.qa_base.specs.Lines.{line_limit}
 use Rattle.qa_base.specs.Packets.{history_of}
 use Rattle.qa_base.specs.Sends.{reading}
 use Rattle.qa_base.specs.Settings.{Settings}
-use Rattle.qa_base.specs.Verdict.{header_said, event_said, header_in, events_in, said, stop_at, stop_after, first_stop, end_at, last_event_line, unreadable, verdict_of, AreGood, AreDecided}
+use Rattle.qa_base.specs.Verdict.{header_said, event_said, header_in, said, stop_at, stop_after, first_stop, end_at, last_event_line, verdict_of, AreGood, AreDecided}
 use Rattle.qa_base.proofs.SendsAlone.{sends_alone}
-use Rattle.qa_base.proofs.Stops.{or_none, first_stop-snoc, first_stop-append, stop_there, verdict_at_stop, verdict_stays, decided_stays, header_in-snoc, said_reading}
+use Rattle.qa_base.proofs.Stops.{or_none, first_stop-snoc, verdict_at_stop, verdict_stays, decided_stays, header_in-snoc, said_reading}
 use Rattle.qa_check.specs.Taking.{header_after, events_after, says_plain, TakesIn}
 use Rattle.qa_check.specs.Standing.{Open, Decided, StandsBy}
 

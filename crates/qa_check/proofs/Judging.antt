@@ -1,5 +1,5 @@
 -- The first rule that a sent packet or a report breaks.
-use Rattle.std.proofs.Common.{◌≡◌, ◌∙◌, ◌+◌, ℕ, List, Bool, true, false, Option, Some, None, refl, sym, ap}
+use Rattle.std.proofs.Common.{◌≡◌, ℕ, List, Bool, true, false, Some, refl, sym}
 use Rattle.qa_base.specs.declared.event.Event.{Event}
 use Rattle.qa_base.specs.declared.event.Event.TheVariants.{Sent, Metrics}
 use Rattle.qa_base.specs.declared.event.MetricValues.{MetricValues}
@@ -9,7 +9,7 @@ use Rattle.qa_base.specs.declared.space.Space.{Space}
 use Rattle.qa_base.specs.declared.verdict.Verdict.TheVariants.{Accepted}
 use Rattle.qa_base.specs.Metrics.{tests}
 use Rattle.qa_base.specs.Packets.{history_of}
-use Rattle.qa_base.specs.Plain.{ArePlain, sent_bytes}
+use Rattle.qa_base.specs.Plain.{ArePlain}
 use Rattle.qa_base.specs.Breaches.{is_time_back}
 use Rattle.qa_base.specs.Rules.{first_broken, first_of}
 use Rattle.qa_base.specs.Settings.{Settings}

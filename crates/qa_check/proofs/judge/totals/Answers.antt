@@ -1,4 +1,3 @@
-use Rattle.std.proofs.Common.{sym}
 use Rattle.qa_base.proofs.SendsAndReports.{totals-plain}
 use Rattle.qa_check.proofs.judge.totals.Goals as goal
 
