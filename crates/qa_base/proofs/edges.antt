@@ -1,0 +1,3 @@
+-- Small histories at the edges of the definitions: each answer was worked out by hand first, as the comment above it says.
+pub mod Deadlines
+pub mod loss
