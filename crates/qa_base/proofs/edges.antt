@@ -1,3 +1,5 @@
 -- Small histories at the edges of the definitions: each answer was worked out by hand first, as the comment above it says.
 pub mod Deadlines
+pub mod between
 pub mod loss
+pub mod persistent
