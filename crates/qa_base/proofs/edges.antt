@@ -3,3 +3,6 @@ pub mod Deadlines
 pub mod between
 pub mod loss
 pub mod persistent
+pub mod recovery_mark
+pub mod timer
+pub mod window
