@@ -174,3 +174,28 @@ pub padded_packet_sets_no_probe_timeout :
     × (deadline s (padded App 1 500 1200 ∷ sent App 0 0 1200 ∷ Confirmed 0 ∷ []) ≡ pto_at App 1024000)
 unfolding first_broken
 padded_packet_sets_no_probe_timeout = (((tt, refl), refl), refl, refl)
+
+-- ---- a detection by an acknowledgment, by its exact fractions
+
+-- Packet 1 takes 100001 and packet 0 is 112501 old, less than 112501.125: it is not lost. One microsecond later it is.
+pub detection_is_by_the_exact_fraction :
+    IsRun s (ack App ((1, 1) ∷ []) 112501 ∷ sent App 1 12500 1200 ∷ sent App 0 0 1200 ∷ [])
+    × (owed s (ack App ((1, 1) ∷ []) 112501 ∷ sent App 1 12500 1200 ∷ sent App 0 0 1200 ∷ []) ≡ [])
+    × IsRun s (lost App ((0, 0) ∷ []) 112502 ∷ ack App ((1, 1) ∷ []) 112502 ∷ sent App 1 12501 1200 ∷ sent App 0 0 1200 ∷ [])
+unfolding first_broken
+detection_is_by_the_exact_fraction = ((((tt, refl), refl), refl), refl, ((((tt, refl), refl), refl), refl))
+
+abbrev faster_detection : List Event
+faster_detection =
+    ack App ((2, 2) ∷ []) 150000 ∷
+    sent App 2 100000 1200 ∷
+    sent App 1 80000 1200 ∷
+    ack App ((0, 0) ∷ []) 80000 ∷
+    sent App 0 0 1200 ∷ []
+
+-- Samples 80000 and 50000: smoothed (560000 + 50000) / 8 = 76250, of which 9/8 is 85781.25. Packet 1 is 70000 old, past 9/8 of
+-- latest (56250), and is not lost before 80000 + 85782.
+pub detection_is_by_smoothed_where_it_is_above_latest :
+    IsRun s faster_detection × (owed s faster_detection ≡ []) × (deadline s faster_detection ≡ loss_at App 165782)
+unfolding first_broken
+detection_is_by_smoothed_where_it_is_above_latest = ((((((tt, refl), refl), refl), refl), refl), refl, refl)
