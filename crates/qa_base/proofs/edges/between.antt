@@ -141,3 +141,22 @@ pub acknowledged_packets_beside_the_two :
     × ((reno s acknowledged_beside).threshold ≡ Some 7800)
 unfolding first_broken
 acknowledged_packets_beside_the_two = (((((((((((tt, refl), refl), refl), refl), refl), refl), refl), refl), refl), refl), refl, refl)
+
+abbrev acknowledged_at_the_time_of_an_end : List Event
+acknowledged_at_the_time_of_an_end =
+    lost App ((1, 2) ∷ []) 1275002 ∷
+    ack App ((5, 5) ∷ []) 1275002 ∷
+    ack Handshake ((0, 0) ∷ []) 1275002 ∷
+    padded App 5 1175002 1200 ∷
+    sent App 2 1175001 1200 ∷
+    padded Handshake 0 200000 1200 ∷
+    sent App 1 200000 1200 ∷
+    ack App ((0, 0) ∷ []) 100000 ∷
+    sent App 0 0 1200 ∷ []
+
+-- An acknowledged Handshake packet went out at the time of packet 1, but after it: no collapse. It grew the window to 14400,
+-- half of which is 7200.
+pub acknowledged_packet_at_the_time_of_an_end :
+    IsRun s acknowledged_at_the_time_of_an_end × ((reno s acknowledged_at_the_time_of_an_end).window ≡ 7200)
+unfolding first_broken
+acknowledged_packet_at_the_time_of_an_end = ((((((((((tt, refl), refl), refl), refl), refl), refl), refl), refl), refl), refl)

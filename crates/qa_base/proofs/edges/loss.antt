@@ -163,6 +163,19 @@ pub padded_packet_is_lost :
 unfolding first_broken
 padded_packet_is_lost = ((((((tt, refl), refl), refl), refl), refl), refl, refl, (((((((tt, refl), refl), refl), refl), refl), refl), refl))
 
+abbrev padded_after_an_acknowledged_one : List Event
+padded_after_an_acknowledged_one =
+    padded App 1 100000 1200 ∷
+    ack App ((0, 0) ∷ []) 100000 ∷
+    sent App 0 0 1200 ∷
+    Confirmed 0 ∷ []
+
+-- The only open packet is padded: no probe timeout, though an ack-eliciting packet was sent before it.
+pub padded_packet_awaits_no_acknowledgment :
+    IsRun s padded_after_an_acknowledged_one × (deadline s padded_after_an_acknowledged_one ≡ None)
+unfolding first_broken
+padded_packet_awaits_no_acknowledgment = (((((tt, refl), refl), refl), refl), refl)
+
 abbrev padded_alone : List Event
 padded_alone =
     padded App 0 500 1200 ∷
