@@ -7,6 +7,7 @@ pub mod leave
 pub mod loss
 pub mod persistent
 pub mod recovery_mark
+pub mod rtt
 pub mod spaces
 pub mod timer
 pub mod window
