@@ -168,3 +168,22 @@ pub probe_passes_the_window :
     × IsRun (server 1200 2400) (bare Initial 2 999000 1 ∷ full)
 unfolding first_broken
 probe_passes_the_window = (((((tt, refl), refl), refl), refl), refl, refl, ((((tt, refl), refl), refl), refl))
+
+-- ---- two timeouts of different spaces
+
+abbrev due_of_the_last : List Event
+due_of_the_last =
+    pto_fires Handshake 2498000 ∷
+    sent Initial 1 999000 1200 ∷
+    pto_fires Initial 999000 ∷
+    sent Handshake 0 500000 1200 ∷
+    sent Initial 0 0 1200 ∷ []
+
+-- Initial was probed at 999000; Handshake fires at 500000 + 1998000, and its probe is due. Without one it is refused at
+-- 500000 + 3996000, also after a packet of Initial; with one Initial fires at 999000 + 3996000.
+pub probe_is_due_in_the_space_of_the_last_timeout :
+    IsRun s (sent Initial 2 2498000 1200 ∷ due_of_the_last)
+    × (first_broken s (sent Initial 2 2498000 1200 ∷ due_of_the_last) (pto_fires Handshake 4496000) ≡ Some rule.ProbeOwed)
+    × IsRun s (pto_fires Initial 4995000 ∷ sent Handshake 1 2498000 1200 ∷ due_of_the_last)
+unfolding first_broken
+probe_is_due_in_the_space_of_the_last_timeout = (((((((tt, refl), refl), refl), refl), refl), refl), refl, (((((((tt, refl), refl), refl), refl), refl), refl), refl))

@@ -104,3 +104,20 @@ pub spaces_do_not_share_numbers :
     × (first_broken s same_numbers (sent Initial 3 100000 1200) ≡ None)
 unfolding first_broken
 spaces_do_not_share_numbers = (((((tt, refl), refl), refl), refl), refl, refl, refl, refl, refl, refl)
+
+abbrev detection_in_app : List Event
+detection_in_app =
+    ack App ((0, 0) ∷ []) 120000 ∷
+    ack Handshake ((1, 1) ∷ []) 100000 ∷
+    sent App 0 20000 1200 ∷
+    sent Handshake 1 0 1200 ∷
+    sent Handshake 0 0 1200 ∷ []
+
+-- Handshake packet 0 is old from 112500 on. The acknowledgment of App at 120000 looks for losses in App alone: nothing is owed,
+-- until the timer of Handshake, which is late, finds it.
+pub detection_is_of_one_space :
+    IsRun s detection_in_app × IsComplete s detection_in_app × (bytes_in_flight s detection_in_app ≡ 1200)
+    × (deadline s detection_in_app ≡ loss_at Handshake 112500)
+    × IsRun s (lost Handshake ((0, 0) ∷ []) 120000 ∷ loss_fires Handshake 120000 ∷ detection_in_app)
+unfolding first_broken
+detection_is_of_one_space = ((((((tt, refl), refl), refl), refl), refl), refl, refl, refl, (((((((tt, refl), refl), refl), refl), refl), refl), refl))
