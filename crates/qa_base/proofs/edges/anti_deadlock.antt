@@ -53,8 +53,8 @@ pub acknowledgment_of_a_bare_packet_sets_the_timer :
 unfolding first_broken
 acknowledgment_of_a_bare_packet_sets_the_timer = (((tt, refl), refl), refl)
 
--- A probe timeout sets it, by the time at which it fires, and doubles it: due at 400000, fired at 500000, then 500000 + 600000. The
--- next asks for a probe in between, as any does.
+-- A probe timeout sets it, by the time at which it fires, and doubles it: due at 400000, it fires at 500000, and
+-- 500000 + 600000. The next one asks for a probe in between, as any does.
 pub probe_timeout_sets_the_timer :
     IsRun c (pto_fires Initial 500000 ∷ acknowledged)
     × (deadline c (pto_fires Initial 500000 ∷ acknowledged) ≡ pto_at Initial 1100000)

@@ -57,7 +57,7 @@ padded_packet_does_not_meet_the_probe = ((((tt, refl), refl), refl), refl, refl,
 pub packet_before_the_timeout_does_not_meet_the_probe :
     IsRun c (pto_fires Initial 999001 ∷ sent Initial 1 1 1200 ∷ sent Initial 0 0 1200 ∷ [])
     × (first_broken c (pto_fires Initial 999001 ∷ sent Initial 1 1 1200 ∷ sent Initial 0 0 1200 ∷ []) (pto_fires Initial 1998001)
-        ≡ Some rule.ProbeOwed)
+    ≡ Some rule.ProbeOwed)
 unfolding first_broken
 packet_before_the_timeout_does_not_meet_the_probe = ((((tt, refl), refl), refl), refl)
 
@@ -149,7 +149,7 @@ allowance_is_of_all_spaces = (refl, (((((tt, refl), refl), refl), refl), refl), 
 pub allowance_lasts_until_the_next_timeout :
     IsRun s (probe App 2 1124000 1200 ∷ lost App ((0, 0) ∷ []) 1124000 ∷ ack App ((1, 1) ∷ []) 1124000 ∷ half_spent)
     × (first_broken s (probe App 2 1124000 1200 ∷ lost App ((0, 0) ∷ []) 1124000 ∷ ack App ((1, 1) ∷ []) 1124000 ∷ half_spent)
-        (probe App 3 1124000 1) ≡ Some rule.PastProbe)
+    (probe App 3 1124000 1) ≡ Some rule.PastProbe)
     × IsRun s (probe App 3 3072000 1200 ∷ probe App 2 3072000 1200 ∷ pto_fires App 3072000 ∷ half_spent)
 unfolding first_broken
 allowance_lasts_until_the_next_timeout = ((((((((tt, refl), refl), refl), refl), refl), refl), refl), refl, (((((((tt, refl), refl), refl), refl), refl), refl), refl))

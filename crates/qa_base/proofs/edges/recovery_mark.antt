@@ -39,7 +39,7 @@ pub second_entry_renews_the_mark :
     (first_broken s (spent (recovery App 4 100001 1200)) (recovery App 5 100001 1200) ≡ Some rule.PastRecovery)
     × IsRun s (recovery App 8 200001 1200 ∷ lost_again (recovery App 4 100001 1200))
     × (first_broken s (recovery App 8 200001 1200 ∷ lost_again (recovery App 4 100001 1200)) (recovery App 9 200001 1200)
-        ≡ Some rule.PastRecovery)
+    ≡ Some rule.PastRecovery)
 unfolding first_broken
 second_entry_renews_the_mark = (refl, (((((((((((tt, refl), refl), refl), refl), refl), refl), refl), refl), refl), refl), refl), refl)
 

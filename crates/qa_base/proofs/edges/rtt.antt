@@ -90,15 +90,15 @@ second_sent =
 pub delay_that_leaves_the_least_is_taken_off :
     IsRun s (delayed_ack App ((1, 1) ∷ []) 210000 10000 ∷ second_sent)
     × (rtt s (delayed_ack App ((1, 1) ∷ []) 210000 10000 ∷ second_sent)
-        ≡ record { latest = 110000; min = 100000; smoothed = 100000; var = 37500; first = Some 100000 })
+    ≡ record { latest = 110000; min = 100000; smoothed = 100000; var = 37500; first = Some 100000 })
     × IsRun s (delayed_ack App ((1, 1) ∷ []) 209999 10000 ∷ second_sent)
     × (rtt s (delayed_ack App ((1, 1) ∷ []) 209999 10000 ∷ second_sent)
-        ≡ record { latest = 109999; min = 100000; smoothed = 101249; var = 39999; first = Some 100000 })
+    ≡ record { latest = 109999; min = 100000; smoothed = 101249; var = 39999; first = Some 100000 })
 unfolding first_broken
 delay_that_leaves_the_least_is_taken_off = (((((tt, refl), refl), refl), refl), refl, ((((tt, refl), refl), refl), refl), refl)
 
 -- A sample below the least sets it: min 50000, var (150000 + 50000) / 4 = 50000, smoothed (700000 + 50000) / 8 = 93750.
 pub sample_below_the_least_sets_it :
     rtt s (delayed_ack App ((1, 1) ∷ []) 150000 10000 ∷ second_sent)
-        ≡ record { latest = 50000; min = 50000; smoothed = 93750; var = 50000; first = Some 100000 }
+    ≡ record { latest = 50000; min = 50000; smoothed = 93750; var = 50000; first = Some 100000 }
 sample_below_the_least_sets_it = refl

@@ -9,7 +9,7 @@ use Rattle.qa_base.specs.Reno.{reno}
 use Rattle.qa_base.specs.Rules.{first_broken, IsRun, IsComplete}
 use Rattle.qa_base.specs.Settings.{Settings}
 use Rattle.qa_base.specs.Timer.{deadline}
-use Rattle.qa_base.proofs.Shorthand.{server, sent, padded, bare, recovery, ack, lost, loss_fires}
+use Rattle.qa_base.proofs.Shorthand.{server, sent, padded, bare, ack, lost, loss_fires}
 use Rattle.qa_base.proofs.edges.Deadlines.{loss_at, pto_at}
 
 abbrev s : Settings

@@ -89,7 +89,7 @@ app_timeouts =
 pub peer_delay_is_doubled :
     IsRun s app_timeouts
     × (first_broken s (sent App 1 1024000 1200 ∷ pto_fires App 1024000 ∷ sent App 0 0 1200 ∷ Confirmed 0 ∷ []) (pto_fires App 3071999)
-        ≡ Some rule.TimerEarly)
+    ≡ Some rule.TimerEarly)
     × (deadline s app_timeouts ≡ pto_at App 7168000)
 unfolding first_broken
 peer_delay_is_doubled = (((((((tt, refl), refl), refl), refl), refl), refl), refl, refl)

@@ -5,7 +5,7 @@ use Rattle.qa_base.specs.declared.space.Space.TheVariants.{App}
 use Rattle.qa_base.specs.Reno.{reno}
 use Rattle.qa_base.specs.Rules.{first_broken, IsRun}
 use Rattle.qa_base.specs.Settings.{Settings}
-use Rattle.qa_base.proofs.Shorthand.{server, sent, padded, bare, recovery, ack, limited_ack, lost}
+use Rattle.qa_base.proofs.Shorthand.{server, sent, padded, bare, ack, limited_ack, lost}
 
 abbrev s : Settings
 s = server 1200 12000
