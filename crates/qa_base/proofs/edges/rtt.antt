@@ -1,0 +1,104 @@
+-- Edges of the round-trip time (RFC 9002, section 5).
+use Rattle.std.specs.Prelude.{◌≡◌, List, [], ◌∷◌, Some, None, refl}
+use Rattle.qa_base.specs.declared.event.Event.{Event}
+use Rattle.qa_base.specs.declared.space.Space.TheVariants.{App}
+use Rattle.qa_base.specs.Reno.{reno}
+use Rattle.qa_base.specs.Rtt.{rtt}
+use Rattle.qa_base.specs.Rules.{first_broken, IsRun}
+use Rattle.qa_base.specs.Settings.{Settings}
+use Rattle.qa_base.proofs.Shorthand.{server, sent, padded, bare, ack, delayed_ack}
+
+abbrev s : Settings
+s = server 1200 12000
+
+-- ---- when there is a sample (section 5.1)
+
+abbrev largest_known : List Event
+largest_known =
+    ack App ((0, 1) ∷ []) 110000 ∷
+    ack App ((1, 1) ∷ []) 100000 ∷
+    sent App 1 0 1200 ∷
+    sent App 0 0 1200 ∷ []
+
+-- The second acknowledgment is new for packet 0 alone, not for 1, its largest: the window grows twice, the sample is the first.
+pub no_sample_where_the_largest_is_not_new :
+    IsRun s largest_known × ((reno s largest_known).window ≡ 14400)
+    × (rtt s largest_known ≡ record { latest = 100000; min = 100000; smoothed = 100000; var = 50000; first = Some 100000 })
+unfolding first_broken
+no_sample_where_the_largest_is_not_new = (((((tt, refl), refl), refl), refl), refl, refl)
+
+abbrev largest_bare : List Event
+largest_bare =
+    ack App ((0, 1) ∷ []) 100000 ∷
+    bare App 1 40000 100 ∷
+    sent App 0 0 1200 ∷ []
+
+-- The largest is not in flight, but packet 0 with it is ack-eliciting: the sample is the time since the largest was sent.
+pub sample_is_of_the_largest_by_any_ack_eliciting_packet :
+    IsRun s largest_bare
+    × (rtt s largest_bare ≡ record { latest = 60000; min = 60000; smoothed = 60000; var = 30000; first = Some 100000 })
+unfolding first_broken
+sample_is_of_the_largest_by_any_ack_eliciting_packet = ((((tt, refl), refl), refl), refl)
+
+abbrev nothing_eliciting : List Event
+nothing_eliciting =
+    ack App ((0, 1) ∷ []) 100000 ∷
+    bare App 1 0 100 ∷
+    padded App 0 0 1200 ∷ []
+
+-- Neither packet is ack-eliciting: no sample, but the padded one grows the window.
+pub no_sample_without_an_ack_eliciting_packet :
+    IsRun s nothing_eliciting × ((reno s nothing_eliciting).window ≡ 13200)
+    × (rtt s nothing_eliciting ≡ record { latest = 0; min = 0; smoothed = 333000; var = 166500; first = None })
+unfolding first_broken
+no_sample_without_an_ack_eliciting_packet = ((((tt, refl), refl), refl), refl, refl)
+
+abbrev at_once : List Event
+at_once =
+    ack App ((1, 1) ∷ []) 900 ∷
+    sent App 1 500 1200 ∷
+    ack App ((0, 0) ∷ []) 0 ∷
+    sent App 0 0 1200 ∷ []
+
+-- A sample of 0 at time 0 is a sample: the one of 400 after it is a later one, smoothed 400 / 8, var 400 / 4.
+pub sample_of_nothing_is_a_sample :
+    IsRun s at_once × (rtt s at_once ≡ record { latest = 400; min = 0; smoothed = 50; var = 100; first = Some 0 })
+unfolding first_broken
+sample_of_nothing_is_a_sample = (((((tt, refl), refl), refl), refl), refl)
+
+-- ---- the peer's delay (section 5.3)
+
+abbrev first_delayed : List Event
+first_delayed =
+    delayed_ack App ((0, 0) ∷ []) 100000 10000 ∷
+    sent App 0 0 1200 ∷ []
+
+-- From the first sample no delay is taken off.
+pub first_sample_ignores_the_delay :
+    IsRun s first_delayed
+    × (rtt s first_delayed ≡ record { latest = 100000; min = 100000; smoothed = 100000; var = 50000; first = Some 100000 })
+unfolding first_broken
+first_sample_ignores_the_delay = (((tt, refl), refl), refl)
+
+abbrev second_sent : List Event
+second_sent =
+    sent App 1 100000 1200 ∷
+    first_delayed
+
+-- After 110000 the delay of 10000 leaves just the least, 100000, and is taken off: var 150000 / 4, smoothed 100000. After
+-- 109999 it is not: var (150000 + 9999) / 4 = 39999, smoothed (700000 + 109999) / 8 = 101249, both rounded down.
+pub delay_that_leaves_the_least_is_taken_off :
+    IsRun s (delayed_ack App ((1, 1) ∷ []) 210000 10000 ∷ second_sent)
+    × (rtt s (delayed_ack App ((1, 1) ∷ []) 210000 10000 ∷ second_sent)
+    ≡ record { latest = 110000; min = 100000; smoothed = 100000; var = 37500; first = Some 100000 })
+    × IsRun s (delayed_ack App ((1, 1) ∷ []) 209999 10000 ∷ second_sent)
+    × (rtt s (delayed_ack App ((1, 1) ∷ []) 209999 10000 ∷ second_sent)
+    ≡ record { latest = 109999; min = 100000; smoothed = 101249; var = 39999; first = Some 100000 })
+unfolding first_broken
+delay_that_leaves_the_least_is_taken_off = (((((tt, refl), refl), refl), refl), refl, ((((tt, refl), refl), refl), refl), refl)
+
+-- A sample below the least sets it: min 50000, var (150000 + 50000) / 4 = 50000, smoothed (700000 + 50000) / 8 = 93750.
+pub sample_below_the_least_sets_it :
+    rtt s (delayed_ack App ((1, 1) ∷ []) 150000 10000 ∷ second_sent)
+    ≡ record { latest = 50000; min = 50000; smoothed = 93750; var = 50000; first = Some 100000 }
+sample_below_the_least_sets_it = refl
