@@ -10,3 +10,4 @@ pub mod Quiet
 pub mod SendsAndReports
 pub mod RunLaws
 pub mod Ranges
+pub mod RunsAccepted

@@ -1,10 +1,8 @@
 -- What each rule forbids: whether an event breaks it after a history.
-use Rattle.std.specs.Prelude.{◌≡◌, ℕ, ◌+◌, ◌*◌, ◌&&◌, not, nat_lt, nat_le, Bool, true, false, List, [], ◌∷◌, map, Option, Some, None, is_none, if◌then◌else◌}
+use Rattle.std.specs.Prelude.{ℕ, ◌+◌, ◌*◌, ◌&&◌, not, nat_lt, nat_le, Bool, true, false, List, [], ◌∷◌, map, Option, Some, None, is_none}
 use Rattle.std.specs.List.{list_any}
 use Rattle.qa_base.specs.declared.event.Event.{Event}
 use Rattle.qa_base.specs.declared.event.Event.TheVariants.{Sent, Ack, Lost, Timer, Discard}
-use Rattle.qa_base.specs.declared.rule.Rule.{Rule}
-use Rattle.qa_base.specs.declared.rule.Rule.TheVariants as rule
 use Rattle.qa_base.specs.declared.space.Kind.{Kind}
 use Rattle.qa_base.specs.declared.space.Kind.TheVariants.{Loss, Pto}
 use Rattle.qa_base.specs.declared.space.Leave.TheVariants.{Window, Probe, Recovery}
@@ -14,7 +12,6 @@ use Rattle.qa_base.specs.Events.{time_of, is_space}
 use Rattle.qa_base.specs.Handshake.{is_confirmed}
 use Rattle.qa_base.specs.Leave.{probe_spent, recovery_spent, is_probe_due}
 use Rattle.qa_base.specs.Loss.{owed, bytes_in_flight}
-use Rattle.qa_base.specs.Metrics.{metric_tests}
 use Rattle.qa_base.specs.Numbers.{has_all, names_exactly}
 use Rattle.qa_base.specs.Packets.{Packet, packets_of, is_of, is_gone, is_some_packet}
 use Rattle.qa_base.specs.Reno.{reno}
