@@ -1,9 +1,10 @@
 -- Good lines are a header and the events of a run.
-use Rattle.std.proofs.Common.{◌≡◌, ◌∙◌, ◌+◌, ℕ, List, [], ◌∷◌, ◌++◌, length, Bool, true, false, Option, Some, None, Result, Ok, Err, refl, sym, ap, append_assoc}
-use Rattle.std.proofs.lemmas.List.{append-nil}
-use Rattle.std.proofs.lemmas.List.Elements.{filter_map-append}
+use Rattle.std.proofs.Common.{◌≡◌, ◌∙◌, ◌+◌, ◌≤◌, ℕ, List, [], ◌∷◌, ◌++◌, length, Bool, true, false, Option, Some, None, Result, Ok, Err, refl, sym, ap, arith, append_assoc}
+use Rattle.std.proofs.lemmas.List.{append-nil, map-append}
+use Rattle.std.proofs.lemmas.List.Elements.{filter-append, filter_map-append}
+use Rattle.std.specs.List.{filter}
 use Rattle.std.specs.Option.{option_or}
-use Rattle.std.specs.Prelude.{filter_map, option_map, unwrap_or, if◌then◌else◌}
+use Rattle.std.specs.Prelude.{map, filter_map, option_map, unwrap_or, if◌then◌else◌}
 use Rattle.qa_base.specs.declared.event.Event.{Event}
 use Rattle.qa_base.specs.declared.line.Line.{Line}
 use Rattle.qa_base.specs.declared.line.Line.TheVariants as line
@@ -18,10 +19,10 @@ use Rattle.qa_base.specs.declared.rule.Rule.TheVariants.{OwedAtEnd}
 use Rattle.qa_base.specs.Loss.{owed}
 use Rattle.qa_base.specs.Settings.{Settings}
 use Rattle.qa_base.specs.State.{totals}
-use Rattle.qa_base.specs.Verdict.{Reading, header_said, event_said, header_in, events_in, said, stop_at, stop_after, first_stop, end_at, last_event_line, verdict_of, verdict, IsTraceOfRun}
+use Rattle.qa_base.specs.Verdict.{Reading, header_said, event_said, header_in, events_in, said, stop_at, stop_after, first_stop, end_at, last_event_line, verdict_of, verdict, is_saying, sayings, trace_of, IsTraceOfRun}
 use Rattle.qa_base.specs.Lines.{lines}
 use Rattle.qa_base.proofs.Histories.{history_of-snoc}
-use Rattle.qa_base.proofs.Stops.{or_parts, header_in-snoc, said_reading}
+use Rattle.qa_base.proofs.Stops.{or_parts, header_in-snoc, said_reading, good_are_few, good_are_short}
 
 -- ---- a line more
 
@@ -30,8 +31,15 @@ abbrev pub IsRunBy : Option Settings → List Event → Type 0
 IsRunBy None events = events ≡ []
 IsRunBy (Some c) events = IsRun c (history_of events)
 
+-- what lines say whose header and whose events are these, where they are good
+abbrev pub so_far : Option Settings → List Event → List (Result Line Fault)
+so_far None events = []
+so_far (Some c) events = trace_of c events
+
 abbrev pub AreRun : Reading → List (List ℕ) → Type 0
-AreRun reading ls = IsRunBy (header_in reading ls) (events_in reading ls)
+AreRun reading ls =
+    IsRunBy (header_in reading ls) (events_in reading ls)
+    × (sayings reading ls ≡ so_far (header_in reading ls) (events_in reading ls))
 
 none_broken : (n : ℕ) (t : Totals) (o : Option Rule) → option_map (λ r. Refused n r t) o ≡ None → o ≡ None
 none_broken n t None h = refl
@@ -49,27 +57,46 @@ run_grows n None events (Ok (line.Event e)) good run = cc
 run_grows n (Some c) events (Ok (line.Event e)) good run =
     rw history_of-snoc (run, none_broken n (totals c (history_of events)) (first_broken c (history_of events) e) good)
 
+-- and is all that it says
+sayings_grow : (n : ℕ) (header : Option Settings) (events : List Event) (s : Result Line Fault) → stop_at n header (history_of events) s ≡ None → IsRunBy header events
+    → so_far header events ++ filter is_saying (s ∷ []) ≡ so_far (option_or header (header_said s)) (events ++ filter_map event_said (s ∷ []))
+sayings_grow n header events (Err f) good run = cc
+sayings_grow n None events (Ok line.Blank) good run = refl
+sayings_grow n (Some c) events (Ok line.Blank) good run = append-nil (trace_of c events) ∙ ap (trace_of c) (sym (append-nil events))
+sayings_grow n None events (Ok (line.Header c)) good run = rw (append-nil, run) refl
+sayings_grow n (Some d) events (Ok (line.Header c)) good run = cc
+sayings_grow n None events (Ok (line.Event e)) good run = cc
+sayings_grow n (Some c) events (Ok (line.Event e)) good run = rw map-append refl
+
 -- a line that is good is read as it says
 good_reading : (reading : Reading) (n : ℕ) (header : Option Settings) (h : List Event) (l : List ℕ) (s : Result Line Fault)
     → s ≡ said reading n l → stop_at (n + 1) header h s ≡ None → reading l ≡ s
 good_reading reading n header h l (Err f) is good = cc
 good_reading reading n header h l (Ok x) is good = said_reading reading n l (sym is)
 
+sayings-snoc : (reading : Reading) (ls : List (List ℕ)) (l : List ℕ) → sayings reading (ls ++ l ∷ []) ≡ sayings reading ls ++ filter is_saying (reading l ∷ [])
+sayings-snoc reading ls l = ap (filter is_saying) (map-append reading ls (l ∷ [])) ∙ filter-append is_saying (map reading ls) (reading l ∷ [])
+
 line_more : (reading : Reading) (before : List (List ℕ)) (l : List ℕ) → stop_after reading before l ≡ None → AreRun reading before → AreRun reading (before ++ l ∷ [])
 unfolding stop_after
 line_more reading before l good run =
     let s = said reading (length before) l in
     let reads : reading l ≡ s = good_reading reading (length before) (header_in reading before) (history_of (events_in reading before)) l s refl good in
-    let grown = run_grows (length before + 1) (header_in reading before) (events_in reading before) s good run in
+    let n = length before + 1 in
+    let grown = run_grows n (header_in reading before) (events_in reading before) s good run.0 in
+    let said_more = sayings_grow n (header_in reading before) (events_in reading before) s good run.0 in
     let events : events_in reading (before ++ l ∷ []) ≡ events_in reading before ++ filter_map event_said (s ∷ []) =
     filter_map-append (λ m. event_said (reading m)) before (l ∷ []) ∙ ap (λ r. events_in reading before ++ filter_map event_said (r ∷ [])) reads in
     let header : header_in reading (before ++ l ∷ []) ≡ option_or (header_in reading before) (header_said s) =
     header_in-snoc reading before l ∙ ap (λ r. option_or (header_in reading before) (header_said r)) reads in
-    rw (header, events) grown
+    let says : sayings reading (before ++ l ∷ []) ≡ so_far (header_in reading before) (events_in reading before) ++ filter is_saying (s ∷ []) =
+    sayings-snoc reading before l ∙ ap (λ k. k ++ filter is_saying (reading l ∷ [])) run.1
+    ∙ ap (λ r. so_far (header_in reading before) (events_in reading before) ++ filter is_saying (r ∷ [])) reads in
+    (rw (header, events) grown, rw (header, events) (says ∙ said_more))
 
 -- ---- all lines
 
-good_run : (reading : Reading) (before ls : List (List ℕ)) → first_stop reading before ls ≡ None → AreRun reading before → AreRun reading (before ++ ls)
+pub good_run : (reading : Reading) (before ls : List (List ℕ)) → first_stop reading before ls ≡ None → AreRun reading before → AreRun reading (before ++ ls)
 good_run reading before [] good run = rw append-nil run
 good_run reading before (l ∷ ls) good run =
     let parts = or_parts (stop_after reading before l) (first_stop reading (before ++ l ∷ []) ls) good in
@@ -116,17 +143,22 @@ complete_end : (some : Bool) (last : ℕ) (u t : Totals) → (if some then Refus
 complete_end true last u t is = cc
 complete_end false last u t is = (refl, cc)
 
-ends_in_run : (n last : ℕ) (header : Option Settings) (events : List Event) (t : Totals) → end_at n last header (history_of events) ≡ Accepted t → IsRunBy header events
-    → (c : Settings) × (header ≡ Some c) × IsRun c (history_of events) × IsComplete c (history_of events) × (t ≡ totals c (history_of events))
-ends_in_run n last None events t is run = cc
-ends_in_run n last (Some c) events t is run =
+ends_in_run : (n last : ℕ) (header : Option Settings) (events : List Event) (says : List (Result Line Fault)) (t : Totals)
+    → end_at n last header (history_of events) ≡ Accepted t → IsRunBy header events → says ≡ so_far header events
+    → (c : Settings) × (events : List Event) × (says ≡ trace_of c events)
+    × IsRun c (history_of events) × IsComplete c (history_of events) × (t ≡ totals c (history_of events))
+ends_in_run n last None events says t is run so = cc
+ends_in_run n last (Some c) events says t is run so =
     let ends = complete_end (is_some_packet (owed c (history_of events))) last (totals c (history_of events)) t is in
-    (c, refl, run, no_packet (owed c (history_of events)) ends.0, ends.1)
+    (c, events, so, run, no_packet (owed c (history_of events)) ends.0, ends.1)
 
 pub accepted_is_run : (reading : Reading) (bytes : List ℕ) (t : Totals) → verdict reading bytes ≡ Accepted t → IsTraceOfRun reading (lines bytes) t
 unfolding verdict_of
 accepted_is_run reading bytes t is =
     let ls = lines bytes in
     let ends = ends_accepted (first_stop reading [] ls) _ t (first_stop_refuses reading [] ls t) is in
-    let run = good_run reading [] ls ends.0 refl in
-    ends_in_run (length ls + 1) (last_event_line reading ls) (header_in reading ls) (events_in reading ls) t ends.1 run
+    let run = good_run reading [] ls ends.0 (refl, refl) in
+    let few : 0 + length ls ≤ 4294967295 = good_are_few reading [] ls ends.0 (omega arith) in
+    let complete =
+    ends_in_run (length ls + 1) (last_event_line reading ls) (header_in reading ls) (events_in reading ls) (sayings reading ls) t ends.1 run.0 run.1 in
+    (omega (arith, few), good_are_short reading [] ls ends.0, complete.0, complete.1, complete.2, complete.3, complete.4, complete.5)

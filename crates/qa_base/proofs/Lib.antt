@@ -11,3 +11,4 @@ pub mod SendsAndReports
 pub mod RunLaws
 pub mod Ranges
 pub mod edges
+pub mod RunsAccepted

@@ -2,16 +2,17 @@
 use Rattle.std.proofs.Common.{◌≡◌, ◌∙◌, ◌+◌, ◌<◌, ◌≤◌, ◌⊎◌, inl, inr, ℕ, List, [], ◌∷◌, ◌++◌, length, Bool, true, false, cond, Option, Some, None, Result, Ok, Err, refl, sym, ap, arith, append_assoc, length-append}
 use Rattle.std.proofs.lemmas.Bool.{leb-false}
 use Rattle.std.proofs.lemmas.List.{append-nil}
+use Rattle.std.specs.List.{AllByRecursion}
 use Rattle.std.specs.Option.{option_or}
 use Rattle.std.specs.Prelude.{nat_le, nat_lt, IsSome}
 use Rattle.qa_base.specs.declared.event.Event.{Event}
 use Rattle.qa_base.specs.declared.line.Line.{Line}
 use Rattle.qa_base.specs.declared.fault.Fault.{Fault}
 use Rattle.qa_base.specs.declared.verdict.Verdict.{Verdict}
-use Rattle.qa_base.specs.Lines.{max_lines}
+use Rattle.qa_base.specs.Lines.{line_limit, max_lines}
 use Rattle.qa_base.specs.Packets.{history_of}
 use Rattle.qa_base.specs.Settings.{Settings}
-use Rattle.qa_base.specs.Verdict.{Reading, header_said, header_in, events_in, said, stop_at, stop_after, first_stop, verdict_of, AreDecided}
+use Rattle.qa_base.specs.Verdict.{Reading, header_said, header_in, events_in, said, stop_at, stop_after, first_stop, verdict_of, AreDecided, IsWithinLimit}
 
 -- ---- which of two stops comes first
 
@@ -124,3 +125,23 @@ good_are_few reading before (l ∷ ls) h few =
     let longer : length (before ++ l ∷ []) ≡ length before + 1 = length-append before (l ∷ []) in
     let rest : length (before ++ l ∷ []) + length ls ≤ 4294967295 = good_are_few reading (before ++ l ∷ []) ls parts.1 (omega arith) in
     omega arith
+
+-- ---- how long a good line can be
+
+stop_of_long : (n : ℕ) (header : Option Settings) (h : List Event) (many long : Bool) (e f : Fault) (r : Result Line Fault)
+    → stop_at n header h (cond many (Err e) (cond long (Err f) r)) ≡ None → long ≡ false
+stop_of_long n header h true long e f r s = cc
+stop_of_long n header h false true e f r s = cc
+stop_of_long n header h false false e f r s = refl
+
+good_is_short : (reading : Reading) (before : List (List ℕ)) (l : List ℕ) → stop_after reading before l ≡ None → length l ≤ line_limit
+unfolding stop_after said
+good_is_short reading before l h =
+    let short = stop_of_long (length before + 1) (header_in reading before) (history_of (events_in reading before)) (nat_le 4294967295 (length before)) (nat_lt 65536 (length l)) _ _ _ h in
+    omega (arith, leb-false 65537 (length l) short)
+
+pub good_are_short : (reading : Reading) (before ls : List (List ℕ)) → first_stop reading before ls ≡ None → AllByRecursion IsWithinLimit ls
+good_are_short reading before [] h = tt
+good_are_short reading before (l ∷ ls) h =
+    let parts = or_parts (stop_after reading before l) (first_stop reading (before ++ l ∷ []) ls) h in
+    (good_is_short reading before l parts.0, good_are_short reading (before ++ l ∷ []) ls parts.1)

@@ -1,5 +1,6 @@
 -- What is said of a trace, by any reading of its lines.
-use Rattle.std.specs.Prelude.{◌≡◌, ℕ, ◌+◌, ◌⊎◌, ◌<◌, nat_lt, nat_le, Bool, is_some, List, [], ◌∷◌, ◌++◌, length, filter_map, Option, Some, None, option_map, unwrap_or, IsSome, Result, Ok, Err, if◌then◌else◌}
+use Rattle.std.specs.Prelude.{◌≡◌, ℕ, ◌+◌, ◌⊎◌, ◌<◌, ◌≤◌, nat_lt, nat_le, Bool, true, false, is_some, List, [], ◌∷◌, ◌++◌, length, map, filter_map, Option, Some, None, option_map, unwrap_or, IsSome, Result, Ok, Err, if◌then◌else◌}
+use Rattle.std.specs.List.{filter, AllByRecursion}
 use Rattle.std.specs.Option.{option_or}
 use Rattle.qa_base.specs.declared.event.Event.{Event}
 use Rattle.qa_base.specs.declared.line.Line.{Line}
@@ -107,10 +108,29 @@ verdict reading bytes = verdict_of reading (lines bytes)
 abbrev pub IsFixed : Reading → List ℕ → Type 0
 IsFixed reading bytes = AreDecided reading (ended_lines bytes) ⊎ (line_limit < length (unended bytes))
 
--- the lines are a header and events that form a complete run, and these are its totals
+-- ---- accepted traces
+
+abbrev pub IsWithinLimit : List ℕ → Type 0
+IsWithinLimit l = length l ≤ line_limit
+
+abbrev pub is_saying : Result Line Fault → Bool
+is_saying (Ok line.Blank) = false
+is_saying _ = true
+
+-- what the lines say that are not blank, in order
+abbrev pub sayings : Reading → List (List ℕ) → List (Result Line Fault)
+sayings reading ls = filter is_saying (map reading ls)
+
+abbrev pub event_line : Event → Result Line Fault
+event_line e = Ok (line.Event e)
+
+-- what the lines of a trace say: a header, and then events
+abbrev pub trace_of : Settings → List Event → List (Result Line Fault)
+trace_of c events = Ok (line.Header c) ∷ map event_line events
+
+-- the lines, within the limits of a trace, say a header and events that form a complete run, and these are its totals
 abbrev pub IsTraceOfRun : Reading → List (List ℕ) → Totals → Type 0
 IsTraceOfRun reading ls t =
-    (c : Settings) × (header_in reading ls ≡ Some c)
-    × IsRun c (history_of (events_in reading ls))
-    × IsComplete c (history_of (events_in reading ls))
-    × (t ≡ totals c (history_of (events_in reading ls)))
+    (length ls ≤ max_lines) × AllByRecursion IsWithinLimit ls
+    × (c : Settings) × (events : List Event) × (sayings reading ls ≡ trace_of c events)
+    × IsRun c (history_of events) × IsComplete c (history_of events) × (t ≡ totals c (history_of events))

@@ -31,10 +31,10 @@ pub fn sends_alone()
     ensures { (l : List ℕ) (e : Event) → sends l ≡ Ok (line.Event e) → (is_sent_or_report e ≡ true) × (fits e ≡ true) }
 {}
 
-/// A trace that is accepted is a header and the events of a run, and its totals are those of the
-/// run, whatever the reading of lines.
+/// Bytes are accepted with some totals exactly where their lines say a header and the events of a
+/// complete run with those totals, whatever the reading of lines.
 pub fn accepted_is_run()
-    ensures { (reading : Reading) (bytes : List ℕ) (t : Totals) → verdict reading bytes ≡ verdicts.Accepted t → IsTraceOfRun reading (lines bytes) t }
+    ensures { (reading : Reading) (bytes : List ℕ) (t : Totals) → (verdict reading bytes ≡ verdicts.Accepted t) ↔ IsTraceOfRun reading (lines bytes) t }
 {}
 
 /// A prefix of a run is a run.

@@ -1,5 +1,5 @@
-use Rattle.qa_base.proofs.Accepted as lemmas
+use Rattle.qa_base.proofs.RunsAccepted as lemmas
 use Rattle.qa_base.proofs.laws.accepted_is_run.Goals as goal
 
 pub returns : goal.returns
-returns c = lemmas.accepted_is_run
+returns c = lemmas.accepted_exactly_runs
