@@ -19,14 +19,14 @@ abbrev pub start : ℕ → Control
 start window = record { window = window; threshold = None; recovery = None }
 
 -- sent later than recovery began, or there is no recovery
-abbrev pub is_past_recovery : Option ℕ → ℕ → Bool
-is_past_recovery None sent = true
-is_past_recovery (Some began) sent = nat_lt began sent
+abbrev pub is_outside_recovery : Option ℕ → ℕ → Bool
+is_outside_recovery None sent = true
+is_outside_recovery (Some began) sent = nat_lt began sent
 
 -- a loss, of packets the last of which was sent at a time (section 7.3.2, B.6): it enters recovery once a round trip
 abbrev pub hit : ℕ → ℕ → ℕ → Control → Control
 hit datagram last_sent now r =
-    if is_past_recovery r.recovery last_sent
+    if is_outside_recovery r.recovery last_sent
     then record { window = max (r.window / 2) (2 * datagram); threshold = Some (r.window / 2); recovery = Some now }
     else r
 
@@ -34,12 +34,12 @@ hit datagram last_sent now r =
 abbrev pub collapse : ℕ → Control → Control
 collapse datagram r = record { window = 2 * datagram; threshold = r.threshold; recovery = None }
 
-abbrev pub is_below : ℕ → Option ℕ → Bool
-is_below window None = true
-is_below window (Some threshold) = nat_lt window threshold
+abbrev pub is_below_threshold : ℕ → Option ℕ → Bool
+is_below_threshold window None = true
+is_below_threshold window (Some threshold) = nat_lt window threshold
 
 abbrev pub is_slow_start : Control → Bool
-is_slow_start r = is_below r.window r.threshold
+is_slow_start r = is_below_threshold r.window r.threshold
 
 -- what an acknowledged packet adds: its size in slow start (section 7.3.1), its part of a datagram for each window else (7.3.3)
 abbrev pub growth : ℕ → ℕ → Control → ℕ
@@ -48,7 +48,7 @@ growth datagram size r = if is_slow_start r then size else datagram * size / r.w
 -- a packet was acknowledged that was sent at a time (B.5)
 abbrev pub grow : ℕ → ℕ → ℕ → Control → Control
 grow datagram size sent r =
-    if is_past_recovery r.recovery sent
+    if is_outside_recovery r.recovery sent
     then record { window = r.window + growth datagram size r; threshold = r.threshold; recovery = r.recovery }
     else r
 
@@ -105,7 +105,7 @@ reno c h = fold (moved c.max_datagram_size) (start c.initial_window) (moves c h)
 -- ---- entries into recovery
 
 abbrev pub enters : Option ℕ → List Move → Bool
-enters recovery (Hit last_sent now ∷ ms) = is_past_recovery recovery last_sent
+enters recovery (Hit last_sent now ∷ ms) = is_outside_recovery recovery last_sent
 enters recovery _ = false
 
 -- the last event enters recovery

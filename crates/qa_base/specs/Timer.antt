@@ -54,13 +54,13 @@ least_of (n ∷ ns) = Some (min n (unwrap_or (least_of ns) n))
 abbrev pub loss_delay : Estimate → ℕ
 loss_delay r = max ((9 * max r.latest r.smoothed + 7) / 8) 1000
 
-abbrev pub is_below : ℕ → Option ℕ → Bool
-is_below number None = false
-is_below number (Some largest) = nat_lt number largest
+abbrev pub is_below_largest : ℕ → Option ℕ → Bool
+is_below_largest number None = false
+is_below_largest number (Some largest) = nat_lt number largest
 
 -- an open in-flight packet below the largest acknowledged number of its space, which is lost when it is old
 abbrev pub awaits_loss : Settings → List Event → Packet → Bool
-awaits_loss c h p = p.in_flight && is_open c h p && is_below p.number (largest_acknowledged h p.space)
+awaits_loss c h p = p.in_flight && is_open c h p && is_below_largest p.number (largest_acknowledged h p.space)
 
 -- the time at which the first packet of the space is old
 abbrev pub loss_due : Settings → List Event → Space → Option Due

@@ -49,10 +49,10 @@ impl Reno {
     pub fn hit(&mut self, last_sent: Micros, now: Micros, mds: u64) -> bool
         requires mds_low { 1200 ≤ mds }
         requires mds_high { mds ≤ 65527 }
-        ensures entered { result ≡ steps.is_past_recovery self.old.recovery last_sent }
+        ensures entered { result ≡ steps.is_outside_recovery self.old.recovery last_sent }
         ensures state { self.new ≡ steps.hit mds last_sent now self.old }
     {
-        if !is_past_recovery(self.recovery, last_sent) {
+        if !is_outside_recovery(self.recovery, last_sent) {
             return false;
         }
         let half = self.window / 2;
@@ -92,7 +92,7 @@ impl Reno {
         requires size_high { size ≤ 65527 }
         ensures { self.new ≡ steps.grow mds size sent self.old }
     {
-        if !is_past_recovery(self.recovery, sent) {
+        if !is_outside_recovery(self.recovery, sent) {
             return;
         }
         let growth = if is_slow_start(self.window, self.threshold) {
@@ -109,8 +109,8 @@ impl Reno {
 }
 
 /// Whether a packet that was sent then was sent after recovery began, or there is no recovery.
-fn is_past_recovery(recovery: Option<Micros>, sent: Micros) -> bool
-    ensures { result ≡ steps.is_past_recovery recovery sent }
+fn is_outside_recovery(recovery: Option<Micros>, sent: Micros) -> bool
+    ensures { result ≡ steps.is_outside_recovery recovery sent }
 {
     match recovery {
         None => true,
@@ -120,7 +120,7 @@ fn is_past_recovery(recovery: Option<Micros>, sent: Micros) -> bool
 
 /// Whether the window is below the threshold, or there is none.
 fn is_slow_start(window: u64, threshold: Option<u64>) -> bool
-    ensures { result ≡ steps.is_below window threshold }
+    ensures { result ≡ steps.is_below_threshold window threshold }
 {
     match threshold {
         None => true,
