@@ -1,6 +1,12 @@
 pub mod Cuts
 pub mod Stops
 pub mod Fixed
+pub mod Sized
+pub mod KeysRead
+pub mod ProperReadings
+pub mod KeysWritten
+pub mod OneLine
+pub mod LinesWritten
 pub mod SendsAlone
 pub mod Histories
 pub mod Accepted
@@ -12,3 +18,4 @@ pub mod RunLaws
 pub mod Ranges
 pub mod edges
 pub mod RunsAccepted
+pub mod Compact

@@ -21,6 +21,9 @@ pub mod Span
 pub mod Proper
 pub mod Lines
 pub mod Keys
+pub mod Tables
+pub mod Reading
 pub mod Sends
+pub mod Written
 pub mod Verdict
 pub mod Report

@@ -1,4 +1,4 @@
--- The names and numbers of keys, fields, rules and faults, and what a text names.
+-- The names and numbers of keys, fields, choices, rules and faults, and what a text names.
 use Rattle.std.specs.Prelude.{ℕ, List, [], ◌∷◌, codes, bytes_eq, Option, Some, None, if◌then◌else◌}
 use Rattle.qa_base.specs.declared.fault.Key.{Key}
 use Rattle.qa_base.specs.declared.fault.Key.TheVariants as key
@@ -12,6 +12,8 @@ use Rattle.qa_base.specs.declared.space.Role.{Role}
 use Rattle.qa_base.specs.declared.space.Role.TheVariants.{Client, Server}
 use Rattle.qa_base.specs.declared.space.Space.{Space}
 use Rattle.qa_base.specs.declared.space.Space.TheVariants.{Initial, Handshake, App}
+use Rattle.qa_base.specs.declared.space.Kind.{Kind}
+use Rattle.qa_base.specs.declared.space.Kind.TheVariants.{Loss, Pto}
 use Rattle.qa_base.specs.declared.space.Leave.{Leave}
 use Rattle.qa_base.specs.declared.space.Leave.TheVariants.{Window, Probe, Recovery}
 
@@ -47,6 +49,26 @@ key_name key.Limited = codes "limited"
 key_name key.Kind = codes "kind"
 key_name (key.Metric f) = field_name f
 
+-- ---- choices
+
+abbrev pub role_name : Role → List ℕ
+role_name Client = codes "client"
+role_name Server = codes "server"
+
+abbrev pub space_name : Space → List ℕ
+space_name Initial = codes "initial"
+space_name Handshake = codes "handshake"
+space_name App = codes "app"
+
+abbrev pub leave_name : Leave → List ℕ
+leave_name Window = codes "window"
+leave_name Probe = codes "probe"
+leave_name Recovery = codes "recovery"
+
+abbrev pub kind_name : Kind → List ℕ
+kind_name Loss = codes "loss"
+kind_name Pto = codes "pto"
+
 -- ---- what a text names
 
 -- what stands beside the first of these words that the text is
@@ -54,14 +76,26 @@ abbrev pub named : {A : Type 0} → List (List ℕ × A) → List ℕ → Option
 named [] text = None
 named (word ∷ words) text = if bytes_eq text word.0 then Some word.1 else named words text
 
+-- each of these beside its name
+abbrev pub with_names : {A : Type 0} → (A → List ℕ) → List A → List (List ℕ × A)
+with_names name [] = []
+with_names name (x ∷ xs) = (name x, x) ∷ with_names name xs
+
 abbrev pub role_named : List ℕ → Option Role
-role_named = named ((codes "client", Client) ∷ (codes "server", Server) ∷ [])
+role_named = named (with_names role_name (Client ∷ Server ∷ []))
 
 abbrev pub space_named : List ℕ → Option Space
-space_named = named ((codes "initial", Initial) ∷ (codes "handshake", Handshake) ∷ (codes "app", App) ∷ [])
+space_named = named (with_names space_name (Initial ∷ Handshake ∷ App ∷ []))
+
+-- the spaces whose keys are discarded (RFC 9001, section 4.9)
+abbrev pub discarded_named : List ℕ → Option Space
+discarded_named = named (with_names space_name (Initial ∷ Handshake ∷ []))
 
 abbrev pub leave_named : List ℕ → Option Leave
-leave_named = named ((codes "window", Window) ∷ (codes "probe", Probe) ∷ (codes "recovery", Recovery) ∷ [])
+leave_named = named (with_names leave_name (Window ∷ Probe ∷ Recovery ∷ []))
+
+abbrev pub kind_named : List ℕ → Option Kind
+kind_named = named (with_names kind_name (Loss ∷ Pto ∷ []))
 
 -- ---- rules
 

@@ -1,10 +1,12 @@
--- Which headers and which events there are.
+-- Which headers, events and lines there are.
 use Rattle.std.specs.Prelude.{◌≡◌, ℕ, ◌≤◌, ◌<◌, ◌^◌, true, List, Option}
 use Rattle.std.specs.List.{AllByRecursion}
 use Rattle.std.specs.Option.{ForSome}
 use Rattle.qa_base.specs.declared.event.Event.{Event}
 use Rattle.qa_base.specs.declared.event.Event.TheVariants.{Sent, Ack, Lost, Metrics}
 use Rattle.qa_base.specs.declared.event.MetricValues.{MetricValues}
+use Rattle.qa_base.specs.declared.line.Line.{Line}
+use Rattle.qa_base.specs.declared.line.Line.TheVariants as line
 use Rattle.qa_base.specs.Events.{time_of, fits}
 use Rattle.qa_base.specs.Limits.{max_time, max_packet_number}
 use Rattle.qa_base.specs.Settings.{Settings, AreInRange}
@@ -35,6 +37,12 @@ pub record IsProperEvent (e : Event) : Type 0 where
   pub fitting : fits e ≡ true
   pub in_time : time_of e ≤ max_time
   pub numbers : HasProperNumbers e
+
+-- what the line says is something that there is
+abbrev pub IsProperLine : Line → Type 0
+IsProperLine line.Blank = Unit {0}
+IsProperLine (line.Header s) = AreInRange s
+IsProperLine (line.Event e) = IsProperEvent e
 
 -- the header and the events are such as there are
 pub record IsProper (c : Settings) (h : List Event) : Type 0 where

@@ -1,14 +1,15 @@
 //! Facts over the definitions alone. Each is the contract of a function that does nothing.
-ghost use Rattle.std.specs.Prelude.{◌≡◌, ◌≤◌, ◌++◌, ◌∷◌, ◌+◌, ◌-◌, ◌&&◌, ◌↔◌, [], List, ℕ, Bool, true, not, Ok, if◌then◌else◌};
+ghost use Rattle.std.specs.Prelude.{◌≡◌, ◌≤◌, ◌++◌, ◌∷◌, ◌+◌, ◌-◌, ◌&&◌, ◌↔◌, [], List, ℕ, Bool, true, false, not, Ok, if◌then◌else◌};
 ghost use Rattle.qa_base.specs.declared.event.Event.{Event};
 ghost use Rattle.qa_base.specs.declared.event.Event.TheVariants as events;
+ghost use Rattle.qa_base.specs.declared.line.Line.{Line};
 ghost use Rattle.qa_base.specs.declared.line.Line.TheVariants as line;
 ghost use Rattle.qa_base.specs.declared.space.Leave.{Leave};
 ghost use Rattle.qa_base.specs.declared.space.Space.{Space};
 ghost use Rattle.qa_base.specs.declared.verdict.Totals.{Totals};
 ghost use Rattle.qa_base.specs.declared.verdict.Verdict.TheVariants as verdicts;
 ghost use Rattle.qa_base.specs.Events.{fits, is_quiet, is_sent_or_report};
-ghost use Rattle.qa_base.specs.Lines.{lines};
+ghost use Rattle.qa_base.specs.Lines.{has_lf, lines};
 ghost use Rattle.qa_base.specs.Loss.{bytes_in_flight, is_old, owed};
 ghost use Rattle.qa_base.specs.Numbers.{AreRanges, Names, NamesOnly, has_all, names_exactly};
 ghost use Rattle.qa_base.specs.Order.{NumbersFall};
@@ -16,10 +17,13 @@ ghost use Rattle.qa_base.specs.Packets.{Packet, packets, is_gone, newly_acknowle
 ghost use Rattle.qa_base.specs.Reno.{moves};
 ghost use Rattle.qa_base.specs.Rtt.{Estimate, rtt};
 ghost use Rattle.qa_base.specs.Rules.{IsRun};
+ghost use Rattle.qa_base.specs.Proper.{IsProperLine};
+ghost use Rattle.qa_base.specs.Reading.{reading};
 ghost use Rattle.qa_base.specs.Sends.{reading as sends};
 ghost use Rattle.qa_base.specs.Settings.{Settings};
 ghost use Rattle.qa_base.specs.Timer.{backoff, loss_delay};
 ghost use Rattle.qa_base.specs.Verdict.{Reading, IsFixed, IsTraceOfRun, verdict};
+ghost use Rattle.qa_base.specs.Written.{written};
 
 /// No byte that follows changes a verdict that is fixed, whatever the reading of lines.
 pub fn fixed_stays()
@@ -29,6 +33,19 @@ pub fn fixed_stays()
 /// The reading of headers, sent packets and reports gives no other event, and those that it gives fit.
 pub fn sends_alone()
     ensures { (l : List ℕ) (e : Event) → sends l ≡ Ok (line.Event e) → (is_sent_or_report e ≡ true) × (fits e ≡ true) }
+{}
+
+/// What a line is read as is in the ranges of its format: a header's values are, and so are an
+/// event's, which fits.
+pub fn reading_is_proper()
+    ensures { (l : List ℕ) (x : Line) → reading l ≡ Ok x → IsProperLine x }
+{}
+
+/// What is written for a line has no LF and is read as that line, where its values are in their
+/// ranges. (The text may be longer than a line of a trace may be.)
+pub fn written_is_read()
+    ensures one_line { (x : Line) → IsProperLine x → has_lf (written x) ≡ false }
+    ensures read { (x : Line) → IsProperLine x → reading (written x) ≡ Ok x }
 {}
 
 /// Bytes are accepted with some totals exactly where their lines say a header and the events of a

@@ -1,6 +1,6 @@
 //! The small choices that a trace's lines name by a text.
 ghost use Rattle.std.specs.Prelude.{◌≡◌};
-ghost use Rattle.qa_base.specs.Names.{role_named, space_named, leave_named};
+ghost use Rattle.qa_base.specs.Names.{role_name, role_named, space_name, space_named, leave_name, leave_named, kind_name, kind_named};
 
 /// Which end of the connection the audited sender is.
 #[derive(Clone, Copy, Debug, PartialEq, Eq)]
@@ -18,6 +18,16 @@ impl Role {
             "client" => Some(Role::Client),
             "server" => Some(Role::Server),
             _ => None,
+        }
+    }
+
+    /// The role's name, which `named` reads.
+    pub fn name(self) -> &'static str
+        ensures { result.now ≡ role_name self }
+    {
+        match self {
+            Role::Client => "client",
+            Role::Server => "server",
         }
     }
 }
@@ -40,6 +50,17 @@ impl Space {
             "handshake" => Some(Space::Handshake),
             "app" => Some(Space::App),
             _ => None,
+        }
+    }
+
+    /// The space's name, which `named` reads.
+    pub fn name(self) -> &'static str
+        ensures { result.now ≡ space_name self }
+    {
+        match self {
+            Space::Initial => "initial",
+            Space::Handshake => "handshake",
+            Space::App => "app",
         }
     }
 }
@@ -65,6 +86,17 @@ impl Leave {
             _ => None,
         }
     }
+
+    /// The mark's name, which `named` reads.
+    pub fn name(self) -> &'static str
+        ensures { result.now ≡ leave_name self }
+    {
+        match self {
+            Leave::Window => "window",
+            Leave::Probe => "probe",
+            Leave::Recovery => "recovery",
+        }
+    }
 }
 
 /// What the loss detection timer fires for (RFC 9002, A.8): a packet old enough to be lost, or a
@@ -73,4 +105,27 @@ impl Leave {
 pub enum Kind {
     Loss,
     Pto,
+}
+
+impl Kind {
+    /// The kind of this name: `loss` or `pto`; None for any other text.
+    pub fn named(text: &str) -> Option<Kind>
+        ensures { result ≡ kind_named text.now }
+    {
+        match text {
+            "loss" => Some(Kind::Loss),
+            "pto" => Some(Kind::Pto),
+            _ => None,
+        }
+    }
+
+    /// The kind's name, which `named` reads.
+    pub fn name(self) -> &'static str
+        ensures { result.now ≡ kind_name self }
+    {
+        match self {
+            Kind::Loss => "loss",
+            Kind::Pto => "pto",
+        }
+    }
 }

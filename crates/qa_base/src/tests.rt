@@ -5,6 +5,16 @@ use crate::{
 };
 use std::test::Fail;
 
+const NOTHING_REPORTED: MetricValues = MetricValues {
+    window: None,
+    ssthresh: None,
+    bytes_in_flight: None,
+    latest_rtt: None,
+    min_rtt: None,
+    smoothed_rtt: None,
+    rttvar: None,
+};
+
 #[test]
 fn times_end_at_10_to_the_15(rt: HostRuntime) {
     for (value, time) in [
@@ -241,13 +251,8 @@ fn other_events_fit_but_a_discarded_app(rt: HostRuntime) -> Result<(), Fail> {
     assert!(rt; Event::Confirmed { time }.fits());
     assert!(rt; Event::Keys { time }.fits());
     let values = MetricValues {
-        window: None,
         ssthresh: Some(0),
-        bytes_in_flight: None,
-        latest_rtt: None,
-        min_rtt: None,
-        smoothed_rtt: None,
-        rttvar: None,
+        ..NOTHING_REPORTED
     };
     assert!(rt; Event::Metrics { time, values }.fits());
     Ok(())
@@ -368,23 +373,56 @@ fn keys_have_the_text_of_a_line(rt: HostRuntime) {
 
 #[test]
 fn texts_name_choices(rt: HostRuntime) {
-    for (text, role, space, leave) in [
-        ("client", Some(Role::Client), None, None),
-        ("server", Some(Role::Server), None, None),
-        ("initial", None, Some(Space::Initial), None),
-        ("handshake", None, Some(Space::Handshake), None),
-        ("app", None, Some(Space::App), None),
-        ("window", None, None, Some(Leave::Window)),
-        ("probe", None, None, Some(Leave::Probe)),
-        ("recovery", None, None, Some(Leave::Recovery)),
-        ("", None, None, None),
-        ("Client", None, None, None),
-        ("clients", None, None, None),
-        ("1rtt", None, None, None),
-        ("windo", None, None, None),
+    for (text, role, space) in [
+        ("client", Some(Role::Client), None),
+        ("server", Some(Role::Server), None),
+        ("initial", None, Some(Space::Initial)),
+        ("handshake", None, Some(Space::Handshake)),
+        ("app", None, Some(Space::App)),
+        ("", None, None),
+        ("Client", None, None),
+        ("clients", None, None),
+        ("1rtt", None, None),
     ] {
         assert_eq!(rt; Role::named(text), role, "{text}");
         assert_eq!(rt; Space::named(text), space, "{text}");
+    }
+    for (text, leave, kind) in [
+        ("window", Some(Leave::Window), None),
+        ("probe", Some(Leave::Probe), None),
+        ("recovery", Some(Leave::Recovery), None),
+        ("loss", None, Some(Kind::Loss)),
+        ("pto", None, Some(Kind::Pto)),
+        ("", None, None),
+        ("windo", None, None),
+        ("PTO", None, None),
+        ("pto ", None, None),
+    ] {
         assert_eq!(rt; Leave::named(text), leave, "{text}");
+        assert_eq!(rt; Kind::named(text), kind, "{text}");
+    }
+}
+
+#[test]
+fn choices_have_the_names_that_name_them(rt: HostRuntime) {
+    for (role, name) in [(Role::Client, "client"), (Role::Server, "server")] {
+        assert_eq!(rt; role.name(), name);
+    }
+    for (space, name) in [
+        (Space::Initial, "initial"),
+        (Space::Handshake, "handshake"),
+        (Space::App, "app"),
+    ] {
+        assert_eq!(rt; space.name(), name);
+    }
+    for (leave, name) in [
+        (Leave::Window, "window"),
+        (Leave::Probe, "probe"),
+        (Leave::Recovery, "recovery"),
+    ] {
+        assert_eq!(rt; leave.name(), name);
+    }
+    for (kind, name) in [(Kind::Loss, "loss"), (Kind::Pto, "pto")] {
+        assert_eq!(rt; kind.name(), name);
     }
 }

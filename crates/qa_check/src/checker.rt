@@ -10,7 +10,7 @@ ghost use Rattle.qa_check.specs.Taking.{says_plain, flight_said};
 
 use crate::judge;
 use qa_base::{Event, Fault, Header, Line, Verdict};
-use qa_trace::{LINE_LIMIT, LineFault, read_line};
+use qa_trace::{LINE_LIMIT, LineFault, read_sends};
 use std::alloc::{AllocError, Global};
 use thiserror::Error;
 
@@ -137,7 +137,7 @@ impl Checker {
         if bytes.len() > LINE_LIMIT {
             return Ok(Err(Fault::LineTooLong));
         }
-        match read_line(self.alloc, bytes) {
+        match read_sends(self.alloc, bytes) {
             Ok(line) => Ok(Ok(line)),
             Err(LineFault::Fault(fault)) => Ok(Err(fault)),
             Err(LineFault::OutOfMemory) => Err(AllocError),

@@ -1,8 +1,8 @@
 -- What a function that may want for memory answers of a reading.
 use Rattle.std.specs.Prelude.{◌≡◌, Result, Ok, Err}
 use Rattle.qa_base.specs.declared.fault.Fault.{Fault}
-use Rattle.qa_trace.specs.declared.reader.LineFault.{LineFault}
-use Rattle.qa_trace.specs.declared.reader.LineFault.TheVariants as errors
+use Rattle.qa_trace.specs.declared.fault.LineFault.{LineFault}
+use Rattle.qa_trace.specs.declared.fault.LineFault.TheVariants as errors
 
 abbrev pub Fails : {Y : Type 0} → LineFault → Result Y Fault → Type 0
 Fails errors.OutOfMemory read = Unit {0}

@@ -1,15 +1,16 @@
 //! One key of a line's object at a time.
 //!
-//! Each function is a word of the definitions over a `serde_json` value, and takes no memory.
-ghost use Rattle.std.specs.Prelude.{◌≡◌, option_map, Ok, Err};
+//! Each function is a word of the definitions over a `serde_json` value, and takes no memory. Lists
+//! of ranges, which do, have a module of their own.
+ghost use Rattle.std.specs.Prelude.{◌≡◌, option_map, false, Ok, Err};
 ghost use Rattle.std.specs.Result.{result_map_both};
 ghost use Rattle.serde_json.specs.View.{view};
 ghost use Rattle.qa_base.specs.Keys as keys;
-ghost use Rattle.qa_base.specs.Limits.{max_time, max_packet_number, max_packet_size};
-ghost use Rattle.qa_base.specs.Names.{space_named, role_named, leave_named};
-ghost use Rattle.qa_base.specs.Sends as sends;
+ghost use Rattle.qa_base.specs.Limits.{max_packet_number, max_packet_size};
+ghost use Rattle.qa_base.specs.Names.{role_named, discarded_named, leave_named, kind_named};
+ghost use Rattle.qa_base.specs.Tables as tables;
 
-use qa_base::{Fault, Field, Key, Leave, Micros, PacketNumber, Role, Space};
+use qa_base::{Fault, Field, Key, Kind, Leave, Micros, PacketNumber, Role, Space};
 use serde_json::Value;
 
 /// The values of both keys, or the fault that counts. The first key stands before the second in
@@ -40,6 +41,8 @@ fn stage(fault: Fault) -> u8
     }
 }
 
+// ---- whether a key is there
+
 /// The value of a key, where it is there and not null.
 fn present(key: Key, object: &Value) -> Option<&Value>
     ensures { option_map (λ v. view v.now) result ≡ keys.present key (view object.now) }
@@ -50,11 +53,14 @@ fn present(key: Key, object: &Value) -> Option<&Value>
     }
 }
 
-fn required(key: Key, object: &Value) -> Result<&Value, Fault>
-    ensures { result_map_both (λ v. view v.now) (λ e. e) result ≡ keys.required key (view object.now) }
+/// The value of a key that has to be there.
+pub fn required_value(key: Key, object: &Value) -> Result<&Value, Fault>
+    ensures { result_map_both (λ v. view v.now) (λ e. e) result ≡ keys.required_value key (view object.now) }
 {
     present(key, object).ok_or(Fault::Missing(key))
 }
+
+// ---- kinds of values
 
 fn whole(key: Key, value: &Value) -> Result<u64, Fault>
     ensures { result ≡ keys.whole key (view value.now) }
@@ -76,28 +82,28 @@ fn truth(key: Key, value: &Value) -> Result<bool, Fault>
 
 /// A required text.
 pub fn required_text(key: Key, object: &Value) -> Result<&str, Fault>
-    ensures { result_map_both (λ t. t.now) (λ e. e) result ≡ keys.required_text key (view object.now) }
+    ensures { result_map_both (λ t. t.now) (λ e. e) result ≡ keys.required keys.text key (view object.now) }
 {
-    text(key, required(key, object)?)
+    text(key, required_value(key, object)?)
 }
 
 /// A required whole number of 64 bits.
 pub fn required_whole(key: Key, object: &Value) -> Result<u64, Fault>
-    ensures { result ≡ keys.required_whole key (view object.now) }
+    ensures { result ≡ keys.required keys.whole key (view object.now) }
 {
-    whole(key, required(key, object)?)
+    whole(key, required_value(key, object)?)
 }
 
 /// A required truth value.
 pub fn flag(key: Key, object: &Value) -> Result<bool, Fault>
-    ensures { result ≡ keys.flag key (view object.now) }
+    ensures { result ≡ keys.required keys.truth key (view object.now) }
 {
-    truth(key, required(key, object)?)
+    truth(key, required_value(key, object)?)
 }
 
 /// A whole number of 64 bits that may be absent.
 pub fn optional_whole(key: Key, object: &Value) -> Result<Option<u64>, Fault>
-    ensures { result ≡ keys.optional_whole key (view object.now) }
+    ensures { result ≡ keys.if_present keys.whole key (view object.now) }
 {
     match present(key, object) {
         None => Ok(None),
@@ -105,24 +111,54 @@ pub fn optional_whole(key: Key, object: &Value) -> Result<Option<u64>, Fault>
     }
 }
 
-/// A value that the sender reports.
-pub fn metric(field: Field, object: &Value) -> Result<Option<u64>, Fault>
-    ensures { result ≡ sends.metric field (view object.now) }
-{
-    optional_whole(Key::Metric(field), object)
-}
+// ---- the keys of the tables
 
 /// The key `time`.
 pub fn time(object: &Value) -> Result<Micros, Fault>
-    ensures { result ≡ keys.number Key.Time 0 max_time (view object.now) }
+    ensures { result ≡ tables.time (view object.now) }
 {
     let time = required_whole(Key::Time, object)?;
     Micros::new(time).ok_or(Fault::OutOfRange(Key::Time))
 }
 
+/// The key `space`.
+pub fn space(object: &Value) -> Result<Space, Fault>
+    ensures { result ≡ tables.space (view object.now) }
+{
+    let name = required_text(Key::Space, object)?;
+    Space::named(name).ok_or(Fault::OutOfRange(Key::Space))
+}
+
+/// The key `space` of a line that discards keys, which the application's space has none of.
+pub fn discarded_space(object: &Value) -> Result<Space, Fault>
+    ensures { result ≡ keys.required (keys.text_among discarded_named) Key.Space (view object.now) }
+{
+    match required_text(Key::Space, object)? {
+        "initial" => Ok(Space::Initial),
+        "handshake" => Ok(Space::Handshake),
+        _ => Err(Fault::OutOfRange(Key::Space)),
+    }
+}
+
+/// The key `role`.
+pub fn role(object: &Value) -> Result<Role, Fault>
+    ensures { result ≡ keys.required (keys.text_among role_named) Key.Role (view object.now) }
+{
+    let name = required_text(Key::Role, object)?;
+    Role::named(name).ok_or(Fault::OutOfRange(Key::Role))
+}
+
+/// The key `kind`.
+pub fn kind(object: &Value) -> Result<Kind, Fault>
+    ensures { result ≡ keys.required (keys.text_among kind_named) Key.Kind (view object.now) }
+{
+    let name = required_text(Key::Kind, object)?;
+    Kind::named(name).ok_or(Fault::OutOfRange(Key::Kind))
+}
+
 /// The key `number`.
 pub fn number(object: &Value) -> Result<PacketNumber, Fault>
-    ensures { result ≡ keys.number Key.Number 0 max_packet_number (view object.now) }
+    ensures { result ≡ keys.required (keys.whole_from 0 max_packet_number) Key.Number (view object.now) }
 {
     let number = required_whole(Key::Number, object)?;
     PacketNumber::new(number).ok_or(Fault::OutOfRange(Key::Number))
@@ -130,7 +166,7 @@ pub fn number(object: &Value) -> Result<PacketNumber, Fault>
 
 /// The key `size`.
 pub fn size(object: &Value) -> Result<u64, Fault>
-    ensures { result ≡ keys.number Key.Size 1 max_packet_size (view object.now) }
+    ensures { result ≡ keys.required (keys.whole_from 1 max_packet_size) Key.Size (view object.now) }
 {
     let size = required_whole(Key::Size, object)?;
     if 1 <= size && size <= 65527 {
@@ -140,28 +176,39 @@ pub fn size(object: &Value) -> Result<u64, Fault>
     }
 }
 
-/// The key `space`.
-pub fn space(object: &Value) -> Result<Space, Fault>
-    ensures { result ≡ keys.word Key.Space space_named (view object.now) }
-{
-    let name = required_text(Key::Space, object)?;
-    Space::named(name).ok_or(Fault::OutOfRange(Key::Space))
-}
-
-/// The key `role`.
-pub fn role(object: &Value) -> Result<Role, Fault>
-    ensures { result ≡ keys.word Key.Role role_named (view object.now) }
-{
-    let name = required_text(Key::Role, object)?;
-    Role::named(name).ok_or(Fault::OutOfRange(Key::Role))
-}
-
 /// The key `leave`, which is `window` where it is absent.
 pub fn leave(object: &Value) -> Result<Leave, Fault>
-    ensures { result ≡ keys.optional_word Key.Leave leave_named Leave.Window (view object.now) }
+    ensures { result ≡ keys.optional (keys.text_among leave_named) Leave.Window Key.Leave (view object.now) }
 {
     match present(Key::Leave, object) {
         None => Ok(Leave::Window),
         Some(value) => Leave::named(text(Key::Leave, value)?).ok_or(Fault::OutOfRange(Key::Leave)),
     }
+}
+
+/// The key `delay`, which is 0 where it is absent.
+pub fn delay(object: &Value) -> Result<u64, Fault>
+    ensures { result ≡ keys.optional keys.whole 0 Key.Delay (view object.now) }
+{
+    match present(Key::Delay, object) {
+        None => Ok(0),
+        Some(value) => whole(Key::Delay, value),
+    }
+}
+
+/// The key `limited`, which is false where it is absent.
+pub fn limited(object: &Value) -> Result<bool, Fault>
+    ensures { result ≡ keys.optional keys.truth false Key.Limited (view object.now) }
+{
+    match present(Key::Limited, object) {
+        None => Ok(false),
+        Some(value) => truth(Key::Limited, value),
+    }
+}
+
+/// A value that the sender reports.
+pub fn metric(field: Field, object: &Value) -> Result<Option<u64>, Fault>
+    ensures { result ≡ tables.metric field (view object.now) }
+{
+    optional_whole(Key::Metric(field), object)
 }

@@ -1,10 +1,23 @@
-//! The line format: bytes that come in pieces are cut into lines, and a line is read.
+//! The line format: bytes that come in pieces are cut into lines, a line is read, and a line is
+//! written.
 #![tactic(auto)]
 
+mod fault;
 mod fields;
+mod json;
+mod ranges;
 mod reader;
+mod sends;
 mod split;
+mod tables;
+mod writer;
 
-pub use qa_base::{Fault, Line};
-pub use reader::{LineFault, read_line};
+pub use fault::LineFault;
+pub use qa_base::{
+    Event, Fault, Field, Header, Key, Kind, Leave, Line, MetricValues, Micros, PacketNumber,
+    RangeFault, Role, Space, Span, Spans,
+};
+pub use reader::read_line;
+pub use sends::read_sends;
 pub use split::{LINE_LIMIT, SplitFault, Splitter};
+pub use writer::write_line;
