@@ -6,7 +6,7 @@ use Rattle.qa_base.specs.declared.space.Kind.TheVariants as kind
 use Rattle.qa_base.specs.declared.space.Leave.TheVariants as leave
 use Rattle.qa_base.specs.declared.space.Role.TheVariants as role
 use Rattle.qa_base.specs.declared.space.Space.{Space}
-use Rattle.qa_base.specs.Settings.{Settings}
+use Rattle.qa_base.specs.values.Settings.{Settings}
 
 -- a client or a server with this datagram size and initial window, and the other defaults
 abbrev pub client : ℕ → ℕ → Settings

@@ -1,6 +1,6 @@
 //! What a sender did, one event a line.
 ghost use Rattle.std.specs.Prelude.{◌≡◌};
-ghost use Rattle.qa_base.specs.Events.{fits as fits_of};
+ghost use Rattle.qa_base.specs.values.Events.{fits as fits_of};
 
 use crate::number::{Micros, PacketNumber, Spans};
 use crate::space::{Kind, Leave, Space};

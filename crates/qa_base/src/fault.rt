@@ -29,7 +29,7 @@ pub enum Key {
 
 impl Key {
     ghost use Rattle.std.specs.Prelude.{◌≡◌};
-    ghost use Rattle.qa_base.specs.Names.{key_name};
+    ghost use Rattle.qa_base.specs.values.Names.{key_name};
 
     /// The key's text.
     pub fn name(self) -> &'static str
@@ -88,7 +88,7 @@ pub enum Fault {
 
 impl Fault {
     ghost use Rattle.std.specs.Prelude.{◌≡◌};
-    ghost use Rattle.qa_base.specs.Names.{fault_name, fault_number, key_of};
+    ghost use Rattle.qa_base.specs.values.Names.{fault_name, fault_number, key_of};
 
     /// The fault's name, without the key that it is about.
     pub fn name(self) -> &'static str

@@ -1,6 +1,6 @@
 //! The header of a trace.
 ghost use Rattle.std.specs.Prelude.{◌≡◌, ◌≤◌};
-ghost use Rattle.qa_base.specs.Settings.{default_window as default_window_of};
+ghost use Rattle.qa_base.specs.values.Settings.{default_window as default_window_of};
 
 use crate::fault::{Key, RangeFault};
 use crate::space::Role;
@@ -19,7 +19,7 @@ pub struct Header {
 }
 
 impl Model for Header {
-    ghost use Rattle.qa_base.specs.Settings.{Settings, AreInRange};
+    ghost use Rattle.qa_base.specs.values.Settings.{Settings, AreInRange};
 
     ghost Value = { Settings };
 
@@ -57,7 +57,7 @@ fn default_window(max_datagram_size: u64) -> u64
 }
 
 impl Header {
-    ghost use Rattle.qa_base.specs.Settings.{AreInRange, settings_of};
+    ghost use Rattle.qa_base.specs.values.Settings.{AreInRange, settings_of};
 
     /// The header of these values; a value of None is the default.
     ///

@@ -8,22 +8,22 @@ ghost use Rattle.qa_base.specs.declared.space.Leave.{Leave};
 ghost use Rattle.qa_base.specs.declared.space.Space.{Space};
 ghost use Rattle.qa_base.specs.declared.verdict.Totals.{Totals};
 ghost use Rattle.qa_base.specs.declared.verdict.Verdict.TheVariants as verdicts;
-ghost use Rattle.qa_base.specs.Events.{fits, is_quiet, is_sent_or_report};
-ghost use Rattle.qa_base.specs.Lines.{has_lf, lines};
-ghost use Rattle.qa_base.specs.Loss.{bytes_in_flight, is_old, owed};
-ghost use Rattle.qa_base.specs.Numbers.{AreRanges, Names, NamesOnly, has_all, names_exactly};
-ghost use Rattle.qa_base.specs.Order.{NumbersFall};
-ghost use Rattle.qa_base.specs.Packets.{Packet, packets, is_gone, newly_acknowledged};
-ghost use Rattle.qa_base.specs.Proper.{IsProperLine};
-ghost use Rattle.qa_base.specs.Reading.{reading};
-ghost use Rattle.qa_base.specs.Reno.{moves};
-ghost use Rattle.qa_base.specs.Rtt.{Estimate, rtt};
-ghost use Rattle.qa_base.specs.Rules.{IsRun};
-ghost use Rattle.qa_base.specs.Sends.{reading as sends};
-ghost use Rattle.qa_base.specs.Settings.{Settings};
-ghost use Rattle.qa_base.specs.Timer.{backoff, loss_delay};
-ghost use Rattle.qa_base.specs.Verdict.{Reading, IsFixed, IsTraceOfRun, verdict};
-ghost use Rattle.qa_base.specs.Written.{written};
+ghost use Rattle.qa_base.specs.values.Events.{fits, is_quiet, is_sent_or_report};
+ghost use Rattle.qa_base.specs.format.Lines.{has_lf, lines};
+ghost use Rattle.qa_base.specs.machine.Loss.{bytes_in_flight, is_old, owed};
+ghost use Rattle.qa_base.specs.machine.Numbers.{AreRanges, Names, NamesOnly, has_all, names_exactly};
+ghost use Rattle.qa_base.specs.machine.Order.{NumbersFall};
+ghost use Rattle.qa_base.specs.machine.Packets.{Packet, packets, is_gone, newly_acknowledged};
+ghost use Rattle.qa_base.specs.values.Proper.{IsProperLine};
+ghost use Rattle.qa_base.specs.format.Reading.{reading};
+ghost use Rattle.qa_base.specs.machine.Reno.{moves};
+ghost use Rattle.qa_base.specs.machine.Rtt.{Estimate, rtt};
+ghost use Rattle.qa_base.specs.machine.Rules.{IsRun};
+ghost use Rattle.qa_base.specs.format.Sends.{reading as sends};
+ghost use Rattle.qa_base.specs.values.Settings.{Settings};
+ghost use Rattle.qa_base.specs.machine.Timer.{backoff, loss_delay};
+ghost use Rattle.qa_base.specs.verdicts.Verdict.{Reading, IsFixed, IsTraceOfRun, verdict};
+ghost use Rattle.qa_base.specs.format.Written.{written};
 
 /// No byte that follows changes a verdict that is fixed, whatever the reading of lines.
 pub fn fixed_stays()

@@ -1,6 +1,6 @@
 //! Numbers in their ranges, and ranges of packet numbers.
 ghost use Rattle.std.specs.Prelude.{◌≡◌, ◌≤◌, [], ◌∷◌, ◌++◌, OnOk, OnErr, nat_le, Some, None, if◌then◌else◌};
-ghost use Rattle.qa_base.specs.Limits.{max_time, max_packet_number, in_range};
+ghost use Rattle.qa_base.specs.values.Limits.{max_time, max_packet_number, in_range};
 
 use std::alloc::{AllocError, Global};
 use std::marker::Model;
@@ -13,7 +13,7 @@ pub struct Micros {
 
 impl Model for Micros {
     ghost use Rattle.std.specs.Prelude.{ℕ, ◌≤◌};
-    ghost use Rattle.qa_base.specs.Limits.{max_time};
+    ghost use Rattle.qa_base.specs.values.Limits.{max_time};
 
     ghost Value = { ℕ };
 
@@ -56,7 +56,7 @@ pub struct PacketNumber {
 
 impl Model for PacketNumber {
     ghost use Rattle.std.specs.Prelude.{ℕ, ◌≤◌};
-    ghost use Rattle.qa_base.specs.Limits.{max_packet_number};
+    ghost use Rattle.qa_base.specs.values.Limits.{max_packet_number};
 
     ghost Value = { ℕ };
 

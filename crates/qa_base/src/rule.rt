@@ -14,7 +14,7 @@ pub enum Field {
 
 impl Field {
     ghost use Rattle.std.specs.Prelude.{◌≡◌};
-    ghost use Rattle.qa_base.specs.Names.{field_name};
+    ghost use Rattle.qa_base.specs.values.Names.{field_name};
 
     /// The key that names the value in a line.
     pub fn name(self) -> &'static str
@@ -73,7 +73,7 @@ pub enum Rule {
 
 impl Rule {
     ghost use Rattle.std.specs.Prelude.{◌≡◌};
-    ghost use Rattle.qa_base.specs.Names.{rule_name, rule_number, field_of};
+    ghost use Rattle.qa_base.specs.values.Names.{rule_name, rule_number, field_of};
 
     /// The rule's name, without the field of a metric.
     pub fn name(self) -> &'static str

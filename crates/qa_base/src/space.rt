@@ -1,6 +1,6 @@
 //! The small choices that a trace's lines name by a text.
 ghost use Rattle.std.specs.Prelude.{◌≡◌};
-ghost use Rattle.qa_base.specs.Names.{role_name, role_named, space_name, space_named, leave_name, leave_named, kind_name, kind_named};
+ghost use Rattle.qa_base.specs.values.Names.{role_name, role_named, space_name, space_named, leave_name, leave_named, kind_name, kind_named};
 
 /// Which end of the connection the audited sender is.
 #[derive(Clone, Copy, Debug, PartialEq, Eq)]

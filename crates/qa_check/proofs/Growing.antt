@@ -9,13 +9,13 @@ use Rattle.qa_base.specs.declared.line.Line.{Line}
 use Rattle.qa_base.specs.declared.line.Line.TheVariants as line
 use Rattle.qa_base.specs.declared.fault.Fault.{Fault}
 use Rattle.qa_base.specs.declared.verdict.Verdict.{Verdict}
-use Rattle.qa_base.specs.Events.{is_sent_or_report}
-use Rattle.qa_base.specs.Packets.{history_of}
-use Rattle.qa_base.specs.Sends.{reading}
-use Rattle.qa_base.specs.Settings.{Settings}
-use Rattle.qa_base.specs.Verdict.{header_said, event_said, header_in, said, stop_at, stop_after, first_stop, end_at, last_event_line, verdict_of, AreGood, AreDecided}
-use Rattle.qa_base.proofs.SendsAlone.{sends_alone}
-use Rattle.qa_base.proofs.Stops.{or_none, first_stop-snoc, verdict_at_stop, verdict_stays, decided_stays, header_in-snoc, said_reading}
+use Rattle.qa_base.specs.values.Events.{is_sent_or_report}
+use Rattle.qa_base.specs.machine.Packets.{history_of}
+use Rattle.qa_base.specs.format.Sends.{reading}
+use Rattle.qa_base.specs.values.Settings.{Settings}
+use Rattle.qa_base.specs.verdicts.Verdict.{header_said, event_said, header_in, said, stop_at, stop_after, first_stop, end_at, last_event_line, verdict_of, AreGood, AreDecided}
+use Rattle.qa_base.proofs.format.SendsAlone.{sends_alone}
+use Rattle.qa_base.proofs.verdicts.Stops.{or_none, first_stop-snoc, verdict_at_stop, verdict_stays, decided_stays, header_in-snoc, said_reading}
 use Rattle.qa_check.specs.Taking.{header_after, events_after, says_plain, TakesIn}
 use Rattle.qa_check.specs.Standing.{Open, Decided, StandsBy}
 

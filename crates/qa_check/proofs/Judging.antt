@@ -7,15 +7,15 @@ use Rattle.qa_base.specs.declared.rule.Rule.TheVariants as rule
 use Rattle.qa_base.specs.declared.space.Leave.{Leave}
 use Rattle.qa_base.specs.declared.space.Space.{Space}
 use Rattle.qa_base.specs.declared.verdict.Verdict.TheVariants.{Accepted}
-use Rattle.qa_base.specs.Metrics.{tests}
-use Rattle.qa_base.specs.Packets.{history_of}
-use Rattle.qa_base.specs.Plain.{ArePlain}
-use Rattle.qa_base.specs.Breaches.{is_time_back}
-use Rattle.qa_base.specs.Rules.{first_broken, first_of}
-use Rattle.qa_base.specs.Settings.{Settings}
-use Rattle.qa_base.specs.State.{totals}
-use Rattle.qa_base.specs.Verdict.{end_at}
-use Rattle.qa_base.proofs.SendsAndReports.{first_broken-sent, first_broken-metrics, plain_history_of, plain_owed, bytes_in_flight-history_of}
+use Rattle.qa_base.specs.machine.Metrics.{tests}
+use Rattle.qa_base.specs.machine.Packets.{history_of}
+use Rattle.qa_base.specs.machine.Plain.{ArePlain}
+use Rattle.qa_base.specs.machine.Breaches.{is_time_back}
+use Rattle.qa_base.specs.machine.Rules.{first_broken, first_of}
+use Rattle.qa_base.specs.values.Settings.{Settings}
+use Rattle.qa_base.specs.machine.State.{totals}
+use Rattle.qa_base.specs.verdicts.Verdict.{end_at}
+use Rattle.qa_base.proofs.machine.SendsAndReports.{first_broken-sent, first_broken-metrics, plain_history_of, plain_owed, bytes_in_flight-history_of}
 use Rattle.qa_check.specs.Judge.{packet_rule}
 
 pub time_back : (c : Settings) (h : List Event) (e : Event) → is_time_back h e ≡ true → Some rule.TimeBack ≡ first_broken c h e

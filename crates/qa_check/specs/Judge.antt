@@ -6,11 +6,11 @@ use Rattle.qa_base.specs.declared.space.Space.{Space}
 use Rattle.qa_base.specs.declared.rule.Rule.{Rule}
 use Rattle.qa_base.specs.declared.rule.Rule.TheVariants as rule
 use Rattle.qa_base.specs.declared.space.Leave.{Leave}
-use Rattle.qa_base.specs.Events.{is_space}
-use Rattle.qa_base.specs.Packets.{history_of}
-use Rattle.qa_base.specs.Plain.{sent_bytes, broken_leave}
-use Rattle.qa_base.specs.Breaches.{has_at_or_above}
-use Rattle.qa_base.specs.Settings.{Settings}
+use Rattle.qa_base.specs.values.Events.{is_space}
+use Rattle.qa_base.specs.machine.Packets.{history_of}
+use Rattle.qa_base.specs.machine.Plain.{sent_bytes, broken_leave}
+use Rattle.qa_base.specs.machine.Breaches.{has_at_or_above}
+use Rattle.qa_base.specs.values.Settings.{Settings}
 
 -- the event sent a packet of the space with this number or a higher one
 abbrev pub sends_at_or_above : Space → ℕ → Event → Bool

@@ -3,9 +3,9 @@ use Rattle.std.specs.Prelude.{◌≡◌, ◌++◌, ℕ, Bool, false, List, [], �
 use Rattle.qa_base.specs.declared.event.Event.{Event}
 use Rattle.qa_base.specs.declared.line.Line.{Line}
 use Rattle.qa_base.specs.declared.verdict.Verdict.{Verdict}
-use Rattle.qa_base.specs.Sends.{reading}
-use Rattle.qa_base.specs.Settings.{Settings}
-use Rattle.qa_base.specs.Verdict.{header_in, events_in, verdict_of, AreGood, AreDecided}
+use Rattle.qa_base.specs.format.Sends.{reading}
+use Rattle.qa_base.specs.values.Settings.{Settings}
+use Rattle.qa_base.specs.verdicts.Verdict.{header_in, events_in, verdict_of, AreGood, AreDecided}
 use Rattle.qa_check.specs.declared.checker.Checker.{Checker}
 use Rattle.qa_check.specs.Taking.{TakesIn}
 

@@ -4,9 +4,9 @@ use Rattle.qa_base.specs.declared.event.Event.{Event}
 use Rattle.qa_base.specs.declared.fault.Fault.{Fault}
 use Rattle.qa_base.specs.declared.line.Line.{Line}
 use Rattle.qa_base.specs.declared.line.Line.TheVariants as line
-use Rattle.qa_base.specs.Events.{is_sent_or_report}
-use Rattle.qa_base.specs.Plain.{flight_of}
-use Rattle.qa_base.specs.Settings.{Settings}
+use Rattle.qa_base.specs.values.Events.{is_sent_or_report}
+use Rattle.qa_base.specs.machine.Plain.{flight_of}
+use Rattle.qa_base.specs.values.Settings.{Settings}
 
 abbrev pub header_after : Option Settings → Line → Option Settings
 header_after old (line.Header c) = Some c

@@ -1,8 +1,8 @@
 //! The audit: from a source of bytes to a report on a sink.
 ghost use Rattle.std.specs.Prelude.{◌≡◌, ◌≢◌, ◌++◌, ℕ, List, true, false, Some, None, Ok, Err, OnOk, OnErr, IfOk, IfErr, IfSome, IfNone, take};
 ghost use Rattle.std.specs.Io.KnownBytes.{Appends};
-ghost use Rattle.qa_base.specs.Sends.{reading};
-ghost use Rattle.qa_base.specs.Verdict.{IsFixed, verdict};
+ghost use Rattle.qa_base.specs.format.Sends.{reading};
+ghost use Rattle.qa_base.specs.verdicts.Verdict.{IsFixed, verdict};
 ghost use Rattle.qa_trace.specs.Stream.{HasNoLine};
 ghost use Rattle.qa_check.specs.Audit.{outcome_of, Reads, ReadsEnough, JudgesRead, Reports, BeginsReport, is_read_fault, is_write_fault};
 ghost use Rattle.qa_check.specs.Device.{failures_after};

@@ -1,11 +1,11 @@
 //! The verdict of lines that come one after another.
 ghost use Rattle.std.specs.Prelude.{◌≡◌, ◌≤◌, ◌<◌, ◌+◌, ◌^◌, ◌++◌, [], ◌∷◌, length, List, ℕ, true, false, Some, None, Ok, Err, OnOk, IfErr, IfOk, IfNone, not, is_some};
-ghost use Rattle.qa_base.specs.Events.{is_sent_or_report};
-ghost use Rattle.qa_base.specs.Lines.{line_limit};
-ghost use Rattle.qa_base.specs.Packets.{history_of};
-ghost use Rattle.qa_base.specs.Plain.{ArePlain, flight_of, sent_bytes};
-ghost use Rattle.qa_base.specs.Sends.{reading};
-ghost use Rattle.qa_base.specs.Verdict as verdicts;
+ghost use Rattle.qa_base.specs.values.Events.{is_sent_or_report};
+ghost use Rattle.qa_base.specs.format.Lines.{line_limit};
+ghost use Rattle.qa_base.specs.machine.Packets.{history_of};
+ghost use Rattle.qa_base.specs.machine.Plain.{ArePlain, flight_of, sent_bytes};
+ghost use Rattle.qa_base.specs.format.Sends.{reading};
+ghost use Rattle.qa_base.specs.verdicts.Verdict as verdicts;
 ghost use Rattle.qa_check.specs.Taking.{says_plain, flight_said};
 
 use crate::judge;
@@ -127,7 +127,7 @@ impl Checker {
     }
 
     /// What the next line says, or the first of its faults.
-    #[tactic(auto, unfolding(qa_base::specs::Verdict::said))]
+    #[tactic(auto, unfolding(qa_base::specs::verdicts::Verdict::said))]
     fn said(&self, bytes: &[u8]) -> Result<Result<Line, Fault>, AllocError>
         ensures says { IfOk result (λ said. said ≡ verdicts.said reading self.now.lines bytes.now) }
     {
@@ -186,7 +186,7 @@ impl Checker {
 }
 
 /// The fault of a line with too many bytes that comes after this many others.
-#[tactic(auto, unfolding(qa_base::specs::Verdict::said))]
+#[tactic(auto, unfolding(qa_base::specs::verdicts::Verdict::said))]
 fn long_fault(lines: u64) -> Fault
     ensures { (l : List ℕ) → line_limit < length l → verdicts.said reading lines l ≡ Err result }
 {

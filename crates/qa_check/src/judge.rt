@@ -1,14 +1,14 @@
 //! The rules that a sent packet and a report can break, judged from all events before it.
 ghost use Rattle.std.specs.Prelude.{◌≡◌, ◌≤◌, ◌+◌, ◌^◌, ◌<◌, ◌*◌, true, length, IfNone, if◌then◌else◌};
 ghost use Rattle.std.specs.List.{list_any};
-ghost use Rattle.qa_base.specs.Breaches as breaches;
-ghost use Rattle.qa_base.specs.Events.{time_of as time_of_event, is_sent_or_report};
-ghost use Rattle.qa_base.specs.Metrics as metrics;
-ghost use Rattle.qa_base.specs.Packets.{history_of};
-ghost use Rattle.qa_base.specs.Plain as plain;
-ghost use Rattle.qa_base.specs.Plain.{ArePlain, flight_of, sent_bytes};
-ghost use Rattle.qa_base.specs.Rules as rules;
-ghost use Rattle.qa_base.specs.State as state;
+ghost use Rattle.qa_base.specs.machine.Breaches as breaches;
+ghost use Rattle.qa_base.specs.values.Events.{time_of as time_of_event, is_sent_or_report};
+ghost use Rattle.qa_base.specs.machine.Metrics as metrics;
+ghost use Rattle.qa_base.specs.machine.Packets.{history_of};
+ghost use Rattle.qa_base.specs.machine.Plain as plain;
+ghost use Rattle.qa_base.specs.machine.Plain.{ArePlain, flight_of, sent_bytes};
+ghost use Rattle.qa_base.specs.machine.Rules as rules;
+ghost use Rattle.qa_base.specs.machine.State as state;
 ghost use Rattle.qa_check.specs.Judge as judge;
 
 use qa_base::{Event, Field, Header, Leave, MetricValues, PacketNumber, Rule, Space, Totals};

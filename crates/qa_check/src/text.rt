@@ -1,6 +1,6 @@
 //! The text of a report.
 ghost use Rattle.std.specs.Prelude.{◌≡◌, ◌++◌, IfOk, OnOk, string_bytes, decimal};
-ghost use Rattle.qa_base.specs.Report as text;
+ghost use Rattle.qa_base.specs.verdicts.Report as text;
 
 use itoa::Buffer;
 use qa_base::{Fault, Field, Key, Rule, Totals, Verdict};
@@ -25,7 +25,7 @@ fn push_field(out: &mut String, field: Option<Field>) -> Result<(), AllocError>
     Ok(())
 }
 
-#[tactic(auto, unfolding(qa_base::specs::Report::rule_text))]
+#[tactic(auto, unfolding(qa_base::specs::verdicts::Report::rule_text))]
 fn push_rule(out: &mut String, rule: Rule) -> Result<(), AllocError>
     ensures { OnOk result (string_bytes out.new ≡ string_bytes out.old ++ text.rule_text rule) }
 {
@@ -46,7 +46,7 @@ fn push_key(out: &mut String, key: Option<Key>) -> Result<(), AllocError>
     Ok(())
 }
 
-#[tactic(auto, unfolding(qa_base::specs::Report::fault_text))]
+#[tactic(auto, unfolding(qa_base::specs::verdicts::Report::fault_text))]
 fn push_fault(out: &mut String, fault: Fault) -> Result<(), AllocError>
     ensures { OnOk result (string_bytes out.new ≡ string_bytes out.old ++ text.fault_text fault) }
 {
@@ -57,7 +57,7 @@ fn push_fault(out: &mut String, fault: Fault) -> Result<(), AllocError>
     push_key(out, fault.key())
 }
 
-#[tactic(auto, unfolding(qa_base::specs::Report::place_text))]
+#[tactic(auto, unfolding(qa_base::specs::verdicts::Report::place_text))]
 fn push_place(out: &mut String, word: &str, line: u64) -> Result<(), AllocError>
     ensures { OnOk result (string_bytes out.new ≡ string_bytes out.old ++ text.place_text word.now line) }
 {
@@ -67,7 +67,7 @@ fn push_place(out: &mut String, word: &str, line: u64) -> Result<(), AllocError>
     out.push_str(" ")
 }
 
-#[tactic(auto, unfolding(qa_base::specs::Report::verdict_text))]
+#[tactic(auto, unfolding(qa_base::specs::verdicts::Report::verdict_text))]
 fn push_verdict(out: &mut String, verdict: &Verdict) -> Result<(), AllocError>
     ensures { OnOk result (string_bytes out.new ≡ string_bytes out.old ++ text.verdict_text verdict.now) }
 {
@@ -88,7 +88,7 @@ fn push_verdict(out: &mut String, verdict: &Verdict) -> Result<(), AllocError>
 
 // ---- the totals
 
-#[tactic(auto, unfolding(qa_base::specs::Report::number_line))]
+#[tactic(auto, unfolding(qa_base::specs::verdicts::Report::number_line))]
 fn push_number_line(out: &mut String, name: &str, number: u64) -> Result<(), AllocError>
     ensures { OnOk result (string_bytes out.new ≡ string_bytes out.old ++ text.number_line name.now number) }
 {
@@ -98,7 +98,7 @@ fn push_number_line(out: &mut String, name: &str, number: u64) -> Result<(), All
     out.push_str("\n")
 }
 
-#[tactic(auto, unfolding(qa_base::specs::Report::threshold_line))]
+#[tactic(auto, unfolding(qa_base::specs::verdicts::Report::threshold_line))]
 fn push_threshold(out: &mut String, threshold: Option<u64>) -> Result<(), AllocError>
     ensures { OnOk result (string_bytes out.new ≡ string_bytes out.old ++ text.threshold_line threshold) }
 {
@@ -108,7 +108,7 @@ fn push_threshold(out: &mut String, threshold: Option<u64>) -> Result<(), AllocE
     }
 }
 
-#[tactic(auto, unfolding(qa_base::specs::Report::bytes_text))]
+#[tactic(auto, unfolding(qa_base::specs::verdicts::Report::bytes_text))]
 fn push_bytes(out: &mut String, totals: &Totals) -> Result<(), AllocError>
     ensures { OnOk result (string_bytes out.new ≡ string_bytes out.old ++ text.bytes_text totals.now) }
 {
@@ -118,7 +118,7 @@ fn push_bytes(out: &mut String, totals: &Totals) -> Result<(), AllocError>
     push_number_line(out, "bytes_in_flight", totals.bytes_in_flight)
 }
 
-#[tactic(auto, unfolding(qa_base::specs::Report::times_text))]
+#[tactic(auto, unfolding(qa_base::specs::verdicts::Report::times_text))]
 fn push_times(out: &mut String, totals: &Totals) -> Result<(), AllocError>
     ensures { OnOk result (string_bytes out.new ≡ string_bytes out.old ++ text.times_text totals.now) }
 {
@@ -130,7 +130,7 @@ fn push_times(out: &mut String, totals: &Totals) -> Result<(), AllocError>
     push_number_line(out, "owed", totals.owed)
 }
 
-#[tactic(auto, unfolding(qa_base::specs::Report::totals_text))]
+#[tactic(auto, unfolding(qa_base::specs::verdicts::Report::totals_text))]
 fn push_totals(out: &mut String, totals: &Totals) -> Result<(), AllocError>
     ensures { OnOk result (string_bytes out.new ≡ string_bytes out.old ++ text.totals_text totals.now) }
 {
@@ -143,7 +143,7 @@ fn push_totals(out: &mut String, totals: &Totals) -> Result<(), AllocError>
 /// The report of a verdict: a line that says it, and the totals, where a header was read.
 ///
 /// Fails only where memory is refused.
-#[tactic(auto, unfolding(qa_base::specs::Report::report, qa_base::specs::Report::known_totals_text))]
+#[tactic(auto, unfolding(qa_base::specs::verdicts::Report::report, qa_base::specs::verdicts::Report::known_totals_text))]
 pub fn report(alloc: Global, verdict: &Verdict) -> Result<String, AllocError>
     ensures { IfOk result (λ s. string_bytes s ≡ text.report verdict.now) }
 {

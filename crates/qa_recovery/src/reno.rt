@@ -1,6 +1,6 @@
 //! The congestion window of NewReno (RFC 9002, section 7 and appendix B).
 ghost use Rattle.std.specs.Prelude.{◌≡◌, ◌≤◌, ◌^◌, ◌<◌};
-ghost use Rattle.qa_base.specs.Reno as steps;
+ghost use Rattle.qa_base.specs.machine.Reno as steps;
 
 use qa_base::Micros;
 use std::marker::Model;
@@ -17,7 +17,7 @@ pub struct Reno {
 }
 
 impl Model for Reno {
-    ghost use Rattle.qa_base.specs.Reno.{Control};
+    ghost use Rattle.qa_base.specs.machine.Reno.{Control};
 
     ghost Value = { Control };
 

@@ -1,8 +1,8 @@
 //! The estimate of the round-trip time (RFC 9002, section 5).
 ghost use Rattle.std.specs.Prelude.{◌≡◌, ◌≤◌, ◌-◌, ◌+◌, ◌*◌, ◌/◌};
-ghost use Rattle.qa_base.specs.Limits.{max_time};
-ghost use Rattle.qa_base.specs.Rtt as estimates;
-ghost use Rattle.qa_base.specs.Timer.{loss_delay as loss_delay_of};
+ghost use Rattle.qa_base.specs.values.Limits.{max_time};
+ghost use Rattle.qa_base.specs.machine.Rtt as estimates;
+ghost use Rattle.qa_base.specs.machine.Timer.{loss_delay as loss_delay_of};
 
 use qa_base::Micros;
 use std::marker::Model;
@@ -26,7 +26,7 @@ pub struct Rtt {
 }
 
 impl Model for Rtt {
-    ghost use Rattle.qa_base.specs.Rtt.{Estimate};
+    ghost use Rattle.qa_base.specs.machine.Rtt.{Estimate};
 
     ghost Value = { Estimate };
 

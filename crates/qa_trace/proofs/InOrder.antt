@@ -7,8 +7,8 @@ use Rattle.serde_json.specs.Data.{Data, Members, no_members, member, put}
 use Rattle.qa_base.specs.declared.fault.Key.{Key}
 use Rattle.qa_base.specs.declared.fault.Key.TheVariants as key
 use Rattle.qa_base.specs.declared.rule.Field.{Field}
-use Rattle.qa_base.specs.Names.{key_name}
-use Rattle.qa_base.specs.Written.{Pairs, members, reported, whole}
+use Rattle.qa_base.specs.values.Names.{key_name}
+use Rattle.qa_base.specs.format.Written.{Pairs, members, reported, whole}
 
 -- the text comes before the other, in the order of their bytes
 abbrev pub IsBefore : List ℕ → List ℕ → Type 0

@@ -9,7 +9,7 @@ use Rattle.qa_base.specs.declared.fault.Key.{Key}
 use Rattle.qa_base.specs.declared.fault.Key.TheVariants as key
 use Rattle.qa_base.specs.declared.rule.Field.{Field}
 use Rattle.qa_base.specs.declared.rule.Field.TheVariants.{Window, Ssthresh, BytesInFlight, LatestRtt, MinRtt, SmoothedRtt, Rttvar}
-use Rattle.qa_base.specs.Written.{Pairs, whole_pairs, reported, members, object_of, event_pairs, text, whole}
+use Rattle.qa_base.specs.format.Written.{Pairs, whole_pairs, reported, members, object_of, event_pairs, text, whole}
 
 -- no value of the pairs has a float
 record HaveNone (ps : Pairs) : Type 0 where

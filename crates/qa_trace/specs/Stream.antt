@@ -1,6 +1,6 @@
 -- What a splitter holds, and how it gives a line.
 use Rattle.std.specs.Prelude.{◌≡◌, ◌⊎◌, ◌<◌, ◌+◌, ◌++◌, ℕ, Bool, true, false, List, [], ◌∷◌, length, take, drop, Option, None}
-use Rattle.qa_base.specs.Lines.{has_lf, line_limit, IsShortLine}
+use Rattle.qa_base.specs.format.Lines.{has_lf, line_limit, IsShortLine}
 use Rattle.qa_trace.specs.declared.split.SplitFault.{SplitFault}
 
 -- the bytes that were fed and not given yet, whether no more come, and the refusal with which it failed

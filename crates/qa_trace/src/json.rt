@@ -3,7 +3,7 @@ ghost use Rattle.std.specs.Prelude.{◌≡◌, true, IsErrOf};
 ghost use Rattle.std.specs.List.{list_all};
 ghost use Rattle.std.specs.Str.{is_utf8};
 ghost use Rattle.serde_json.specs.View.{view};
-ghost use Rattle.qa_base.specs.Reading as reading;
+ghost use Rattle.qa_base.specs.format.Reading as reading;
 ghost use Rattle.qa_trace.specs.Gives.{Gives};
 
 use crate::fault::LineFault;
@@ -21,7 +21,7 @@ pub fn is_blank(bytes: &[u8]) -> bool
 }
 
 /// The JSON value that the bytes are. `Fault::NotJson` where they are none or are not UTF-8.
-#[tactic(auto, unfolding(qa_base::specs::Reading::json_of))]
+#[tactic(auto, unfolding(qa_base::specs::format::Reading::json_of))]
 pub fn json_of(alloc: Global, bytes: &[u8]) -> Result<Value, LineFault>
     ensures read { Gives view result (reading.json_of bytes.now) }
     ensures memory { IsErrOf result LineFault.OutOfMemory → is_utf8 bytes.now ≡ true }

@@ -5,7 +5,7 @@
 ghost use Rattle.std.specs.Prelude.{◌≡◌, Some, None, IfOk, option_map, if◌then◌else◌};
 ghost use Rattle.std.specs.List.{list_all};
 ghost use Rattle.serde_json.specs.View.{view, items_view};
-ghost use Rattle.qa_base.specs.Keys as keys;
+ghost use Rattle.qa_base.specs.format.Keys as keys;
 
 use crate::fields;
 use qa_base::{Fault, Key, PacketNumber, Span, Spans};

@@ -3,8 +3,8 @@ ghost use Rattle.std.specs.Prelude.{◌≡◌, true, Ok, IfOk, IsErrOf};
 ghost use Rattle.std.specs.List.{list_all};
 ghost use Rattle.std.specs.Str.{is_utf8};
 ghost use Rattle.serde_json.specs.View.{view};
-ghost use Rattle.qa_base.specs.Reading as reading;
-ghost use Rattle.qa_base.specs.Written.{line_fits};
+ghost use Rattle.qa_base.specs.format.Reading as reading;
+ghost use Rattle.qa_base.specs.format.Written.{line_fits};
 ghost use Rattle.qa_trace.specs.Gives.{Gives};
 
 use crate::fault::LineFault;
@@ -18,7 +18,7 @@ use std::alloc::Global;
 mod tests;
 
 /// What an object says, by its key `event`.
-#[tactic(auto, unfolding(qa_base::specs::Reading::object_says))]
+#[tactic(auto, unfolding(qa_base::specs::format::Reading::object_says))]
 fn object_says(alloc: Global, value: &Value) -> Result<Line, LineFault>
     ensures { Gives (λ line. line) result (reading.object_says reading.reader_named (view value.now)) }
 {
@@ -46,7 +46,7 @@ fn object_says(alloc: Global, value: &Value) -> Result<Line, LineFault>
 /// A line of any length is read: how long a line of a trace may be is for its splitter to say.
 /// `LineFault::OutOfMemory` comes where memory was refused, and then the call can be made again; a
 /// blank line and bytes that are not UTF-8 take no memory.
-#[tactic(auto, unfolding(qa_base::specs::Reading::reading_by))]
+#[tactic(auto, unfolding(qa_base::specs::format::Reading::reading_by))]
 pub fn read_line(alloc: Global, bytes: &[u8]) -> Result<Line, LineFault>
     ensures read { Gives (λ line. line) result (reading.reading bytes.now) }
     ensures fitting { IfOk result (λ line. line_fits line ≡ true) }

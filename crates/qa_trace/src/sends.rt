@@ -4,8 +4,8 @@ ghost use Rattle.std.specs.Prelude.{◌≡◌, true, Ok, IsErrOf};
 ghost use Rattle.std.specs.List.{list_all};
 ghost use Rattle.std.specs.Str.{is_utf8};
 ghost use Rattle.serde_json.specs.View.{view};
-ghost use Rattle.qa_base.specs.Reading as reading;
-ghost use Rattle.qa_base.specs.Sends as sends;
+ghost use Rattle.qa_base.specs.format.Reading as reading;
+ghost use Rattle.qa_base.specs.format.Sends as sends;
 ghost use Rattle.qa_trace.specs.Gives.{Gives};
 
 use crate::fault::LineFault;
@@ -19,7 +19,7 @@ use std::alloc::Global;
 mod tests;
 
 /// What an object says, by its key `event`.
-#[tactic(auto, unfolding(qa_base::specs::Reading::object_says))]
+#[tactic(auto, unfolding(qa_base::specs::format::Reading::object_says))]
 fn object_says(value: &Value) -> Result<Line, Fault>
     ensures { result ≡ reading.object_says sends.reader_named (view value.now) }
 {
@@ -41,7 +41,7 @@ fn object_says(value: &Value) -> Result<Line, Fault>
 /// A line of any length is read: how long a line of a trace may be is for its splitter to say.
 /// `LineFault::OutOfMemory` comes where memory was refused, and then the call can be made again; a
 /// blank line and bytes that are not UTF-8 take no memory.
-#[tactic(auto, unfolding(qa_base::specs::Reading::reading_by))]
+#[tactic(auto, unfolding(qa_base::specs::format::Reading::reading_by))]
 pub fn read_sends(alloc: Global, bytes: &[u8]) -> Result<Line, LineFault>
     ensures read { Gives (λ line. line) result (sends.reading bytes.now) }
     ensures blank { list_all reading.is_blank bytes.now ≡ true → result ≡ Ok Line.Blank }

@@ -1,6 +1,6 @@
 //! Lines out of bytes that come in pieces.
 ghost use Rattle.std.specs.Prelude.{◌≡◌, ◌++◌, false, MatchOption, IfOk};
-ghost use Rattle.qa_base.specs.Lines.{has_lf};
+ghost use Rattle.qa_base.specs.format.Lines.{has_lf};
 ghost use Rattle.qa_trace.specs.Stream.{IsFirstLf};
 
 use memchr::memchr;

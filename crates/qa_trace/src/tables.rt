@@ -1,7 +1,7 @@
 //! The keys of each kind of line, read in the order of their table, and what the line then says.
 ghost use Rattle.std.specs.Prelude.{◌≡◌, IfOk};
 ghost use Rattle.serde_json.specs.View.{view};
-ghost use Rattle.qa_base.specs.Tables as tables;
+ghost use Rattle.qa_base.specs.format.Tables as tables;
 ghost use Rattle.qa_trace.specs.Gives.{Gives};
 
 use crate::fault::LineFault;
@@ -57,7 +57,7 @@ fn settings(
 }
 
 /// The header of a trace.
-#[tactic(auto, unfolding(qa_base::specs::Tables::header_of))]
+#[tactic(auto, unfolding(qa_base::specs::format::Tables::header_of))]
 pub fn header_of(object: &Value) -> Result<Header, Fault>
     ensures { result ≡ tables.header_of (view object.now) }
 {
@@ -90,7 +90,7 @@ fn sent_fields(object: &Value) -> Result<SentFields, Fault>
 }
 
 /// A packet that was sent.
-#[tactic(auto, unfolding(qa_base::specs::Tables::sent_of))]
+#[tactic(auto, unfolding(qa_base::specs::format::Tables::sent_of))]
 pub fn sent_of(object: &Value) -> Result<Event, Fault>
     ensures { result ≡ tables.sent_of (view object.now) }
 {
@@ -123,7 +123,7 @@ fn ack_fields(alloc: Global, object: &Value) -> Result<Result<AckFields, Fault>,
 }
 
 /// An acknowledgment that came.
-#[tactic(auto, unfolding(qa_base::specs::Tables::ack_of))]
+#[tactic(auto, unfolding(qa_base::specs::format::Tables::ack_of))]
 pub fn ack_of(alloc: Global, object: &Value) -> Result<Event, LineFault>
     ensures { Gives (λ event. event) result (tables.ack_of (view object.now)) }
 {
@@ -149,7 +149,7 @@ fn lost_fields(alloc: Global, object: &Value) -> Result<Result<LostFields, Fault
 }
 
 /// Packets that were declared lost.
-#[tactic(auto, unfolding(qa_base::specs::Tables::lost_of))]
+#[tactic(auto, unfolding(qa_base::specs::format::Tables::lost_of))]
 pub fn lost_of(alloc: Global, object: &Value) -> Result<Event, LineFault>
     ensures { Gives (λ event. event) result (tables.lost_of (view object.now)) }
 {
@@ -174,7 +174,7 @@ fn timer_fields(object: &Value) -> Result<TimerFields, Fault>
 }
 
 /// The loss detection timer that fired.
-#[tactic(auto, unfolding(qa_base::specs::Tables::timer_of))]
+#[tactic(auto, unfolding(qa_base::specs::format::Tables::timer_of))]
 pub fn timer_of(object: &Value) -> Result<Event, Fault>
     ensures { result ≡ tables.timer_of (view object.now) }
 {
@@ -183,7 +183,7 @@ pub fn timer_of(object: &Value) -> Result<Event, Fault>
 }
 
 /// The keys of a space that were discarded.
-#[tactic(auto, unfolding(qa_base::specs::Tables::discard_of))]
+#[tactic(auto, unfolding(qa_base::specs::format::Tables::discard_of))]
 pub fn discard_of(object: &Value) -> Result<Event, Fault>
     ensures { result ≡ tables.discard_of (view object.now) }
 {
@@ -192,7 +192,7 @@ pub fn discard_of(object: &Value) -> Result<Event, Fault>
 }
 
 /// The handshake that was confirmed.
-#[tactic(auto, unfolding(qa_base::specs::Tables::confirmed_of))]
+#[tactic(auto, unfolding(qa_base::specs::format::Tables::confirmed_of))]
 pub fn confirmed_of(object: &Value) -> Result<Event, Fault>
     ensures { result ≡ tables.confirmed_of (view object.now) }
 {
@@ -201,7 +201,7 @@ pub fn confirmed_of(object: &Value) -> Result<Event, Fault>
 }
 
 /// The keys of the Handshake space that came.
-#[tactic(auto, unfolding(qa_base::specs::Tables::keys_of))]
+#[tactic(auto, unfolding(qa_base::specs::format::Tables::keys_of))]
 pub fn keys_of(object: &Value) -> Result<Event, Fault>
     ensures { result ≡ tables.keys_of (view object.now) }
 {
@@ -242,7 +242,7 @@ fn metrics_fields(object: &Value) -> Result<MetricsFields, Fault>
 }
 
 /// A report of the sender's state.
-#[tactic(auto, unfolding(qa_base::specs::Tables::metrics_of))]
+#[tactic(auto, unfolding(qa_base::specs::format::Tables::metrics_of))]
 pub fn metrics_of(object: &Value) -> Result<Event, Fault>
     ensures { result ≡ tables.metrics_of (view object.now) }
 {

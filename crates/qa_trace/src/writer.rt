@@ -3,14 +3,14 @@ ghost use Rattle.std.specs.Prelude.{◌≡◌, ◌≤◌, true, false, string_by
 ghost use Rattle.std.specs.List.{AllByRecursion};
 ghost use Rattle.serde_json.specs.Data as json;
 ghost use Rattle.serde_json.specs.View.{view, members_view};
-ghost use Rattle.qa_base.specs.Events.{fits};
-ghost use Rattle.qa_base.specs.Lines.{has_lf};
-ghost use Rattle.qa_base.specs.Limits.{max_time, max_packet_number};
-ghost use Rattle.qa_base.specs.Names.{key_name};
-ghost use Rattle.qa_base.specs.Proper.{IsRange, IsWord, AreWords, IsProperEvent, IsProperLine};
-ghost use Rattle.qa_base.specs.Reading.{reading};
-ghost use Rattle.qa_base.specs.Settings.{AreInRange};
-ghost use Rattle.qa_base.specs.Written.{written, line_fits, object_of, header_pairs, event_pairs, whole_pairs, whole};
+ghost use Rattle.qa_base.specs.values.Events.{fits};
+ghost use Rattle.qa_base.specs.format.Lines.{has_lf};
+ghost use Rattle.qa_base.specs.values.Limits.{max_time, max_packet_number};
+ghost use Rattle.qa_base.specs.values.Names.{key_name};
+ghost use Rattle.qa_base.specs.values.Proper.{IsRange, IsWord, AreWords, IsProperEvent, IsProperLine};
+ghost use Rattle.qa_base.specs.format.Reading.{reading};
+ghost use Rattle.qa_base.specs.values.Settings.{AreInRange};
+ghost use Rattle.qa_base.specs.format.Written.{written, line_fits, object_of, header_pairs, event_pairs, whole_pairs, whole};
 
 use qa_base::{
     Event, Field, Header, Key, Kind, Leave, Line, MetricValues, Micros, PacketNumber, Space, Spans,

@@ -2,7 +2,7 @@
 use Rattle.std.specs.Prelude.{ℕ, Option, Some}
 use Rattle.qa_base.specs.declared.space.Kind.TheVariants as kind
 use Rattle.qa_base.specs.declared.space.Space.{Space}
-use Rattle.qa_base.specs.Timer.{Due}
+use Rattle.qa_base.specs.machine.Timer.{Due}
 
 -- a loss timer of the space at a time
 abbrev pub loss_at : Space → ℕ → Option Due

@@ -6,9 +6,9 @@ use Rattle.qa_base.specs.declared.event.Event.{Event}
 use Rattle.qa_base.specs.declared.event.Event.TheVariants.{Discard, Confirmed, Keys}
 use Rattle.qa_base.specs.declared.rule.Rule.TheVariants as rule
 use Rattle.qa_base.specs.declared.space.Space.TheVariants.{Initial, Handshake}
-use Rattle.qa_base.specs.Rules.{first_broken, IsRun}
-use Rattle.qa_base.specs.Settings.{Settings}
-use Rattle.qa_base.specs.Timer.{deadline}
+use Rattle.qa_base.specs.machine.Rules.{first_broken, IsRun}
+use Rattle.qa_base.specs.values.Settings.{Settings}
+use Rattle.qa_base.specs.machine.Timer.{deadline}
 use Rattle.qa_base.proofs.Shorthand.{client, sent, padded, bare, ack, lost, loss_fires, pto_fires, metrics}
 use Rattle.qa_base.proofs.edges.Deadlines.{pto_at}
 

@@ -4,10 +4,10 @@ use Rattle.qa_base.specs.declared.event.Event.{Event}
 use Rattle.qa_base.specs.declared.event.Event.TheVariants.{Discard, Keys}
 use Rattle.qa_base.specs.declared.rule.Rule.TheVariants as rule
 use Rattle.qa_base.specs.declared.space.Space.TheVariants.{Initial, Handshake, App}
-use Rattle.qa_base.specs.Loss.{bytes_in_flight, owed}
-use Rattle.qa_base.specs.Reno.{reno}
-use Rattle.qa_base.specs.Rules.{first_broken, IsRun}
-use Rattle.qa_base.specs.Settings.{Settings}
+use Rattle.qa_base.specs.machine.Loss.{bytes_in_flight, owed}
+use Rattle.qa_base.specs.machine.Reno.{reno}
+use Rattle.qa_base.specs.machine.Rules.{first_broken, IsRun}
+use Rattle.qa_base.specs.values.Settings.{Settings}
 use Rattle.qa_base.proofs.Shorthand.{server, sent, ack, lost, loss_fires, metrics}
 
 abbrev s : Settings

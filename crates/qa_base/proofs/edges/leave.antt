@@ -7,10 +7,10 @@ use Rattle.qa_base.specs.declared.event.Event.TheVariants.{Sent, Discard, Confir
 use Rattle.qa_base.specs.declared.rule.Rule.TheVariants as rule
 use Rattle.qa_base.specs.declared.space.Leave.TheVariants.{Probe}
 use Rattle.qa_base.specs.declared.space.Space.TheVariants.{Initial, Handshake, App}
-use Rattle.qa_base.specs.Leave.{is_probe_due}
-use Rattle.qa_base.specs.Rules.{first_broken, IsRun}
-use Rattle.qa_base.specs.Settings.{Settings}
-use Rattle.qa_base.specs.Timer.{deadline}
+use Rattle.qa_base.specs.machine.Leave.{is_probe_due}
+use Rattle.qa_base.specs.machine.Rules.{first_broken, IsRun}
+use Rattle.qa_base.specs.values.Settings.{Settings}
+use Rattle.qa_base.specs.machine.Timer.{deadline}
 use Rattle.qa_base.proofs.Shorthand.{client, server, sent, padded, bare, probe, bare_probe, ack, lost, pto_fires}
 use Rattle.qa_base.proofs.edges.Deadlines.{pto_at}
 

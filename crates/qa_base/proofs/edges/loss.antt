@@ -4,12 +4,12 @@ use Rattle.qa_base.specs.declared.event.Event.{Event}
 use Rattle.qa_base.specs.declared.event.Event.TheVariants.{Confirmed}
 use Rattle.qa_base.specs.declared.rule.Rule.TheVariants as rule
 use Rattle.qa_base.specs.declared.space.Space.TheVariants.{App}
-use Rattle.qa_base.specs.Loss.{owed}
-use Rattle.qa_base.specs.Reno.{reno}
-use Rattle.qa_base.specs.Rtt.{rtt}
-use Rattle.qa_base.specs.Rules.{first_broken, IsRun, IsComplete}
-use Rattle.qa_base.specs.Settings.{Settings}
-use Rattle.qa_base.specs.Timer.{deadline}
+use Rattle.qa_base.specs.machine.Loss.{owed}
+use Rattle.qa_base.specs.machine.Reno.{reno}
+use Rattle.qa_base.specs.machine.Rtt.{rtt}
+use Rattle.qa_base.specs.machine.Rules.{first_broken, IsRun, IsComplete}
+use Rattle.qa_base.specs.values.Settings.{Settings}
+use Rattle.qa_base.specs.machine.Timer.{deadline}
 use Rattle.qa_base.proofs.Shorthand.{server, sent, padded, bare, ack, lost, loss_fires}
 use Rattle.qa_base.proofs.edges.Deadlines.{loss_at, pto_at}
 

@@ -5,9 +5,9 @@ use Rattle.qa_base.specs.declared.event.Event.TheVariants.{Sent}
 use Rattle.qa_base.specs.declared.rule.Rule.TheVariants as rule
 use Rattle.qa_base.specs.declared.space.Leave.TheVariants.{Recovery}
 use Rattle.qa_base.specs.declared.space.Space.TheVariants.{Handshake, App}
-use Rattle.qa_base.specs.Reno.{reno}
-use Rattle.qa_base.specs.Rules.{first_broken, IsRun}
-use Rattle.qa_base.specs.Settings.{Settings}
+use Rattle.qa_base.specs.machine.Reno.{reno}
+use Rattle.qa_base.specs.machine.Rules.{first_broken, IsRun}
+use Rattle.qa_base.specs.values.Settings.{Settings}
 use Rattle.qa_base.proofs.Shorthand.{server, sent, padded, recovery, ack, lost}
 
 abbrev s : Settings

@@ -6,10 +6,10 @@ use Rattle.qa_base.specs.declared.event.Event.{Event}
 use Rattle.qa_base.specs.declared.event.Event.TheVariants.{Discard, Confirmed, Keys}
 use Rattle.qa_base.specs.declared.rule.Rule.TheVariants as rule
 use Rattle.qa_base.specs.declared.space.Space.TheVariants.{Initial, Handshake, App}
-use Rattle.qa_base.specs.Handshake.{is_validated}
-use Rattle.qa_base.specs.Rules.{first_broken, IsRun}
-use Rattle.qa_base.specs.Settings.{Settings}
-use Rattle.qa_base.specs.Timer.{backoff, deadline}
+use Rattle.qa_base.specs.machine.Handshake.{is_validated}
+use Rattle.qa_base.specs.machine.Rules.{first_broken, IsRun}
+use Rattle.qa_base.specs.values.Settings.{Settings}
+use Rattle.qa_base.specs.machine.Timer.{backoff, deadline}
 use Rattle.qa_base.proofs.Shorthand.{client, server, sent, probe, ack, lost, loss_fires, pto_fires}
 use Rattle.qa_base.proofs.edges.Deadlines.{loss_at, pto_at}
 

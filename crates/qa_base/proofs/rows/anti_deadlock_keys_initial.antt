@@ -4,9 +4,9 @@ use Rattle.qa_base.specs.declared.event.Event.{Event}
 use Rattle.qa_base.specs.declared.event.Event.TheVariants.{Keys}
 use Rattle.qa_base.specs.declared.rule.Rule.TheVariants as rule
 use Rattle.qa_base.specs.declared.space.Space.TheVariants.{Initial}
-use Rattle.qa_base.specs.Rules.{first_broken, IsRun}
-use Rattle.qa_base.specs.Settings.{Settings}
-use Rattle.qa_base.specs.State.{totals}
+use Rattle.qa_base.specs.machine.Rules.{first_broken, IsRun}
+use Rattle.qa_base.specs.values.Settings.{Settings}
+use Rattle.qa_base.specs.machine.State.{totals}
 use Rattle.qa_base.proofs.Shorthand.{client, padded, pto_fires}
 
 abbrev settings : Settings

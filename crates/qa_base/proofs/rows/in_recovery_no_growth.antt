@@ -2,9 +2,9 @@
 use Rattle.std.specs.Prelude.{◌≡◌, List, [], ◌∷◌, Some, refl}
 use Rattle.qa_base.specs.declared.event.Event.{Event}
 use Rattle.qa_base.specs.declared.space.Space.TheVariants.{App}
-use Rattle.qa_base.specs.Rules.{first_broken, IsRun, IsComplete}
-use Rattle.qa_base.specs.Settings.{Settings}
-use Rattle.qa_base.specs.State.{totals}
+use Rattle.qa_base.specs.machine.Rules.{first_broken, IsRun, IsComplete}
+use Rattle.qa_base.specs.values.Settings.{Settings}
+use Rattle.qa_base.specs.machine.State.{totals}
 use Rattle.qa_base.proofs.Shorthand.{server, sent, ack, lost, loss_fires}
 
 abbrev settings : Settings

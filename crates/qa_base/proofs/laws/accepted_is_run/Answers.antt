@@ -1,4 +1,4 @@
-use Rattle.qa_base.proofs.RunsAccepted as lemmas
+use Rattle.qa_base.proofs.verdicts.RunsAccepted as lemmas
 use Rattle.qa_base.proofs.laws.accepted_is_run.Goals as goal
 
 pub returns : goal.returns

@@ -1,4 +1,4 @@
-use Rattle.qa_base.proofs.Fixed as lemmas
+use Rattle.qa_base.proofs.verdicts.Fixed as lemmas
 use Rattle.qa_base.proofs.laws.fixed_stays.Goals as goal
 
 pub returns : goal.returns

@@ -1,4 +1,4 @@
-use Rattle.qa_base.proofs.RunLaws as lemmas
+use Rattle.qa_base.proofs.machine.RunLaws as lemmas
 use Rattle.qa_base.proofs.laws.old_is_after_loss_delay.Goals as goal
 
 pub returns : goal.returns

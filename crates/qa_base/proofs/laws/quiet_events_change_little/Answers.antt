@@ -1,4 +1,4 @@
-use Rattle.qa_base.proofs.Quiet as lemmas
+use Rattle.qa_base.proofs.machine.Quiet as lemmas
 use Rattle.qa_base.proofs.laws.quiet_events_change_little.Goals as goal
 
 pub returns : goal.returns

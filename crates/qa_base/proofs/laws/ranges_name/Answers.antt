@@ -1,4 +1,4 @@
-use Rattle.qa_base.proofs.Ranges as lemmas
+use Rattle.qa_base.proofs.machine.Ranges as lemmas
 use Rattle.qa_base.proofs.laws.ranges_name.Goals as goal
 
 pub returns : goal.returns

@@ -1,4 +1,4 @@
-use Rattle.qa_base.proofs.LinesWritten as lemmas
+use Rattle.qa_base.proofs.format.LinesWritten as lemmas
 use Rattle.qa_base.proofs.laws.written_is_read.Goals as goal
 
 pub returns-clause-one_line : goal.returns-clause-one_line

@@ -1,5 +1,5 @@
 use Rattle.std.proofs.Common.{◌≡◌, ◌≤◌, ◌*◌, take}
-use Rattle.qa_base.specs.Plain.{sent_bytes}
+use Rattle.qa_base.specs.machine.Plain.{sent_bytes}
 use Rattle.qa_check.proofs.judge.bytes_in_flight.Given as goal
 
 abbrev pub invariant-loop-event : goal.invariant-loop-event

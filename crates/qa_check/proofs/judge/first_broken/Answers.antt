@@ -1,6 +1,6 @@
 use Rattle.std.proofs.Common.{◌∙◌, sym, ap}
-use Rattle.qa_base.specs.Rules.{first_of}
-use Rattle.qa_base.specs.Metrics.{tests}
+use Rattle.qa_base.specs.machine.Rules.{first_of}
+use Rattle.qa_base.specs.machine.Metrics.{tests}
 use Rattle.qa_check.proofs.Judging.{time_back, packet_rule_is, metric_rule_is}
 use Rattle.qa_check.proofs.judge.first_broken.Goals as goal
 

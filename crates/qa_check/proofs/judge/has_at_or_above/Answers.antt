@@ -2,8 +2,8 @@ use Rattle.std.proofs.Common.{◌≡◌, ◌∙◌, ◌∷◌, ◌||◌, ℕ, Li
 use Rattle.qa_base.specs.declared.event.Event.{Event}
 use Rattle.qa_base.specs.declared.event.Event.TheVariants.{Sent}
 use Rattle.qa_base.specs.declared.space.Space.{Space}
-use Rattle.qa_base.specs.Breaches.{has_at_or_above}
-use Rattle.qa_base.proofs.Histories.{any_in_history, has_at_or_above-sent}
+use Rattle.qa_base.specs.machine.Breaches.{has_at_or_above}
+use Rattle.qa_base.proofs.machine.Histories.{any_in_history, has_at_or_above-sent}
 use Rattle.qa_check.specs.Judge.{sends_at_or_above}
 use Rattle.qa_check.proofs.judge.has_at_or_above.Goals as goal
 

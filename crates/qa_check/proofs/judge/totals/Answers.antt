@@ -1,4 +1,4 @@
-use Rattle.qa_base.proofs.SendsAndReports.{totals-plain}
+use Rattle.qa_base.proofs.machine.SendsAndReports.{totals-plain}
 use Rattle.qa_check.proofs.judge.totals.Goals as goal
 
 pub returns : goal.returns

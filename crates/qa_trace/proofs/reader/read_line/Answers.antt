@@ -6,9 +6,9 @@ use Rattle.serde_json.specs.Data.{Data}
 use Rattle.serde_json.specs.Read.{read}
 use Rattle.qa_base.specs.declared.fault.Fault.TheVariants.{NotJson}
 use Rattle.qa_base.specs.declared.line.Line.{Line}
-use Rattle.qa_base.specs.Reading.{reader_named, object_says, json_of, is_blank, reading_by, reading}
-use Rattle.qa_base.specs.Written.{line_fits}
-use Rattle.qa_base.proofs.ProperReadings.{reading_fits}
+use Rattle.qa_base.specs.format.Reading.{reader_named, object_says, json_of, is_blank, reading_by, reading}
+use Rattle.qa_base.specs.format.Written.{line_fits}
+use Rattle.qa_base.proofs.format.ProperReadings.{reading_fits}
 use Rattle.qa_trace.specs.declared.fault.LineFault.{LineFault}
 use Rattle.qa_trace.specs.Gives.{Gives}
 use Rattle.qa_trace.proofs.reader.read_line.Goals as goal

@@ -5,7 +5,7 @@ use Rattle.std.proofs.lemmas.List.{take-append-drop}
 use Rattle.std.proofs.lemmas.List.Folds.{list_any_more}
 use Rattle.std.specs.Prelude.{MatchOption}
 use Rattle.memchr.specs.Find.{IsFirstByte, is_byte}
-use Rattle.qa_base.specs.Lines.{is_lf, has_lf}
+use Rattle.qa_base.specs.format.Lines.{is_lf, has_lf}
 use Rattle.qa_trace.specs.Stream.{IsFirstLf}
 use Rattle.qa_trace.proofs.split.first_lf.Goals as goal
 

@@ -1,5 +1,5 @@
 use Rattle.std.proofs.Common.{◌∙◌, ap₂}
-use Rattle.qa_base.specs.Keys.{both}
+use Rattle.qa_base.specs.format.Keys.{both}
 use Rattle.qa_trace.proofs.tables.ack_fields.Goals as goal
 
 pub returns : goal.returns

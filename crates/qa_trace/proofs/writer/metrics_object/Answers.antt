@@ -5,7 +5,7 @@ use Rattle.serde_json.specs.View.{members_view}
 use Rattle.qa_base.specs.declared.fault.Key.{Key}
 use Rattle.qa_base.specs.declared.fault.Key.TheVariants.{Event, Time}
 use Rattle.qa_base.specs.declared.rule.Field.TheVariants.{Window, Ssthresh, BytesInFlight, LatestRtt, MinRtt, SmoothedRtt, Rttvar}
-use Rattle.qa_base.specs.Written.{Pairs, members}
+use Rattle.qa_base.specs.format.Written.{Pairs, members}
 use Rattle.qa_trace.proofs.InOrder.{Holds, holds_none, holds_put, holds_reported}
 use Rattle.qa_trace.proofs.writer.metrics_object.Goals as goal
 

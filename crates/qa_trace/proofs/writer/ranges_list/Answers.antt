@@ -3,7 +3,7 @@ use Rattle.std.proofs.lemmas.List.{take_all}
 use Rattle.serde_json.proofs.Views.{view-Array}
 use Rattle.serde_json.specs.Data.{item}
 use Rattle.serde_json.specs.View.{items_of}
-use Rattle.qa_base.specs.Written.{whole_pair, whole_pairs}
+use Rattle.qa_base.specs.format.Written.{whole_pair, whole_pairs}
 use Rattle.qa_trace.proofs.writer.ranges_list.Goals as goal
 
 items_of-whole_pair : (ranges : List (ℕ × ℕ)) → items_of (map whole_pair ranges) ≡ whole_pairs ranges

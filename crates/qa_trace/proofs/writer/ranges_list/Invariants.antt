@@ -1,8 +1,8 @@
 use Rattle.std.proofs.Common.{◌≡◌, map, take}
 use Rattle.std.specs.List.{AllByRecursion}
 use Rattle.serde_json.specs.View.{view}
-use Rattle.qa_base.specs.Proper.{IsRange}
-use Rattle.qa_base.specs.Written.{whole_pair}
+use Rattle.qa_base.specs.values.Proper.{IsRange}
+use Rattle.qa_base.specs.format.Written.{whole_pair}
 use Rattle.qa_trace.proofs.writer.ranges_list.Given as goal
 
 abbrev pub invariant-loop-range : goal.invariant-loop-range

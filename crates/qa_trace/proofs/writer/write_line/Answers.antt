@@ -2,11 +2,11 @@ use Rattle.std.proofs.Common.{◌≡◌, ◌∙◌, false, Result, Ok, Err, Stri
 use Rattle.std.specs.Prelude.{string_bytes, IfOk, OnOk}
 use Rattle.std.specs.declared.alloc.AllocError.{AllocError}
 use Rattle.qa_base.specs.declared.line.Line.{Line}
-use Rattle.qa_base.specs.Lines.{has_lf}
-use Rattle.qa_base.specs.Proper.{IsProperLine}
-use Rattle.qa_base.specs.Reading.{reading}
-use Rattle.qa_base.specs.Written.{written}
-use Rattle.qa_base.proofs.LinesWritten.{written_reads, written_has_no_lf}
+use Rattle.qa_base.specs.format.Lines.{has_lf}
+use Rattle.qa_base.specs.values.Proper.{IsProperLine}
+use Rattle.qa_base.specs.format.Reading.{reading}
+use Rattle.qa_base.specs.format.Written.{written}
+use Rattle.qa_base.proofs.format.LinesWritten.{written_reads, written_has_no_lf}
 use Rattle.qa_trace.proofs.writer.write_line.Goals as goal
 
 -- what is written for a line that there is

@@ -1,6 +1,6 @@
 use Rattle.std.proofs.Common.{◌∙◌, Some, ap}
-use Rattle.qa_base.specs.Sends.{reading}
-use Rattle.qa_base.specs.Verdict.{last_event_line}
+use Rattle.qa_base.specs.format.Sends.{reading}
+use Rattle.qa_base.specs.verdicts.Verdict.{last_event_line}
 use Rattle.qa_check.proofs.Growing.{end_stands, open_from}
 use Rattle.qa_check.proofs.checker.Checker.end.Goals as goal
 

@@ -1,7 +1,7 @@
 use Rattle.std.proofs.Common.{◌∙◌, sym}
 use Rattle.std.proofs.lemmas.Result.{on_ok_weaker}
-use Rattle.qa_base.specs.Sends.{reading}
-use Rattle.qa_base.proofs.Stops.{said_few}
+use Rattle.qa_base.specs.format.Sends.{reading}
+use Rattle.qa_base.proofs.verdicts.Stops.{said_few}
 use Rattle.qa_check.proofs.Growing.{said_plain, decided_adds, stop_adds, good_adds, open_from, stands_open, stands_decided, no_verdict}
 use Rattle.qa_check.proofs.checker.Checker.line.Goals as goal
 

@@ -1,6 +1,6 @@
 use Rattle.std.proofs.Common.{◌∙◌, ◌+◌, Some, sym, ap}
-use Rattle.qa_base.specs.Packets.{history_of}
-use Rattle.qa_base.specs.Verdict.{stop_at}
+use Rattle.qa_base.specs.machine.Packets.{history_of}
+use Rattle.qa_base.specs.verdicts.Verdict.{stop_at}
 use Rattle.qa_check.proofs.Growing.{decided_adds, stop_adds, open_from, stands_decided, no_verdict}
 use Rattle.qa_check.proofs.checker.Checker.too_long.Goals as goal
 

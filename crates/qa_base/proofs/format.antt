@@ -1,0 +1,9 @@
+-- Lemmas about what lines say and what is written for them.
+pub mod Sized
+pub mod KeysRead
+pub mod ProperReadings
+pub mod KeysWritten
+pub mod OneLine
+pub mod LinesWritten
+pub mod SendsAlone
+pub mod Compact

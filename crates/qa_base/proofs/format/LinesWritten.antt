@@ -1,0 +1,427 @@
+-- A line that was written is one line, and is read as itself.
+use Rattle.std.proofs.Common.{◌≡◌, ◌∙◌, ℕ, ◌≤◌, ◌*◌, List, [], ◌∷◌, ◌++◌, Bool, true, false, cond, Some, None, Result, Ok, Err, refl, ap, append_assoc, Less, ◌&&◌, ◌||◌, not, arith, subst, sym}
+use Rattle.std.proofs.lemmas.Bool.{and_parts, leb-true, or_from, le-ltb}
+use Rattle.std.specs.Prelude.{nat_lt, nat_le, codes, option_map}
+use Rattle.std.specs.Cmp.Lexicographic.{slice_cmp}
+use Rattle.std.specs.Ordering.{nat_cmp}
+use Rattle.std.specs.Result.{result_map_both}
+use Rattle.serde_json.specs.Data as json
+use Rattle.serde_json.specs.Data.{Data, depth}
+use Rattle.serde_json.specs.Find.{get}
+use Rattle.serde_json.specs.Written.{compact_text}
+use Rattle.qa_base.specs.declared.event.Event.{Event}
+use Rattle.qa_base.specs.declared.event.Event.TheVariants.{Sent, Ack, Lost, Timer, Discard, Confirmed, Keys, Metrics}
+use Rattle.qa_base.specs.declared.event.MetricValues.{MetricValues}
+use Rattle.qa_base.specs.declared.fault.Fault.{Fault}
+use Rattle.qa_base.specs.declared.fault.Fault.TheVariants.{FlagsClash, OutOfRange}
+use Rattle.qa_base.specs.declared.fault.Key.{Key}
+use Rattle.qa_base.specs.declared.fault.Key.TheVariants as key
+use Rattle.qa_base.specs.declared.line.Line.{Line}
+use Rattle.qa_base.specs.declared.line.Line.TheVariants as line
+use Rattle.qa_base.specs.declared.rule.Field.TheVariants.{Window, Ssthresh, BytesInFlight, LatestRtt, MinRtt, SmoothedRtt, Rttvar}
+use Rattle.qa_base.specs.declared.space.Kind.{Kind as TimerKind}
+use Rattle.qa_base.specs.declared.space.Leave.{Leave}
+use Rattle.qa_base.specs.declared.space.Leave.TheVariants as leaves
+use Rattle.qa_base.specs.declared.space.Space.{Space}
+use Rattle.qa_base.specs.declared.space.Space.TheVariants.{Initial, Handshake, App}
+use Rattle.qa_base.specs.values.Events.{is_space}
+use Rattle.qa_base.specs.format.Keys.{◌>>=◌, whole, whole_from, text, text_among, truth, ranges, required, if_present}
+use Rattle.qa_base.specs.format.Lines.{has_lf}
+use Rattle.qa_base.specs.values.Limits.{max_time, max_packet_number, max_packet_size}
+use Rattle.qa_base.specs.values.Names.{key_name, role_name, role_named, space_name, space_named, discarded_named, leave_name, leave_named, kind_name, kind_named}
+use Rattle.qa_base.specs.values.Proper.{IsProperEvent, IsProperLine}
+use Rattle.qa_base.specs.format.Reading.{reader_named, object_says, json_of, reading_by, reading}
+use Rattle.qa_base.specs.values.Settings.{Settings, AreInRange, is_outside, checked}
+use Rattle.qa_base.specs.format.Tables.{time, space, header_fields, header_of, settings, sent_fields, sent_of, ack_fields, ack_of, lost_fields, lost_of, timer_fields, timer_of, discard_fields, discard_of, confirmed_of, keys_of, metrics_fields, metrics_of}
+use Rattle.qa_base.specs.format.Written as written
+use Rattle.qa_base.specs.format.Written.{Pairs, reported, header_pairs, event_pairs, members, object_of, written as text_of}
+use Rattle.qa_base.proofs.format.Compact.{IsSimple, read-compact_text, is_utf8-compact_text}
+use Rattle.qa_base.proofs.format.OneLine.{has_lf-compact_text}
+use Rattle.qa_base.proofs.format.KeysWritten.{required_reads, optional_reads, both_reads, whole_from_reads, role_reads, space_reads, leave_reads, kind_reads, ranges_read, past_reported, reported_stands, metric_reads, past_last, last_stands, IsKept, whole_is_kept, text_is_kept, truth_is_kept, role_is_kept, space_is_kept, leave_is_kept, kind_is_kept, ranges_are_kept, Follow, none_follow, follow, follow_reported, follow_last}
+
+-- ---- keys that several kinds of line have
+
+time_reads : (d : Data) (t : ℕ) → get (codes "time") d ≡ Some (written.whole t) → t ≤ max_time → time d ≡ Ok t
+time_reads d t at high = required_reads (whole_from 0 max_time) key.Time d (written.whole t) t at refl (whole_from_reads 0 max_time key.Time t (omega arith) high)
+
+space_stands : (d : Data) (s : Space) → get (codes "space") d ≡ Some (written.text (space_name s)) → space d ≡ Ok s
+space_stands d s at = required_reads (text_among space_named) key.Space d (written.text (space_name s)) s at refl (space_reads key.Space s)
+
+ranges_stand : (d : Data) (rs : List (ℕ × ℕ)) → get (codes "ranges") d ≡ Some (json.array (written.whole_pairs rs)) → ranges key.Ranges (json.array (written.whole_pairs rs)) ≡ Ok rs → required ranges key.Ranges d ≡ Ok rs
+ranges_stand d rs at reads = required_reads ranges key.Ranges d (json.array (written.whole_pairs rs)) rs at refl reads
+
+-- ---- packets
+
+flags_pass : (eliciting in_flight : Bool) (e : Event) → (not eliciting || in_flight) ≡ true → cond (eliciting && not in_flight) (Err FlagsClash) (Ok e) ≡ Ok e
+flags_pass true true e h = refl
+flags_pass true false e h = cc
+flags_pass false in_flight e h = refl
+
+then_reads : {A B : Type 0} → (r : Result A Fault) (f : A → Result B Fault) (x : A) (y : B) → r ≡ Ok x → f x ≡ Ok y → (r >>= f) ≡ Ok y
+then_reads r f x y first second = rw first second
+
+sent_reads : (t : ℕ) (s : Space) (number size : ℕ) (eliciting in_flight : Bool) (leave : Leave)
+    → IsProperEvent (Sent t s number size eliciting in_flight leave)
+    → sent_of (object_of (event_pairs (Sent t s number size eliciting in_flight leave))) ≡ Ok (Sent t s number size eliciting in_flight leave)
+unfolding sent_of
+sent_reads t s number size eliciting in_flight leave proper =
+    let d = object_of (event_pairs (Sent t s number size eliciting in_flight leave)) in
+    let parts = and_parts (nat_le 1 size && nat_le size max_packet_size) (not eliciting || in_flight) proper.fitting in
+    let bounds = and_parts (nat_le 1 size) (nat_le size max_packet_size) parts.0 in
+    let leaves_read = optional_reads (text_among leave_named) leaves.Window key.Leave d (written.text (leave_name leave)) leave refl refl (leave_reads key.Leave leave) in
+    let flags_read = both_reads _ _ eliciting _ (required_reads truth key.Eliciting d (written.truth eliciting) eliciting refl refl refl)
+    (both_reads _ _ in_flight leave (required_reads truth key.InFlight d (written.truth in_flight) in_flight refl refl refl) leaves_read) in
+    let size_read = required_reads (whole_from 1 max_packet_size) key.Size d (written.whole size) size refl refl
+    (whole_from_reads 1 max_packet_size key.Size size (leb-true 1 size bounds.0) (leb-true size max_packet_size bounds.1)) in
+    let number_read = required_reads (whole_from 0 max_packet_number) key.Number d (written.whole number) number refl refl
+    (whole_from_reads 0 max_packet_number key.Number number (omega arith) proper.numbers) in
+    let fields = both_reads _ _ t _ (time_reads d t refl proper.in_time)
+    (both_reads _ _ s _ (space_stands d s refl)
+    (both_reads _ _ number _ number_read
+    (both_reads _ _ size _ size_read flags_read))) in
+    then_reads (sent_fields d) _ (t, (s, (number, (size, (eliciting, (in_flight, leave)))))) _ fields
+    (flags_pass eliciting in_flight (Sent t s number size eliciting in_flight leave) parts.1)
+
+ack_reads : (t : ℕ) (s : Space) (rs : List (ℕ × ℕ)) (delay : ℕ) (limited : Bool) → IsProperEvent (Ack t s rs delay limited)
+    → ack_of (object_of (event_pairs (Ack t s rs delay limited))) ≡ Ok (Ack t s rs delay limited)
+unfolding ack_of
+ack_reads t s rs delay limited proper =
+    let d = object_of (event_pairs (Ack t s rs delay limited)) in
+    let listed = ranges_stand d rs refl (ranges_read key.Ranges rs proper.fitting proper.numbers.0) in
+    let rest = both_reads _ _ delay limited (optional_reads whole 0 key.Delay d (written.whole delay) delay refl refl refl)
+    (optional_reads truth false key.Limited d (written.truth limited) limited refl refl refl) in
+    let fields = both_reads _ _ t _ (time_reads d t refl proper.in_time) (both_reads _ _ s _ (space_stands d s refl) (both_reads _ _ rs _ listed rest)) in
+    then_reads (ack_fields d) _ (t, (s, (rs, (delay, limited)))) _ fields refl
+
+lost_reads : (t : ℕ) (s : Space) (rs : List (ℕ × ℕ)) → IsProperEvent (Lost t s rs) → lost_of (object_of (event_pairs (Lost t s rs))) ≡ Ok (Lost t s rs)
+unfolding lost_of
+lost_reads t s rs proper =
+    let d = object_of (event_pairs (Lost t s rs)) in
+    let listed = ranges_stand d rs refl (ranges_read key.Ranges rs proper.fitting proper.numbers) in
+    let fields = both_reads _ _ t _ (time_reads d t refl proper.in_time) (both_reads _ _ s rs (space_stands d s refl) listed) in
+    then_reads (lost_fields d) _ (t, (s, rs)) _ fields refl
+
+-- ---- the timer and the handshake
+
+timer_reads : (t : ℕ) (k : TimerKind) (s : Space) → IsProperEvent (Timer t k s) → timer_of (object_of (event_pairs (Timer t k s))) ≡ Ok (Timer t k s)
+unfolding timer_of
+timer_reads t k s proper =
+    let d = object_of (event_pairs (Timer t k s)) in
+    let kinds = required_reads (text_among kind_named) key.Kind d (written.text (kind_name k)) k refl refl (kind_reads key.Kind k) in
+    let fields = both_reads _ _ t _ (time_reads d t refl proper.in_time) (both_reads _ _ k s kinds (space_stands d s refl)) in
+    then_reads (timer_fields d) _ (t, (k, s)) _ fields refl
+
+discarded_reads : (s : Space) → not (is_space App s) ≡ true → text_among discarded_named key.Space (written.text (space_name s)) ≡ Ok s
+discarded_reads Initial h = refl
+discarded_reads Handshake h = refl
+discarded_reads App h = cc
+
+discard_reads : (t : ℕ) (s : Space) → IsProperEvent (Discard t s) → discard_of (object_of (event_pairs (Discard t s))) ≡ Ok (Discard t s)
+unfolding discard_of
+discard_reads t s proper =
+    let d = object_of (event_pairs (Discard t s)) in
+    let spaces = required_reads (text_among discarded_named) key.Space d (written.text (space_name s)) s refl refl (discarded_reads s proper.fitting) in
+    then_reads (discard_fields d) _ (t, s) _ (both_reads _ _ t s (time_reads d t refl proper.in_time) spaces) refl
+
+confirmed_reads : (t : ℕ) → IsProperEvent (Confirmed t) → confirmed_of (object_of (event_pairs (Confirmed t))) ≡ Ok (Confirmed t)
+unfolding confirmed_of
+confirmed_reads t proper = let d = object_of (event_pairs (Confirmed t)) in then_reads (time d) _ t _ (time_reads d t refl proper.in_time) refl
+
+keys_read : (t : ℕ) → IsProperEvent (Keys t) → keys_of (object_of (event_pairs (Keys t))) ≡ Ok (Keys t)
+unfolding keys_of
+keys_read t proper = let d = object_of (event_pairs (Keys t)) in then_reads (time d) _ t _ (time_reads d t refl proper.in_time) refl
+
+-- ---- a report of the sender's state
+
+-- what stands behind each key of a report, in the order in which the keys are written
+abbrev behind_threshold : ℕ → MetricValues → Pairs
+behind_threshold t v = (key.Time, written.whole t) ∷ reported Window v.window
+
+abbrev behind_smoothed : ℕ → MetricValues → Pairs
+behind_smoothed t v = reported Ssthresh v.ssthresh ++ behind_threshold t v
+
+abbrev behind_var : ℕ → MetricValues → Pairs
+behind_var t v = reported SmoothedRtt v.smoothed_rtt ++ behind_smoothed t v
+
+abbrev behind_least : ℕ → MetricValues → Pairs
+behind_least t v = reported Rttvar v.rttvar ++ behind_var t v
+
+abbrev behind_latest : ℕ → MetricValues → Pairs
+behind_latest t v = reported MinRtt v.min_rtt ++ behind_least t v
+
+abbrev behind_event : ℕ → MetricValues → Pairs
+behind_event t v = reported LatestRtt v.latest_rtt ++ behind_latest t v
+
+abbrev behind_flight : ℕ → MetricValues → Pairs
+behind_flight t v = (key.Event, written.text (codes "metrics")) ∷ behind_event t v
+
+abbrev metrics_pairs : ℕ → MetricValues → Pairs
+metrics_pairs t v = reported BytesInFlight v.bytes_in_flight ++ behind_flight t v
+
+from_behind : (b c d f g h : Pairs) → b ++ c ++ d ++ f ++ g ++ h ≡ b ++ (c ++ (d ++ (f ++ (g ++ h))))
+from_behind b c d f g h = simp append_assoc
+
+regroup : (a : Pairs) (e : Key × Data) (b c d f g h : Pairs) → a ++ e ∷ b ++ c ++ d ++ f ++ g ++ h ≡ a ++ (e ∷ (b ++ (c ++ (d ++ (f ++ (g ++ h))))))
+regroup [] e b c d f g h = ap (λ ps. e ∷ ps) (from_behind b c d f g h)
+regroup (x ∷ a) e b c d f g h = ap (λ ps. x ∷ ps) (regroup a e b c d f g h)
+
+-- the keys of a report, grouped from behind
+metrics_pairs_are : (t : ℕ) (v : MetricValues) → event_pairs (Metrics t v) ≡ metrics_pairs t v
+metrics_pairs_are t v =
+    regroup (reported BytesInFlight v.bytes_in_flight) (key.Event, written.text (codes "metrics")) (reported LatestRtt v.latest_rtt) (reported MinRtt v.min_rtt)
+    (reported Rttvar v.rttvar) (reported SmoothedRtt v.smoothed_rtt) (reported Ssthresh v.ssthresh) (behind_threshold t v)
+
+-- each value that is reported is found at its key
+bytes_in_flight_found : (t : ℕ) (v : MetricValues) → get (codes "bytes_in_flight") (object_of (metrics_pairs t v)) ≡ option_map written.whole v.bytes_in_flight
+bytes_in_flight_found t v =
+    reported_stands BytesInFlight v.bytes_in_flight (behind_flight t v) refl (
+    past_reported (codes "bytes_in_flight") LatestRtt v.latest_rtt (behind_latest t v) (λ e. cc)
+    ∙ past_reported (codes "bytes_in_flight") MinRtt v.min_rtt (behind_least t v) (λ e. cc)
+    ∙ past_reported (codes "bytes_in_flight") Rttvar v.rttvar (behind_var t v) (λ e. cc)
+    ∙ past_reported (codes "bytes_in_flight") SmoothedRtt v.smoothed_rtt (behind_smoothed t v) (λ e. cc)
+    ∙ past_reported (codes "bytes_in_flight") Ssthresh v.ssthresh (behind_threshold t v) (λ e. cc)
+    ∙ past_last (codes "bytes_in_flight") Window v.window (λ e. cc))
+
+latest_rtt_found : (t : ℕ) (v : MetricValues) → get (codes "latest_rtt") (object_of (metrics_pairs t v)) ≡ option_map written.whole v.latest_rtt
+latest_rtt_found t v =
+    past_reported (codes "latest_rtt") BytesInFlight v.bytes_in_flight (behind_flight t v) (λ e. cc)
+    ∙ reported_stands LatestRtt v.latest_rtt (behind_latest t v) refl (
+    past_reported (codes "latest_rtt") MinRtt v.min_rtt (behind_least t v) (λ e. cc)
+    ∙ past_reported (codes "latest_rtt") Rttvar v.rttvar (behind_var t v) (λ e. cc)
+    ∙ past_reported (codes "latest_rtt") SmoothedRtt v.smoothed_rtt (behind_smoothed t v) (λ e. cc)
+    ∙ past_reported (codes "latest_rtt") Ssthresh v.ssthresh (behind_threshold t v) (λ e. cc)
+    ∙ past_last (codes "latest_rtt") Window v.window (λ e. cc))
+
+min_rtt_found : (t : ℕ) (v : MetricValues) → get (codes "min_rtt") (object_of (metrics_pairs t v)) ≡ option_map written.whole v.min_rtt
+min_rtt_found t v =
+    past_reported (codes "min_rtt") BytesInFlight v.bytes_in_flight (behind_flight t v) (λ e. cc)
+    ∙ past_reported (codes "min_rtt") LatestRtt v.latest_rtt (behind_latest t v) (λ e. cc)
+    ∙ reported_stands MinRtt v.min_rtt (behind_least t v) refl (
+    past_reported (codes "min_rtt") Rttvar v.rttvar (behind_var t v) (λ e. cc)
+    ∙ past_reported (codes "min_rtt") SmoothedRtt v.smoothed_rtt (behind_smoothed t v) (λ e. cc)
+    ∙ past_reported (codes "min_rtt") Ssthresh v.ssthresh (behind_threshold t v) (λ e. cc)
+    ∙ past_last (codes "min_rtt") Window v.window (λ e. cc))
+
+rttvar_found : (t : ℕ) (v : MetricValues) → get (codes "rttvar") (object_of (metrics_pairs t v)) ≡ option_map written.whole v.rttvar
+rttvar_found t v =
+    past_reported (codes "rttvar") BytesInFlight v.bytes_in_flight (behind_flight t v) (λ e. cc)
+    ∙ past_reported (codes "rttvar") LatestRtt v.latest_rtt (behind_latest t v) (λ e. cc)
+    ∙ past_reported (codes "rttvar") MinRtt v.min_rtt (behind_least t v) (λ e. cc)
+    ∙ reported_stands Rttvar v.rttvar (behind_var t v) refl (
+    past_reported (codes "rttvar") SmoothedRtt v.smoothed_rtt (behind_smoothed t v) (λ e. cc)
+    ∙ past_reported (codes "rttvar") Ssthresh v.ssthresh (behind_threshold t v) (λ e. cc)
+    ∙ past_last (codes "rttvar") Window v.window (λ e. cc))
+
+smoothed_rtt_found : (t : ℕ) (v : MetricValues) → get (codes "smoothed_rtt") (object_of (metrics_pairs t v)) ≡ option_map written.whole v.smoothed_rtt
+smoothed_rtt_found t v =
+    past_reported (codes "smoothed_rtt") BytesInFlight v.bytes_in_flight (behind_flight t v) (λ e. cc)
+    ∙ past_reported (codes "smoothed_rtt") LatestRtt v.latest_rtt (behind_latest t v) (λ e. cc)
+    ∙ past_reported (codes "smoothed_rtt") MinRtt v.min_rtt (behind_least t v) (λ e. cc)
+    ∙ past_reported (codes "smoothed_rtt") Rttvar v.rttvar (behind_var t v) (λ e. cc)
+    ∙ reported_stands SmoothedRtt v.smoothed_rtt (behind_smoothed t v) refl (
+    past_reported (codes "smoothed_rtt") Ssthresh v.ssthresh (behind_threshold t v) (λ e. cc)
+    ∙ past_last (codes "smoothed_rtt") Window v.window (λ e. cc))
+
+ssthresh_found : (t : ℕ) (v : MetricValues) → get (codes "ssthresh") (object_of (metrics_pairs t v)) ≡ option_map written.whole v.ssthresh
+ssthresh_found t v =
+    past_reported (codes "ssthresh") BytesInFlight v.bytes_in_flight (behind_flight t v) (λ e. cc)
+    ∙ past_reported (codes "ssthresh") LatestRtt v.latest_rtt (behind_latest t v) (λ e. cc)
+    ∙ past_reported (codes "ssthresh") MinRtt v.min_rtt (behind_least t v) (λ e. cc)
+    ∙ past_reported (codes "ssthresh") Rttvar v.rttvar (behind_var t v) (λ e. cc)
+    ∙ past_reported (codes "ssthresh") SmoothedRtt v.smoothed_rtt (behind_smoothed t v) (λ e. cc)
+    ∙ reported_stands Ssthresh v.ssthresh (behind_threshold t v) refl (
+    past_last (codes "ssthresh") Window v.window (λ e. cc))
+
+window_found : (t : ℕ) (v : MetricValues) → get (codes "window") (object_of (metrics_pairs t v)) ≡ option_map written.whole v.window
+window_found t v =
+    past_reported (codes "window") BytesInFlight v.bytes_in_flight (behind_flight t v) (λ e. cc)
+    ∙ past_reported (codes "window") LatestRtt v.latest_rtt (behind_latest t v) (λ e. cc)
+    ∙ past_reported (codes "window") MinRtt v.min_rtt (behind_least t v) (λ e. cc)
+    ∙ past_reported (codes "window") Rttvar v.rttvar (behind_var t v) (λ e. cc)
+    ∙ past_reported (codes "window") SmoothedRtt v.smoothed_rtt (behind_smoothed t v) (λ e. cc)
+    ∙ past_reported (codes "window") Ssthresh v.ssthresh (behind_threshold t v) (λ e. cc)
+    ∙ last_stands Window v.window refl
+
+time_found : (t : ℕ) (v : MetricValues) → get (codes "time") (object_of (metrics_pairs t v)) ≡ Some (written.whole t)
+time_found t v =
+    past_reported (codes "time") BytesInFlight v.bytes_in_flight (behind_flight t v) (λ e. cc)
+    ∙ past_reported (codes "time") LatestRtt v.latest_rtt (behind_latest t v) (λ e. cc)
+    ∙ past_reported (codes "time") MinRtt v.min_rtt (behind_least t v) (λ e. cc)
+    ∙ past_reported (codes "time") Rttvar v.rttvar (behind_var t v) (λ e. cc)
+    ∙ past_reported (codes "time") SmoothedRtt v.smoothed_rtt (behind_smoothed t v) (λ e. cc)
+    ∙ past_reported (codes "time") Ssthresh v.ssthresh (behind_threshold t v) (λ e. cc)
+
+event_found : (t : ℕ) (v : MetricValues) → get (codes "event") (object_of (metrics_pairs t v)) ≡ Some (written.text (codes "metrics"))
+event_found t v = past_reported (codes "event") BytesInFlight v.bytes_in_flight (behind_flight t v) (λ e. cc)
+
+metrics_read : (t : ℕ) (v : MetricValues) → IsProperEvent (Metrics t v) → metrics_of (object_of (metrics_pairs t v)) ≡ Ok (Metrics t v)
+unfolding metrics_of
+metrics_read t v proper =
+    let d = object_of (metrics_pairs t v) in
+    let fields = both_reads _ _ t _ (time_reads d t (time_found t v) proper.in_time)
+    (both_reads _ _ v.window _ (metric_reads Window d v.window (window_found t v))
+    (both_reads _ _ v.ssthresh _ (metric_reads Ssthresh d v.ssthresh (ssthresh_found t v))
+    (both_reads _ _ v.bytes_in_flight _ (metric_reads BytesInFlight d v.bytes_in_flight (bytes_in_flight_found t v))
+    (both_reads _ _ v.latest_rtt _ (metric_reads LatestRtt d v.latest_rtt (latest_rtt_found t v))
+    (both_reads _ _ v.min_rtt _ (metric_reads MinRtt d v.min_rtt (min_rtt_found t v))
+    (both_reads _ _ v.smoothed_rtt _ (metric_reads SmoothedRtt d v.smoothed_rtt (smoothed_rtt_found t v))
+    (metric_reads Rttvar d v.rttvar (rttvar_found t v)))))))) in
+    then_reads (metrics_fields d) _ (t, (v.window, (v.ssthresh, (v.bytes_in_flight, (v.latest_rtt, (v.min_rtt, (v.smoothed_rtt, v.rttvar))))))) _ fields refl
+
+-- ---- the header
+
+inside : (lo hi n : ℕ) → lo ≤ n → n ≤ hi → is_outside lo hi n ≡ false
+inside lo hi n low high = or_from (nat_lt n lo) (nat_lt hi n) (le-ltb n lo low) (le-ltb hi n high)
+
+-- values in their ranges pass the test of ranges
+checked_passes : (s : Settings) → AreInRange s → checked s ≡ Ok s
+checked_passes s are = rw (
+  inside 1200 65527 s.max_datagram_size are.datagram_low are.datagram_high,
+  inside 0 16383000 s.max_ack_delay (omega arith) are.delay_high,
+  inside 1 1000000000 s.initial_rtt are.rtt_low are.rtt_high,
+  inside (2 * s.max_datagram_size) 4294967295 s.initial_window are.window_low are.window_high,
+) refl
+
+settings_read : (s : Settings) → AreInRange s → settings s.role s.max_datagram_size (Some s.max_ack_delay) (Some s.initial_rtt) (Some s.initial_window) ≡ Ok s
+settings_read s are = ap (result_map_both (λ t. t) (λ e. OutOfRange e.0)) (checked_passes s are)
+
+present_whole : (k : Key) (d : Data) (n : ℕ) → get (key_name k) d ≡ Some (written.whole n) → if_present whole k d ≡ Ok (Some n)
+present_whole k d n at = optional_reads (λ j v. whole j v >>= λ m. Ok (Some m)) None k d (written.whole n) (Some n) at refl refl
+
+header_reads : (s : Settings) → AreInRange s → header_of (object_of (header_pairs s)) ≡ Ok s
+unfolding header_of
+header_reads s are =
+    let d = object_of (header_pairs s) in
+    let fields = both_reads _ _ 1 _ (required_reads whole key.Version d (written.whole 1) 1 refl refl refl)
+    (both_reads _ _ s.role _ (required_reads (text_among role_named) key.Role d (written.text (role_name s.role)) s.role refl refl (role_reads key.Role s.role))
+    (both_reads _ _ s.max_datagram_size _ (required_reads whole key.MaxDatagramSize d (written.whole s.max_datagram_size) s.max_datagram_size refl refl refl)
+    (both_reads _ _ (Some s.max_ack_delay) _ (present_whole key.MaxAckDelay d s.max_ack_delay refl)
+    (both_reads _ _ (Some s.initial_rtt) (Some s.initial_window) (present_whole key.InitialRtt d s.initial_rtt refl) (present_whole key.InitialWindow d s.initial_window refl))))) in
+    then_reads (header_fields d) _ (1, (s.role, (s.max_datagram_size, (Some s.max_ack_delay, (Some s.initial_rtt, Some s.initial_window))))) _ fields
+    (then_reads (settings s.role s.max_datagram_size (Some s.max_ack_delay) (Some s.initial_rtt) (Some s.initial_window)) _ s _ (settings_read s are) refl)
+
+-- ---- keys rise, and values can be written and read
+
+time_is_kept : (t : ℕ) → t ≤ max_time → IsKept (written.whole t)
+time_is_kept t high = whole_is_kept t (omega (arith, high))
+
+time_follows : (j : List ℕ) (t : ℕ) → slice_cmp nat_cmp j (codes "time") ≡ Less → t ≤ max_time → Follow j ((key.Time, written.whole t) ∷ [])
+time_follows j t less high = follow j key.Time (written.whole t) [] less refl (time_is_kept t high) (none_follow (codes "time"))
+
+space_follows : (j : List ℕ) (s : Space) (t : ℕ) → slice_cmp nat_cmp j (codes "space") ≡ Less → t ≤ max_time
+    → Follow j ((key.Space, written.text (space_name s)) ∷ (key.Time, written.whole t) ∷ [])
+space_follows j s t less high = follow j key.Space (written.text (space_name s)) _ less refl (space_is_kept s) (time_follows (codes "space") t refl high)
+
+sent_follows : (t : ℕ) (s : Space) (number size : ℕ) (eliciting in_flight : Bool) (leave : Leave)
+    → IsProperEvent (Sent t s number size eliciting in_flight leave) → Follow [] (event_pairs (Sent t s number size eliciting in_flight leave))
+sent_follows t s number size eliciting in_flight leave proper =
+    let parts = and_parts (nat_le 1 size && nat_le size max_packet_size) (not eliciting || in_flight) proper.fitting in
+    let high = leb-true size max_packet_size (and_parts (nat_le 1 size) (nat_le size max_packet_size) parts.0).1 in
+    follow _ key.Eliciting _ _ refl refl (truth_is_kept eliciting)
+    (follow _ key.Event _ _ refl refl (text_is_kept _ refl)
+    (follow _ key.InFlight _ _ refl refl (truth_is_kept in_flight)
+    (follow _ key.Leave _ _ refl refl (leave_is_kept leave)
+    (follow _ key.Number _ _ refl refl (whole_is_kept number (omega (arith, proper.numbers)))
+    (follow _ key.Size _ _ refl refl (whole_is_kept size (omega (arith, high)))
+    (space_follows _ s t refl proper.in_time))))))
+
+ack_follows : (t : ℕ) (s : Space) (rs : List (ℕ × ℕ)) (delay : ℕ) (limited : Bool) → IsProperEvent (Ack t s rs delay limited) → Follow [] (event_pairs (Ack t s rs delay limited))
+ack_follows t s rs delay limited proper =
+    follow _ key.Delay _ _ refl refl (whole_is_kept delay proper.numbers.1)
+    (follow _ key.Event _ _ refl refl (text_is_kept _ refl)
+    (follow _ key.Limited _ _ refl refl (truth_is_kept limited)
+    (follow _ key.Ranges _ _ refl refl (ranges_are_kept rs proper.numbers.0)
+    (space_follows _ s t refl proper.in_time))))
+
+lost_follows : (t : ℕ) (s : Space) (rs : List (ℕ × ℕ)) → IsProperEvent (Lost t s rs) → Follow [] (event_pairs (Lost t s rs))
+lost_follows t s rs proper =
+    follow _ key.Event _ _ refl refl (text_is_kept _ refl) (follow _ key.Ranges _ _ refl refl (ranges_are_kept rs proper.numbers) (space_follows _ s t refl proper.in_time))
+
+timer_follows : (t : ℕ) (k : TimerKind) (s : Space) → IsProperEvent (Timer t k s) → Follow [] (event_pairs (Timer t k s))
+timer_follows t k s proper =
+    follow _ key.Event _ _ refl refl (text_is_kept _ refl) (follow _ key.Kind _ _ refl refl (kind_is_kept k) (space_follows _ s t refl proper.in_time))
+
+metrics_follow : (t : ℕ) (v : MetricValues) → IsProperEvent (Metrics t v) → Follow [] (metrics_pairs t v)
+metrics_follow t v proper =
+    let words = proper.numbers in
+    follow_reported _ BytesInFlight v.bytes_in_flight _ refl refl words.2
+    (follow _ key.Event _ _ refl refl (text_is_kept _ refl)
+    (follow_reported _ LatestRtt v.latest_rtt _ refl refl words.3
+    (follow_reported _ MinRtt v.min_rtt _ refl refl words.4
+    (follow_reported _ Rttvar v.rttvar _ refl refl words.6
+    (follow_reported _ SmoothedRtt v.smoothed_rtt _ refl refl words.5
+    (follow_reported _ Ssthresh v.ssthresh _ refl refl words.1
+    (follow _ key.Time _ _ refl refl (time_is_kept t proper.in_time) (follow_last _ Window v.window refl refl words.0))))))))
+
+header_follows : (s : Settings) → AreInRange s → Follow [] (header_pairs s)
+header_follows s are =
+    follow _ key.Event _ _ refl refl (text_is_kept _ refl)
+    (follow _ key.InitialRtt _ _ refl refl (whole_is_kept s.initial_rtt (omega (arith, are.rtt_high)))
+    (follow _ key.InitialWindow _ _ refl refl (whole_is_kept s.initial_window (omega (arith, are.window_high)))
+    (follow _ key.MaxAckDelay _ _ refl refl (whole_is_kept s.max_ack_delay (omega (arith, are.delay_high)))
+    (follow _ key.MaxDatagramSize _ _ refl refl (whole_is_kept s.max_datagram_size (omega (arith, are.datagram_high)))
+    (follow _ key.Role _ _ refl refl (role_is_kept s.role)
+    (follow _ key.Version _ _ refl refl (whole_is_kept 1 (omega arith)) (none_follow (codes "version"))))))))
+
+-- ---- the line
+
+json_reads : (d : Data) → IsSimple d → depth d ≤ 127 → json_of (compact_text d) ≡ Ok d
+unfolding json_of
+json_reads d simple shallow = rw (is_utf8-compact_text d simple, read-compact_text d simple shallow) refl
+
+-- the text of an object is read as what the object says
+object_reads : (ps : Pairs) (x : Line) → Follow [] ps → object_says reader_named (object_of ps) ≡ Ok x → reading (compact_text (object_of ps)) ≡ Ok x
+unfolding reading_by
+object_reads ps x kept says = ap (λ r. r >>= object_says reader_named) (json_reads (object_of ps) kept.simple (omega (arith, kept.shallow))) ∙ says
+
+-- the keys of an event rise
+event_follows : (e : Event) → IsProperEvent e → Follow [] (event_pairs e)
+event_follows (Sent t s number size eliciting in_flight leave) proper = sent_follows t s number size eliciting in_flight leave proper
+event_follows (Ack t s rs delay limited) proper = ack_follows t s rs delay limited proper
+event_follows (Lost t s rs) proper = lost_follows t s rs proper
+event_follows (Timer t k s) proper = timer_follows t k s proper
+event_follows (Discard t s) proper = follow _ key.Event _ _ refl refl (text_is_kept _ refl) (space_follows _ s t refl proper.in_time)
+event_follows (Confirmed t) proper = follow _ key.Event _ _ refl refl (text_is_kept _ refl) (time_follows _ t refl proper.in_time)
+event_follows (Keys t) proper = follow _ key.Event _ _ refl refl (text_is_kept _ refl) (time_follows _ t refl proper.in_time)
+event_follows (Metrics t v) proper = subst (Follow []) (sym (metrics_pairs_are t v)) (metrics_follow t v proper)
+
+event_of : (e : Event) (r : Result Event Fault) → r ≡ Ok e → (r >>= λ f. Ok (line.Event f)) ≡ Ok (line.Event e)
+event_of e r h = ap (λ q. q >>= λ f. Ok (line.Event f)) h
+
+-- the object of a report says the report
+metrics_are_said : (t : ℕ) (v : MetricValues) → IsProperEvent (Metrics t v) → object_says reader_named (object_of (metrics_pairs t v)) ≡ Ok (line.Event (Metrics t v))
+unfolding object_says
+metrics_are_said t v proper =
+    let d = object_of (metrics_pairs t v) in
+    let named = required_reads text key.Event d (written.text (codes "metrics")) (codes "metrics") (event_found t v) refl refl in
+    then_reads (required text key.Event d) _ (codes "metrics") (line.Event (Metrics t v)) named (event_of (Metrics t v) _ (metrics_read t v proper))
+
+-- the object of an event says the event
+event_is_said : (e : Event) → IsProperEvent e → object_says reader_named (object_of (event_pairs e)) ≡ Ok (line.Event e)
+unfolding object_says
+event_is_said (Sent t s number size eliciting in_flight leave) proper = event_of _ _ (sent_reads t s number size eliciting in_flight leave proper)
+event_is_said (Ack t s rs delay limited) proper = event_of _ _ (ack_reads t s rs delay limited proper)
+event_is_said (Lost t s rs) proper = event_of _ _ (lost_reads t s rs proper)
+event_is_said (Timer t k s) proper = event_of _ _ (timer_reads t k s proper)
+event_is_said (Discard t s) proper = event_of _ _ (discard_reads t s proper)
+event_is_said (Confirmed t) proper = event_of _ _ (confirmed_reads t proper)
+event_is_said (Keys t) proper = event_of _ _ (keys_read t proper)
+event_is_said (Metrics t v) proper = ap (λ ps. object_says reader_named (object_of ps)) (metrics_pairs_are t v) ∙ metrics_are_said t v proper
+
+-- the object of a header says the header
+header_is_said : (s : Settings) → AreInRange s → object_says reader_named (object_of (header_pairs s)) ≡ Ok (line.Header s)
+unfolding object_says
+header_is_said s are = ap (λ r. r >>= λ t. Ok (line.Header t)) (header_reads s are)
+
+-- what was written is read as itself
+pub written_reads : (x : Line) → IsProperLine x → reading (text_of x) ≡ Ok x
+unfolding reading_by
+written_reads line.Blank proper = refl
+written_reads (line.Header s) proper = object_reads (header_pairs s) (line.Header s) (header_follows s proper) (header_is_said s proper)
+written_reads (line.Event e) proper = object_reads (event_pairs e) (line.Event e) (event_follows e proper) (event_is_said e proper)
+
+-- and is one line
+pub written_has_no_lf : (x : Line) → IsProperLine x → has_lf (text_of x) ≡ false
+written_has_no_lf line.Blank proper = refl
+written_has_no_lf (line.Header s) proper = has_lf-compact_text (object_of (header_pairs s)) (header_follows s proper).simple
+written_has_no_lf (line.Event e) proper = has_lf-compact_text (object_of (event_pairs e)) (event_follows e proper).simple

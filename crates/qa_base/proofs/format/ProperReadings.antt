@@ -1,0 +1,301 @@
+-- What the reading of lines gives is such as there is.
+use Rattle.std.proofs.Common.{◌≡◌, ℕ, ◌≤◌, ◌*◌, List, Bool, true, false, cond, Option, Some, None, Result, Ok, Err, ok_or, refl, ◌&&◌, ◌||◌, not, arith, ◌⊎◌, inl, inr}
+use Rattle.std.specs.Prelude.{nat_lt, codes, bytes_eq, is_some, unwrap_or}
+use Rattle.std.specs.List.{list_all}
+use Rattle.std.specs.Result.{result_map_both}
+use Rattle.std.proofs.lemmas.Bool.{or_parts, and_from, ltb-false}
+use Rattle.serde_json.specs.Data.{Data}
+use Rattle.serde_json.specs.Find.{as_object}
+use Rattle.serde_json.specs.Read.{read}
+use Rattle.std.specs.Str.{is_utf8}
+use Rattle.qa_base.specs.declared.event.Event.{Event}
+use Rattle.qa_base.specs.declared.event.Event.TheVariants.{Sent}
+use Rattle.qa_base.specs.declared.fault.Fault.{Fault}
+use Rattle.qa_base.specs.declared.fault.Fault.TheVariants.{NotJson, NotObject, UnknownEvent, FlagsClash, OutOfRange, Version}
+use Rattle.qa_base.specs.declared.fault.RangeFault.{RangeFault}
+use Rattle.qa_base.specs.declared.fault.Key.TheVariants as key
+use Rattle.qa_base.specs.declared.rule.Field.TheVariants.{Window, Ssthresh, BytesInFlight, LatestRtt, MinRtt, SmoothedRtt, Rttvar}
+use Rattle.qa_base.specs.declared.space.Space.{Space}
+use Rattle.qa_base.specs.declared.space.Space.TheVariants.{Initial, Handshake, App}
+use Rattle.qa_base.specs.declared.space.Role.{Role}
+use Rattle.qa_base.specs.declared.line.Line.{Line}
+use Rattle.qa_base.specs.declared.line.Line.TheVariants as line
+use Rattle.qa_base.specs.values.Events.{is_space}
+use Rattle.qa_base.specs.format.Keys.{◌>>=◌, ranged, text, text_among, required}
+use Rattle.qa_base.specs.values.Limits.{max_time, max_packet_number, max_packet_size}
+use Rattle.qa_base.specs.values.Names.{discarded_named}
+use Rattle.qa_base.specs.values.Proper.{IsProperEvent, IsProperLine}
+use Rattle.qa_base.specs.format.Reading.{Reader, header_line, event_line, reader_named, object_says, json_of, is_blank, reading_by, reading}
+use Rattle.qa_base.specs.values.Settings.{Settings, AreInRange, is_outside, default_window, checked, settings_of}
+use Rattle.qa_base.specs.format.Tables.{time, header_fields, header_of, settings, sent_fields, sent_of, ack_fields, ack_of, lost_fields, lost_of, timer_fields, timer_of, discard_fields, discard_of, confirmed_of, keys_of, metrics_fields, metrics_of}
+use Rattle.qa_base.specs.format.Written.{line_fits}
+use Rattle.qa_base.proofs.format.KeysRead.{bind_ok, both_ok, ok_is, required_stands, required_within, required_high, optional_is_word, present_is_word, ranges_are}
+use Rattle.qa_base.proofs.format.Sized.{IsSized, read-IsSized}
+
+time_high : (d : Data) (t : ℕ) → time d ≡ Ok t → t ≤ max_time
+time_high d t h = required_high 0 max_time key.Time d t h
+
+-- ---- packets
+
+-- a packet was sent, where its flags agree
+pub flags_agree : (eliciting in_flight : Bool) (s e : Event) → cond (eliciting && not in_flight) (Err FlagsClash) (Ok s) ≡ Ok e → ((not eliciting || in_flight) ≡ true) × (s ≡ e)
+flags_agree true true s e h = (refl, cc)
+flags_agree true false s e h = cc
+flags_agree false in_flight s e h = (refl, cc)
+
+pub sent_is_proper : (d : Data) (e : Event) → sent_of d ≡ Ok e → IsProperEvent e
+unfolding sent_of
+sent_is_proper d e h =
+    let read = bind_ok (sent_fields d) _ e h in
+    let f = read.0 in
+    let agree = flags_agree f.1.1.1.1.0 f.1.1.1.1.1.0 (Sent f.0 f.1.0 f.1.1.0 f.1.1.1.0 f.1.1.1.1.0 f.1.1.1.1.1.0 f.1.1.1.1.1.1) e read.2 in
+    let times = both_ok _ _ f read.1 in
+    let spaces = both_ok _ _ f.1 times.1 in
+    let numbers = both_ok _ _ f.1.1 spaces.1 in
+    let sizes = both_ok _ _ f.1.1.1 numbers.1 in
+    rw (← agree.1) (record {
+      fitting = and_from _ _ (required_within 1 max_packet_size key.Size d f.1.1.1.0 sizes.0) agree.0;
+      in_time = time_high d f.0 times.0;
+      numbers = required_high 0 max_packet_number key.Number d f.1.1.0 numbers.0;
+    })
+
+ack_is_proper : (d : Data) (e : Event) → IsSized d → ack_of d ≡ Ok e → IsProperEvent e
+unfolding ack_of
+ack_is_proper d e sized h =
+    let read = bind_ok (ack_fields d) _ e h in
+    let f = read.0 in
+    let times = both_ok _ _ f read.1 in
+    let spaces = both_ok _ _ f.1 times.1 in
+    let listed = both_ok _ _ f.1.1 spaces.1 in
+    let delays = both_ok _ _ f.1.1.1 listed.1 in
+    let are = ranges_are key.Ranges d f.1.1.0 listed.0 in
+    rw (← ok_is _ e read.2) (record {
+      fitting = are.0;
+      in_time = time_high d f.0 times.0;
+      numbers = (are.1, optional_is_word 0 key.Delay d f.1.1.1.0 sized (omega arith) delays.0);
+    })
+
+lost_is_proper : (d : Data) (e : Event) → lost_of d ≡ Ok e → IsProperEvent e
+unfolding lost_of
+lost_is_proper d e h =
+    let read = bind_ok (lost_fields d) _ e h in
+    let f = read.0 in
+    let times = both_ok _ _ f read.1 in
+    let spaces = both_ok _ _ f.1 times.1 in
+    let are = ranges_are key.Ranges d f.1.1 spaces.1 in
+    rw (← ok_is _ e read.2) (record { fitting = are.0; in_time = time_high d f.0 times.0; numbers = are.1 })
+
+-- ---- the timer and the handshake
+
+timer_is_proper : (d : Data) (e : Event) → timer_of d ≡ Ok e → IsProperEvent e
+unfolding timer_of
+timer_is_proper d e h =
+    let read = bind_ok (timer_fields d) _ e h in
+    let times = both_ok _ _ read.0 read.1 in
+    rw (← ok_is _ e read.2) (record { fitting = refl; in_time = time_high d read.0.0 times.0; numbers = tt })
+
+either_space : (initial handshake : Bool) (s : Space) → ranged key.Space (cond initial (Some Initial) (cond handshake (Some Handshake) None)) ≡ Ok s → not (is_space App s) ≡ true
+either_space true handshake s h = let same : Initial ≡ s = ok_is Initial s h in rw (← same) refl
+either_space false true s h = let same : Handshake ≡ s = ok_is Handshake s h in rw (← same) refl
+either_space false false s h = cc
+
+-- the application's space is never one whose keys are discarded
+discarded_space : (d : Data) (s : Space) → required (text_among discarded_named) key.Space d ≡ Ok s → not (is_space App s) ≡ true
+discarded_space d s h =
+    let stands = required_stands (text_among discarded_named) key.Space d s h in
+    let read = bind_ok (text key.Space stands.0) _ s stands.2 in
+    either_space (bytes_eq read.0 (codes "initial")) (bytes_eq read.0 (codes "handshake")) s read.2
+
+discard_is_proper : (d : Data) (e : Event) → discard_of d ≡ Ok e → IsProperEvent e
+unfolding discard_of
+discard_is_proper d e h =
+    let read = bind_ok (discard_fields d) _ e h in
+    let times = both_ok _ _ read.0 read.1 in
+    rw (← ok_is _ e read.2) (record { fitting = discarded_space d read.0.1 times.1; in_time = time_high d read.0.0 times.0; numbers = tt })
+
+confirmed_is_proper : (d : Data) (e : Event) → confirmed_of d ≡ Ok e → IsProperEvent e
+unfolding confirmed_of
+confirmed_is_proper d e h = let read = bind_ok (time d) _ e h in rw (← ok_is _ e read.2) (record { fitting = refl; in_time = time_high d read.0 read.1; numbers = tt })
+
+keys_is_proper : (d : Data) (e : Event) → keys_of d ≡ Ok e → IsProperEvent e
+unfolding keys_of
+keys_is_proper d e h = let read = bind_ok (time d) _ e h in rw (← ok_is _ e read.2) (record { fitting = refl; in_time = time_high d read.0 read.1; numbers = tt })
+
+-- ---- a report of the sender's state
+
+pub metrics_is_proper : (d : Data) (e : Event) → IsSized d → metrics_of d ≡ Ok e → IsProperEvent e
+unfolding metrics_of
+metrics_is_proper d e sized h =
+    let read = bind_ok (metrics_fields d) _ e h in
+    let f = read.0 in
+    let times = both_ok _ _ f read.1 in
+    let windows = both_ok _ _ f.1 times.1 in
+    let thresholds = both_ok _ _ f.1.1 windows.1 in
+    let flights = both_ok _ _ f.1.1.1 thresholds.1 in
+    let latest = both_ok _ _ f.1.1.1.1 flights.1 in
+    let least = both_ok _ _ f.1.1.1.1.1 latest.1 in
+    let smoothed = both_ok _ _ f.1.1.1.1.1.1 least.1 in
+    rw (← ok_is _ e read.2) (record {
+      fitting = refl;
+      in_time = time_high d f.0 times.0;
+      numbers = (
+        present_is_word (key.Metric Window) d _ sized windows.0,
+        present_is_word (key.Metric Ssthresh) d _ sized thresholds.0,
+        present_is_word (key.Metric BytesInFlight) d _ sized flights.0,
+        present_is_word (key.Metric LatestRtt) d _ sized latest.0,
+        present_is_word (key.Metric MinRtt) d _ sized least.0,
+        present_is_word (key.Metric SmoothedRtt) d _ sized smoothed.0,
+        present_is_word (key.Metric Rttvar) d _ sized smoothed.1,
+      );
+    })
+
+-- ---- the header
+
+inside : (lo hi n : ℕ) → is_outside lo hi n ≡ false → (lo ≤ n) × (n ≤ hi)
+inside lo hi n h = let parts = or_parts (nat_lt n lo) (nat_lt hi n) h in (ltb-false n lo parts.0, ltb-false hi n parts.1)
+
+past : (b : Bool) (fault : RangeFault) (r : Result Settings RangeFault) (s : Settings) → cond b (Err fault) r ≡ Ok s → (b ≡ false) × (r ≡ Ok s)
+past true fault r s h = cc
+past false fault r s h = (refl, h)
+
+-- values that were held against their ranges are in them
+checked_is_in_range : (s t : Settings) → checked s ≡ Ok t → AreInRange t
+checked_is_in_range s t h =
+    let datagram = past (is_outside 1200 65527 s.max_datagram_size) _ _ t h in
+    let delay = past (is_outside 0 16383000 s.max_ack_delay) _ _ t datagram.1 in
+    let rtt = past (is_outside 1 1000000000 s.initial_rtt) _ _ t delay.1 in
+    let window = past (is_outside (2 * s.max_datagram_size) 4294967295 s.initial_window) _ _ t rtt.1 in
+    let datagram_in = inside 1200 65527 s.max_datagram_size datagram.0 in
+    let delay_in = inside 0 16383000 s.max_ack_delay delay.0 in
+    let rtt_in = inside 1 1000000000 s.initial_rtt rtt.0 in
+    let window_in = inside (2 * s.max_datagram_size) 4294967295 s.initial_window window.0 in
+    let same : s ≡ t = cc in
+    rw (← same) (record {
+      datagram_low = datagram_in.0;
+      datagram_high = datagram_in.1;
+      delay_high = delay_in.1;
+      rtt_low = rtt_in.0;
+      rtt_high = rtt_in.1;
+      window_low = window_in.0;
+      window_high = window_in.1;
+    })
+
+unmapped : (r : Result Settings RangeFault) (s : Settings) → result_map_both (λ t. t) (λ e. OutOfRange e.0) r ≡ Ok s → r ≡ Ok s
+unmapped (Ok t) s h = cc
+unmapped (Err e) s h = cc
+
+of_version : (b : Bool) (s t : Settings) → cond b (Ok s) (Err Version) ≡ Ok t → s ≡ t
+of_version true s t h = cc
+of_version false s t h = cc
+
+set_is_in_range : (role : Role) (datagram : ℕ) (delay rtt window : Option ℕ) (s : Settings) → settings role datagram delay rtt window ≡ Ok s → AreInRange s
+set_is_in_range role datagram delay rtt window s h = checked_is_in_range (record {
+  role = role;
+  max_datagram_size = datagram;
+  max_ack_delay = unwrap_or delay 25000;
+  initial_rtt = unwrap_or rtt 333000;
+  initial_window = unwrap_or window (default_window datagram);
+}) s (unmapped (settings_of role datagram delay rtt window) s h)
+
+header_is_proper : (d : Data) (s : Settings) → header_of d ≡ Ok s → AreInRange s
+unfolding header_of
+header_is_proper d s h =
+    let read = bind_ok (header_fields d) _ s h in
+    let f = read.0 in
+    let set = bind_ok (settings f.1.0 f.1.1.0 f.1.1.1.0 f.1.1.1.1.0 f.1.1.1.1.1) _ s read.2 in
+    rw (← of_version _ set.0 s set.2) (set_is_in_range f.1.0 f.1.1.0 f.1.1.1.0 f.1.1.1.1.0 f.1.1.1.1.1 set.0 set.1)
+
+-- ---- a line
+
+-- what stands behind the line of an event that was read so
+pub event_line_is : (event_of : Data → Result Event Fault) (d : Data) (x : Line) → event_line event_of d ≡ Ok x → (e : Event) × (event_of d ≡ Ok e) × (line.Event e ≡ x)
+event_line_is event_of d x h = let read = bind_ok (event_of d) (λ e. Ok (line.Event e)) x h in (read.0, read.1, ok_is (line.Event read.0) x read.2)
+
+proper_event : (event_of : Data → Result Event Fault) (d : Data) (x : Line) → ((e : Event) → event_of d ≡ Ok e → IsProperEvent e) → event_line event_of d ≡ Ok x → IsProperLine x
+proper_event event_of d x each h = let read = event_line_is event_of d x h in rw (← read.2) (each read.0 read.1)
+
+proper_header : (d : Data) (x : Line) → header_line d ≡ Ok x → IsProperLine x
+proper_header d x h = let read = bind_ok (header_of d) (λ s. Ok (line.Header s)) x h in rw (← ok_is (line.Header read.0) x read.2) (header_is_proper d read.0 read.1)
+
+-- each of these readers gives what there is
+abbrev pub GivesProper : Option Reader → Type 0
+GivesProper None = Unit {0}
+GivesProper (Some reader) = (d : Data) (x : Line) → IsSized d → reader d ≡ Ok x → IsProperLine x
+
+either_proper : (b : Bool) (reader : Reader) (other : Option Reader) → GivesProper (Some reader) → GivesProper other → GivesProper (cond b (Some reader) other)
+either_proper true reader other first later = first
+either_proper false reader other first later = later
+
+readers_give_proper : (t : List ℕ) → GivesProper (reader_named t)
+readers_give_proper t =
+    either_proper (bytes_eq t (codes "header")) header_line _ (λ d x sized h. proper_header d x h)
+    (either_proper (bytes_eq t (codes "sent")) (event_line sent_of) _ (λ d x sized h. proper_event sent_of d x (sent_is_proper d) h)
+    (either_proper (bytes_eq t (codes "ack")) (event_line ack_of) _ (λ d x sized h. proper_event ack_of d x (λ e. ack_is_proper d e sized) h)
+    (either_proper (bytes_eq t (codes "lost")) (event_line lost_of) _ (λ d x sized h. proper_event lost_of d x (lost_is_proper d) h)
+    (either_proper (bytes_eq t (codes "timer")) (event_line timer_of) _ (λ d x sized h. proper_event timer_of d x (timer_is_proper d) h)
+    (either_proper (bytes_eq t (codes "discard")) (event_line discard_of) _ (λ d x sized h. proper_event discard_of d x (discard_is_proper d) h)
+    (either_proper (bytes_eq t (codes "confirmed")) (event_line confirmed_of) _ (λ d x sized h. proper_event confirmed_of d x (confirmed_is_proper d) h)
+    (either_proper (bytes_eq t (codes "keys")) (event_line keys_of) _ (λ d x sized h. proper_event keys_of d x (keys_is_proper d) h)
+    (either_proper (bytes_eq t (codes "metrics")) (event_line metrics_of) None (λ d x sized h. proper_event metrics_of d x (λ e. metrics_is_proper d e sized) h) tt))))))))
+
+-- ---- any choice of readers
+
+object_ok : (other : Bool) (r : Result Line Fault) (x : Line) → cond other (Err NotObject) r ≡ Ok x → r ≡ Ok x
+object_ok true r x h = cc
+object_ok false r x h = h
+
+known_ok : (o : Option Reader) (r : Reader) → ok_or o UnknownEvent ≡ Ok r → o ≡ Some r
+known_ok None r h = cc
+known_ok (Some q) r h = cc
+
+-- the object was read by the reader that its event names
+abbrev pub SaidBy : (List ℕ → Option Reader) → Data → Line → Type 0
+SaidBy readers d x = (t : List ℕ) × (reader : Reader) × (readers t ≡ Some reader) × (reader d ≡ Ok x)
+
+pub object_said : (readers : List ℕ → Option Reader) (d : Data) (x : Line) → object_says readers d ≡ Ok x → SaidBy readers d x
+unfolding object_says
+object_said readers d x h =
+    let object = object_ok (not (is_some (as_object d))) _ x h in
+    let named = bind_ok (required text key.Event d) _ x object in
+    let known = bind_ok (ok_or (readers named.0) UnknownEvent) _ x named.2 in
+    (named.0, known.0, known_ok (readers named.0) known.0 known.1, known.2)
+
+json_at : (b : Bool) (o : Option Data) (d : Data) → cond b (ok_or o NotJson) (Err NotJson) ≡ Ok d → o ≡ Some d
+json_at true None d h = cc
+json_at true (Some e) d h = cc
+json_at false o d h = cc
+
+json_is : (l : List ℕ) (d : Data) → json_of l ≡ Ok d → read l ≡ Some d
+unfolding json_of
+json_is l d h = json_at (is_utf8 l) (read l) d h
+
+said_at : (blank : Bool) (r : Result Line Fault) (x : Line) → cond blank (Ok line.Blank) r ≡ Ok x → (line.Blank ≡ x) ⊎ (r ≡ Ok x)
+said_at true r x h = inl (ok_is line.Blank x h)
+said_at false r x h = inr h
+
+-- a line that was read is blank, or an object of whole numbers of 64 bits that one of the readers read
+pub line_said : (readers : List ℕ → Option Reader) (l : List ℕ) (x : Line) → reading_by readers l ≡ Ok x → (line.Blank ≡ x) ⊎ ((d : Data) × IsSized d × SaidBy readers d x)
+unfolding reading_by
+line_said readers l x h = elim (said_at (list_all is_blank l) (json_of l >>= object_says readers) x h) [
+  | inl blank ↦ inl blank
+  | inr said ↦ (let read = bind_ok (json_of l) (object_says readers) x said in
+      inr (read.0, read-IsSized l read.0 (json_is l read.0 read.1), object_said readers read.0 x read.2))
+]
+
+given : (o : Option Reader) (reader : Reader) → GivesProper o → o ≡ Some reader → GivesProper (Some reader)
+given o reader proper is = rw is at proper
+
+pub reading_is_proper : (l : List ℕ) (x : Line) → reading l ≡ Ok x → IsProperLine x
+reading_is_proper l x h = elim (line_said reader_named l x h) [
+  | inl blank ↦ rw (← blank) tt
+  | inr said ↦ given (reader_named said.2.0) said.2.1 (readers_give_proper said.2.0) said.2.2 said.0 x said.1 said.2.3
+]
+
+proper_fits : (x : Line) → IsProperLine x → line_fits x ≡ true
+proper_fits line.Blank proper = refl
+proper_fits (line.Header s) proper = refl
+proper_fits (line.Event e) proper = proper.fitting
+
+-- the event of a line that was read fits
+pub reading_fits : (l : List ℕ) (x : Line) → reading l ≡ Ok x → line_fits x ≡ true
+reading_fits l x h = proper_fits x (reading_is_proper l x h)

@@ -1,0 +1,118 @@
+-- Laws of every run.
+use Rattle.std.proofs.Common.{ℕ, ◌&&◌, ◌-◌, ◌*◌, ◌/◌, max, ◌↔◌, ◌+◌, ◌≤◌, arith, ◌≡◌, ◌∙◌, List, [], ◌∷◌, ◌++◌, length, Bool, true, false, ◌||◌, Option, Some, None, refl, sym}
+use Rattle.std.proofs.lemmas.Bool.{leb-false, leb-true, le-leb, and_parts, and_from}
+use Rattle.std.specs.List.{filter, list_any, AllByRecursion}
+use Rattle.std.specs.Prelude.{nat_le, if◌then◌else◌}
+use Rattle.qa_base.specs.declared.event.Event.{Event}
+use Rattle.qa_base.specs.declared.event.Event.TheVariants.{Sent}
+use Rattle.qa_base.specs.declared.rule.Rule.{Rule}
+use Rattle.qa_base.specs.machine.Order.{IsLower, NumbersFall}
+use Rattle.qa_base.specs.machine.Packets.{Packet, packets, is_of, newly_acknowledged, is_newly_acknowledged}
+use Rattle.qa_base.specs.machine.Rules.{broken, first_of, first_broken, IsRun}
+use Rattle.qa_base.specs.machine.Loss.{is_old}
+use Rattle.qa_base.specs.machine.Rtt.{Estimate}
+use Rattle.qa_base.specs.machine.Timer.{loss_delay}
+use Rattle.qa_base.specs.values.Settings.{Settings}
+
+-- a prefix of a run is a run
+pub prefix_of_run : (c : Settings) (more h : List Event) → IsRun c (more ++ h) → IsRun c h
+prefix_of_run c [] h run = run
+prefix_of_run c (e ∷ more) h run = prefix_of_run c more h run.0
+
+-- ---- the rules that hold
+
+rule_holds : (broken_here : Bool) (r : Rule) (rest : Option Rule) → (if broken_here then Some r else rest) ≡ None → (broken_here ≡ false) × (rest ≡ None)
+rule_holds true r rest h = cc
+rule_holds false r rest h = (refl, h)
+
+rules_hold : (tests : List (Bool × Rule)) → first_of tests ≡ None → AllByRecursion (λ test. test.0 ≡ false) tests
+rules_hold [] h = tt
+rules_hold (test ∷ tests) h =
+    let both = rule_holds test.0 test.1 (first_of tests) h in (both.0, rules_hold tests both.1)
+
+-- each rule holds of an event that is allowed
+pub all_hold : (c : Settings) (h : List Event) (e : Event) → first_broken c h e ≡ None → AllByRecursion (λ test. test.0 ≡ false) (broken c h e)
+unfolding first_broken
+all_hold c h e allowed = rules_hold (broken c h e) allowed
+
+-- ---- numbers rise as packets are sent
+
+either_false : (a b : Bool) → (a || b) ≡ false → (a ≡ false) × (b ≡ false)
+either_false true b h = cc
+either_false false b h = (refl, h)
+
+false_true : false ≡ true → ⊥
+false_true h = cc
+
+lower_more : (p q : Packet) (rest : List Packet) (of_space : Bool) → is_of p.space q ≡ of_space
+    → list_any (λ r. nat_le p.number r.number) (if of_space then q ∷ rest else rest) ≡ false
+    → IsLower p q × (list_any (λ r. nat_le p.number r.number) rest ≡ false)
+lower_more p q rest true is none =
+    let both = either_false (nat_le p.number q.number) (list_any (λ r. nat_le p.number r.number) rest) none in
+    ((λ same. leb-false p.number q.number both.0), both.1)
+lower_more p q rest false is none = ((λ same. absurd (false_true (sym is ∙ same))), none)
+
+all_lower : (p : Packet) (ps : List Packet) → list_any (λ r. nat_le p.number r.number) (filter (is_of p.space) ps) ≡ false → AllByRecursion (IsLower p) ps
+all_lower p [] none = tt
+all_lower p (q ∷ ps) none =
+    let more = lower_more p q (filter (is_of p.space) ps) (is_of p.space q) refl none in (more.0, all_lower p ps more.1)
+
+event_falls : (c : Settings) (e : Event) (h : List Event) → first_broken c h e ≡ None → NumbersFall (packets h) → NumbersFall (packets (e ∷ h))
+event_falls c (Sent time space number size eliciting in_flight leave) h allowed falls =
+    let holds = all_hold c h (Sent time space number size eliciting in_flight leave) allowed in
+    let p : Packet = record {
+      place = length h;
+      time = time;
+      space = space;
+      number = number;
+      size = size;
+      eliciting = eliciting;
+      in_flight = in_flight;
+      leave = leave;
+    } in
+    (all_lower p (packets h) holds.1.1.1.1.1.0, falls)
+event_falls c _ h allowed falls = falls
+
+-- in a run each packet has a higher number than those sent before it in its space
+pub numbers_fall : (c : Settings) (h : List Event) → IsRun c h → NumbersFall (packets h)
+numbers_fall c [] run = tt
+numbers_fall c (e ∷ h) run = event_falls c e h run.1 (numbers_fall c h run.0)
+
+-- ---- and so do those of a part of them
+
+kept_or_not : (p q : Packet) (rest : List Packet) (keep : Bool) → IsLower p q → AllByRecursion (IsLower p) rest → AllByRecursion (IsLower p) (if keep then q ∷ rest else rest)
+kept_or_not p q rest true lower all = (lower, all)
+kept_or_not p q rest false lower all = all
+
+all_of_part : (p : Packet) (kept : Packet → Bool) (ps : List Packet) → AllByRecursion (IsLower p) ps → AllByRecursion (IsLower p) (filter kept ps)
+all_of_part p kept [] lower = tt
+all_of_part p kept (q ∷ ps) lower = kept_or_not p q (filter kept ps) (kept q) lower.0 (all_of_part p kept ps lower.1)
+
+first_or_not : (kept : Packet → Bool) (p : Packet) (ps : List Packet) (keep : Bool) → NumbersFall (p ∷ ps) → NumbersFall (filter kept ps)
+    → NumbersFall (if keep then p ∷ filter kept ps else filter kept ps)
+first_or_not kept p ps true falls rest = (all_of_part p kept ps falls.0, rest)
+first_or_not kept p ps false falls rest = rest
+
+pub falls_in_part : (kept : Packet → Bool) (ps : List Packet) → NumbersFall ps → NumbersFall (filter kept ps)
+falls_in_part kept [] falls = tt
+falls_in_part kept (p ∷ ps) falls = first_or_not kept p ps (kept p) falls (falls_in_part kept ps falls.1)
+
+-- the packets that an acknowledgment newly acknowledges have rising numbers in the order of sending
+pub newly_acknowledged_fall : (c : Settings) (e : Event) (h : List Event) → IsRun c h → NumbersFall (newly_acknowledged (e ∷ h))
+newly_acknowledged_fall c e h run = falls_in_part (is_newly_acknowledged e h) (packets h) (numbers_fall c h run)
+
+-- ---- when a packet is old
+
+old_after : (m age : ℕ) → max ((9 * m + 7) / 8) 1000 ≤ age → (nat_le (9 * m) (8 * age) && nat_le 1000 age) ≡ true
+old_after m age waited = and_from (nat_le (9 * m) (8 * age)) (nat_le 1000 age) (le-leb (9 * m) (8 * age) (omega arith)) (le-leb 1000 age (omega arith))
+
+after_old : (m age : ℕ) → (nat_le (9 * m) (8 * age) && nat_le 1000 age) ≡ true → max ((9 * m + 7) / 8) 1000 ≤ age
+after_old m age old =
+    let both = and_parts (nat_le (9 * m) (8 * age)) (nat_le 1000 age) old in
+    let fraction = leb-true (9 * m) (8 * age) both.0 in
+    let granularity = leb-true 1000 age both.1 in
+    omega arith
+
+-- a packet is old exactly when the loss delay has passed since it was sent
+pub old_is_after_loss_delay : (r : Estimate) (now : ℕ) (p : Packet) → (is_old r now p ≡ true) ↔ (loss_delay r ≤ now - p.time)
+old_is_after_loss_delay r now p = (after_old (max r.latest r.smoothed) (now - p.time), old_after (max r.latest r.smoothed) (now - p.time))

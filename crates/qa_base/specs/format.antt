@@ -1,0 +1,7 @@
+-- The line format: lines, keys, what a line says, and what is written for it.
+pub mod Lines
+pub mod Keys
+pub mod Tables
+pub mod Reading
+pub mod Sends
+pub mod Written

@@ -1,0 +1,114 @@
+-- The congestion window, by the moves that a history makes (RFC 9002, section 7, appendix B).
+use Rattle.std.specs.Prelude.{ℕ, ◌+◌, ◌*◌, ◌/◌, nat_lt, max, Bool, true, false, List, [], ◌∷◌, ◌++◌, filter, fold, map, reverse, Option, Some, None, if◌then◌else◌}
+use Rattle.qa_base.specs.declared.event.Event.{Event}
+use Rattle.qa_base.specs.declared.event.Event.TheVariants.{Ack}
+use Rattle.qa_base.specs.values.Events.{time_of}
+use Rattle.qa_base.specs.machine.Loss.{owed, is_persistent}
+use Rattle.qa_base.specs.machine.Packets.{Packet, newly_acknowledged}
+use Rattle.qa_base.specs.values.Settings.{Settings}
+
+-- ---- single moves
+
+-- the window, the slow start threshold and when recovery began, each in bytes or microseconds
+pub record Control : Type 0 where
+  pub window : ℕ
+  pub threshold : Option ℕ
+  pub recovery : Option ℕ
+
+abbrev pub start : ℕ → Control
+start window = record { window = window; threshold = None; recovery = None }
+
+-- sent later than recovery began, or there is no recovery
+abbrev pub is_outside_recovery : Option ℕ → ℕ → Bool
+is_outside_recovery None sent = true
+is_outside_recovery (Some began) sent = nat_lt began sent
+
+-- a loss, of packets the last of which was sent at a time (section 7.3.2, B.6): it enters recovery once a round trip
+abbrev pub hit : ℕ → ℕ → ℕ → Control → Control
+hit datagram last_sent now r =
+    if is_outside_recovery r.recovery last_sent
+    then record { window = max (r.window / 2) (2 * datagram); threshold = Some (r.window / 2); recovery = Some now }
+    else r
+
+-- persistent congestion (section 7.6.2, B.8)
+abbrev pub collapse : ℕ → Control → Control
+collapse datagram r = record { window = 2 * datagram; threshold = r.threshold; recovery = None }
+
+abbrev pub is_below_threshold : ℕ → Option ℕ → Bool
+is_below_threshold window None = true
+is_below_threshold window (Some threshold) = nat_lt window threshold
+
+abbrev pub is_slow_start : Control → Bool
+is_slow_start r = is_below_threshold r.window r.threshold
+
+-- what an acknowledged packet adds: its size in slow start (section 7.3.1), its part of a datagram for each window else (7.3.3)
+abbrev pub growth : ℕ → ℕ → Control → ℕ
+growth datagram size r = if is_slow_start r then size else datagram * size / r.window
+
+-- a packet was acknowledged that was sent at a time (B.5)
+abbrev pub grow : ℕ → ℕ → ℕ → Control → Control
+grow datagram size sent r =
+    if is_outside_recovery r.recovery sent
+    then record { window = r.window + growth datagram size r; threshold = r.threshold; recovery = r.recovery }
+    else r
+
+-- ---- the moves of a history
+
+pub data Move : Type 0 where
+  Hit : (last_sent now : ℕ) → Move
+  Collapse : Move
+  Grow : (size sent : ℕ) → Move
+
+abbrev pub latest_sent : List Packet → ℕ
+latest_sent [] = 0
+latest_sent (p ∷ ps) = max p.time (latest_sent ps)
+
+-- packets found lost at a time
+abbrev pub hits : ℕ → List Packet → List Move
+hits now [] = []
+hits now (p ∷ ps) = Hit (latest_sent (p ∷ ps)) now ∷ []
+
+abbrev pub collapses : Bool → List Move
+collapses true = Collapse ∷ []
+collapses false = []
+
+-- a move for each in-flight packet that is newly acknowledged, in the order of sending
+abbrev pub grows : List Packet → List Move
+grows new = map (λ p. Grow p.size p.time) (reverse (filter (λ p. p.in_flight) new))
+
+-- the sender did not use the window that it had (section 7.8)
+abbrev pub is_limited : Event → Bool
+is_limited (Ack time space ranges delay limited) = limited
+is_limited _ = false
+
+-- the moves of the last event: losses first, then growth (A.7)
+abbrev pub moves_of_last : Settings → List Event → List Move
+moves_of_last c [] = []
+moves_of_last c (e ∷ before) =
+    hits (time_of e) (owed c (e ∷ before))
+    ++ collapses (is_persistent c (e ∷ before))
+    ++ (if is_limited e then [] else grows (newly_acknowledged (e ∷ before)))
+
+abbrev pub moves : Settings → List Event → List Move
+moves c [] = []
+moves c (e ∷ before) = moves c before ++ moves_of_last c (e ∷ before)
+
+abbrev pub moved : ℕ → Control → Move → Control
+moved datagram r (Hit last_sent now) = hit datagram last_sent now r
+moved datagram r Collapse = collapse datagram r
+moved datagram r (Grow size sent) = grow datagram size sent r
+
+-- the window, the threshold and recovery after a history
+abbrev pub reno : Settings → List Event → Control
+reno c h = fold (moved c.max_datagram_size) (start c.initial_window) (moves c h)
+
+-- ---- entries into recovery
+
+abbrev pub enters : Option ℕ → List Move → Bool
+enters recovery (Hit last_sent now ∷ ms) = is_outside_recovery recovery last_sent
+enters recovery _ = false
+
+-- the last event enters recovery
+abbrev pub is_entry : Settings → List Event → Bool
+is_entry c [] = false
+is_entry c (e ∷ before) = enters (reno c before).recovery (moves_of_last c (e ∷ before))

@@ -1,0 +1,97 @@
+-- The round-trip time, by its samples (RFC 9002, section 5).
+use Rattle.std.specs.Prelude.{ℕ, ◌+◌, ◌-◌, ◌*◌, ◌/◌, ◌==◌, nat_le, min, max, List, [], ◌∷◌, find, Option, Some, None, if◌then◌else◌}
+use Rattle.std.specs.List.{list_any}
+use Rattle.qa_base.specs.declared.event.Event.{Event}
+use Rattle.qa_base.specs.declared.event.Event.TheVariants.{Ack}
+use Rattle.qa_base.specs.machine.Packets.{Packet, newly_acknowledged, greatest}
+use Rattle.qa_base.specs.machine.Handshake.{is_confirmed}
+use Rattle.qa_base.specs.values.Settings.{Settings}
+
+-- ---- samples (RFC 9002, section 5.1)
+
+-- how long the packet with the largest acknowledged number took, the peer's delay, and when the acknowledgment came
+pub record Sample : Type 0 where
+  pub latest : ℕ
+  pub delay : ℕ
+  pub time : ℕ
+
+-- the peer's delay counts up to its max_ack_delay once the handshake is confirmed (RFC 9002, section 5.3)
+abbrev pub limited_delay : Settings → List Event → ℕ → ℕ
+limited_delay c before delay = if is_confirmed before then min delay c.max_ack_delay else delay
+
+abbrev pub sample_by : ℕ → ℕ → Option Packet → Option Sample
+sample_by time delay None = None
+sample_by time delay (Some p) = Some (record { latest = time - p.time; delay = delay; time = time })
+
+-- the sample of the last event: it acknowledges, and newly both the packet with its largest number and an ack-eliciting one
+abbrev pub sample_of : Settings → List Event → Option Sample
+sample_of c (Ack time space ranges delay limited ∷ before) =
+    let new = newly_acknowledged (Ack time space ranges delay limited ∷ before) in
+    if list_any (λ p. p.eliciting) new
+    then sample_by time (limited_delay c before delay) (find (λ p. p.number == greatest ranges) new)
+    else None
+sample_of c _ = None
+
+-- ---- the estimate (RFC 9002, sections 5.2 and 5.3, A.7)
+
+pub record Estimate : Type 0 where
+  pub latest : ℕ
+  pub min : ℕ
+  pub smoothed : ℕ
+  pub var : ℕ
+  pub first : Option ℕ
+
+-- before the first sample
+abbrev pub start : ℕ → Estimate
+start initial = record { latest = 0; min = 0; smoothed = initial; var = initial / 2; first = None }
+
+-- the first sample, at a time
+abbrev pub first_sample : ℕ → ℕ → Estimate
+first_sample latest now = record { latest = latest; min = latest; smoothed = latest; var = latest / 2; first = Some now }
+
+abbrev pub distance : ℕ → ℕ → ℕ
+distance a b = (a - b) + (b - a)
+
+-- the peer's delay is taken off, unless that leaves less than the least RTT
+abbrev pub adjusted : ℕ → ℕ → ℕ → ℕ
+adjusted least latest delay = if nat_le (least + delay) latest then latest - delay else latest
+
+-- a later sample: the variation by the smoothed RTT before it
+abbrev pub next_sample : Estimate → ℕ → ℕ → Estimate
+next_sample r latest delay =
+    let least = min r.min latest in
+    let sample = adjusted least latest delay in
+    record {
+      latest = latest;
+      min = least;
+      smoothed = (7 * r.smoothed + sample) / 8;
+      var = (3 * r.var + distance r.smoothed sample) / 4;
+      first = r.first;
+    }
+
+abbrev pub sampled_by : Option ℕ → Estimate → ℕ → ℕ → ℕ → Estimate
+sampled_by None r latest delay now = first_sample latest now
+sampled_by (Some first) r latest delay now = next_sample r latest delay
+
+-- one sample more, the first or a later one
+abbrev pub sampled : Estimate → ℕ → ℕ → ℕ → Estimate
+sampled r latest delay now = sampled_by r.first r latest delay now
+
+abbrev pub updated : Estimate → Option Sample → Estimate
+updated r None = r
+updated r (Some s) = sampled r s.latest s.delay s.time
+
+-- the estimate after a history
+abbrev pub rtt : Settings → List Event → Estimate
+rtt c [] = start c.initial_rtt
+rtt c (e ∷ before) = updated (rtt c before) (sample_of c (e ∷ before))
+
+-- ---- what is computed from it
+
+-- the probe timeout before the peer's delay and the backoff (RFC 9002, section 6.2.1)
+abbrev pub pto_base : Estimate → ℕ
+pto_base r = r.smoothed + max (4 * r.var) 1000
+
+-- the duration of persistent congestion (RFC 9002, section 7.6.1)
+abbrev pub persistent_after : Estimate → ℕ → ℕ
+persistent_after r max_ack_delay = 3 * (pto_base r + max_ack_delay)

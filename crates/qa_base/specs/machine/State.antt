@@ -1,0 +1,23 @@
+-- What the machine holds after a history.
+use Rattle.std.specs.Prelude.{List, length}
+use Rattle.qa_base.specs.declared.event.Event.{Event}
+use Rattle.qa_base.specs.declared.verdict.Totals.{Totals}
+use Rattle.qa_base.specs.machine.Loss.{bytes_in_flight, owed}
+use Rattle.qa_base.specs.machine.Reno.{reno}
+use Rattle.qa_base.specs.machine.Rtt.{rtt}
+use Rattle.qa_base.specs.values.Settings.{Settings}
+use Rattle.qa_base.specs.machine.Timer.{backoff}
+
+abbrev pub totals : Settings → List Event → Totals
+totals c h = record {
+  events = length h;
+  window = (reno c h).window;
+  ssthresh = (reno c h).threshold;
+  bytes_in_flight = bytes_in_flight c h;
+  latest = (rtt c h).latest;
+  min = (rtt c h).min;
+  smoothed = (rtt c h).smoothed;
+  var = (rtt c h).var;
+  pto_count = backoff c h;
+  owed = length (owed c h);
+}

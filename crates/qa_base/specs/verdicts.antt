@@ -1,0 +1,3 @@
+-- What is said of a trace, and the text that says it.
+pub mod Verdict
+pub mod Report
