@@ -14,4 +14,4 @@ pub mod Breaches
 pub mod Rules
 pub mod Plain
 pub mod Order
-pub mod Span
+pub mod Kept

@@ -2,12 +2,13 @@
 ghost use Rattle.std.specs.Prelude.{◌≡◌};
 ghost use Rattle.qa_base.specs.values.Events.{fits as fits_of};
 
+use crate::limits::MAX_PACKET_SIZE;
 use crate::number::{Micros, PacketNumber, Spans};
 use crate::space::{Kind, Leave, Space};
 
 /// What a sender reports of its own state, each value where it reports it.
 ///
-/// Window, threshold and bytes in flight are in bytes, the others in microseconds.
+/// `window`, `ssthresh` and `bytes_in_flight` are in bytes, the others in microseconds.
 #[derive(Clone, Copy, Debug, PartialEq, Eq)]
 pub struct MetricValues {
     pub window: Option<u64>,
@@ -86,10 +87,13 @@ impl Event {
                 eliciting,
                 in_flight,
                 ..
-            } => 1 <= *size && *size <= 65527 && (!*eliciting || *in_flight),
+            } => 1 <= *size && *size <= MAX_PACKET_SIZE && (!*eliciting || *in_flight),
             Event::Ack { ranges, .. } | Event::Lost { ranges, .. } => !ranges.as_slice().is_empty(),
             Event::Discard { space, .. } => *space != Space::App,
-            _ => true,
+            Event::Timer { .. }
+            | Event::Confirmed { .. }
+            | Event::Keys { .. }
+            | Event::Metrics { .. } => true,
         }
     }
 }

@@ -1,8 +1,17 @@
 //! The header of a trace.
 ghost use Rattle.std.specs.Prelude.{◌≡◌, ◌≤◌};
+ghost use Rattle.qa_base.specs.values.Limits.{max_packet_size};
 ghost use Rattle.qa_base.specs.values.Settings.{default_window as default_window_of};
 
+use crate::constants::{
+    DEFAULT_INITIAL_RTT, DEFAULT_MAX_ACK_DELAY, INITIAL_WINDOW_BYTES, INITIAL_WINDOW_DATAGRAMS,
+    minimum_window,
+};
 use crate::fault::{Key, RangeFault};
+use crate::limits::{
+    GREATEST_INITIAL_RTT, GREATEST_INITIAL_WINDOW, GREATEST_MAX_ACK_DELAY, LEAST_DATAGRAM_SIZE,
+    MAX_PACKET_SIZE,
+};
 use crate::space::Role;
 use std::marker::Model;
 
@@ -50,10 +59,11 @@ impl Model for Header {
 
 /// The initial congestion window in bytes where a header names none (RFC 9002, section 7.2).
 fn default_window(max_datagram_size: u64) -> u64
-    requires { max_datagram_size ≤ 65527 }
+    requires { max_datagram_size ≤ max_packet_size }
     ensures { result ≡ default_window_of max_datagram_size }
 {
-    (10 * max_datagram_size).min((2 * max_datagram_size).max(14720))
+    let most = (2 * max_datagram_size).max(INITIAL_WINDOW_BYTES);
+    (INITIAL_WINDOW_DATAGRAMS * max_datagram_size).min(most)
 }
 
 impl Header {
@@ -78,19 +88,21 @@ impl Header {
     ) -> Result<Header, RangeFault>
         ensures { result ≡ settings_of role max_datagram_size max_ack_delay initial_rtt initial_window }
     {
-        if max_datagram_size < 1200 || 65527 < max_datagram_size {
+        if max_datagram_size < LEAST_DATAGRAM_SIZE || MAX_PACKET_SIZE < max_datagram_size {
             return Err(RangeFault(Key::MaxDatagramSize));
         }
-        let max_ack_delay = max_ack_delay.unwrap_or(25000);
-        if 16_383_000 < max_ack_delay {
+        let max_ack_delay = max_ack_delay.unwrap_or(DEFAULT_MAX_ACK_DELAY);
+        if GREATEST_MAX_ACK_DELAY < max_ack_delay {
             return Err(RangeFault(Key::MaxAckDelay));
         }
-        let initial_rtt = initial_rtt.unwrap_or(333_000);
-        if initial_rtt < 1 || 1_000_000_000 < initial_rtt {
+        let initial_rtt = initial_rtt.unwrap_or(DEFAULT_INITIAL_RTT);
+        if initial_rtt < 1 || GREATEST_INITIAL_RTT < initial_rtt {
             return Err(RangeFault(Key::InitialRtt));
         }
         let initial_window = initial_window.unwrap_or(default_window(max_datagram_size));
-        if initial_window < 2 * max_datagram_size || 4_294_967_295 < initial_window {
+        if initial_window < minimum_window(max_datagram_size)
+            || GREATEST_INITIAL_WINDOW < initial_window
+        {
             return Err(RangeFault(Key::InitialWindow));
         }
         Ok(Header {

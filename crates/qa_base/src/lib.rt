@@ -4,10 +4,12 @@
 //! are proved against them.
 #![tactic(auto)]
 
+pub mod constants;
 mod event;
 mod fault;
 mod header;
 pub mod laws;
+pub mod limits;
 mod line;
 mod number;
 mod rule;

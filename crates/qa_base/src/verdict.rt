@@ -4,7 +4,7 @@ use crate::rule::Rule;
 
 /// The state of the machine after the events that were admitted.
 ///
-/// Window, threshold and bytes in flight are in bytes, the four values of the RTT in microseconds.
+/// `window`, `ssthresh` and `bytes_in_flight` are in bytes, the four values of the RTT in microseconds.
 #[derive(Clone, Copy, Debug, PartialEq, Eq)]
 pub struct Totals {
     /// How many events were admitted.
@@ -16,13 +16,13 @@ pub struct Totals {
     /// The sum of the sizes of open in-flight packets.
     pub bytes_in_flight: u64,
     /// The latest RTT sample; 0 before the first.
-    pub latest: u64,
+    pub latest_rtt: u64,
     /// The least RTT sample; 0 before the first.
-    pub min: u64,
+    pub min_rtt: u64,
     /// The smoothed RTT.
-    pub smoothed: u64,
+    pub smoothed_rtt: u64,
     /// The variation of the RTT.
-    pub var: u64,
+    pub rttvar: u64,
     /// How many probe timeouts there were since the last reset.
     pub pto_count: u64,
     /// How many packets are detected as lost and not yet declared.

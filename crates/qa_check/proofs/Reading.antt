@@ -1,4 +1,4 @@
--- What reads and writes of pieces make of the bytes of a device.
+-- What reads and writes of pieces make of the bytes of a reader or a writer.
 use Rattle.std.proofs.Common.{◌≡◌, ◌∙◌, ◌+◌, ◌-◌, ◌≤◌, inl, inr, ℕ, List, [], ◌++◌, length, take, drop, Option, Some, None, Ok, length-append, length-take, length-drop, take-append-drop, refl, sym, ap, ap₂, arith}
 use Rattle.std.specs.Prelude.{⊤}
 use Rattle.std.proofs.lemmas.List.{append-nil, take_rest, take-take, drop-take}
@@ -9,7 +9,7 @@ use Rattle.qa_base.specs.format.Sends.{reading}
 use Rattle.qa_base.specs.verdicts.Verdict.{verdict, IsFixed}
 use Rattle.qa_base.proofs.verdicts.Fixed.{fixed_stays}
 use Rattle.qa_check.specs.Audit.{Reads, ReadsEnough, JudgesRead, IsReadNoFurther}
-use Rattle.qa_check.specs.Device.{failures_after, write_failed}
+use Rattle.qa_check.specs.Failures.{failures_after, write_failed}
 
 -- ---- reading
 

@@ -45,9 +45,9 @@ Reports held held' outcome bytes = Appends held held' (report (verdict reading b
 abbrev pub BeginsReport : Option (List ℕ) → Option (List ℕ) → List ℕ → Type 0
 BeginsReport held held' bytes = (n : ℕ) × Appends held held' (take n (report (verdict reading bytes)))
 
--- ---- devices
+-- ---- faults
 
--- whether the answer is that the reader failed
+-- whether the result is that the reader failed
 abbrev pub is_read_fault : {A : Type 0} → Result A AuditFault → Bool
 is_read_fault (Err faults.Read) = true
 is_read_fault _ = false

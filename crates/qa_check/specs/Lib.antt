@@ -1,4 +1,4 @@
-pub mod Device
+pub mod Failures
 pub mod Judge
 pub mod Taking
 pub mod Standing

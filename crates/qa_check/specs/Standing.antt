@@ -31,7 +31,7 @@ StandsBy (Some v) header events count ls = Decided v ls
 abbrev pub StandsFor : Checker → List (List ℕ) → Type 0
 StandsFor c ls = StandsBy c.verdict c.header c.events.items c.lines ls
 
--- memory was refused to the checker
+-- the checker ran out of memory
 abbrev pub has_failed : Checker → Bool
 has_failed c = c.failed
 

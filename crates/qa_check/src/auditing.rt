@@ -1,16 +1,16 @@
-//! The audit: from a source of bytes to a report on a sink.
+//! The audit: from a reader of bytes to a report on a writer.
 ghost use Rattle.std.specs.Prelude.{◌≡◌, ◌≢◌, ◌++◌, ℕ, List, true, false, Some, None, Ok, Err, OnOk, OnErr, IfOk, IfErr, IfSome, IfNone, take};
 ghost use Rattle.std.specs.Io.KnownBytes.{Appends};
 ghost use Rattle.qa_base.specs.format.Sends.{reading};
 ghost use Rattle.qa_base.specs.verdicts.Verdict.{IsFixed, verdict};
 ghost use Rattle.qa_trace.specs.Stream.{HasNoLine};
 ghost use Rattle.qa_check.specs.Audit.{outcome_of, Reads, ReadsEnough, JudgesRead, Reports, BeginsReport, is_read_fault, is_write_fault};
-ghost use Rattle.qa_check.specs.Device.{failures_after};
+ghost use Rattle.qa_check.specs.Failures.{failures_after};
 ghost use Rattle.qa_check.specs.Following.{Follows, Answers, IsReady};
 ghost use Rattle.qa_check.specs.Standing.{has_failed};
 
 use crate::checker::{Checker, Stop};
-use crate::device::{Sink, Source};
+use crate::streams::{Sink, Source};
 use crate::text::report;
 use qa_base::Verdict;
 use qa_trace::{SplitFault, Splitter};
@@ -25,16 +25,16 @@ pub enum Outcome {
     Unreadable,
 }
 
-/// Why an audit came to no end.
+/// Why an audit came to no verdict.
 #[derive(Clone, Copy, Debug, PartialEq, Eq, Error)]
 pub enum AuditFault {
-    /// The source failed, and nothing was written.
+    /// The reader failed, and nothing was written.
     #[error("read fault")]
     Read,
-    /// The sink failed after a part of the report.
+    /// The writer failed after a part of the report.
     #[error("write fault")]
     Write,
-    /// Memory was refused, and nothing was written.
+    /// Out of memory; nothing was written.
     #[error("out of memory")]
     OutOfMemory,
 }
@@ -42,17 +42,22 @@ pub enum AuditFault {
 /// The most bytes that one read asks for.
 const PIECE: usize = 4096;
 
-/// Reads a trace and writes its report: for every sequence of bytes that the reader gives, however
+/// Reads a trace and writes its report: for every sequence of bytes that a reader returns, however
 /// its reads are cut.
 ///
-/// It reads pieces of at most 4,096 bytes, and none once the verdict is fixed. No error of a device
-/// is retried. Every reader is left, also one that never ends: line 4294967296 is a fault.
+/// The theorem speaks of bytes for readers and writers that tell theirs, as those over memory do
+/// (`Source::left`, `Sink::held`). A standard stream tells none: the same body runs, and of its
+/// bytes nothing is proved.
+///
+/// It reads pieces of at most 4,096 bytes, and none once the verdict was fixed by those before. A
+/// failed read or write is an error, and is not tried again. It always terminates, also where a
+/// reader never ends: line 4294967296 is a fault.
 pub fn audit<R: Source, W: Sink>(
     alloc: Global,
     reader: &mut R,
     writer: &mut W,
 ) -> Result<Outcome, AuditFault>
-    // For a reader that tells its bytes: their report was written, and the kind of their verdict is told.
+    // For a reader that tells its bytes: their report was written, and the kind of their verdict is returned.
     ensures told { (bytes : List ℕ) → R.left reader.old ≡ Some bytes
         → IfOk result (λ outcome. Reports (W.held writer.old) (W.held writer.new) outcome bytes) }
 
@@ -61,7 +66,7 @@ pub fn audit<R: Source, W: Sink>(
         × ReadsEnough (R.left reader.old) (R.left reader.new) bytes
         × Reports (W.held writer.old) (W.held writer.new) outcome bytes) }
 
-    // Nothing was read that does not count, whatever the answer.
+    // Nothing was read that does not count, but for one piece, whatever the result.
     ensures reads { Reads (R.left reader.old) (R.left reader.new) }
 
     // After a failed write the beginning of the report was written, and else nothing.
@@ -72,7 +77,7 @@ pub fn audit<R: Source, W: Sink>(
         × BeginsReport (W.held writer.old) (W.held writer.new) bytes }
     ensures unwritten { result ≢ Err AuditFault.Write → OnErr result (W.held writer.new ≡ W.held writer.old) }
 
-    // A fault of a device is answered exactly where that device failed, once.
+    // A fault of the reader or the writer is returned exactly where it failed, once.
     ensures read_failures { R.read_failures reader.new ≡ failures_after (is_read_fault result) (R.read_failures reader.old) }
     ensures write_failures { W.write_failures writer.new ≡ failures_after (is_write_fault result) (W.write_failures writer.old) }
 {

@@ -20,7 +20,7 @@ pub enum Stop {
     /// A line was not good, and the verdict is fixed.
     #[error("the verdict is fixed")]
     Decided,
-    /// Memory was refused, and the checker has failed.
+    /// Out of memory: the checker has failed.
     #[error("out of memory")]
     OutOfMemory,
 }
@@ -66,7 +66,7 @@ impl Checker {
     /// Takes the next line, its LF not among its bytes.
     ///
     /// `Stop::Decided` comes where this line or an earlier one is not good: the verdict is fixed.
-    /// `Stop::OutOfMemory` comes where memory was refused, and from then on.
+    /// `Stop::OutOfMemory` comes where there was no memory, and from then on.
     pub fn line(&mut self, bytes: &[u8]) -> Result<(), Stop>
         ensures failed { has_failed self.old ≡ true → result ≡ Err Stop.OutOfMemory }
         ensures fails { (result ≡ Err Stop.OutOfMemory) → has_failed self.new ≡ true }
@@ -93,7 +93,7 @@ impl Checker {
 
     /// Takes the next line, which has more bytes than a line may have, whatever they are.
     ///
-    /// Answers as `line` does: `Stop::OutOfMemory` only from a checker that has failed.
+    /// Returns what `line` does: `Stop::OutOfMemory` only from a checker that has failed.
     pub fn too_long(&mut self) -> Stop
         ensures failed { has_failed self.old ≡ true → result ≡ Stop.OutOfMemory }
         ensures whole { has_failed self.old ≡ false → result ≡ Stop.Decided }
@@ -175,7 +175,7 @@ impl Checker {
         Stop::Decided
     }
 
-    /// Fails, since memory was refused.
+    /// Fails, since it is out of memory.
     fn fail(&mut self) -> Stop
         ensures result { result ≡ Stop.OutOfMemory }
         ensures failed { has_failed self.new ≡ true }

@@ -152,16 +152,16 @@ fn metric_rule(values: &MetricValues, held: &Totals) -> Option<Rule>
     if differs(values.bytes_in_flight, Some(held.bytes_in_flight)) {
         return Some(Rule::Metric(Field::BytesInFlight));
     }
-    if differs(values.latest_rtt, Some(held.latest)) {
+    if differs(values.latest_rtt, Some(held.latest_rtt)) {
         return Some(Rule::Metric(Field::LatestRtt));
     }
-    if differs(values.min_rtt, Some(held.min)) {
+    if differs(values.min_rtt, Some(held.min_rtt)) {
         return Some(Rule::Metric(Field::MinRtt));
     }
-    if differs(values.smoothed_rtt, Some(held.smoothed)) {
+    if differs(values.smoothed_rtt, Some(held.smoothed_rtt)) {
         return Some(Rule::Metric(Field::SmoothedRtt));
     }
-    if differs(values.rttvar, Some(held.var)) {
+    if differs(values.rttvar, Some(held.rttvar)) {
         return Some(Rule::Metric(Field::Rttvar));
     }
     None
@@ -204,10 +204,10 @@ pub fn totals(header: &Header, events: &[Event]) -> Totals
         window: header.initial_window(),
         ssthresh: None,
         bytes_in_flight: bytes_in_flight(events) as u64,
-        latest: 0,
-        min: 0,
-        smoothed: header.initial_rtt(),
-        var: header.initial_rtt() / 2,
+        latest_rtt: 0,
+        min_rtt: 0,
+        smoothed_rtt: header.initial_rtt(),
+        rttvar: header.initial_rtt() / 2,
         pto_count: 0,
         owed: 0,
     }

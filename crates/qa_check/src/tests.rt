@@ -1,11 +1,11 @@
-//! Traces and their reports, from outside, and devices that fail.
+//! Traces and their reports, worked out by hand, and readers and writers that fail.
 mod audits;
 mod checkers;
-mod devices;
 mod reports;
+mod streams;
 
 use crate::auditing::{AuditFault, Outcome, audit};
-use crate::device::Metered;
+use crate::streams::Metered;
 use std::alloc::{AllocError, Global};
 
 /// A header whose window is 12,000 bytes and whose RTT is 333,000 microseconds at the start.
@@ -35,7 +35,7 @@ fn report_of(alloc: Global, first: &str, events: u64, bytes: u64) -> Result<Stri
     )
 }
 
-/// What an audit of these bytes answers, and what it writes.
+/// What an audit of these bytes returns, and what it writes.
 fn audited(alloc: Global, trace: &[u8]) -> (Result<Outcome, AuditFault>, Vec<u8>) {
     let mut reader = Metered::new(trace);
     let mut writer = Metered::new(Vec::new(alloc));

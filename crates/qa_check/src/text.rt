@@ -98,11 +98,11 @@ fn push_number_line(out: &mut String, name: &str, number: u64) -> Result<(), All
     out.push_str("\n")
 }
 
-#[tactic(auto, unfolding(qa_base::specs::verdicts::Report::threshold_line))]
-fn push_threshold(out: &mut String, threshold: Option<u64>) -> Result<(), AllocError>
-    ensures { OnOk result (string_bytes out.new ≡ string_bytes out.old ++ text.threshold_line threshold) }
+#[tactic(auto, unfolding(qa_base::specs::verdicts::Report::ssthresh_line))]
+fn push_ssthresh(out: &mut String, ssthresh: Option<u64>) -> Result<(), AllocError>
+    ensures { OnOk result (string_bytes out.new ≡ string_bytes out.old ++ text.ssthresh_line ssthresh) }
 {
-    match threshold {
+    match ssthresh {
         None => out.push_str("ssthresh none\n"),
         Some(bytes) => push_number_line(out, "ssthresh", bytes),
     }
@@ -114,7 +114,7 @@ fn push_bytes(out: &mut String, totals: &Totals) -> Result<(), AllocError>
 {
     push_number_line(out, "events", totals.events)?;
     push_number_line(out, "window", totals.window)?;
-    push_threshold(out, totals.ssthresh)?;
+    push_ssthresh(out, totals.ssthresh)?;
     push_number_line(out, "bytes_in_flight", totals.bytes_in_flight)
 }
 
@@ -122,10 +122,10 @@ fn push_bytes(out: &mut String, totals: &Totals) -> Result<(), AllocError>
 fn push_times(out: &mut String, totals: &Totals) -> Result<(), AllocError>
     ensures { OnOk result (string_bytes out.new ≡ string_bytes out.old ++ text.times_text totals.now) }
 {
-    push_number_line(out, "latest_rtt", totals.latest)?;
-    push_number_line(out, "min_rtt", totals.min)?;
-    push_number_line(out, "smoothed_rtt", totals.smoothed)?;
-    push_number_line(out, "rttvar", totals.var)?;
+    push_number_line(out, "latest_rtt", totals.latest_rtt)?;
+    push_number_line(out, "min_rtt", totals.min_rtt)?;
+    push_number_line(out, "smoothed_rtt", totals.smoothed_rtt)?;
+    push_number_line(out, "rttvar", totals.rttvar)?;
     push_number_line(out, "pto_count", totals.pto_count)?;
     push_number_line(out, "owed", totals.owed)
 }
@@ -142,7 +142,7 @@ fn push_totals(out: &mut String, totals: &Totals) -> Result<(), AllocError>
 
 /// The report of a verdict: a line that says it, and the totals, where a header was read.
 ///
-/// Fails only where memory is refused.
+/// `AllocError` comes only where it is out of memory.
 #[tactic(auto, unfolding(qa_base::specs::verdicts::Report::report, qa_base::specs::verdicts::Report::known_totals_text))]
 pub fn report(alloc: Global, verdict: &Verdict) -> Result<String, AllocError>
     ensures { IfOk result (λ s. string_bytes s ≡ text.report verdict.now) }

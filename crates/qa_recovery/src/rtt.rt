@@ -5,24 +5,24 @@ ghost use Rattle.qa_base.specs.machine.Rtt as estimates;
 ghost use Rattle.qa_base.specs.machine.Timer.{loss_delay as loss_delay_of};
 
 use qa_base::Micros;
+use qa_base::constants::{
+    GRANULARITY, PERSISTENT_CONGESTION_THRESHOLD, TIME_THRESHOLD_DIVISOR, TIME_THRESHOLD_PARTS,
+};
 use std::marker::Model;
-
-/// The granularity of timers, a millisecond (RFC 9002, section 6.1.2).
-const GRANULARITY: u64 = 1000;
 
 /// What a sender knows of the round-trip time. All times are in microseconds.
 #[derive(Clone, Copy, Debug, PartialEq, Eq)]
 pub struct Rtt {
     /// The latest sample; 0 before the first.
-    pub latest: Micros,
+    pub latest_rtt: Micros,
     /// The least sample; 0 before the first.
-    pub min: Micros,
+    pub min_rtt: Micros,
     /// The smoothed round-trip time.
-    pub smoothed: Micros,
+    pub smoothed_rtt: Micros,
     /// The variation of the round-trip time.
-    pub var: Micros,
+    pub rttvar: Micros,
     /// When the first sample was taken.
-    pub first: Option<Micros>,
+    pub first_rtt_sample: Option<Micros>,
 }
 
 impl Model for Rtt {
@@ -31,19 +31,19 @@ impl Model for Rtt {
     ghost Value = { Estimate };
 
     ghost view = { λ r. record {
-      latest = r.latest;
-      min = r.min;
-      smoothed = r.smoothed;
-      var = r.var;
-      first = r.first;
+      latest_rtt = r.latest_rtt;
+      min_rtt = r.min_rtt;
+      smoothed_rtt = r.smoothed_rtt;
+      rttvar = r.rttvar;
+      first_rtt_sample = r.first_rtt_sample;
     } };
 
     ghost inverse = { λ r. record {
-      latest = r.latest;
-      min = r.min;
-      smoothed = r.smoothed;
-      var = r.var;
-      first = r.first;
+      latest_rtt = r.latest_rtt;
+      min_rtt = r.min_rtt;
+      smoothed_rtt = r.smoothed_rtt;
+      rttvar = r.rttvar;
+      first_rtt_sample = r.first_rtt_sample;
     } };
 }
 
@@ -58,90 +58,91 @@ fn micros(value: u64) -> Micros
 impl Rtt {
     /// The estimate before the first sample: the initial RTT, and half of it as its variation
     /// (RFC 9002, section 5.3).
-    pub fn start(initial: Micros) -> Rtt
-        ensures { result ≡ estimates.start initial }
+    pub fn start(initial_rtt: Micros) -> Rtt
+        ensures { result ≡ estimates.start initial_rtt }
     {
         let none = micros(0);
         Rtt {
-            latest: none,
-            min: none,
-            smoothed: initial,
-            var: micros(initial.get() / 2),
-            first: None,
+            latest_rtt: none,
+            min_rtt: none,
+            smoothed_rtt: initial_rtt,
+            rttvar: micros(initial_rtt.get() / 2),
+            first_rtt_sample: None,
         }
     }
 
-    /// Takes a sample (RFC 9002, sections 5.2 and 5.3, in the order of A.7): `latest` is the time
-    /// that the packet with the largest acknowledged number took, `delay` the peer's delay in
-    /// microseconds, already limited, and `now` the time of the acknowledgment.
+    /// Takes a sample (RFC 9002, sections 5.2 and 5.3, in the order of A.7): `latest_rtt` is the
+    /// time that the packet with the largest acknowledged number took, `ack_delay` the peer's delay
+    /// in microseconds, already limited, and `now` the time of the acknowledgment.
     ///
-    /// The delay is taken off the sample unless that leaves less than the least RTT. The variation
-    /// is computed by the smoothed RTT before the sample.
-    pub fn sample(&mut self, latest: Micros, delay: u64, now: Micros)
-        ensures { self.new ≡ estimates.sampled self.old latest delay now }
+    /// The delay is taken off the sample unless that leaves less than `min_rtt`. `rttvar` is
+    /// computed by the smoothed RTT before the sample.
+    pub fn sample(&mut self, latest_rtt: Micros, ack_delay: u64, now: Micros)
+        ensures { self.new ≡ estimates.sampled self.old latest_rtt ack_delay now }
     {
-        if self.first.is_none() {
+        if self.first_rtt_sample.is_none() {
             *self = Rtt {
-                latest,
-                min: latest,
-                smoothed: latest,
-                var: micros(latest.get() / 2),
-                first: Some(now),
+                latest_rtt,
+                min_rtt: latest_rtt,
+                smoothed_rtt: latest_rtt,
+                rttvar: micros(latest_rtt.get() / 2),
+                first_rtt_sample: Some(now),
             };
             return;
         }
-        let min = self.min.min(latest);
-        let adjusted = adjusted(min.get(), latest.get(), delay);
-        let smoothed = self.smoothed.get();
+        let min_rtt = self.min_rtt.min(latest_rtt);
+        let adjusted_rtt = adjusted(min_rtt.get(), latest_rtt.get(), ack_delay);
+        let smoothed_rtt = self.smoothed_rtt.get();
         *self = Rtt {
-            latest,
-            min,
-            smoothed: micros((7 * smoothed + adjusted) / 8),
-            var: micros((3 * self.var.get() + smoothed.abs_diff(adjusted)) / 4),
-            first: self.first,
+            latest_rtt,
+            min_rtt,
+            smoothed_rtt: micros((7 * smoothed_rtt + adjusted_rtt) / 8),
+            rttvar: micros((3 * self.rttvar.get() + smoothed_rtt.abs_diff(adjusted_rtt)) / 4),
+            first_rtt_sample: self.first_rtt_sample,
         };
     }
 
-    /// How long after it was sent a packet below the largest acknowledged number is lost: 9/8 of
-    /// the greater of the latest and the smoothed RTT, rounded up, and the granularity at least
-    /// (RFC 9002, section 6.1.2).
+    /// How long after it was sent a packet below the largest acknowledged number is lost: the time
+    /// threshold of the greater of the latest and the smoothed RTT, rounded up, and the granularity
+    /// at least, in microseconds (RFC 9002, section 6.1.2).
     pub fn loss_delay(&self) -> u64
         ensures value { result ≡ loss_delay_of self.now }
         ensures bound { result ≤ 1125000000000000 }
     {
-        let rtt = self.latest.get().max(self.smoothed.get());
-        ((9 * rtt + 7) / 8).max(GRANULARITY)
+        let rtt = self.latest_rtt.get().max(self.smoothed_rtt.get());
+        let parts = TIME_THRESHOLD_PARTS * rtt + (TIME_THRESHOLD_DIVISOR - 1);
+        (parts / TIME_THRESHOLD_DIVISOR).max(GRANULARITY)
     }
 
-    /// The probe timeout before the peer's delay and the backoff: the smoothed RTT, and four times
-    /// its variation or the granularity (RFC 9002, section 6.2.1).
+    /// The probe timeout before the peer's delay and the backoff, in microseconds: the smoothed
+    /// RTT, and four times `rttvar` or the granularity (RFC 9002, section 6.2.1).
     pub fn pto_base(&self) -> u64
         ensures value { result ≡ estimates.pto_base self.now }
         ensures bound { result ≤ 5 * max_time }
     {
-        self.smoothed.get() + (4 * self.var.get()).max(GRANULARITY)
+        self.smoothed_rtt.get() + (4 * self.rttvar.get()).max(GRANULARITY)
     }
 
-    /// How far apart two lost packets have to be sent for persistent congestion, with the peer's
-    /// `max_ack_delay`: more than three times that and the probe timeout's base (RFC 9002,
-    /// section 7.6.1).
+    /// How far apart in microseconds two lost packets have to be sent for persistent congestion,
+    /// with the peer's `max_ack_delay`: more than three times that and the probe timeout's base
+    /// (RFC 9002, section 7.6.1).
     pub fn persistent_after(&self, max_ack_delay: Micros) -> u64
         ensures value { result ≡ estimates.persistent_after self.now max_ack_delay }
         ensures bound { result ≤ 18 * max_time }
     {
-        3 * (self.pto_base() + max_ack_delay.get())
+        PERSISTENT_CONGESTION_THRESHOLD * (self.pto_base() + max_ack_delay.get())
     }
 }
 
-/// A sample without the peer's delay, unless that leaves less than the least RTT.
-fn adjusted(min: u64, latest: u64, delay: u64) -> u64
-    requires { min ≤ latest }
-    ensures value { result ≡ estimates.adjusted min latest delay }
-    ensures bound { result ≤ latest }
+/// A sample without the peer's delay, unless that leaves less than `min_rtt`.
+fn adjusted(min_rtt: u64, latest_rtt: u64, ack_delay: u64) -> u64
+    requires { min_rtt ≤ latest_rtt }
+    ensures value { result ≡ estimates.adjusted min_rtt latest_rtt ack_delay }
+    ensures bound { result ≤ latest_rtt }
 {
-    if delay <= latest - min {
-        latest - delay
+    if ack_delay <= latest_rtt - min_rtt {
+        latest_rtt - ack_delay
     } else {
-        latest
+        latest_rtt
     }
 }

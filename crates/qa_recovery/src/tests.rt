@@ -7,13 +7,13 @@ fn micros(value: u64) -> Result<Micros, Fail> {
 }
 
 /// An estimate after a first sample at time 0.
-fn estimate(latest: u64, min: u64, smoothed: u64, var: u64) -> Result<Rtt, Fail> {
+fn estimate(latest_rtt: u64, min_rtt: u64, smoothed_rtt: u64, rttvar: u64) -> Result<Rtt, Fail> {
     Ok(Rtt {
-        latest: micros(latest)?,
-        min: micros(min)?,
-        smoothed: micros(smoothed)?,
-        var: micros(var)?,
-        first: Some(micros(0)?),
+        latest_rtt: micros(latest_rtt)?,
+        min_rtt: micros(min_rtt)?,
+        smoothed_rtt: micros(smoothed_rtt)?,
+        rttvar: micros(rttvar)?,
+        first_rtt_sample: Some(micros(0)?),
     })
 }
 
@@ -37,22 +37,22 @@ fn a_sender(rt: HostRuntime) -> Result<(), Fail> {
 
 #[test]
 fn loss_delays(rt: HostRuntime) -> Result<(), Fail> {
-    for (latest, smoothed, delay) in [
+    for (latest_rtt, smoothed_rtt, delay) in [
         (0, 333_000, 374_625),
         // 900009 / 8, rounded up
         (100_001, 100_000, 112_502),
         (100, 100, 1000),
         (1_000_000_000_000_000, 1, 1_125_000_000_000_000),
     ] {
-        let rtt = estimate(latest, 0, smoothed, 0)?;
-        assert_eq!(rt; rtt.loss_delay(), delay, "{latest} {smoothed}");
+        let rtt = estimate(latest_rtt, 0, smoothed_rtt, 0)?;
+        assert_eq!(rt; rtt.loss_delay(), delay, "{latest_rtt} {smoothed_rtt}");
     }
     Ok(())
 }
 
 #[test]
 fn probe_timeouts(rt: HostRuntime) -> Result<(), Fail> {
-    for (smoothed, var, base) in [
+    for (smoothed_rtt, rttvar, base) in [
         (333_000, 166_500, 999_000),
         (500, 100, 1500),
         (
@@ -62,9 +62,9 @@ fn probe_timeouts(rt: HostRuntime) -> Result<(), Fail> {
         ),
     ] {
         assert_eq!(rt;
-            estimate(0, 0, smoothed, var)?.pto_base(),
+            estimate(0, 0, smoothed_rtt, rttvar)?.pto_base(),
             base,
-            "{smoothed} {var}"
+            "{smoothed_rtt} {rttvar}"
         );
     }
     let rtt = estimate(0, 0, 100_000, 50_000)?;
@@ -76,23 +76,27 @@ fn probe_timeouts(rt: HostRuntime) -> Result<(), Fail> {
 fn samples(rt: HostRuntime) -> Result<(), Fail> {
     let mut rtt = Rtt::start(micros(333_000)?);
     assert_eq!(rt;
-        (rtt.latest.get(), rtt.smoothed.get(), rtt.var.get()),
+        (
+            rtt.latest_rtt.get(),
+            rtt.smoothed_rtt.get(),
+            rtt.rttvar.get()
+        ),
         (0, 333_000, 166_500)
     );
-    assert!(rt; rtt.first.is_none());
+    assert!(rt; rtt.first_rtt_sample.is_none());
     rtt.sample(micros(100_001)?, 0, micros(7)?);
     assert_eq!(rt;
         (
-            rtt.latest.get(),
-            rtt.min.get(),
-            rtt.smoothed.get(),
-            rtt.var.get()
+            rtt.latest_rtt.get(),
+            rtt.min_rtt.get(),
+            rtt.smoothed_rtt.get(),
+            rtt.rttvar.get()
         ),
         (100_001, 100_001, 100_001, 50_000)
     );
-    assert_eq!(rt; rtt.first, Some(micros(7)?));
-    // The sample, its delay, and what the variation, the smoothed and the least RTT become.
-    for (latest, delay, var, smoothed, min) in [
+    assert_eq!(rt; rtt.first_rtt_sample, Some(micros(7)?));
+    // The sample, its delay, and what the variation, the smoothed_rtt and the least RTT become.
+    for (latest_rtt, ack_delay, rttvar, smoothed_rtt, min_rtt) in [
         (
             120_000,
             18_446_744_073_709_551_615,
@@ -105,55 +109,58 @@ fn samples(rt: HostRuntime) -> Result<(), Fail> {
         (130_000, 60_000, 45_000, 103_750, 100_000),
     ] {
         let mut rtt = estimate(100_000, 100_000, 100_000, 50_000)?;
-        rtt.sample(micros(latest)?, delay, micros(9)?);
+        rtt.sample(micros(latest_rtt)?, ack_delay, micros(9)?);
         assert_eq!(rt;
             (
-                rtt.latest.get(),
-                rtt.var.get(),
-                rtt.smoothed.get(),
-                rtt.min.get()
+                rtt.latest_rtt.get(),
+                rtt.rttvar.get(),
+                rtt.smoothed_rtt.get(),
+                rtt.min_rtt.get()
             ),
-            (latest, var, smoothed, min),
-            "{latest} {delay}"
+            (latest_rtt, rttvar, smoothed_rtt, min_rtt),
+            "{latest_rtt} {ack_delay}"
         );
-        assert_eq!(rt; rtt.first, Some(micros(0)?));
+        assert_eq!(rt; rtt.first_rtt_sample, Some(micros(0)?));
     }
     Ok(())
 }
 
 #[test]
 fn hits(rt: HostRuntime) -> Result<(), Fail> {
-    for (window, threshold, hit) in [(4000, 2000, 2400), (13_201, 6600, 6600)] {
+    for (window, ssthresh, hit) in [(4000, 2000, 2400), (13_201, 6600, 6600)] {
         let mut reno = Reno::start(window);
         assert!(rt; reno.hit(micros(1)?, micros(2)?, 1200));
-        let recovery = Some(micros(2)?);
+        let recovery_start_time = Some(micros(2)?);
         assert_eq!(rt;
             reno,
             Reno {
                 window: hit,
-                threshold: Some(threshold),
-                recovery
+                ssthresh: Some(ssthresh),
+                recovery_start_time
             },
             "{window}"
         );
     }
     let mut reno = Reno {
         window: 12_000,
-        threshold: None,
-        recovery: Some(micros(500)?),
+        ssthresh: None,
+        recovery_start_time: Some(micros(500)?),
     };
     let before = reno;
     assert!(rt; !reno.hit(micros(500)?, micros(900)?, 1200));
     assert_eq!(rt; reno, before);
     assert!(rt; reno.hit(micros(501)?, micros(900)?, 1200));
-    assert_eq!(rt; (reno.window, reno.recovery), (6000, Some(micros(900)?)));
+    assert_eq!(rt;
+        (reno.window, reno.recovery_start_time),
+        (6000, Some(micros(900)?))
+    );
     reno.collapse(1200);
     assert_eq!(rt;
         reno,
         Reno {
             window: 2400,
-            threshold: Some(6000),
-            recovery: None
+            ssthresh: Some(6000),
+            recovery_start_time: None
         }
     );
     Ok(())
@@ -161,7 +168,7 @@ fn hits(rt: HostRuntime) -> Result<(), Fail> {
 
 #[test]
 fn growth(rt: HostRuntime) -> Result<(), Fail> {
-    for (window, threshold, size, grown) in [
+    for (window, ssthresh, size, grown) in [
         (6000, Some(6000), 1001, 6200),
         (5999, Some(6000), 1200, 7199),
         (
@@ -173,8 +180,8 @@ fn growth(rt: HostRuntime) -> Result<(), Fail> {
     ] {
         let mut reno = Reno {
             window,
-            threshold,
-            recovery: None,
+            ssthresh,
+            recovery_start_time: None,
         };
         assert!(rt; 1 <= window && window <= 1 << 62 && 1 <= size && size <= 65_527);
         reno.grow(size, micros(1)?, 1200);

@@ -41,7 +41,7 @@ acknowledged_late =
     ack Handshake ((0, 0) ∷ []) 1275002 ∷
     lost_between
 
--- The sample of Handshake packet 3 is 100000: var 37500, duration 3 * (100000 + 150000 + 25000) = 825000, and 1 and 2 lie
+-- The sample of Handshake packet 3 is 100000: rttvar 37500, duration 3 * (100000 + 150000 + 25000) = 825000, and 1 and 2 lie
 -- 975001 apart. The window is 6600 after the first loss, then 2400 by the collapse, then 3600 by packet 5.
 pub lost_packet_between_that_was_not_acknowledged :
     IsRun s never_acknowledged × ((reno s never_acknowledged).window ≡ 3600)
@@ -138,7 +138,7 @@ acknowledged_beside =
 -- They are padded, so there is no sample; they grow the window to 15600, half of which is 7800; 2400 and packet 5 make 3600.
 pub acknowledged_packets_beside_the_two :
     IsRun s acknowledged_beside × ((reno s acknowledged_beside).window ≡ 3600)
-    × ((reno s acknowledged_beside).threshold ≡ Some 7800)
+    × ((reno s acknowledged_beside).ssthresh ≡ Some 7800)
 unfolding first_broken
 acknowledged_packets_beside_the_two = (((((((((((tt, refl), refl), refl), refl), refl), refl), refl), refl), refl), refl), refl, refl)
 

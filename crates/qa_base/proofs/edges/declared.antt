@@ -107,7 +107,7 @@ owed_loss_comes_before_the_other_rules = (refl, refl, refl, refl, refl, refl, re
 -- A Lost line may come later than the detection; recovery began at the detection.
 pub lost_line_may_come_later :
     IsRun s (lost App ((0, 1) ∷ []) 100005 ∷ two_owed)
-    × ((reno s (lost App ((0, 1) ∷ []) 100005 ∷ two_owed)).recovery ≡ Some 100000)
+    × ((reno s (lost App ((0, 1) ∷ []) 100005 ∷ two_owed)).recovery_start_time ≡ Some 100000)
 unfolding first_broken
 lost_line_may_come_later = ((((((((tt, refl), refl), refl), refl), refl), refl), refl), refl)
 

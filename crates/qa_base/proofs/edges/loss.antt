@@ -44,7 +44,7 @@ slower =
 -- Samples 100000 and 200000: smoothed (700000 + 200000) / 8 = 112500, latest 200000. Packet 1 is 200000 old, which is past
 -- 9/8 of smoothed (126563) but not of latest (225000): nothing is owed, and the timer is set for 100000 + 225000.
 pub latest_above_smoothed_decides :
-    IsRun s slower × (owed s slower ≡ []) × ((rtt s slower).smoothed ≡ 112500)
+    IsRun s slower × (owed s slower ≡ []) × ((rtt s slower).smoothed_rtt ≡ 112500)
     × (deadline s slower ≡ loss_at App 325000)
     × (first_broken s slower (loss_fires App 324999) ≡ Some rule.TimerEarly)
     × IsRun s (lost App ((1, 1) ∷ []) 325000 ∷ loss_fires App 325000 ∷ slower)

@@ -1,6 +1,6 @@
 -- Edges of persistent congestion (RFC 9002, section 7.6).
 --
--- In each history packet 0 gives a sample of 100000 and grows the window from 12000 to 13200. With var 50000 the duration is
+-- In each history packet 0 gives a sample of 100000 and grows the window from 12000 to 13200. With rttvar 50000 the duration is
 -- 3 * (100000 + 200000 + 25000) = 975000. Losses halve the window to 6600; a collapse sets it to 2400, and the packet that
 -- was acknowledged grows it by 1200 to 3600. Without a collapse that packet is in recovery, and the window stays 6600.
 use Rattle.std.specs.Prelude.{◌≡◌, List, [], ◌∷◌, Some, None, refl}
@@ -64,7 +64,7 @@ end_after_the_sample =
 -- Packet 1 was sent at 100001, one microsecond after the first sample; the two lie 975001 apart.
 pub end_after_the_first_sample_counts :
     IsRun s end_after_the_sample × ((reno s end_after_the_sample).window ≡ 3600)
-    × ((reno s end_after_the_sample).threshold ≡ Some 6600) × ((reno s end_after_the_sample).recovery ≡ None)
+    × ((reno s end_after_the_sample).ssthresh ≡ Some 6600) × ((reno s end_after_the_sample).recovery_start_time ≡ None)
 unfolding first_broken
 end_after_the_first_sample_counts = ((((((((tt, refl), refl), refl), refl), refl), refl), refl), refl, refl, refl)
 
@@ -129,7 +129,7 @@ sampling_past =
     sent App 1 200000 1200 ∷
     sampled
 
--- The acknowledgment samples 100000 again: var 37500, duration 3 * (100000 + 150000 + 25000) = 825000. Packets 825000 apart
+-- The acknowledgment samples 100000 again: rttvar 37500, duration 3 * (100000 + 150000 + 25000) = 825000. Packets 825000 apart
 -- do not collapse the window, 825001 apart they do.
 pub duration_is_by_the_sample_of_the_acknowledgment :
     IsRun s sampling_at × ((reno s sampling_at).window ≡ 6600)

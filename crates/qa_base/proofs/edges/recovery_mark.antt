@@ -73,7 +73,7 @@ collapsed =
 
 -- One detection enters recovery and collapses the window, which ends recovery: the leave of that entry is kept, for one packet.
 pub mark_is_kept_past_a_collapse :
-    ((reno s collapsed).recovery ≡ None)
+    ((reno s collapsed).recovery_start_time ≡ None)
     × IsRun s (recovery App 6 1275002 1200 ∷ collapsed)
     × (first_broken s (recovery App 6 1275002 1200 ∷ collapsed) (recovery App 7 1275002 1200) ≡ Some rule.PastRecovery)
 unfolding first_broken
@@ -114,6 +114,6 @@ lost_after_the_collapse =
 -- of 3600 has room for 6 and 9; its half is 1800, so it is 2400, and 9 was sent before.
 pub entry_after_a_collapse :
     IsRun s (recovery App 10 1375002 1200 ∷ lost App ((6, 6) ∷ []) 1375002 ∷ lost_after_the_collapse)
-    × (reno s lost_after_the_collapse ≡ record { window = 2400; threshold = Some 1800; recovery = Some 1375002 })
+    × (reno s lost_after_the_collapse ≡ record { window = 2400; ssthresh = Some 1800; recovery_start_time = Some 1375002 })
 unfolding first_broken
 entry_after_a_collapse = (((((((((((((tt, refl), refl), refl), refl), refl), refl), refl), refl), refl), refl), refl), refl), refl)

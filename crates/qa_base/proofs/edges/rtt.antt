@@ -23,7 +23,7 @@ largest_known =
 -- The second acknowledgment is new for packet 0 alone, not for 1, its largest: the window grows twice, the sample is the first.
 pub no_sample_where_the_largest_is_not_new :
     IsRun s largest_known × ((reno s largest_known).window ≡ 14400)
-    × (rtt s largest_known ≡ record { latest = 100000; min = 100000; smoothed = 100000; var = 50000; first = Some 100000 })
+    × (rtt s largest_known ≡ record { latest_rtt = 100000; min_rtt = 100000; smoothed_rtt = 100000; rttvar = 50000; first_rtt_sample = Some 100000 })
 unfolding first_broken
 no_sample_where_the_largest_is_not_new = (((((tt, refl), refl), refl), refl), refl, refl)
 
@@ -36,7 +36,7 @@ largest_bare =
 -- The largest is not in flight, but packet 0 with it is ack-eliciting: the sample is the time since the largest was sent.
 pub sample_is_of_the_largest_by_any_ack_eliciting_packet :
     IsRun s largest_bare
-    × (rtt s largest_bare ≡ record { latest = 60000; min = 60000; smoothed = 60000; var = 30000; first = Some 100000 })
+    × (rtt s largest_bare ≡ record { latest_rtt = 60000; min_rtt = 60000; smoothed_rtt = 60000; rttvar = 30000; first_rtt_sample = Some 100000 })
 unfolding first_broken
 sample_is_of_the_largest_by_any_ack_eliciting_packet = ((((tt, refl), refl), refl), refl)
 
@@ -49,7 +49,7 @@ nothing_eliciting =
 -- Neither packet is ack-eliciting: no sample, but the padded one grows the window.
 pub no_sample_without_an_ack_eliciting_packet :
     IsRun s nothing_eliciting × ((reno s nothing_eliciting).window ≡ 13200)
-    × (rtt s nothing_eliciting ≡ record { latest = 0; min = 0; smoothed = 333000; var = 166500; first = None })
+    × (rtt s nothing_eliciting ≡ record { latest_rtt = 0; min_rtt = 0; smoothed_rtt = 333000; rttvar = 166500; first_rtt_sample = None })
 unfolding first_broken
 no_sample_without_an_ack_eliciting_packet = ((((tt, refl), refl), refl), refl, refl)
 
@@ -60,9 +60,9 @@ at_once =
     ack App ((0, 0) ∷ []) 0 ∷
     sent App 0 0 1200 ∷ []
 
--- A sample of 0 at time 0 is a sample: the one of 400 after it is a later one, smoothed 400 / 8, var 400 / 4.
+-- A sample of 0 at time 0 is a sample: the one of 400 after it is a later one, smoothed 400 / 8, rttvar 400 / 4.
 pub sample_of_nothing_is_a_sample :
-    IsRun s at_once × (rtt s at_once ≡ record { latest = 400; min = 0; smoothed = 50; var = 100; first = Some 0 })
+    IsRun s at_once × (rtt s at_once ≡ record { latest_rtt = 400; min_rtt = 0; smoothed_rtt = 50; rttvar = 100; first_rtt_sample = Some 0 })
 unfolding first_broken
 sample_of_nothing_is_a_sample = (((((tt, refl), refl), refl), refl), refl)
 
@@ -76,7 +76,7 @@ first_delayed =
 -- From the first sample no delay is taken off.
 pub first_sample_ignores_the_delay :
     IsRun s first_delayed
-    × (rtt s first_delayed ≡ record { latest = 100000; min = 100000; smoothed = 100000; var = 50000; first = Some 100000 })
+    × (rtt s first_delayed ≡ record { latest_rtt = 100000; min_rtt = 100000; smoothed_rtt = 100000; rttvar = 50000; first_rtt_sample = Some 100000 })
 unfolding first_broken
 first_sample_ignores_the_delay = (((tt, refl), refl), refl)
 
@@ -85,20 +85,20 @@ second_sent =
     sent App 1 100000 1200 ∷
     first_delayed
 
--- After 110000 the delay of 10000 leaves just the least, 100000, and is taken off: var 150000 / 4, smoothed 100000. After
--- 109999 it is not: var (150000 + 9999) / 4 = 39999, smoothed (700000 + 109999) / 8 = 101249, both rounded down.
+-- After 110000 the delay of 10000 leaves just the least, 100000, and is taken off: rttvar 150000 / 4, smoothed 100000. After
+-- 109999 it is not: rttvar (150000 + 9999) / 4 = 39999, smoothed (700000 + 109999) / 8 = 101249, both rounded down.
 pub delay_that_leaves_the_least_is_taken_off :
     IsRun s (delayed_ack App ((1, 1) ∷ []) 210000 10000 ∷ second_sent)
     × (rtt s (delayed_ack App ((1, 1) ∷ []) 210000 10000 ∷ second_sent)
-    ≡ record { latest = 110000; min = 100000; smoothed = 100000; var = 37500; first = Some 100000 })
+    ≡ record { latest_rtt = 110000; min_rtt = 100000; smoothed_rtt = 100000; rttvar = 37500; first_rtt_sample = Some 100000 })
     × IsRun s (delayed_ack App ((1, 1) ∷ []) 209999 10000 ∷ second_sent)
     × (rtt s (delayed_ack App ((1, 1) ∷ []) 209999 10000 ∷ second_sent)
-    ≡ record { latest = 109999; min = 100000; smoothed = 101249; var = 39999; first = Some 100000 })
+    ≡ record { latest_rtt = 109999; min_rtt = 100000; smoothed_rtt = 101249; rttvar = 39999; first_rtt_sample = Some 100000 })
 unfolding first_broken
 delay_that_leaves_the_least_is_taken_off = (((((tt, refl), refl), refl), refl), refl, ((((tt, refl), refl), refl), refl), refl)
 
--- A sample below the least sets it: min 50000, var (150000 + 50000) / 4 = 50000, smoothed (700000 + 50000) / 8 = 93750.
+-- A sample below the least sets it: min 50000, rttvar (150000 + 50000) / 4 = 50000, smoothed (700000 + 50000) / 8 = 93750.
 pub sample_below_the_least_sets_it :
     rtt s (delayed_ack App ((1, 1) ∷ []) 150000 10000 ∷ second_sent)
-    ≡ record { latest = 50000; min = 50000; smoothed = 93750; var = 50000; first = Some 100000 }
+    ≡ record { latest_rtt = 50000; min_rtt = 50000; smoothed_rtt = 93750; rttvar = 50000; first_rtt_sample = Some 100000 }
 sample_below_the_least_sets_it = refl

@@ -66,7 +66,7 @@ handshake_is_discarded_once_confirmed = (((((((tt, refl), refl), refl), refl), r
 pub discarded_packets_leave_the_bytes_in_flight :
     (bytes_in_flight s (sent Handshake 0 10 1000 ∷ padded Initial 1 0 700 ∷ sent Initial 0 0 1200 ∷ []) ≡ 2900)
     × (bytes_in_flight s discarded ≡ 1000) × (bytes_in_flight s both_discarded ≡ 0)
-    × (reno s both_discarded ≡ record { window = 12000; threshold = None; recovery = None })
+    × (reno s both_discarded ≡ record { window = 12000; ssthresh = None; recovery_start_time = None })
 discarded_packets_leave_the_bytes_in_flight = (refl, refl, refl, refl)
 
 abbrev loss_awaited : List Event

@@ -41,7 +41,7 @@ growing_past_the_start =
 pub growth_of_a_packet_sent_as_recovery_began :
     IsRun s growing_at_the_start × ((reno s growing_at_the_start).window ≡ 6000)
     × IsRun s growing_past_the_start × ((reno s growing_past_the_start).window ≡ 6240)
-    × ((reno s growing_past_the_start).recovery ≡ Some 100000)
+    × ((reno s growing_past_the_start).recovery_start_time ≡ Some 100000)
 unfolding first_broken
 growth_of_a_packet_sent_as_recovery_began =
     ((((((((((tt, refl), refl), refl), refl), refl), refl), refl), refl), refl), refl, (((((((((tt, refl), refl), refl), refl), refl), refl), refl), refl), refl), refl, refl)
@@ -64,9 +64,9 @@ hit_past_the_start =
 -- 100001 recovery begins again at 200001: half of 6000 is 3000, and 7 was sent before.
 pub hit_by_a_packet_sent_as_recovery_began :
     IsRun s (lost App ((1, 2) ∷ (4, 4) ∷ []) 200001 ∷ hit_at_the_start)
-    × (reno s hit_at_the_start ≡ record { window = 6240; threshold = Some 6000; recovery = Some 100000 })
+    × (reno s hit_at_the_start ≡ record { window = 6240; ssthresh = Some 6000; recovery_start_time = Some 100000 })
     × IsRun s (lost App ((1, 2) ∷ (4, 4) ∷ []) 200001 ∷ hit_past_the_start)
-    × (reno s hit_past_the_start ≡ record { window = 3000; threshold = Some 3000; recovery = Some 200001 })
+    × (reno s hit_past_the_start ≡ record { window = 3000; ssthresh = Some 3000; recovery_start_time = Some 200001 })
 unfolding first_broken
 hit_by_a_packet_sent_as_recovery_began = (((((((((((tt, refl), refl), refl), refl), refl), refl), refl), refl), refl), refl), refl, ((((((((((tt, refl), refl), refl), refl), refl), refl), refl), refl), refl), refl), refl)
 
@@ -84,14 +84,14 @@ least_window =
 -- From a window of 2400: the threshold is 1200, the window stays 2400, two datagrams.
 pub threshold_below_the_minimum_window :
     IsRun (server 1200 2400) least_window
-    × (reno (server 1200 2400) least_window ≡ record { window = 2400; threshold = Some 1200; recovery = Some 100000 })
+    × (reno (server 1200 2400) least_window ≡ record { window = 2400; ssthresh = Some 1200; recovery_start_time = Some 100000 })
 unfolding first_broken
 threshold_below_the_minimum_window = (((((((tt, refl), refl), refl), refl), refl), refl), refl)
 
 -- From a window of 4801: the half is 2400 rounded down, just the minimum. From 5003: 2501, above it.
 pub half_is_rounded_down :
-    (reno (server 1200 4801) least_window ≡ record { window = 2400; threshold = Some 2400; recovery = Some 100000 })
-    × (reno (server 1200 5003) least_window ≡ record { window = 2501; threshold = Some 2501; recovery = Some 100000 })
+    (reno (server 1200 4801) least_window ≡ record { window = 2400; ssthresh = Some 2400; recovery_start_time = Some 100000 })
+    × (reno (server 1200 5003) least_window ≡ record { window = 2501; ssthresh = Some 2501; recovery_start_time = Some 100000 })
 half_is_rounded_down = (refl, refl)
 
 -- ---- slow start and avoidance
@@ -111,7 +111,7 @@ across_the_threshold =
 -- threshold of 3000; packet 6 then adds 1200 * 100 / 3600 = 33. By falling number it would be 2500 and 3700.
 pub growth_is_by_rising_number :
     IsRun (server 1200 4800) across_the_threshold
-    × (reno (server 1200 4800) across_the_threshold ≡ record { window = 3633; threshold = Some 3000; recovery = None })
+    × (reno (server 1200 4800) across_the_threshold ≡ record { window = 3633; ssthresh = Some 3000; recovery_start_time = None })
 unfolding first_broken
 growth_is_by_rising_number = (((((((((tt, refl), refl), refl), refl), refl), refl), refl), refl), refl)
 

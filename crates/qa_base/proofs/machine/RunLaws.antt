@@ -115,4 +115,4 @@ after_old m age old =
 
 -- a packet is old exactly when the loss delay has passed since it was sent
 pub old_is_after_loss_delay : (r : Estimate) (now : ℕ) (p : Packet) → (is_old r now p ≡ true) ↔ (loss_delay r ≤ now - p.time)
-old_is_after_loss_delay r now p = (after_old (max r.latest r.smoothed) (now - p.time), old_after (max r.latest r.smoothed) (now - p.time))
+old_is_after_loss_delay r now p = (after_old (max r.latest_rtt r.smoothed_rtt) (now - p.time), old_after (max r.latest_rtt r.smoothed_rtt) (now - p.time))

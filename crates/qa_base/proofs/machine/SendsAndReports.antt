@@ -79,7 +79,7 @@ no_entry : (c : Settings) (h : List Event) → ArePlain h → list_any (is_entry
 no_entry c [] plain = refl
 no_entry c (e ∷ h) plain =
     let p = parts e h plain in
-    let here : is_entry c (e ∷ h) ≡ false = ap (enters (reno c h).recovery) (moves_of_last-quiet c e h p.0) in
+    let here : is_entry c (e ∷ h) ≡ false = ap (enters (reno c h).recovery_start_time) (moves_of_last-quiet c e h p.0) in
     rw here (no_entry c h p.1)
 
 pub plain_recovery_spent : (c : Settings) (h : List Event) → ArePlain h → recovery_spent c h ≡ None
@@ -149,10 +149,10 @@ pub totals-plain : (c : Settings) (events : List Event) → ArePlain events → 
   window = c.initial_window;
   ssthresh = None;
   bytes_in_flight = sent_bytes events;
-  latest = 0;
-  min = 0;
-  smoothed = c.initial_rtt;
-  var = c.initial_rtt / 2;
+  latest_rtt = 0;
+  min_rtt = 0;
+  smoothed_rtt = c.initial_rtt;
+  rttvar = c.initial_rtt / 2;
   pto_count = 0;
   owed = 0;
 }

@@ -21,10 +21,10 @@ pub ack_of_skipped_number : IsRun settings history × (totals settings history �
   window = 12000;
   ssthresh = None;
   bytes_in_flight = 2400;
-  latest = 0;
-  min = 0;
-  smoothed = 333000;
-  var = 166500;
+  latest_rtt = 0;
+  min_rtt = 0;
+  smoothed_rtt = 333000;
+  rttvar = 166500;
   pto_count = 0;
   owed = 0;
 }) × (first_broken settings history (ack App ((0, 2) ∷ []) 100000) ≡ Some rule.AckUnsent)

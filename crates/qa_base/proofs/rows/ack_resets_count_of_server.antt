@@ -23,10 +23,10 @@ pub ack_resets_count_of_server : IsRun settings history × (totals settings hist
   window = 13200;
   ssthresh = None;
   bytes_in_flight = 1200;
-  latest = 1000000;
-  min = 1000000;
-  smoothed = 1000000;
-  var = 500000;
+  latest_rtt = 1000000;
+  min_rtt = 1000000;
+  smoothed_rtt = 1000000;
+  rttvar = 500000;
   pto_count = 1;
   owed = 0;
 }) × IsComplete settings history

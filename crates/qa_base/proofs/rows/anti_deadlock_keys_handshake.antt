@@ -22,10 +22,10 @@ pub anti_deadlock_keys_handshake : IsRun settings history × (totals settings hi
   window = 12000;
   ssthresh = None;
   bytes_in_flight = 1200;
-  latest = 0;
-  min = 0;
-  smoothed = 333000;
-  var = 166500;
+  latest_rtt = 0;
+  min_rtt = 0;
+  smoothed_rtt = 333000;
+  rttvar = 166500;
   pto_count = 1;
   owed = 0;
 }) × IsComplete settings history

@@ -23,10 +23,10 @@ pub count_stays_unvalidated : IsRun settings history × (totals settings history
   window = 6000;
   ssthresh = Some 6000;
   bytes_in_flight = 0;
-  latest = 100000;
-  min = 100000;
-  smoothed = 100000;
-  var = 50000;
+  latest_rtt = 100000;
+  min_rtt = 100000;
+  smoothed_rtt = 100000;
+  rttvar = 50000;
   pto_count = 1;
   owed = 0;
 }) × IsComplete settings history

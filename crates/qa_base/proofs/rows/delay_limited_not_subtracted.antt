@@ -24,10 +24,10 @@ pub delay_limited_not_subtracted : IsRun settings history × (totals settings hi
   window = 14400;
   ssthresh = None;
   bytes_in_flight = 0;
-  latest = 110000;
-  min = 100000;
-  smoothed = 101250;
-  var = 40000;
+  latest_rtt = 110000;
+  min_rtt = 100000;
+  smoothed_rtt = 101250;
+  rttvar = 40000;
   pto_count = 0;
   owed = 0;
 }) × IsComplete settings history

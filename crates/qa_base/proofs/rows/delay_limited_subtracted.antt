@@ -24,10 +24,10 @@ pub delay_limited_subtracted : IsRun settings history × (totals settings histor
   window = 14400;
   ssthresh = None;
   bytes_in_flight = 0;
-  latest = 130000;
-  min = 100000;
-  smoothed = 100625;
-  var = 38750;
+  latest_rtt = 130000;
+  min_rtt = 100000;
+  smoothed_rtt = 100625;
+  rttvar = 38750;
   pto_count = 0;
   owed = 0;
 }) × IsComplete settings history

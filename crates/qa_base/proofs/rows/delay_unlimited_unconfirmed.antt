@@ -22,10 +22,10 @@ pub delay_unlimited_unconfirmed : IsRun settings history × (totals settings his
   window = 14400;
   ssthresh = None;
   bytes_in_flight = 0;
-  latest = 130000;
-  min = 100000;
-  smoothed = 103750;
-  var = 45000;
+  latest_rtt = 130000;
+  min_rtt = 100000;
+  smoothed_rtt = 103750;
+  rttvar = 45000;
   pto_count = 0;
   owed = 0;
 }) × IsComplete settings history

@@ -29,10 +29,10 @@ pub eleventh_past_window : IsRun settings history × (totals settings history �
   window = 12000;
   ssthresh = None;
   bytes_in_flight = 12000;
-  latest = 0;
-  min = 0;
-  smoothed = 333000;
-  var = 166500;
+  latest_rtt = 0;
+  min_rtt = 0;
+  smoothed_rtt = 333000;
+  rttvar = 166500;
   pto_count = 0;
   owed = 0;
 }) × (first_broken settings history (sent App 10 0 1200) ≡ Some rule.PastWindow)

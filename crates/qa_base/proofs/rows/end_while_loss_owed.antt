@@ -31,10 +31,10 @@ pub end_while_loss_owed : IsRun settings history × (totals settings history ≡
   window = 6000;
   ssthresh = Some 6000;
   bytes_in_flight = 7200;
-  latest = 100000;
-  min = 100000;
-  smoothed = 100000;
-  var = 50000;
+  latest_rtt = 100000;
+  min_rtt = 100000;
+  smoothed_rtt = 100000;
+  rttvar = 50000;
   pto_count = 0;
   owed = 2;
 }) × (IsComplete settings history → ⊥)

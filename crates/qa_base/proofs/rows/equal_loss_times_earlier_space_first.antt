@@ -25,10 +25,10 @@ pub equal_loss_times_earlier_space_first : IsRun settings history × (totals set
   window = 14400;
   ssthresh = None;
   bytes_in_flight = 2400;
-  latest = 100000;
-  min = 100000;
-  smoothed = 100000;
-  var = 37500;
+  latest_rtt = 100000;
+  min_rtt = 100000;
+  smoothed_rtt = 100000;
+  rttvar = 37500;
   pto_count = 0;
   owed = 0;
 }) × (first_broken settings history (loss_fires Handshake 112500) ≡ Some rule.TimerOther)

@@ -23,10 +23,10 @@ pub handshake_discarded_unconfirmed : IsRun settings history × (totals settings
   window = 12000;
   ssthresh = None;
   bytes_in_flight = 1000;
-  latest = 0;
-  min = 0;
-  smoothed = 333000;
-  var = 166500;
+  latest_rtt = 0;
+  min_rtt = 0;
+  smoothed_rtt = 333000;
+  rttvar = 166500;
   pto_count = 0;
   owed = 0;
 }) × (first_broken settings history (Discard 30 Handshake) ≡ Some rule.NotConfirmed)

@@ -32,10 +32,10 @@ pub metric_window : IsRun settings history × (totals settings history ≡ recor
   window = 6000;
   ssthresh = Some 6000;
   bytes_in_flight = 9600;
-  latest = 100000;
-  min = 100000;
-  smoothed = 100000;
-  var = 50000;
+  latest_rtt = 100000;
+  min_rtt = 100000;
+  smoothed_rtt = 100000;
+  rttvar = 50000;
   pto_count = 0;
   owed = 0;
 }) × (first_broken settings history (metrics 100000 (Some 6001) None None None None None None) ≡ Some (rule.Metric field.Window))

@@ -27,10 +27,10 @@ pub other_space_acknowledged_between : IsRun settings history × (totals setting
   window = 7200;
   ssthresh = Some 7200;
   bytes_in_flight = 0;
-  latest = 100000;
-  min = 100000;
-  smoothed = 100000;
-  var = 37500;
+  latest_rtt = 100000;
+  min_rtt = 100000;
+  smoothed_rtt = 100000;
+  rttvar = 37500;
   pto_count = 0;
   owed = 0;
 }) × IsComplete settings history

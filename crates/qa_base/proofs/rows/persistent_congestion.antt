@@ -25,10 +25,10 @@ pub persistent_congestion : IsRun settings history × (totals settings history �
   window = 3600;
   ssthresh = Some 6600;
   bytes_in_flight = 0;
-  latest = 100000;
-  min = 100000;
-  smoothed = 100000;
-  var = 50000;
+  latest_rtt = 100000;
+  min_rtt = 100000;
+  smoothed_rtt = 100000;
+  rttvar = 50000;
   pto_count = 0;
   owed = 0;
 }) × IsComplete settings history

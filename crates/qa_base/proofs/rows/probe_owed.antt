@@ -21,10 +21,10 @@ pub probe_owed : IsRun settings history × (totals settings history ≡ record {
   window = 12000;
   ssthresh = None;
   bytes_in_flight = 1200;
-  latest = 0;
-  min = 0;
-  smoothed = 333000;
-  var = 166500;
+  latest_rtt = 0;
+  min_rtt = 0;
+  smoothed_rtt = 333000;
+  rttvar = 166500;
   pto_count = 1;
   owed = 0;
 }) × (first_broken settings history (pto_fires Initial 1998000) ≡ Some rule.ProbeOwed)

@@ -23,10 +23,10 @@ pub probe_past_allowance : IsRun settings history × (totals settings history �
   window = 12000;
   ssthresh = None;
   bytes_in_flight = 3600;
-  latest = 0;
-  min = 0;
-  smoothed = 333000;
-  var = 166500;
+  latest_rtt = 0;
+  min_rtt = 0;
+  smoothed_rtt = 333000;
+  rttvar = 166500;
   pto_count = 1;
   owed = 0;
 }) × (first_broken settings history (probe Initial 3 999000 1) ≡ Some rule.PastProbe)

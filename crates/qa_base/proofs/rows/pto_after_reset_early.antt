@@ -23,10 +23,10 @@ pub pto_after_reset_early : IsRun settings history × (totals settings history �
   window = 13200;
   ssthresh = None;
   bytes_in_flight = 1200;
-  latest = 1000000;
-  min = 1000000;
-  smoothed = 1000000;
-  var = 500000;
+  latest_rtt = 1000000;
+  min_rtt = 1000000;
+  smoothed_rtt = 1000000;
+  rttvar = 500000;
   pto_count = 0;
   owed = 0;
 }) × (first_broken settings history (pto_fires Initial 2999999) ≡ Some rule.TimerEarly)

@@ -35,10 +35,10 @@ pub recovery_then_avoidance : IsRun settings history × (totals settings history
   window = 6200;
   ssthresh = Some 6000;
   bytes_in_flight = 0;
-  latest = 100000;
-  min = 100000;
-  smoothed = 102187;
-  var = 32500;
+  latest_rtt = 100000;
+  min_rtt = 100000;
+  smoothed_rtt = 102187;
+  rttvar = 32500;
   pto_count = 0;
   owed = 0;
 }) × IsComplete settings history

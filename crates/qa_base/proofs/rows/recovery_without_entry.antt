@@ -19,10 +19,10 @@ pub recovery_without_entry : IsRun settings history × (totals settings history 
   window = 12000;
   ssthresh = None;
   bytes_in_flight = 0;
-  latest = 0;
-  min = 0;
-  smoothed = 333000;
-  var = 166500;
+  latest_rtt = 0;
+  min_rtt = 0;
+  smoothed_rtt = 333000;
+  rttvar = 166500;
   pto_count = 0;
   owed = 0;
 }) × (first_broken settings history (recovery App 0 0 1200) ≡ Some rule.PastRecovery)

@@ -20,10 +20,10 @@ pub rule_before_a_later_long_line : IsRun settings history × (totals settings h
   window = 12000;
   ssthresh = None;
   bytes_in_flight = 1200;
-  latest = 0;
-  min = 0;
-  smoothed = 333000;
-  var = 166500;
+  latest_rtt = 0;
+  min_rtt = 0;
+  smoothed_rtt = 333000;
+  rttvar = 166500;
   pto_count = 0;
   owed = 0;
 }) × (first_broken settings history (sent App 0 0 1200) ≡ Some rule.NumberNotHigher)

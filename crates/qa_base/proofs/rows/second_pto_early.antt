@@ -24,10 +24,10 @@ pub second_pto_early : IsRun settings history × (totals settings history ≡ re
   window = 6000;
   ssthresh = Some 6000;
   bytes_in_flight = 0;
-  latest = 100000;
-  min = 100000;
-  smoothed = 100000;
-  var = 50000;
+  latest_rtt = 100000;
+  min_rtt = 100000;
+  smoothed_rtt = 100000;
+  rttvar = 50000;
   pto_count = 1;
   owed = 0;
 }) × (first_broken settings history (pto_fires Initial 1399000) ≡ Some rule.TimerEarly)

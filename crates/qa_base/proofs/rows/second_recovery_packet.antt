@@ -32,10 +32,10 @@ pub second_recovery_packet : IsRun settings history × (totals settings history 
   window = 6000;
   ssthresh = Some 6000;
   bytes_in_flight = 10800;
-  latest = 100000;
-  min = 100000;
-  smoothed = 100000;
-  var = 50000;
+  latest_rtt = 100000;
+  min_rtt = 100000;
+  smoothed_rtt = 100000;
+  rttvar = 50000;
   pto_count = 0;
   owed = 0;
 }) × (first_broken settings history (recovery App 11 100000 1200) ≡ Some rule.PastRecovery)

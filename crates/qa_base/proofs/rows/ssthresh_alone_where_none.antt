@@ -19,10 +19,10 @@ pub ssthresh_alone_where_none : IsRun settings history × (totals settings histo
   window = 12000;
   ssthresh = None;
   bytes_in_flight = 0;
-  latest = 0;
-  min = 0;
-  smoothed = 333000;
-  var = 166500;
+  latest_rtt = 0;
+  min_rtt = 0;
+  smoothed_rtt = 333000;
+  rttvar = 166500;
   pto_count = 0;
   owed = 0;
 }) × (first_broken settings history (metrics 0 None (Some 12000) None None None None None) ≡ Some (rule.Metric field.Ssthresh))

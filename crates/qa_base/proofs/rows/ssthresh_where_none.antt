@@ -19,10 +19,10 @@ pub ssthresh_where_none : IsRun settings history × (totals settings history ≡
   window = 12000;
   ssthresh = None;
   bytes_in_flight = 0;
-  latest = 0;
-  min = 0;
-  smoothed = 333000;
-  var = 166500;
+  latest_rtt = 0;
+  min_rtt = 0;
+  smoothed_rtt = 333000;
+  rttvar = 166500;
   pto_count = 0;
   owed = 0;
 }) × (first_broken settings history (metrics 0 (Some 12000) (Some 12000) None None None (Some 333000) (Some 166500)) ≡ Some (rule.Metric field.Ssthresh))

@@ -22,10 +22,10 @@ pub two_samples : IsRun settings history × (totals settings history ≡ record 
   window = 14400;
   ssthresh = None;
   bytes_in_flight = 0;
-  latest = 120000;
-  min = 100000;
-  smoothed = 102500;
-  var = 42500;
+  latest_rtt = 120000;
+  min_rtt = 100000;
+  smoothed_rtt = 102500;
+  rttvar = 42500;
   pto_count = 0;
   owed = 0;
 }) × IsComplete settings history

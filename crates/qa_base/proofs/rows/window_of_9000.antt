@@ -17,10 +17,10 @@ pub window_of_9000 : IsRun settings history × (totals settings history ≡ reco
   window = 18000;
   ssthresh = None;
   bytes_in_flight = 0;
-  latest = 0;
-  min = 0;
-  smoothed = 333000;
-  var = 166500;
+  latest_rtt = 0;
+  min_rtt = 0;
+  smoothed_rtt = 333000;
+  rttvar = 166500;
   pto_count = 0;
   owed = 0;
 }) × IsComplete settings history

@@ -15,6 +15,7 @@ use Rattle.qa_base.specs.machine.Loss.{owed, bytes_in_flight}
 use Rattle.qa_base.specs.machine.Numbers.{has_all, names_exactly}
 use Rattle.qa_base.specs.machine.Packets.{Packet, packets_of, is_of, is_gone, is_some_packet}
 use Rattle.qa_base.specs.machine.Reno.{reno}
+use Rattle.qa_base.specs.values.Constants.{probe_datagrams}
 use Rattle.qa_base.specs.values.Settings.{Settings}
 use Rattle.qa_base.specs.machine.Timer.{Due, deadline}
 
@@ -82,9 +83,9 @@ abbrev pub is_over : ℕ → ℕ → Option ℕ → Bool
 is_over allowance more None = true
 is_over allowance more (Some spent) = nat_lt allowance (spent + more)
 
--- V8: a probe before any probe timeout, or past the two datagrams that one allows (RFC 9002, section 6.2.4)
+-- V8: a probe before any probe timeout, or past the datagrams that one allows (RFC 9002, section 6.2.4)
 abbrev pub is_past_probe : Settings → List Event → Event → Bool
-is_past_probe c h (Sent time space number size eliciting in_flight Probe) = in_flight && is_over (2 * c.max_datagram_size) size (probe_spent h)
+is_past_probe c h (Sent time space number size eliciting in_flight Probe) = in_flight && is_over (probe_datagrams * c.max_datagram_size) size (probe_spent h)
 is_past_probe c h _ = false
 
 -- V9: the packet of an entry into recovery, which was not or had its packet (RFC 9002, section 7.3.2)

@@ -7,18 +7,21 @@ use Rattle.qa_base.specs.declared.space.Kind.TheVariants.{Loss}
 use Rattle.qa_base.specs.declared.space.Space.{Space}
 use Rattle.qa_base.specs.machine.Packets.{Packet, packets, packets_of, is_of, is_covered, is_lost, is_gone, acknowledges_new, largest_acknowledged}
 use Rattle.qa_base.specs.machine.Rtt.{Estimate, rtt, persistent_after}
+use Rattle.qa_base.specs.values.Constants.{packet_threshold, time_threshold_parts, time_threshold_divisor, granularity}
 use Rattle.qa_base.specs.values.Settings.{Settings}
 
 -- ---- detection (RFC 9002, section 6.1, A.10)
 
--- sent 9/8 of the RTT ago, and the granularity, a millisecond (section 6.1.2)
+-- sent as long ago as the time threshold of the RTT, and the granularity (section 6.1.2)
 abbrev pub is_old : Estimate → ℕ → Packet → Bool
-is_old r now p = nat_le (9 * max r.latest r.smoothed) (8 * (now - p.time)) && nat_le 1000 (now - p.time)
+is_old r now p =
+    nat_le (time_threshold_parts * max r.latest_rtt r.smoothed_rtt) (time_threshold_divisor * (now - p.time))
+    && nat_le granularity (now - p.time)
 
--- below the largest acknowledged number, by three at least (section 6.1.1) or for long enough
+-- below the largest acknowledged number, by the packet threshold (section 6.1.1) or for long enough
 abbrev pub is_late : Estimate → ℕ → Option ℕ → Packet → Bool
 is_late r now None p = false
-is_late r now (Some largest) p = nat_lt p.number largest && (nat_le 3 (largest - p.number) || is_old r now p)
+is_late r now (Some largest) p = nat_lt p.number largest && (nat_le packet_threshold (largest - p.number) || is_old r now p)
 
 -- neither acknowledged nor declared lost
 abbrev pub is_unsettled : List Event → Packet → Bool
@@ -71,7 +74,7 @@ is_after (Some time) p = nat_lt time p.time
 
 -- an ack-eliciting packet that was sent after the first sample
 abbrev pub is_end : Settings → List Event → Packet → Bool
-is_end c h p = p.eliciting && is_after (rtt c h).first p
+is_end c h p = p.eliciting && is_after (rtt c h).first_rtt_sample p
 
 -- a packet of any space that was sent between the two is acknowledged
 abbrev pub is_acknowledged_between : List Event → Packet → Packet → Bool

@@ -23,10 +23,10 @@ differences values held =
     (differs values.window (Some held.window), Window)
     ∷ (differs values.ssthresh held.ssthresh, Ssthresh)
     ∷ (differs values.bytes_in_flight (Some held.bytes_in_flight), BytesInFlight)
-    ∷ (differs values.latest_rtt (Some held.latest), LatestRtt)
-    ∷ (differs values.min_rtt (Some held.min), MinRtt)
-    ∷ (differs values.smoothed_rtt (Some held.smoothed), SmoothedRtt)
-    ∷ (differs values.rttvar (Some held.var), Rttvar)
+    ∷ (differs values.latest_rtt (Some held.latest_rtt), LatestRtt)
+    ∷ (differs values.min_rtt (Some held.min_rtt), MinRtt)
+    ∷ (differs values.smoothed_rtt (Some held.smoothed_rtt), SmoothedRtt)
+    ∷ (differs values.rttvar (Some held.rttvar), Rttvar)
     ∷ []
 
 -- the rule that each value breaks, where it differs

@@ -5,18 +5,19 @@ use Rattle.qa_base.specs.declared.event.Event.TheVariants.{Ack}
 use Rattle.qa_base.specs.values.Events.{time_of}
 use Rattle.qa_base.specs.machine.Loss.{owed, is_persistent}
 use Rattle.qa_base.specs.machine.Packets.{Packet, newly_acknowledged}
+use Rattle.qa_base.specs.values.Constants.{minimum_window, loss_reduction_divisor}
 use Rattle.qa_base.specs.values.Settings.{Settings}
 
 -- ---- single moves
 
--- the window, the slow start threshold and when recovery began, each in bytes or microseconds
+-- the congestion window and the slow start threshold in bytes, and when recovery began (B.2)
 pub record Control : Type 0 where
   pub window : ℕ
-  pub threshold : Option ℕ
-  pub recovery : Option ℕ
+  pub ssthresh : Option ℕ
+  pub recovery_start_time : Option ℕ
 
 abbrev pub start : ℕ → Control
-start window = record { window = window; threshold = None; recovery = None }
+start window = record { window = window; ssthresh = None; recovery_start_time = None }
 
 -- sent later than recovery began, or there is no recovery
 abbrev pub is_outside_recovery : Option ℕ → ℕ → Bool
@@ -25,31 +26,32 @@ is_outside_recovery (Some began) sent = nat_lt began sent
 
 -- a loss, of packets the last of which was sent at a time (section 7.3.2, B.6): it enters recovery once a round trip
 abbrev pub hit : ℕ → ℕ → ℕ → Control → Control
-hit datagram last_sent now r =
-    if is_outside_recovery r.recovery last_sent
-    then record { window = max (r.window / 2) (2 * datagram); threshold = Some (r.window / 2); recovery = Some now }
+hit max_datagram_size last_sent now r =
+    let ssthresh = r.window / loss_reduction_divisor in
+    if is_outside_recovery r.recovery_start_time last_sent
+    then record { window = max ssthresh (minimum_window max_datagram_size); ssthresh = Some ssthresh; recovery_start_time = Some now }
     else r
 
 -- persistent congestion (section 7.6.2, B.8)
 abbrev pub collapse : ℕ → Control → Control
-collapse datagram r = record { window = 2 * datagram; threshold = r.threshold; recovery = None }
+collapse max_datagram_size r = record { window = minimum_window max_datagram_size; ssthresh = r.ssthresh; recovery_start_time = None }
 
-abbrev pub is_below_threshold : ℕ → Option ℕ → Bool
-is_below_threshold window None = true
-is_below_threshold window (Some threshold) = nat_lt window threshold
+abbrev pub is_below_ssthresh : ℕ → Option ℕ → Bool
+is_below_ssthresh window None = true
+is_below_ssthresh window (Some ssthresh) = nat_lt window ssthresh
 
 abbrev pub is_slow_start : Control → Bool
-is_slow_start r = is_below_threshold r.window r.threshold
+is_slow_start r = is_below_ssthresh r.window r.ssthresh
 
 -- what an acknowledged packet adds: its size in slow start (section 7.3.1), its part of a datagram for each window else (7.3.3)
 abbrev pub growth : ℕ → ℕ → Control → ℕ
-growth datagram size r = if is_slow_start r then size else datagram * size / r.window
+growth max_datagram_size size r = if is_slow_start r then size else max_datagram_size * size / r.window
 
 -- a packet was acknowledged that was sent at a time (B.5)
 abbrev pub grow : ℕ → ℕ → ℕ → Control → Control
-grow datagram size sent r =
-    if is_outside_recovery r.recovery sent
-    then record { window = r.window + growth datagram size r; threshold = r.threshold; recovery = r.recovery }
+grow max_datagram_size size sent r =
+    if is_outside_recovery r.recovery_start_time sent
+    then record { window = r.window + growth max_datagram_size size r; ssthresh = r.ssthresh; recovery_start_time = r.recovery_start_time }
     else r
 
 -- ---- the moves of a history
@@ -94,11 +96,11 @@ moves c [] = []
 moves c (e ∷ before) = moves c before ++ moves_of_last c (e ∷ before)
 
 abbrev pub moved : ℕ → Control → Move → Control
-moved datagram r (Hit last_sent now) = hit datagram last_sent now r
-moved datagram r Collapse = collapse datagram r
-moved datagram r (Grow size sent) = grow datagram size sent r
+moved max_datagram_size r (Hit last_sent now) = hit max_datagram_size last_sent now r
+moved max_datagram_size r Collapse = collapse max_datagram_size r
+moved max_datagram_size r (Grow size sent) = grow max_datagram_size size sent r
 
--- the window, the threshold and recovery after a history
+-- the window, ssthresh and recovery after a history
 abbrev pub reno : Settings → List Event → Control
 reno c h = fold (moved c.max_datagram_size) (start c.initial_window) (moves c h)
 
@@ -111,4 +113,4 @@ enters recovery _ = false
 -- the last event enters recovery
 abbrev pub is_entry : Settings → List Event → Bool
 is_entry c [] = false
-is_entry c (e ∷ before) = enters (reno c before).recovery (moves_of_last c (e ∷ before))
+is_entry c (e ∷ before) = enters (reno c before).recovery_start_time (moves_of_last c (e ∷ before))

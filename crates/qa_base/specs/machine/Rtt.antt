@@ -5,14 +5,15 @@ use Rattle.qa_base.specs.declared.event.Event.{Event}
 use Rattle.qa_base.specs.declared.event.Event.TheVariants.{Ack}
 use Rattle.qa_base.specs.machine.Packets.{Packet, newly_acknowledged, greatest}
 use Rattle.qa_base.specs.machine.Handshake.{is_confirmed}
+use Rattle.qa_base.specs.values.Constants.{granularity, persistent_congestion_threshold}
 use Rattle.qa_base.specs.values.Settings.{Settings}
 
 -- ---- samples (RFC 9002, section 5.1)
 
 -- how long the packet with the largest acknowledged number took, the peer's delay, and when the acknowledgment came
 pub record Sample : Type 0 where
-  pub latest : ℕ
-  pub delay : ℕ
+  pub latest_rtt : ℕ
+  pub ack_delay : ℕ
   pub time : ℕ
 
 -- the peer's delay counts up to its max_ack_delay once the handshake is confirmed (RFC 9002, section 5.3)
@@ -21,7 +22,7 @@ limited_delay c before delay = if is_confirmed before then min delay c.max_ack_d
 
 abbrev pub sample_by : ℕ → ℕ → Option Packet → Option Sample
 sample_by time delay None = None
-sample_by time delay (Some p) = Some (record { latest = time - p.time; delay = delay; time = time })
+sample_by time delay (Some p) = Some (record { latest_rtt = time - p.time; ack_delay = delay; time = time })
 
 -- the sample of the last event: it acknowledges, and newly both the packet with its largest number and an ack-eliciting one
 abbrev pub sample_of : Settings → List Event → Option Sample
@@ -35,51 +36,57 @@ sample_of c _ = None
 -- ---- the estimate (RFC 9002, sections 5.2 and 5.3, A.7)
 
 pub record Estimate : Type 0 where
-  pub latest : ℕ
-  pub min : ℕ
-  pub smoothed : ℕ
-  pub var : ℕ
-  pub first : Option ℕ
+  pub latest_rtt : ℕ
+  pub min_rtt : ℕ
+  pub smoothed_rtt : ℕ
+  pub rttvar : ℕ
+  pub first_rtt_sample : Option ℕ
 
 -- before the first sample
 abbrev pub start : ℕ → Estimate
-start initial = record { latest = 0; min = 0; smoothed = initial; var = initial / 2; first = None }
+start initial_rtt = record { latest_rtt = 0; min_rtt = 0; smoothed_rtt = initial_rtt; rttvar = initial_rtt / 2; first_rtt_sample = None }
 
 -- the first sample, at a time
 abbrev pub first_sample : ℕ → ℕ → Estimate
-first_sample latest now = record { latest = latest; min = latest; smoothed = latest; var = latest / 2; first = Some now }
+first_sample latest_rtt now = record {
+  latest_rtt = latest_rtt;
+  min_rtt = latest_rtt;
+  smoothed_rtt = latest_rtt;
+  rttvar = latest_rtt / 2;
+  first_rtt_sample = Some now;
+}
 
 abbrev pub distance : ℕ → ℕ → ℕ
 distance a b = (a - b) + (b - a)
 
--- the peer's delay is taken off, unless that leaves less than the least RTT
+-- the peer's delay is taken off, unless that leaves less than min_rtt
 abbrev pub adjusted : ℕ → ℕ → ℕ → ℕ
-adjusted least latest delay = if nat_le (least + delay) latest then latest - delay else latest
+adjusted min_rtt latest_rtt ack_delay = if nat_le (min_rtt + ack_delay) latest_rtt then latest_rtt - ack_delay else latest_rtt
 
--- a later sample: the variation by the smoothed RTT before it
+-- a later sample: rttvar by the smoothed RTT before it
 abbrev pub next_sample : Estimate → ℕ → ℕ → Estimate
-next_sample r latest delay =
-    let least = min r.min latest in
-    let sample = adjusted least latest delay in
+next_sample r latest_rtt ack_delay =
+    let min_rtt = min r.min_rtt latest_rtt in
+    let adjusted_rtt = adjusted min_rtt latest_rtt ack_delay in
     record {
-      latest = latest;
-      min = least;
-      smoothed = (7 * r.smoothed + sample) / 8;
-      var = (3 * r.var + distance r.smoothed sample) / 4;
-      first = r.first;
+      latest_rtt = latest_rtt;
+      min_rtt = min_rtt;
+      smoothed_rtt = (7 * r.smoothed_rtt + adjusted_rtt) / 8;
+      rttvar = (3 * r.rttvar + distance r.smoothed_rtt adjusted_rtt) / 4;
+      first_rtt_sample = r.first_rtt_sample;
     }
 
 abbrev pub sampled_by : Option ℕ → Estimate → ℕ → ℕ → ℕ → Estimate
-sampled_by None r latest delay now = first_sample latest now
-sampled_by (Some first) r latest delay now = next_sample r latest delay
+sampled_by None r latest_rtt ack_delay now = first_sample latest_rtt now
+sampled_by (Some first) r latest_rtt ack_delay now = next_sample r latest_rtt ack_delay
 
 -- one sample more, the first or a later one
 abbrev pub sampled : Estimate → ℕ → ℕ → ℕ → Estimate
-sampled r latest delay now = sampled_by r.first r latest delay now
+sampled r latest_rtt ack_delay now = sampled_by r.first_rtt_sample r latest_rtt ack_delay now
 
 abbrev pub updated : Estimate → Option Sample → Estimate
 updated r None = r
-updated r (Some s) = sampled r s.latest s.delay s.time
+updated r (Some s) = sampled r s.latest_rtt s.ack_delay s.time
 
 -- the estimate after a history
 abbrev pub rtt : Settings → List Event → Estimate
@@ -90,8 +97,8 @@ rtt c (e ∷ before) = updated (rtt c before) (sample_of c (e ∷ before))
 
 -- the probe timeout before the peer's delay and the backoff (RFC 9002, section 6.2.1)
 abbrev pub pto_base : Estimate → ℕ
-pto_base r = r.smoothed + max (4 * r.var) 1000
+pto_base r = r.smoothed_rtt + max (4 * r.rttvar) granularity
 
 -- the duration of persistent congestion (RFC 9002, section 7.6.1)
 abbrev pub persistent_after : Estimate → ℕ → ℕ
-persistent_after r max_ack_delay = 3 * (pto_base r + max_ack_delay)
+persistent_after r max_ack_delay = persistent_congestion_threshold * (pto_base r + max_ack_delay)

@@ -12,12 +12,12 @@ abbrev pub totals : Settings → List Event → Totals
 totals c h = record {
   events = length h;
   window = (reno c h).window;
-  ssthresh = (reno c h).threshold;
+  ssthresh = (reno c h).ssthresh;
   bytes_in_flight = bytes_in_flight c h;
-  latest = (rtt c h).latest;
-  min = (rtt c h).min;
-  smoothed = (rtt c h).smoothed;
-  var = (rtt c h).var;
+  latest_rtt = (rtt c h).latest_rtt;
+  min_rtt = (rtt c h).min_rtt;
+  smoothed_rtt = (rtt c h).smoothed_rtt;
+  rttvar = (rtt c h).rttvar;
   pto_count = backoff c h;
   owed = length (owed c h);
 }

@@ -1,5 +1,5 @@
 -- The loss detection timer (RFC 9002, section 6.2, A.8).
-use Rattle.std.specs.Prelude.{ℕ, ◌+◌, ◌*◌, ◌/◌, ◌^◌, ◌&&◌, nat_le, nat_lt, min, max, count_by, Bool, true, false, List, [], ◌∷◌, filter, find, map, unwrap_or, Option, Some, None, option_map, option_and_then, if◌then◌else◌}
+use Rattle.std.specs.Prelude.{ℕ, ◌+◌, ◌-◌, ◌*◌, ◌/◌, ◌^◌, ◌&&◌, nat_le, nat_lt, min, max, count_by, Bool, true, false, List, [], ◌∷◌, filter, find, map, unwrap_or, Option, Some, None, option_map, option_and_then, if◌then◌else◌}
 use Rattle.std.specs.List.{list_any}
 use Rattle.std.specs.Option.{option_or}
 use Rattle.qa_base.specs.declared.event.Event.{Event}
@@ -14,6 +14,7 @@ use Rattle.qa_base.specs.machine.Loss.{is_open}
 use Rattle.qa_base.specs.machine.Moments.{moments, since}
 use Rattle.qa_base.specs.machine.Packets.{Packet, packets_of, acknowledges_new, largest_acknowledged}
 use Rattle.qa_base.specs.machine.Rtt.{Estimate, rtt, pto_base}
+use Rattle.qa_base.specs.values.Constants.{time_threshold_parts, time_threshold_divisor, granularity}
 use Rattle.qa_base.specs.values.Settings.{Settings}
 
 -- ---- the PTO count (section 6.2.1)
@@ -50,9 +51,13 @@ abbrev pub least_of : List ℕ → Option ℕ
 least_of [] = None
 least_of (n ∷ ns) = Some (min n (unwrap_or (least_of ns) n))
 
--- the least delay d with 8 * d at least 9 times the RTT, and d at least the granularity (section 6.1.2)
+-- n / d, rounded up
+abbrev pub divided_up : ℕ → ℕ → ℕ
+divided_up n d = (n + (d - 1)) / d
+
+-- the time threshold of the RTT, rounded up, and the granularity at least (section 6.1.2)
 abbrev pub loss_delay : Estimate → ℕ
-loss_delay r = max ((9 * max r.latest r.smoothed + 7) / 8) 1000
+loss_delay r = max (divided_up (time_threshold_parts * max r.latest_rtt r.smoothed_rtt) time_threshold_divisor) granularity
 
 abbrev pub is_below_largest : ℕ → Option ℕ → Bool
 is_below_largest number None = false

@@ -3,6 +3,8 @@ use Rattle.std.specs.Prelude.{ℕ, ◌≤◌, ◌*◌, ◌||◌, min, max, nat_l
 use Rattle.qa_base.specs.declared.fault.Key.TheVariants as key
 use Rattle.qa_base.specs.declared.fault.RangeFault.{RangeFault}
 use Rattle.qa_base.specs.declared.space.Role.{Role}
+use Rattle.qa_base.specs.values.Constants.{default_initial_rtt, default_max_ack_delay, initial_window_datagrams, initial_window_bytes, minimum_window}
+use Rattle.qa_base.specs.values.Limits.{max_packet_size, least_datagram_size, greatest_max_ack_delay, greatest_initial_rtt, greatest_initial_window}
 
 -- a sender's role and the parameters of its connection: sizes and the window in bytes, times in microseconds
 pub record Settings : Type 0 where
@@ -14,17 +16,17 @@ pub record Settings : Type 0 where
 
 -- each value is in its range
 pub record AreInRange (s : Settings) : Type 0 where
-  pub datagram_low : 1200 ≤ s.max_datagram_size
-  pub datagram_high : s.max_datagram_size ≤ 65527
-  pub delay_high : s.max_ack_delay ≤ 16383000
+  pub datagram_low : least_datagram_size ≤ s.max_datagram_size
+  pub datagram_high : s.max_datagram_size ≤ max_packet_size
+  pub delay_high : s.max_ack_delay ≤ greatest_max_ack_delay
   pub rtt_low : 1 ≤ s.initial_rtt
-  pub rtt_high : s.initial_rtt ≤ 1000000000
-  pub window_low : 2 * s.max_datagram_size ≤ s.initial_window
-  pub window_high : s.initial_window ≤ 4294967295
+  pub rtt_high : s.initial_rtt ≤ greatest_initial_rtt
+  pub window_low : minimum_window s.max_datagram_size ≤ s.initial_window
+  pub window_high : s.initial_window ≤ greatest_initial_window
 
 -- the window that a sender begins with (RFC 9002, section 7.2)
 abbrev pub default_window : ℕ → ℕ
-default_window datagram = min (10 * datagram) (max (2 * datagram) 14720)
+default_window max_datagram_size = min (initial_window_datagrams * max_datagram_size) (max (2 * max_datagram_size) initial_window_bytes)
 
 -- n is not from lo to hi
 abbrev pub is_outside : ℕ → ℕ → ℕ → Bool
@@ -33,18 +35,18 @@ is_outside lo hi n = nat_lt n lo || nat_lt hi n
 -- these values, or the key of the first that is out of its range
 abbrev pub checked : Settings → Result Settings RangeFault
 checked s =
-    if is_outside 1200 65527 s.max_datagram_size then Err (record { 0 = key.MaxDatagramSize }) else
-    (if is_outside 0 16383000 s.max_ack_delay then Err (record { 0 = key.MaxAckDelay }) else
-    (if is_outside 1 1000000000 s.initial_rtt then Err (record { 0 = key.InitialRtt }) else
-    (if is_outside (2 * s.max_datagram_size) 4294967295 s.initial_window then Err (record { 0 = key.InitialWindow }) else
+    if is_outside least_datagram_size max_packet_size s.max_datagram_size then Err (record { 0 = key.MaxDatagramSize }) else
+    (if is_outside 0 greatest_max_ack_delay s.max_ack_delay then Err (record { 0 = key.MaxAckDelay }) else
+    (if is_outside 1 greatest_initial_rtt s.initial_rtt then Err (record { 0 = key.InitialRtt }) else
+    (if is_outside (minimum_window s.max_datagram_size) greatest_initial_window s.initial_window then Err (record { 0 = key.InitialWindow }) else
     Ok s)))
 
 -- these values, with the default for each that is absent
 abbrev pub settings_of : Role → ℕ → Option ℕ → Option ℕ → Option ℕ → Result Settings RangeFault
-settings_of role datagram delay rtt window = checked (record {
+settings_of role max_datagram_size max_ack_delay initial_rtt initial_window = checked (record {
   role = role;
-  max_datagram_size = datagram;
-  max_ack_delay = unwrap_or delay 25000;
-  initial_rtt = unwrap_or rtt 333000;
-  initial_window = unwrap_or window (default_window datagram);
+  max_datagram_size = max_datagram_size;
+  max_ack_delay = unwrap_or max_ack_delay default_max_ack_delay;
+  initial_rtt = unwrap_or initial_rtt default_initial_rtt;
+  initial_window = unwrap_or initial_window (default_window max_datagram_size);
 })

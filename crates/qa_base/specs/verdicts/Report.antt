@@ -41,23 +41,23 @@ verdict_text (Unreadable n f t) = place_text (codes "unreadable") n ++ fault_tex
 unfoldable pub number_line : List ℕ → ℕ → List ℕ
 number_line name n = name ++ codes " " ++ decimal n ++ codes "\n"
 
-unfoldable pub threshold_line : Option ℕ → List ℕ
-threshold_line None = codes "ssthresh none\n"
-threshold_line (Some n) = number_line (codes "ssthresh") n
+unfoldable pub ssthresh_line : Option ℕ → List ℕ
+ssthresh_line None = codes "ssthresh none\n"
+ssthresh_line (Some n) = number_line (codes "ssthresh") n
 
 unfoldable pub bytes_text : Totals → List ℕ
 bytes_text t =
     number_line (codes "events") t.events
     ++ number_line (codes "window") t.window
-    ++ threshold_line t.ssthresh
+    ++ ssthresh_line t.ssthresh
     ++ number_line (codes "bytes_in_flight") t.bytes_in_flight
 
 unfoldable pub times_text : Totals → List ℕ
 times_text t =
-    number_line (codes "latest_rtt") t.latest
-    ++ number_line (codes "min_rtt") t.min
-    ++ number_line (codes "smoothed_rtt") t.smoothed
-    ++ number_line (codes "rttvar") t.var
+    number_line (codes "latest_rtt") t.latest_rtt
+    ++ number_line (codes "min_rtt") t.min_rtt
+    ++ number_line (codes "smoothed_rtt") t.smoothed_rtt
+    ++ number_line (codes "rttvar") t.rttvar
     ++ number_line (codes "pto_count") t.pto_count
     ++ number_line (codes "owed") t.owed
 

@@ -7,5 +7,5 @@ pub returns : goal.returns
 unfolding bytes_text
 returns c =
     on_ok_weaker c.push_number_line-3.result
-    (four_appends _ _ _ _ _ c.in_ok-push_number_line.ensures c.in_ok-push_number_line-2.ensures c.in_ok-push_threshold.ensures)
+    (four_appends _ _ _ _ _ c.in_ok-push_number_line.ensures c.in_ok-push_number_line-2.ensures c.in_ok-push_ssthresh.ensures)
     c.push_number_line-3.ensures

@@ -1,4 +1,4 @@
--- What one call does to a device's count of failures.
+-- What one call does to the count of failures of a reader or a writer.
 use Rattle.std.specs.Prelude.{ℕ, ◌+◌, ◌%◌, ◌^◌, ◌&&◌, ◌==◌, nat_lt, Bool, true, false, List, length, Result, Ok, Err}
 
 -- the count after a call, which failed or not; it wraps at 2^64
@@ -6,12 +6,12 @@ abbrev pub failures_after : Bool → ℕ → ℕ
 failures_after true n = (n + 1) % (2 ^ 64)
 failures_after false n = n
 
--- a read failed: it answered an error
+-- a read failed: it returned an error
 abbrev pub read_failed : {E : Type 0} → Result ℕ E → Bool
 read_failed (Ok n) = false
 read_failed (Err e) = true
 
--- a write failed: it answered an error, or took nothing of a piece that is not empty
+-- a write failed: it returned an error, or took nothing of a piece that is not empty
 abbrev pub write_failed : {E : Type 0} → Result ℕ E → List ℕ → Bool
 write_failed (Ok n) piece = n == 0 && nat_lt 0 (length piece)
 write_failed (Err e) piece = true

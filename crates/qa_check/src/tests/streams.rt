@@ -1,17 +1,17 @@
-//! Devices that give and take little at a call, and fail once.
+//! Readers and writers that move few bytes a call, and fail once.
 ghost use Rattle.std.specs.Prelude.{◌≡◌, None};
 
 use super::{audited, report_of, sent, trace_of};
 use crate::auditing::{AuditFault, Outcome, audit};
-use crate::device::{Metered, Sink, Source};
+use crate::streams::{Metered, Sink, Source};
 use std::io;
 use std::io::{ErrorKind, Read, Write};
 use std::test::Fail;
 
-/// The call of a device that never comes.
+/// A call that never comes.
 const NEVER: u64 = u64::MAX;
 
-/// A device over memory: it moves at most so many bytes a call, fails once at the call of that
+/// A reader or a writer over memory: it moves at most so many bytes a call, fails once at the call of that
 /// number, counted from 0, and goes on afterwards.
 #[derive(Drop)]
 struct Faulty<T> {
@@ -33,7 +33,7 @@ impl<T> Faulty<T> {
         }
     }
 
-    /// Counts a call, and answers whether it is to fail.
+    /// Counts a call, and returns whether it is to fail.
     fn is_to_fail(&mut self) -> bool
         ensures { self.new.failures ≡ self.old.failures }
     {
@@ -107,7 +107,7 @@ fn a_write_fails(rt: HostRuntime) -> Result<(), Fail> {
 }
 
 #[test]
-fn a_sink_takes_no_more(rt: HostRuntime) -> Result<(), Fail> {
+fn a_writer_takes_no_more(rt: HostRuntime) -> Result<(), Fail> {
     let trace = trace_of(rt.alloc(), 0)?;
     let report = report_of(rt.alloc(), "accepted", 0, 0)?;
     let mut room = [0u8; 100];

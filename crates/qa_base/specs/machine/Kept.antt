@@ -22,8 +22,8 @@ count_from None ps = 0
 count_from (Some place) ps = count_by (λ p. nat_le place p.place) ps
 
 -- how many packets of all spaces were sent since then, that one counted
-abbrev pub span : Settings → List Event → ℕ
-span c h = count_from (oldest_kept c h) (packets h)
+abbrev pub kept_count : Settings → List Event → ℕ
+kept_count c h = count_from (oldest_kept c h) (packets h)
 
 abbrev pub numbers_of : List Event → Space → List ℕ
 numbers_of h s = map (λ p. p.number) (packets_of h s)

@@ -1,24 +1,24 @@
-//! What a trace is read from and a report is written to.
+//! The reader of a trace and the writer of a report.
 ghost use Rattle.std.specs.Prelude.{◌≡◌, ◌≤◌, ℕ, List, Option, IfOk, length};
 ghost use Rattle.std.specs.Io.KnownBytes.{ReadConsumes, WriteAppends};
-ghost use Rattle.qa_check.specs.Device.{failures_after, read_failed, write_failed};
+ghost use Rattle.qa_check.specs.Failures.{failures_after, read_failed, write_failed};
 
 use std::io;
 use std::io::{Read, Write};
 use std::marker::Model;
 
-/// Gives the bytes of a trace, a piece at a time, and counts its failures.
+/// A reader: returns the bytes of a trace, a piece at a time, and counts its failures.
 ///
-/// A failure is an error that was answered. It gives no byte, and adds one to the count, which
+/// A failure is an error that was returned. It reads no byte, and adds one to the count, which
 /// wraps at 2^64. Every other call leaves the count.
 pub trait Source {
-    // The bytes that are left to be read, where the source tells them.
+    // The bytes that are left to be read, where the reader tells them.
     ghost left: { Self → Option (List ℕ) };
 
     // The count of failures.
     ghost read_failures: { Self → ℕ };
 
-    /// Puts the next bytes at the front of `piece`, and answers how many: at most its length, and
+    /// Puts the next bytes at the front of `piece`, and returns how many: at most its length, and
     /// where the bytes are told, 0 for a piece that is not empty only at their end.
     fn read_piece(&mut self, piece: &mut [u8]) -> io::Result<usize>
         ensures bound { IfOk result (λ n. n ≤ length piece.new) }
@@ -26,18 +26,18 @@ pub trait Source {
         ensures failures { read_failures self.new ≡ failures_after (read_failed result) (read_failures self.old) };
 }
 
-/// Takes the bytes of a report, a piece at a time, and counts its failures.
+/// A writer: takes the bytes of a report, a piece at a time, and counts its failures.
 ///
-/// A failure is an error that was answered, or 0 for a piece that is not empty. It takes no byte,
+/// A failure is an error that was returned, or 0 for a piece that is not empty. It takes no byte,
 /// and adds one to the count, which wraps at 2^64. Every other call leaves the count.
 pub trait Sink {
-    // The bytes that were put so far, where the sink tells them.
+    // The bytes that were written so far, where the writer tells them.
     ghost held: { Self → Option (List ℕ) };
 
     // The count of failures.
     ghost write_failures: { Self → ℕ };
 
-    /// Takes bytes from the front of `piece`, and answers how many: at most its length.
+    /// Takes bytes from the front of `piece`, and returns how many: at most its length.
     fn write_piece(&mut self, piece: &[u8]) -> io::Result<usize>
         ensures bound { IfOk result (λ n. n ≤ length piece.now) }
         ensures bytes { WriteAppends (held self.old) (held self.new) result piece.now }
@@ -46,7 +46,8 @@ pub trait Sink {
 
 /// A reader or a writer of std as a `Source` or a `Sink`.
 ///
-/// Over memory it tells its bytes. A `Vec` that finds no memory fails as a sink.
+/// Over memory it tells its bytes; a standard stream tells none. A `Vec` that is out of memory
+/// fails as a writer.
 #[derive(Drop)]
 pub struct Metered<T> {
     inner: T,
@@ -62,7 +63,7 @@ impl<T> Model for Metered<T> {
 }
 
 impl<T> Metered<T> {
-    /// The device over this reader or writer, with no failure so far. Takes no memory.
+    /// This reader or writer, with no failure so far. Takes no memory.
     pub fn new(inner: T) -> Metered<T>
         ensures { result ≡ (inner, 0) }
     {
