@@ -1,8 +1,8 @@
-//! A test of the audit: audits the trace on standard input as `qaudit check` does, but by a source
-//! that gives one byte a call and a sink that takes one byte a call.
+//! A test of the audit: audits the trace on standard input as `qaudit check` does, but by a reader
+//! that returns one byte a call and a writer that takes one byte a call.
 //!
 //! The traces of the conformance corpus are run through it too, so that no report depends on how
-//! reads and writes are cut. It takes no notice of its words, and ends with the status of `qaudit`.
+//! reads and writes are cut. It ignores its arguments, and ends with the status of `qaudit`.
 #![tactic(auto)]
 
 ghost use Rattle.std.specs.Prelude.{None};
@@ -11,7 +11,7 @@ use qa_check::{Metered, Outcome, Sink, Source, audit};
 use std::io;
 use std::process::ExitCode;
 
-/// A device that moves at most one byte a call.
+/// A reader or a writer that moves at most one byte a call.
 #[derive(Drop)]
 struct OneByte<T> {
     inner: T,
@@ -20,7 +20,7 @@ struct OneByte<T> {
 impl<T: Source> Source for OneByte<T> {
     ghost left = { λ _. None };
 
-    ghost read_failures = { λ device. T.Source.read_failures device.inner };
+    ghost read_failures = { λ one. T.Source.read_failures one.inner };
 
     fn read_piece(&mut self, piece: &mut [u8]) -> io::Result<usize> {
         let most = piece.len().min(1);
@@ -31,7 +31,7 @@ impl<T: Source> Source for OneByte<T> {
 impl<T: Sink> Sink for OneByte<T> {
     ghost held = { λ _. None };
 
-    ghost write_failures = { λ device. T.Sink.write_failures device.inner };
+    ghost write_failures = { λ one. T.Sink.write_failures one.inner };
 
     fn write_piece(&mut self, piece: &[u8]) -> io::Result<usize> {
         let most = piece.len().min(1);

@@ -31,7 +31,7 @@ impl Key {
     ghost use Rattle.std.specs.Prelude.{◌≡◌};
     ghost use Rattle.qa_base.specs.values.Names.{key_name};
 
-    /// The key's text.
+    /// The key as it is written in a line.
     pub fn name(self) -> &'static str
         ensures { result.now ≡ key_name self }
     {
@@ -72,7 +72,7 @@ pub enum Fault {
     WrongKind(Key),
     /// F5: a key's value is outside its values.
     OutOfRange(Key),
-    /// F6: the text at `event` names no event.
+    /// F6: the string at `event` names no event.
     UnknownEvent,
     /// F7: the first line that is not blank is no header, a later one is, or there is none.
     HeaderPlace,

@@ -30,7 +30,7 @@ pub fn fixed_stays()
     ensures { (reading : Reading) (f g : List ℕ) → IsFixed reading f → verdict reading (f ++ g) ≡ verdict reading f }
 {}
 
-/// The reading of headers, sent packets and reports gives no other event, and those that it gives fit.
+/// The reading of headers, sent packets and reports returns no other event, and those that it returns fit.
 pub fn sends_alone()
     ensures { (l : List ℕ) (e : Event) → sends l ≡ Ok (line.Event e) → (is_sent_or_report e ≡ true) × (fits e ≡ true) }
 {}

@@ -5,7 +5,7 @@ ghost use Rattle.qa_base.specs.values.Limits.{max_time, max_packet_number, in_ra
 use std::alloc::{AllocError, Global};
 use std::marker::Model;
 
-/// A time or a span of time in whole microseconds, from 0 to 10^15 (some 31 years).
+/// A time or a span of time in whole microseconds, from 0 to 10^15 (about 31 years).
 #[derive(Clone, Copy, Debug, PartialEq, Eq, PartialOrd, Ord)]
 pub struct Micros {
     value: u64,
@@ -139,7 +139,7 @@ impl Span {
     }
 }
 
-/// A list of spans in the order in which a line gives them; they may overlap and stand in any order.
+/// A list of spans in the order in which they stand on a line; they may overlap and stand in any order.
 ///
 /// It stands for a `Vec<Span>` in an event: contracts see it as the list of its pairs, so that an
 /// equal list of spans is an equal value.
@@ -189,7 +189,7 @@ impl Spans {
         }
     }
 
-    /// Puts a span at the end. Where memory is refused the list stays as it was.
+    /// Puts a span at the end. `AllocError` comes where it is out of memory, and leaves the list as it was.
     pub fn push(&mut self, span: Span) -> Result<(), AllocError>
         ensures ok { OnOk result (self.new ≡ self.old ++ span ∷ []) }
         ensures err { OnErr result (self.new ≡ self.old) }

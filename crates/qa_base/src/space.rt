@@ -1,4 +1,4 @@
-//! The small choices that a trace's lines name by a text.
+//! The small choices that a line of a trace names by a string.
 ghost use Rattle.std.specs.Prelude.{◌≡◌};
 ghost use Rattle.qa_base.specs.values.Names.{role_name, role_named, space_name, space_named, leave_name, leave_named, kind_name, kind_named};
 
@@ -10,7 +10,7 @@ pub enum Role {
 }
 
 impl Role {
-    /// The role of this name: `client` or `server`; None for any other text.
+    /// The role of this name: `client` or `server`; None for any other string.
     pub fn named(text: &str) -> Option<Role>
         ensures { result ≡ role_named text.now }
     {
@@ -41,7 +41,7 @@ pub enum Space {
 }
 
 impl Space {
-    /// The space of this name: `initial`, `handshake` or `app`; None for any other text.
+    /// The space of this name: `initial`, `handshake` or `app`; None for any other string.
     pub fn named(text: &str) -> Option<Space>
         ensures { result ≡ space_named text.now }
     {
@@ -75,7 +75,7 @@ pub enum Leave {
 }
 
 impl Leave {
-    /// The mark of this name: `window`, `probe` or `recovery`; None for any other text.
+    /// The mark of this name: `window`, `probe` or `recovery`; None for any other string.
     pub fn named(text: &str) -> Option<Leave>
         ensures { result ≡ leave_named text.now }
     {
@@ -108,7 +108,7 @@ pub enum Kind {
 }
 
 impl Kind {
-    /// The kind of this name: `loss` or `pto`; None for any other text.
+    /// The kind of this name: `loss` or `pto`; None for any other string.
     pub fn named(text: &str) -> Option<Kind>
         ensures { result ≡ kind_named text.now }
     {

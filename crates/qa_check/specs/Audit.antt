@@ -37,7 +37,7 @@ JudgesRead old new v = (bytes : List ℕ) × ReadsEnough old new bytes × (v ≡
 
 -- ---- writing
 
--- the report of the bytes was written, and the kind of their verdict is told
+-- the report of the bytes was written, and the kind of their verdict is returned
 abbrev pub Reports : Option (List ℕ) → Option (List ℕ) → Outcome → List ℕ → Type 0
 Reports held held' outcome bytes = Appends held held' (report (verdict reading bytes)) × (outcome ≡ outcome_of (verdict reading bytes))
 

@@ -114,11 +114,11 @@ fn judged<R: Source>(alloc: Global, reader: &mut R) -> Result<Verdict, AuditFaul
             return Ok(verdict);
         }
     }
-    // A line more than a trace may have is not good, so that a reader without end is left before.
+    // A line more than a trace may have is not good, so that a reader without end is not read to here.
     unreachable!()
 }
 
-/// Takes the next piece, and gives the verdict where nothing behind it counts.
+/// Takes the next piece, and returns the verdict where nothing behind it counts.
 fn take_piece(
     splitter: &mut Splitter,
     checker: &mut Checker,

@@ -50,8 +50,8 @@ impl Reno {
     /// section 7.3.2, B.6). `max_datagram_size` is 1200 to 65527 bytes.
     ///
     /// Where that packet was sent after recovery began, or there is no recovery, this enters
-    /// recovery and answers true: the threshold is half the window, and the window is that, but at
-    /// least two datagrams. Else nothing changes and the answer is false.
+    /// recovery and returns true: `ssthresh` is half the window, and the window is that, but at
+    /// least two datagrams. Else nothing changes and it returns false.
     pub fn hit(&mut self, last_sent: Micros, now: Micros, max_datagram_size: u64) -> bool
         requires datagram_low { least_datagram_size ≤ max_datagram_size }
         requires datagram_high { max_datagram_size ≤ max_packet_size }

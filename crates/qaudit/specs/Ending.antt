@@ -13,7 +13,7 @@ status_of (Ok Unreadable) = 2
 status_of (Err e) = 3
 
 -- the line on standard error
-abbrev pub complaint_of : AuditFault → List ℕ
-complaint_of Read = codes "qaudit: read fault: standard input"
-complaint_of Write = codes "qaudit: write fault"
-complaint_of OutOfMemory = codes "qaudit: out of memory"
+abbrev pub message_of : AuditFault → List ℕ
+message_of Read = codes "qaudit: read fault: standard input"
+message_of Write = codes "qaudit: write fault"
+message_of OutOfMemory = codes "qaudit: out of memory"

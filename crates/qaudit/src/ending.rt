@@ -1,10 +1,11 @@
 //! How the program ends.
 ghost use Rattle.std.specs.Prelude.{◌≡◌};
-ghost use Rattle.qaudit.specs.Ending.{complaint_of, status_of};
+ghost use Rattle.qaudit.specs.Ending.{message_of, status_of};
 
 use qa_check::{AuditFault, Outcome};
 
-/// The exit status of an audit: 0 accepted, 1 refused, 2 unreadable, 3 where a device failed or memory was refused.
+/// The exit status of an audit: 0 accepted, 1 refused, 2 unreadable, 3 where a stream failed or it
+/// was out of memory.
 pub fn status(ended: &Result<Outcome, AuditFault>) -> u8
     ensures { result ≡ status_of ended.now }
 {
@@ -16,9 +17,9 @@ pub fn status(ended: &Result<Outcome, AuditFault>) -> u8
     }
 }
 
-/// The line that standard error gets for a fault.
-pub fn complaint(fault: AuditFault) -> &'static str
-    ensures { result.now ≡ complaint_of fault }
+/// The line on standard error for a fault.
+pub fn message(fault: AuditFault) -> &'static str
+    ensures { result.now ≡ message_of fault }
 {
     match fault {
         AuditFault::Read => "qaudit: read fault: standard input",

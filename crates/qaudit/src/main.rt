@@ -1,24 +1,24 @@
 //! The program `qaudit check`: audits the trace on standard input, and writes the report to standard output.
 #![tactic(auto)]
 
+mod arguments;
 mod ending;
 #[cfg(test)]
 mod tests;
-mod words;
 
-use crate::ending::{complaint, status};
-use crate::words::{Words, read_words};
+use crate::arguments::{Arguments, read_arguments};
+use crate::ending::{message, status};
 use qa_check::{Metered, audit};
 use std::process::ExitCode;
 
 fn main(rt: HostRuntime) -> ExitCode {
-    match read_words(&rt) {
-        Words::Check => {}
-        Words::Refused => {
+    match read_arguments(&rt) {
+        Arguments::Check => {}
+        Arguments::Refused => {
             let _ = eprintln!(rt; "usage: qaudit check");
             return ExitCode::from(64);
         }
-        Words::OutOfMemory => {
+        Arguments::OutOfMemory => {
             let _ = eprintln!(rt; "qaudit: out of memory");
             return ExitCode::from(3);
         }
@@ -28,7 +28,7 @@ fn main(rt: HostRuntime) -> ExitCode {
     let ended = audit(rt.alloc(), &mut reader, &mut writer);
     if let Err(fault) = &ended {
         // A failure of standard error changes nothing.
-        let _ = eprintln!(rt; "{}", complaint(*fault));
+        let _ = eprintln!(rt; "{}", message(*fault));
     }
     ExitCode::from(status(&ended))
 }

@@ -1,5 +1,5 @@
-//! Exit statuses and complaints, from outside.
-use crate::ending::{complaint, status};
+//! Exit statuses and messages, as docs/format.md has them.
+use crate::ending::{message, status};
 use qa_check::{AuditFault, Outcome};
 
 #[test]
@@ -17,12 +17,12 @@ fn statuses(rt: HostRuntime) {
 }
 
 #[test]
-fn complaints(rt: HostRuntime) {
+fn messages(rt: HostRuntime) {
     for (fault, wanted) in [
         (AuditFault::Read, "qaudit: read fault: standard input"),
         (AuditFault::Write, "qaudit: write fault"),
         (AuditFault::OutOfMemory, "qaudit: out of memory"),
     ] {
-        assert_eq!(rt; complaint(fault), wanted);
+        assert_eq!(rt; message(fault), wanted);
     }
 }

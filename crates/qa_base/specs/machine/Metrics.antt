@@ -1,4 +1,4 @@
--- What a sender reports of its own state, held against the machine's.
+-- What a sender reports of its own state, compared with the machine's.
 use Rattle.std.specs.Prelude.{ℕ, ◌==◌, not, Bool, true, false, List, [], ◌∷◌, map, Option, Some, None}
 use Rattle.qa_base.specs.declared.event.Event.{Event}
 use Rattle.qa_base.specs.declared.event.Event.TheVariants.{Metrics}

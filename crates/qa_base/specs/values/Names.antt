@@ -1,4 +1,4 @@
--- The names and numbers of keys, fields, choices, rules and faults, and what a text names.
+-- The names and numbers of keys, fields, choices, rules and faults, and what a string names.
 use Rattle.std.specs.Prelude.{ℕ, List, [], ◌∷◌, codes, bytes_eq, Option, Some, None, if◌then◌else◌}
 use Rattle.qa_base.specs.declared.fault.Key.{Key}
 use Rattle.qa_base.specs.declared.fault.Key.TheVariants as key
@@ -69,9 +69,9 @@ abbrev pub kind_name : Kind → List ℕ
 kind_name Loss = codes "loss"
 kind_name Pto = codes "pto"
 
--- ---- what a text names
+-- ---- what a string names
 
--- what stands beside the first of these words that the text is
+-- what stands beside the first of these names that the string is
 abbrev pub named : {A : Type 0} → List (List ℕ × A) → List ℕ → Option A
 named [] text = None
 named (word ∷ words) text = if bytes_eq text word.0 then Some word.1 else named words text
