@@ -25,7 +25,7 @@ LEFT_OUT = "left out"
 # Values of a wrong kind.
 
 NOT_INTEGER = (
-    "-1", "5.0", "0.0", "0.5", "1.0", "2.0", "1200.0", "1e3", "1E0", "1.2e3", "5e-1", "-0", "-0.0", "-5.0",
+    "-1", "5.0", "0.0", "0.5", "1.0", "2.0", "1200.0", "1e3", "1E0", "12e2", "1.2e3", "5e-1", "-0", "-0.0", "-5.0",
     "18446744073709551616", "18446744073709551615.0", "-9223372036854775808", "-9223372036854775809",
     "100000000000000000000000000000", "1e308", "1e-400", '"5"', '"1"', '""', '"none"', "[5]", "[]", "{}", "true", "false",
 )
@@ -51,7 +51,8 @@ NOT_RANGES = (
     "[[3.0,3]]", "[[3,3.0]]", "[[3,4.0]]", "[[0.5,3]]", "[[1e3,1000]]", "[[0,1e3]]", "[[-1,3]]", "[[3,-1]]", "[[-0,3]]",
     "[[0,-0]]", '[["3",3]]', '[[3,"3"]]', "[[null,3]]", "[[3,null]]", "[[null,null]]", "[[true,3]]", "[[3,false]]",
     "[[[3],3]]", "[[3,[3]]]", "[[3,{}]]", "[[{},3]]", "[[18446744073709551616,3]]", "[[3,18446744073709551616]]",
-    "[[0,100000000000000000000000000000]]", "[[3,3],[3,3.0]]", "[[3,3],[-1,3],[3,3]]",
+    "[[18446744073709551616,0]]", "[[0,18446744073709551616]]", "[[0,100000000000000000000000000000]]",
+    "[[3,3],[3,3.0]]", "[[3,3],[3,-1]]", "[[3,3],[-1,3],[3,3]]", "[[3,3],[3.0,3],[3,3]]",
 )
 
 # Integers and strings that are out of range.
@@ -258,8 +259,8 @@ def written(kind, members):
 def good_lines(kind):
     """Lines as lists of members, all of them good: values at their edges, and keys that are absent."""
     table = TABLES[kind]
-    for at in (0, -1):
-        yield changed(kind, {key.name: key.good[at] for key in table})
+    for at in (0, 1, -1):
+        yield changed(kind, {key.name: key.good[at % len(key.good)] for key in table})
     for key in table:
         for value in key.good:
             yield changed(kind, {key.name: value})
@@ -296,8 +297,9 @@ def cases_of(kind):
         yield f"{{{member},{short[1:]}", said
         yield f"{short[:-1]},{member}}}", said
 
-    for end in range(1, len(short)):
-        yield short[:end], "F1 not-json"
+    whole = object_text(usual(kind))
+    for end in range(1, len(whole)):
+        yield whole[:end], "F1 not-json"
     for member in NOT_JSON:
         yield f"{short[:-1]},{member}}}", "F1 not-json"
     yield short + short, "F1 not-json"
