@@ -7,6 +7,8 @@ DESTDIR ?=
 program := crates/qaudit/out/qaudit
 # The same audit by devices that move one byte a call, a test of it.
 one_byte := crates/one_byte/out/one_byte
+# The reader of lines by itself, a test of it.
+lines := crates/lines/out/lines
 example := examples/ten-packets.trace
 
 .PHONY: help build run test install clean
@@ -28,10 +30,13 @@ run: build
 test:
 	rt ci
 	python3 conformance/test_run.py
+	python3 conformance/lines/make.py --check
 	$(MAKE) --no-print-directory build
 	conformance/run $(program)
 	@cd crates/one_byte && rt run < stdin > /dev/null
 	conformance/run --traces $(one_byte)
+	@cd crates/lines && rt run < stdin > /dev/null
+	conformance/run --lines $(lines)
 
 install: build
 	install -d '$(DESTDIR)$(PREFIX)/bin'

@@ -38,40 +38,43 @@ whole = os.read(0, 4096) == {trace!r}
 os.write(1, {report!r} if whole else b"unreadable line 1 F1 not-json\\n")
 sys.exit(0 if whole else 2)
 """
+# Reads lines to the end of its input, and says of each how many bytes it has.
+SAYS_LENGTHS = """
+import sys
+for line in sys.stdin.buffer:
+    print(len(line.rstrip(b"\\n")))
+sys.stderr.write("{write}")
+sys.exit({status})
+"""
 USAGE_CASE = {
     "name": "no-words", "words": [], "input": {"file": ""}, "status": 64, "stdout": "", "stderr": "usage\n"
 }
 
 
-class RunnerTest(unittest.TestCase):
+class RunnerCase(unittest.TestCase):
+    """A runner of a part of the corpus, which begins as a corpus that a right program passes."""
+
+    part = ()
+
     def setUp(self):
         folder = tempfile.TemporaryDirectory()
         self.addCleanup(folder.cleanup)
         self.corpus = Path(folder.name)
-        (self.corpus / "traces").mkdir()
         self.program = self.corpus / "program"
-        self.write_program(self.honest())
-        self.write_trace("one", TRACE, REPORT)
-        self.write_cases([USAGE_CASE])
-
-    def honest(self, report=REPORT, status=0):
-        return HONEST.format(trace=TRACE, report=report, status=status)
 
     def write_program(self, body):
         self.program.write_text(f"#!{sys.executable}\n{body}")
         self.program.chmod(0o755)
 
-    def write_trace(self, name, trace, report):
-        for suffix, data in (("trace", trace), ("report", report)):
+    def write_files(self, folder, name, files):
+        """Writes the files of a case, by their suffixes; one without bytes is not there."""
+        for suffix, data in files.items():
             if data is not None:
-                (self.corpus / "traces" / f"{name}.{suffix}").write_bytes(data)
-
-    def write_cases(self, cases):
-        (self.corpus / "devices.json").write_text(json.dumps({"cases": cases}))
+                (self.corpus / folder / f"{name}.{suffix}").write_bytes(data)
 
     def lines(self, status):
         """Runs the runner, which must end with this status, and answers what it printed."""
-        command = [sys.executable, str(RUNNER), str(self.program), str(self.corpus)]
+        command = [sys.executable, str(RUNNER), *self.part, str(self.program), str(self.corpus)]
         ended = subprocess.run(command, capture_output=True, text=True, check=False)
         self.assertEqual(ended.stderr, "")
         self.assertEqual(ended.returncode, status, ended.stdout)
@@ -85,6 +88,24 @@ class RunnerTest(unittest.TestCase):
         *failures, last = self.lines(1)
         self.assertEqual([line.split(":")[0] for line in failures], [f"FAILED {name}" for name in names])
         self.assertTrue(last.endswith(f" passed, {len(names)} failed"), last)
+
+
+class AuditorTest(RunnerCase):
+    def setUp(self):
+        super().setUp()
+        (self.corpus / "traces").mkdir()
+        self.write_program(self.honest())
+        self.write_trace("one", TRACE, REPORT)
+        self.write_cases([USAGE_CASE])
+
+    def honest(self, report=REPORT, status=0):
+        return HONEST.format(trace=TRACE, report=report, status=status)
+
+    def write_trace(self, name, trace, report):
+        self.write_files("traces", name, {"trace": trace, "report": report})
+
+    def write_cases(self, cases):
+        (self.corpus / "devices.json").write_text(json.dumps({"cases": cases}))
 
     def test_right_program(self):
         self.assert_passes(3)
@@ -188,6 +209,90 @@ class RunnerTest(unittest.TestCase):
         case = {**USAGE_CASE, "status": 0, "stdout": "accepted\n", "stderr": ""}
         self.write_cases([{**case, "input": {"repeated": {"text": "ab", "times": 10**12}}, "seconds": 30}])
         self.assert_passes(3)
+
+
+class LinesTest(RunnerCase):
+    part = ("--lines",)
+
+    def setUp(self):
+        super().setUp()
+        (self.corpus / "lines").mkdir()
+        self.write_program(SAYS_LENGTHS.format(write="", status=0))
+        self.write_lines("one", b"a line\n\n\xff\n", b"6\n0\n1\n")
+
+    def write_lines(self, name, lines, said):
+        self.write_files("lines", name, {"lines": lines, "said": said})
+
+    def assert_fails_with(self, *failures):
+        """The one file fails in both its runs, and each has these words."""
+        *printed, last = self.lines(1)
+        self.assertEqual(printed, [
+            f"FAILED lines/one{run}: {'; '.join(failures)}" for run in ("", " byte by byte")
+        ])
+        self.assertEqual(last, "0 passed, 2 failed")
+
+    def test_right_program(self):
+        self.assert_passes(2)
+
+    def test_traces_are_not_run(self):
+        (self.corpus / "traces").mkdir()
+        self.write_files("traces", "one", {"trace": TRACE, "report": REPORT})
+        self.assert_passes(2)
+
+    def test_long_file_is_run_once(self):
+        self.write_lines("one", b" " * 4096 + b"\n", b"4096\n")
+        self.assert_passes(1)
+
+    def test_no_program(self):
+        self.program.unlink()
+        self.assert_fails(str(self.program))
+
+    def test_no_lines(self):
+        for path in (self.corpus / "lines").iterdir():
+            path.unlink()
+        self.assert_fails("lines")
+
+    def test_no_folder(self):
+        for path in (self.corpus / "lines").iterdir():
+            path.unlink()
+        (self.corpus / "lines").rmdir()
+        self.assert_fails("lines")
+
+    def test_lines_without_answers(self):
+        self.write_lines("two", b"a line\n", None)
+        self.assert_fails("lines/two")
+
+    def test_answers_without_lines(self):
+        self.write_lines("two", None, b"6\n")
+        self.assert_fails("lines/two")
+
+    def test_wrong_answer(self):
+        self.write_lines("one", b"a line\n\n\xff\n", b"6\n1\n2\n")
+        self.assert_fails_with("line 2 b'': b'0', wanted b'1'")
+
+    def test_answer_too_many(self):
+        self.write_lines("one", b"a line\n\n\xff\n", b"6\n0\n")
+        self.assert_fails_with("answers: 3, wanted 2", "line 3 b'\\xff': b'1', wanted b''")
+
+    def test_answer_too_few(self):
+        self.write_lines("one", b"a line\n", b"6\n0\n")
+        self.assert_fails_with("answers: 1, wanted 2", "line 2 b'': b'', wanted b'0'")
+
+    def test_last_answer_without_its_end(self):
+        self.write_lines("one", b"a line\n", b"6")
+        self.assert_fails_with("answers: 1, wanted 0", "line 2 b'': b'', wanted nothing")
+
+    def test_wrong_status(self):
+        self.write_program(SAYS_LENGTHS.format(write="", status=3))
+        self.assert_fails_with("status 3, wanted 0")
+
+    def test_text_on_standard_error(self):
+        self.write_program(SAYS_LENGTHS.format(write="noise", status=0))
+        self.assert_fails_with("standard error b'noise', wanted b''")
+
+    def test_program_that_reads_once(self):
+        self.write_program("import os\nfor line in os.read(0, 4096).splitlines(): print(len(line))")
+        self.assert_fails("lines/one byte by byte")
 
 
 if __name__ == "__main__":

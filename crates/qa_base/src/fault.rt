@@ -1,5 +1,6 @@
 //! Why a line of a trace cannot be read.
 use crate::rule::Field;
+use std::fmt;
 use thiserror::Error;
 
 /// A key of a line that is read.
@@ -134,7 +135,31 @@ impl Fault {
     {
         match self {
             Fault::Missing(key) | Fault::WrongKind(key) | Fault::OutOfRange(key) => Some(key),
-            _ => None,
+            Fault::NotJson
+            | Fault::NotObject
+            | Fault::UnknownEvent
+            | Fault::HeaderPlace
+            | Fault::LineTooLong
+            | Fault::FlagsClash
+            | Fault::Version
+            | Fault::TooManyLines => None,
+        }
+    }
+}
+
+/// The fault as a report has it: its number, its name, and the key that it is about.
+impl fmt::Display for Fault {
+    ghost use Rattle.std.specs.Prelude.{Some};
+    ghost use Rattle.qa_base.specs.verdicts.Report.{fault_text};
+
+    ghost output = { λ fault. Some (fault_text fault) };
+
+    #[tactic(auto, unfolding(crate::specs::verdicts::Report::fault_text))]
+    fn fmt<W: fmt::Write>(&self, f: &mut fmt::Formatter<W>) -> fmt::Result {
+        write!(f, "F{} {}", self.number(), self.name())?;
+        match self.key() {
+            Some(key) => write!(f, " {}", key.name()),
+            None => Ok(()),
         }
     }
 }

@@ -1,4 +1,5 @@
 //! The rules that an event can break.
+use std::fmt;
 
 /// A value that a sender reports, in the order in which reported values are compared.
 #[derive(Clone, Copy, Debug, PartialEq, Eq)]
@@ -131,7 +132,39 @@ impl Rule {
     {
         match self {
             Rule::Metric(field) => Some(field),
-            _ => None,
+            Rule::TimeBack
+            | Rule::LossOwed
+            | Rule::LossNotOwed
+            | Rule::LossSet
+            | Rule::SpaceGone
+            | Rule::NumberNotHigher
+            | Rule::PastWindow
+            | Rule::PastProbe
+            | Rule::PastRecovery
+            | Rule::AckUnsent
+            | Rule::TimerNotSet
+            | Rule::TimerOther
+            | Rule::TimerEarly
+            | Rule::ProbeOwed
+            | Rule::NotConfirmed
+            | Rule::OwedAtEnd => None,
+        }
+    }
+}
+
+/// The rule as a report has it: its number, its name, and the reported value that differs.
+impl fmt::Display for Rule {
+    ghost use Rattle.std.specs.Prelude.{Some};
+    ghost use Rattle.qa_base.specs.verdicts.Report.{rule_text};
+
+    ghost output = { λ rule. Some (rule_text rule) };
+
+    #[tactic(auto, unfolding(crate::specs::verdicts::Report::rule_text))]
+    fn fmt<W: fmt::Write>(&self, f: &mut fmt::Formatter<W>) -> fmt::Result {
+        write!(f, "V{} {}", self.number(), self.name())?;
+        match self.field() {
+            Some(field) => write!(f, " {}", field.name()),
+            None => Ok(()),
         }
     }
 }

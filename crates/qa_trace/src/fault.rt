@@ -10,7 +10,7 @@ use thiserror::Error;
 #[derive(Clone, Copy, Debug, PartialEq, Eq, Error)]
 pub enum LineFault {
     /// The line has this fault, F1 to F6, F9 or F10.
-    #[error("{}", .0.name())]
+    #[error("{0}")]
     Fault(Fault),
     /// Memory was refused.
     #[error("out of memory")]

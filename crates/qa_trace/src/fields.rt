@@ -37,7 +37,15 @@ fn stage(fault: Fault) -> u8
     match fault {
         Fault::Missing(_) => 0,
         Fault::WrongKind(_) => 1,
-        _ => 2,
+        Fault::OutOfRange(_)
+        | Fault::NotJson
+        | Fault::NotObject
+        | Fault::UnknownEvent
+        | Fault::HeaderPlace
+        | Fault::LineTooLong
+        | Fault::FlagsClash
+        | Fault::Version
+        | Fault::TooManyLines => 2,
     }
 }
 
