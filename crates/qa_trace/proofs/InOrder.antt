@@ -8,7 +8,7 @@ use Rattle.qa_base.specs.declared.fault.Key.{Key}
 use Rattle.qa_base.specs.declared.fault.Key.TheVariants as key
 use Rattle.qa_base.specs.declared.rule.Field.{Field}
 use Rattle.qa_base.specs.values.Names.{key_name}
-use Rattle.qa_base.specs.format.Written.{Pairs, members, reported, whole}
+use Rattle.qa_base.specs.format.Written.{Pairs, members, reported, integer}
 
 -- the text comes before the other, in the order of their bytes
 abbrev pub IsBefore : List ℕ → List ℕ → Type 0
@@ -50,11 +50,11 @@ holds_put {last} {pairs} {old} new k d holds later is =
 
 -- and so is a value that is reported
 pub holds_reported : {last : List ℕ} {pairs : Pairs} {old : Members} (new : Members) (f : Field) (o : Option ℕ)
-    → Holds last pairs old → IsBefore last (key_name (key.Metric f)) → MatchOption o (new ≡ old) (λ n. new ≡ put (key_name (key.Metric f)) (whole n) old)
+    → Holds last pairs old → IsBefore last (key_name (key.Metric f)) → MatchOption o (new ≡ old) (λ n. new ≡ put (key_name (key.Metric f)) (integer n) old)
     → Holds (key_name (key.Metric f)) (pairs ++ reported f o) new
 holds_reported {last} {pairs} {old} new f None holds later is =
     record {
       same = is ∙ holds.same ∙ ap members (sym (append-nil pairs));
       before = λ l h. rw append-nil (holds.before l (nat_list_cmp_total.trans last (key_name (key.Metric f)) l later h));
     }
-holds_reported {last} {pairs} {old} new f (Some n) holds later is = holds_put new (key.Metric f) (whole n) holds later is
+holds_reported {last} {pairs} {old} new f (Some n) holds later is = holds_put new (key.Metric f) (integer n) holds later is

@@ -9,7 +9,7 @@ use Rattle.qa_base.specs.declared.fault.Key.{Key}
 use Rattle.qa_base.specs.declared.fault.Key.TheVariants as key
 use Rattle.qa_base.specs.declared.rule.Field.{Field}
 use Rattle.qa_base.specs.declared.rule.Field.TheVariants.{Window, Ssthresh, BytesInFlight, LatestRtt, MinRtt, SmoothedRtt, Rttvar}
-use Rattle.qa_base.specs.format.Written.{Pairs, whole_pairs, reported, members, object_of, event_pairs, text, whole}
+use Rattle.qa_base.specs.format.Written.{Pairs, integer_pairs, reported, members, object_of, event_pairs, string, integer}
 
 -- no value of the pairs has a float
 record HaveNone (ps : Pairs) : Type 0 where
@@ -28,14 +28,14 @@ reported_none : (f : Field) (o : Option ℕ) → HaveNone (reported f o)
 reported_none f None = record { is = refl }
 reported_none f (Some n) = record { is = refl }
 
-no_float_in_ranges : (ranges : List (ℕ × ℕ)) → items_have_float (whole_pairs ranges) ≡ false
+no_float_in_ranges : (ranges : List (ℕ × ℕ)) → items_have_float (integer_pairs ranges) ≡ false
 no_float_in_ranges [] = refl
 no_float_in_ranges (range ∷ ranges) = no_float_in_ranges ranges
 
 event_pairs_none : (e : Event) → HaveNone (event_pairs e)
 event_pairs_none (Sent time space number size eliciting in_flight leave) = record { is = refl }
-event_pairs_none (Ack time space ranges delay limited) = record { is = or_from (items_have_float (whole_pairs ranges)) false (no_float_in_ranges ranges) refl }
-event_pairs_none (Lost time space ranges) = record { is = or_from (items_have_float (whole_pairs ranges)) false (no_float_in_ranges ranges) refl }
+event_pairs_none (Ack time space ranges delay limited) = record { is = or_from (items_have_float (integer_pairs ranges)) false (no_float_in_ranges ranges) refl }
+event_pairs_none (Lost time space ranges) = record { is = or_from (items_have_float (integer_pairs ranges)) false (no_float_in_ranges ranges) refl }
 event_pairs_none (Timer time kind space) = record { is = refl }
 event_pairs_none (Discard time space) = record { is = refl }
 event_pairs_none (Confirmed time) = record { is = refl }
@@ -48,12 +48,12 @@ event_pairs_none (Metrics time values) =
     (append_none _ _
     (append_none _ _
     (reported_none BytesInFlight values.bytes_in_flight)
-    (behind_none (key.Event, text (codes "metrics")) _ refl (reported_none LatestRtt values.latest_rtt)))
+    (behind_none (key.Event, string (codes "metrics")) _ refl (reported_none LatestRtt values.latest_rtt)))
     (reported_none MinRtt values.min_rtt))
     (reported_none Rttvar values.rttvar))
     (reported_none SmoothedRtt values.smoothed_rtt))
     (reported_none Ssthresh values.ssthresh))
-    (behind_none (key.Time, whole time) _ refl (reported_none Window values.window))
+    (behind_none (key.Time, integer time) _ refl (reported_none Window values.window))
 
 -- the object of an event has no float
 pub has_float_event : (e : Event) → has_float (object_of (event_pairs e)) ≡ false

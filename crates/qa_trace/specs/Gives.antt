@@ -1,4 +1,4 @@
--- What a function that may want for memory answers of a reading.
+-- What a function that may run out of memory answers of a reading.
 use Rattle.std.specs.Prelude.{◌≡◌, Result, Ok, Err}
 use Rattle.qa_base.specs.declared.fault.Fault.{Fault}
 use Rattle.qa_trace.specs.declared.fault.LineFault.{LineFault}

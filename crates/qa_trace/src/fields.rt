@@ -62,52 +62,52 @@ pub fn required_value(key: Key, object: &Value) -> Result<&Value, Fault>
 
 // ---- kinds of values
 
-fn whole(key: Key, value: &Value) -> Result<u64, Fault>
-    ensures { result ≡ keys.whole key (view value.now) }
+fn integer(key: Key, value: &Value) -> Result<u64, Fault>
+    ensures { result ≡ keys.integer key (view value.now) }
 {
     value.as_u64().ok_or(Fault::WrongKind(key))
 }
 
-fn text(key: Key, value: &Value) -> Result<&str, Fault>
-    ensures { result_map_both (λ t. t.now) (λ e. e) result ≡ keys.text key (view value.now) }
+fn string(key: Key, value: &Value) -> Result<&str, Fault>
+    ensures { result_map_both (λ t. t.now) (λ e. e) result ≡ keys.string key (view value.now) }
 {
     value.as_str().ok_or(Fault::WrongKind(key))
 }
 
-fn truth(key: Key, value: &Value) -> Result<bool, Fault>
-    ensures { result ≡ keys.truth key (view value.now) }
+fn boolean(key: Key, value: &Value) -> Result<bool, Fault>
+    ensures { result ≡ keys.boolean key (view value.now) }
 {
     value.as_bool().ok_or(Fault::WrongKind(key))
 }
 
-/// A required text.
-pub fn required_text(key: Key, object: &Value) -> Result<&str, Fault>
-    ensures { result_map_both (λ t. t.now) (λ e. e) result ≡ keys.required keys.text key (view object.now) }
+/// A required string.
+pub fn required_string(key: Key, object: &Value) -> Result<&str, Fault>
+    ensures { result_map_both (λ t. t.now) (λ e. e) result ≡ keys.required keys.string key (view object.now) }
 {
-    text(key, required_value(key, object)?)
+    string(key, required_value(key, object)?)
 }
 
-/// A required whole number of 64 bits.
-pub fn required_whole(key: Key, object: &Value) -> Result<u64, Fault>
-    ensures { result ≡ keys.required keys.whole key (view object.now) }
+/// A required integer of 64 bits.
+pub fn required_integer(key: Key, object: &Value) -> Result<u64, Fault>
+    ensures { result ≡ keys.required keys.integer key (view object.now) }
 {
-    whole(key, required_value(key, object)?)
+    integer(key, required_value(key, object)?)
 }
 
-/// A required truth value.
-pub fn flag(key: Key, object: &Value) -> Result<bool, Fault>
-    ensures { result ≡ keys.required keys.truth key (view object.now) }
+/// A required boolean.
+pub fn required_boolean(key: Key, object: &Value) -> Result<bool, Fault>
+    ensures { result ≡ keys.required keys.boolean key (view object.now) }
 {
-    truth(key, required_value(key, object)?)
+    boolean(key, required_value(key, object)?)
 }
 
-/// A whole number of 64 bits that may be absent.
-pub fn optional_whole(key: Key, object: &Value) -> Result<Option<u64>, Fault>
-    ensures { result ≡ keys.if_present keys.whole key (view object.now) }
+/// An integer of 64 bits that may be absent.
+pub fn optional_integer(key: Key, object: &Value) -> Result<Option<u64>, Fault>
+    ensures { result ≡ keys.if_present keys.integer key (view object.now) }
 {
     match present(key, object) {
         None => Ok(None),
-        Some(value) => Ok(Some(whole(key, value)?)),
+        Some(value) => Ok(Some(integer(key, value)?)),
     }
 }
 
@@ -117,7 +117,7 @@ pub fn optional_whole(key: Key, object: &Value) -> Result<Option<u64>, Fault>
 pub fn time(object: &Value) -> Result<Micros, Fault>
     ensures { result ≡ tables.time (view object.now) }
 {
-    let time = required_whole(Key::Time, object)?;
+    let time = required_integer(Key::Time, object)?;
     Micros::new(time).ok_or(Fault::OutOfRange(Key::Time))
 }
 
@@ -125,15 +125,15 @@ pub fn time(object: &Value) -> Result<Micros, Fault>
 pub fn space(object: &Value) -> Result<Space, Fault>
     ensures { result ≡ tables.space (view object.now) }
 {
-    let name = required_text(Key::Space, object)?;
+    let name = required_string(Key::Space, object)?;
     Space::named(name).ok_or(Fault::OutOfRange(Key::Space))
 }
 
 /// The key `space` of a line that discards keys, which the application's space has none of.
 pub fn discarded_space(object: &Value) -> Result<Space, Fault>
-    ensures { result ≡ keys.required (keys.text_among discarded_named) Key.Space (view object.now) }
+    ensures { result ≡ keys.required (keys.string_among discarded_named) Key.Space (view object.now) }
 {
-    match required_text(Key::Space, object)? {
+    match required_string(Key::Space, object)? {
         "initial" => Ok(Space::Initial),
         "handshake" => Ok(Space::Handshake),
         _ => Err(Fault::OutOfRange(Key::Space)),
@@ -142,33 +142,33 @@ pub fn discarded_space(object: &Value) -> Result<Space, Fault>
 
 /// The key `role`.
 pub fn role(object: &Value) -> Result<Role, Fault>
-    ensures { result ≡ keys.required (keys.text_among role_named) Key.Role (view object.now) }
+    ensures { result ≡ keys.required (keys.string_among role_named) Key.Role (view object.now) }
 {
-    let name = required_text(Key::Role, object)?;
+    let name = required_string(Key::Role, object)?;
     Role::named(name).ok_or(Fault::OutOfRange(Key::Role))
 }
 
 /// The key `kind`.
 pub fn kind(object: &Value) -> Result<Kind, Fault>
-    ensures { result ≡ keys.required (keys.text_among kind_named) Key.Kind (view object.now) }
+    ensures { result ≡ keys.required (keys.string_among kind_named) Key.Kind (view object.now) }
 {
-    let name = required_text(Key::Kind, object)?;
+    let name = required_string(Key::Kind, object)?;
     Kind::named(name).ok_or(Fault::OutOfRange(Key::Kind))
 }
 
 /// The key `number`.
 pub fn number(object: &Value) -> Result<PacketNumber, Fault>
-    ensures { result ≡ keys.required (keys.whole_from 0 max_packet_number) Key.Number (view object.now) }
+    ensures { result ≡ keys.required (keys.integer_from 0 max_packet_number) Key.Number (view object.now) }
 {
-    let number = required_whole(Key::Number, object)?;
+    let number = required_integer(Key::Number, object)?;
     PacketNumber::new(number).ok_or(Fault::OutOfRange(Key::Number))
 }
 
 /// The key `size`.
 pub fn size(object: &Value) -> Result<u64, Fault>
-    ensures { result ≡ keys.required (keys.whole_from 1 max_packet_size) Key.Size (view object.now) }
+    ensures { result ≡ keys.required (keys.integer_from 1 max_packet_size) Key.Size (view object.now) }
 {
-    let size = required_whole(Key::Size, object)?;
+    let size = required_integer(Key::Size, object)?;
     if 1 <= size && size <= 65527 {
         Ok(size)
     } else {
@@ -178,31 +178,33 @@ pub fn size(object: &Value) -> Result<u64, Fault>
 
 /// The key `leave`, which is `window` where it is absent.
 pub fn leave(object: &Value) -> Result<Leave, Fault>
-    ensures { result ≡ keys.optional (keys.text_among leave_named) Leave.Window Key.Leave (view object.now) }
+    ensures { result ≡ keys.optional (keys.string_among leave_named) Leave.Window Key.Leave (view object.now) }
 {
     match present(Key::Leave, object) {
         None => Ok(Leave::Window),
-        Some(value) => Leave::named(text(Key::Leave, value)?).ok_or(Fault::OutOfRange(Key::Leave)),
+        Some(value) => Leave::named(string(Key::Leave, value)?).ok_or(Fault::OutOfRange(
+            Key::Leave,
+        )),
     }
 }
 
 /// The key `delay`, which is 0 where it is absent.
 pub fn delay(object: &Value) -> Result<u64, Fault>
-    ensures { result ≡ keys.optional keys.whole 0 Key.Delay (view object.now) }
+    ensures { result ≡ keys.optional keys.integer 0 Key.Delay (view object.now) }
 {
     match present(Key::Delay, object) {
         None => Ok(0),
-        Some(value) => whole(Key::Delay, value),
+        Some(value) => integer(Key::Delay, value),
     }
 }
 
 /// The key `limited`, which is false where it is absent.
 pub fn limited(object: &Value) -> Result<bool, Fault>
-    ensures { result ≡ keys.optional keys.truth false Key.Limited (view object.now) }
+    ensures { result ≡ keys.optional keys.boolean false Key.Limited (view object.now) }
 {
     match present(Key::Limited, object) {
         None => Ok(false),
-        Some(value) => truth(Key::Limited, value),
+        Some(value) => boolean(Key::Limited, value),
     }
 }
 
@@ -210,5 +212,5 @@ pub fn limited(object: &Value) -> Result<bool, Fault>
 pub fn metric(field: Field, object: &Value) -> Result<Option<u64>, Fault>
     ensures { result ≡ tables.metric field (view object.now) }
 {
-    optional_whole(Key::Metric(field), object)
+    optional_integer(Key::Metric(field), object)
 }

@@ -1,7 +1,7 @@
 //! The key `ranges`: a list of ranges of packet numbers.
 //!
-//! It is the one key whose value takes memory. Want of memory stands apart from the key's faults,
-//! since these still have to be held against those of the keys beside it.
+//! It is the one key whose value takes memory. Out of memory stands apart from the key's faults,
+//! since these still have to be compared with those of the keys beside it.
 ghost use Rattle.std.specs.Prelude.{◌≡◌, Some, None, IfOk, option_map, if◌then◌else◌};
 ghost use Rattle.std.specs.List.{list_all};
 ghost use Rattle.serde_json.specs.View.{view, items_view};
@@ -12,7 +12,7 @@ use qa_base::{Fault, Key, PacketNumber, Span, Spans};
 use serde_json::Value;
 use std::alloc::{AllocError, Global};
 
-/// Two whole numbers, where the value is a list of two.
+/// Two integers, where the value is a list of two.
 fn pair_of(value: &Value) -> Option<(u64, u64)>
     ensures { result ≡ keys.pair_of (view value.now) }
 {
@@ -22,7 +22,7 @@ fn pair_of(value: &Value) -> Option<(u64, u64)>
     Some((lo.as_u64()?, hi.as_u64()?))
 }
 
-/// The pairs that the values are, or None where one is no pair of whole numbers.
+/// The pairs that the values are, or None where one is no pair of integers.
 fn pairs_of(alloc: Global, values: &[Value]) -> Result<Option<Vec<(u64, u64)>>, AllocError>
     ensures { IfOk result (λ pairs. option_map (λ v. v.items) pairs ≡ keys.pairs_of (items_view values.now)) }
 {

@@ -25,7 +25,7 @@ fn object_says(alloc: Global, value: &Value) -> Result<Line, LineFault>
     if !value.is_object() {
         return Err(LineFault::Fault(Fault::NotObject));
     }
-    let event = match fields::required_text(Key::Event, value)? {
+    let event = match fields::required_string(Key::Event, value)? {
         "header" => return Ok(Line::Header(tables::header_of(value)?)),
         "sent" => tables::sent_of(value)?,
         "ack" => tables::ack_of(alloc, value)?,

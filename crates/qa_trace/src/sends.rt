@@ -26,7 +26,7 @@ fn object_says(value: &Value) -> Result<Line, Fault>
     if !value.is_object() {
         return Err(Fault::NotObject);
     }
-    match fields::required_text(Key::Event, value)? {
+    match fields::required_string(Key::Event, value)? {
         "header" => Ok(Line::Header(tables::header_of(value)?)),
         "sent" => Ok(Line::Event(tables::sent_of(value)?)),
         "metrics" => Ok(Line::Event(tables::metrics_of(value)?)),

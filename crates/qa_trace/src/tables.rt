@@ -27,13 +27,13 @@ fn header_fields(object: &Value) -> Result<HeaderFields, Fault>
     ensures { result ≡ tables.header_fields (view object.now) }
 {
     let rest = both(
-        fields::optional_whole(Key::InitialRtt, object),
-        fields::optional_whole(Key::InitialWindow, object),
+        fields::optional_integer(Key::InitialRtt, object),
+        fields::optional_integer(Key::InitialWindow, object),
     );
-    let rest = both(fields::optional_whole(Key::MaxAckDelay, object), rest);
-    let rest = both(fields::required_whole(Key::MaxDatagramSize, object), rest);
+    let rest = both(fields::optional_integer(Key::MaxAckDelay, object), rest);
+    let rest = both(fields::required_integer(Key::MaxDatagramSize, object), rest);
     let rest = both(fields::role(object), rest);
-    both(fields::required_whole(Key::Version, object), rest)
+    both(fields::required_integer(Key::Version, object), rest)
 }
 
 /// The header of these values, or the first key whose value is out of its range.
@@ -61,8 +61,15 @@ fn settings(
 pub fn header_of(object: &Value) -> Result<Header, Fault>
     ensures { result ≡ tables.header_of (view object.now) }
 {
-    let (version, (role, (datagram, (delay, (rtt, window))))) = header_fields(object)?;
-    let header = settings(role, datagram, delay, rtt, window)?;
+    let (version, (role, (max_datagram_size, (max_ack_delay, (initial_rtt, initial_window))))) =
+        header_fields(object)?;
+    let header = settings(
+        role,
+        max_datagram_size,
+        max_ack_delay,
+        initial_rtt,
+        initial_window,
+    )?;
     if version == 1 {
         Ok(header)
     } else {
@@ -81,8 +88,11 @@ type SentFields = (
 fn sent_fields(object: &Value) -> Result<SentFields, Fault>
     ensures { result ≡ tables.sent_fields (view object.now) }
 {
-    let rest = both(fields::flag(Key::InFlight, object), fields::leave(object));
-    let rest = both(fields::flag(Key::Eliciting, object), rest);
+    let rest = both(
+        fields::required_boolean(Key::InFlight, object),
+        fields::leave(object),
+    );
+    let rest = both(fields::required_boolean(Key::Eliciting, object), rest);
     let rest = both(fields::size(object), rest);
     let rest = both(fields::number(object), rest);
     let rest = both(fields::space(object), rest);

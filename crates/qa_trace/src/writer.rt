@@ -10,7 +10,7 @@ ghost use Rattle.qa_base.specs.values.Names.{key_name};
 ghost use Rattle.qa_base.specs.values.Proper.{IsRange, IsWord, AreWords, IsProperEvent, IsProperLine};
 ghost use Rattle.qa_base.specs.format.Reading.{reading};
 ghost use Rattle.qa_base.specs.values.Settings.{AreInRange};
-ghost use Rattle.qa_base.specs.format.Written.{written, line_fits, object_of, header_pairs, event_pairs, whole_pairs, whole};
+ghost use Rattle.qa_base.specs.format.Written.{written, line_fits, object_of, header_pairs, event_pairs, integer_pairs, integer};
 
 use qa_base::{
     Event, Field, Header, Key, Kind, Leave, Line, MetricValues, Micros, PacketNumber, Space, Spans,
@@ -182,7 +182,7 @@ fn lost_object(
 
 /// The list of the ranges, each the list of its least and its greatest number.
 fn ranges_list(alloc: Global, ranges: &Spans) -> Result<Value, AllocError>
-    ensures list { IfOk result (λ v. view v ≡ json.array (whole_pairs ranges.now)) }
+    ensures list { IfOk result (λ v. view v ≡ json.array (integer_pairs ranges.now)) }
     ensures are_ranges { OnOk result (AllByRecursion IsRange ranges.now) }
 {
     let mut list = Vec::new(alloc);
@@ -278,7 +278,7 @@ fn report(
     ensures put { OnOk result (MatchOption value
         (members_view map.new.entries ≡ members_view map.old.entries)
         (λ n. members_view map.new.entries
-        ≡ json.put (key_name (Key.Metric field)) (whole n) (members_view map.old.entries))) }
+        ≡ json.put (key_name (Key.Metric field)) (integer n) (members_view map.old.entries))) }
     ensures is_word { OnOk result (IsWord value) }
 {
     match value {

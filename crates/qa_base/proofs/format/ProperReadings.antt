@@ -21,7 +21,7 @@ use Rattle.qa_base.specs.declared.space.Role.{Role}
 use Rattle.qa_base.specs.declared.line.Line.{Line}
 use Rattle.qa_base.specs.declared.line.Line.TheVariants as line
 use Rattle.qa_base.specs.values.Events.{is_space}
-use Rattle.qa_base.specs.format.Keys.{◌>>=◌, ranged, text, text_among, required}
+use Rattle.qa_base.specs.format.Keys.{◌>>=◌, ranged, string, string_among, required}
 use Rattle.qa_base.specs.values.Limits.{max_time, max_packet_number, max_packet_size}
 use Rattle.qa_base.specs.values.Names.{discarded_named}
 use Rattle.qa_base.specs.values.Proper.{IsProperEvent, IsProperLine}
@@ -100,10 +100,10 @@ either_space false true s h = let same : Handshake ≡ s = ok_is Handshake s h i
 either_space false false s h = cc
 
 -- the application's space is never one whose keys are discarded
-discarded_space : (d : Data) (s : Space) → required (text_among discarded_named) key.Space d ≡ Ok s → not (is_space App s) ≡ true
+discarded_space : (d : Data) (s : Space) → required (string_among discarded_named) key.Space d ≡ Ok s → not (is_space App s) ≡ true
 discarded_space d s h =
-    let stands = required_stands (text_among discarded_named) key.Space d s h in
-    let read = bind_ok (text key.Space stands.0) _ s stands.2 in
+    let stands = required_stands (string_among discarded_named) key.Space d s h in
+    let read = bind_ok (string key.Space stands.0) _ s stands.2 in
     either_space (bytes_eq read.0 (codes "initial")) (bytes_eq read.0 (codes "handshake")) s read.2
 
 discard_is_proper : (d : Data) (e : Event) → discard_of d ≡ Ok e → IsProperEvent e
@@ -158,7 +158,7 @@ past : (b : Bool) (fault : RangeFault) (r : Result Settings RangeFault) (s : Set
 past true fault r s h = cc
 past false fault r s h = (refl, h)
 
--- values that were held against their ranges are in them
+-- values that were compared with their ranges are in them
 checked_is_in_range : (s t : Settings) → checked s ≡ Ok t → AreInRange t
 checked_is_in_range s t h =
     let datagram = past (is_outside 1200 65527 s.max_datagram_size) _ _ t h in
@@ -256,7 +256,7 @@ pub object_said : (readers : List ℕ → Option Reader) (d : Data) (x : Line) �
 unfolding object_says
 object_said readers d x h =
     let object = object_ok (not (is_some (as_object d))) _ x h in
-    let named = bind_ok (required text key.Event d) _ x object in
+    let named = bind_ok (required string key.Event d) _ x object in
     let known = bind_ok (ok_or (readers named.0) UnknownEvent) _ x named.2 in
     (named.0, known.0, known_ok (readers named.0) known.0 known.1, known.2)
 
@@ -273,7 +273,7 @@ said_at : (blank : Bool) (r : Result Line Fault) (x : Line) → cond blank (Ok l
 said_at true r x h = inl (ok_is line.Blank x h)
 said_at false r x h = inr h
 
--- a line that was read is blank, or an object of whole numbers of 64 bits that one of the readers read
+-- a line that was read is blank, or an object of integers of 64 bits that one of the readers read
 pub line_said : (readers : List ℕ → Option Reader) (l : List ℕ) (x : Line) → reading_by readers l ≡ Ok x → (line.Blank ≡ x) ⊎ ((d : Data) × IsSized d × SaidBy readers d x)
 unfolding reading_by
 line_said readers l x h = elim (said_at (list_all is_blank l) (json_of l >>= object_says readers) x h) [

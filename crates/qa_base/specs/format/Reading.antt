@@ -11,7 +11,7 @@ use Rattle.qa_base.specs.declared.fault.Key.TheVariants as key
 use Rattle.qa_base.specs.declared.event.Event.{Event}
 use Rattle.qa_base.specs.declared.line.Line.{Line}
 use Rattle.qa_base.specs.declared.line.Line.TheVariants as line
-use Rattle.qa_base.specs.format.Keys.{◌>>=◌, text, required}
+use Rattle.qa_base.specs.format.Keys.{◌>>=◌, string, required}
 use Rattle.qa_base.specs.values.Names.{named}
 use Rattle.qa_base.specs.format.Tables.{header_of, sent_of, ack_of, lost_of, timer_of, discard_of, confirmed_of, keys_of, metrics_of}
 
@@ -28,7 +28,7 @@ header_line d = header_of d >>= λ s. Ok (line.Header s)
 abbrev pub event_line : (Data → Result Event Fault) → Reader
 event_line event_of d = event_of d >>= λ e. Ok (line.Event e)
 
--- how the keys of a line are read whose `event` is this text
+-- how the keys of a line are read whose `event` is this string
 abbrev pub reader_named : List ℕ → Option Reader
 reader_named = named (
     (codes "header", header_line)
@@ -47,7 +47,7 @@ reader_named = named (
 -- what an object says, by its key `event`
 unfoldable pub object_says : (List ℕ → Option Reader) → Reader
 object_says readers d = if not (is_some (as_object d)) then Err NotObject else
-    (required text key.Event d >>= λ t. ok_or (readers t) UnknownEvent >>= λ reader. reader d)
+    (required string key.Event d >>= λ t. ok_or (readers t) UnknownEvent >>= λ reader. reader d)
 
 -- the JSON value that the bytes are, which are text in UTF-8
 unfoldable pub json_of : List ℕ → Result Data Fault
