@@ -1,5 +1,5 @@
 -- What is written for an event has no float.
-use Rattle.std.proofs.Common.{◌≡◌, ℕ, List, [], ◌∷◌, ◌++◌, false, Option, Some, None, codes, refl}
+use Rattle.std.proofs.Common.{◌≡◌, ℕ, List, [], ◌∷◌, ◌++◌, false, Option, Some, None, refl}
 use Rattle.std.proofs.lemmas.Bool.{or_parts, or_from}
 use Rattle.serde_json.specs.Data.{Data}
 use Rattle.serde_json.specs.Written.{has_float, items_have_float, members_have_float}
@@ -7,8 +7,10 @@ use Rattle.qa_base.specs.declared.event.Event.{Event}
 use Rattle.qa_base.specs.declared.event.Event.TheVariants.{Sent, Ack, Lost, Timer, Discard, Confirmed, Keys, Metrics}
 use Rattle.qa_base.specs.declared.fault.Key.{Key}
 use Rattle.qa_base.specs.declared.fault.Key.TheVariants as key
+use Rattle.qa_base.specs.declared.line.LineKind.TheVariants as kinds
 use Rattle.qa_base.specs.declared.rule.Field.{Field}
 use Rattle.qa_base.specs.declared.rule.Field.TheVariants.{Window, Ssthresh, BytesInFlight, LatestRtt, MinRtt, SmoothedRtt, Rttvar}
+use Rattle.qa_base.specs.values.Names.{line_kind_name}
 use Rattle.qa_base.specs.format.Written.{Pairs, integer_pairs, reported, members, object_of, event_pairs, string, integer}
 
 -- no value of the pairs has a float
@@ -48,7 +50,7 @@ event_pairs_none (Metrics time values) =
     (append_none _ _
     (append_none _ _
     (reported_none BytesInFlight values.bytes_in_flight)
-    (behind_none (key.Event, string (codes "metrics")) _ refl (reported_none LatestRtt values.latest_rtt)))
+    (behind_none (key.Event, string (line_kind_name kinds.Metrics)) _ refl (reported_none LatestRtt values.latest_rtt)))
     (reported_none MinRtt values.min_rtt))
     (reported_none Rttvar values.rttvar))
     (reported_none SmoothedRtt values.smoothed_rtt))

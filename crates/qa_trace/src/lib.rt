@@ -14,8 +14,8 @@ mod writer;
 
 pub use fault::LineFault;
 pub use qa_base::{
-    Event, Fault, Field, Header, Key, Kind, Leave, Line, MetricValues, Micros, PacketNumber,
-    RangeFault, Role, Space, Span, Spans,
+    Event, Fault, Field, Header, Key, Kind, Leave, Line, LineKind, MetricValues, Micros,
+    PacketNumber, RangeFault, Role, Space, Span, Spans,
 };
 pub use reader::read_line;
 pub use sends::read_sends;

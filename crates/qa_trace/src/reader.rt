@@ -10,7 +10,7 @@ ghost use Rattle.qa_trace.specs.Gives.{Gives};
 use crate::fault::LineFault;
 use crate::json::{is_blank, json_of};
 use crate::{fields, tables};
-use qa_base::{Fault, Key, Line};
+use qa_base::{Fault, Key, Line, LineKind};
 use serde_json::Value;
 use std::alloc::Global;
 
@@ -25,17 +25,17 @@ fn object_says(alloc: Global, value: &Value) -> Result<Line, LineFault>
     if !value.is_object() {
         return Err(LineFault::Fault(Fault::NotObject));
     }
-    let event = match fields::required_string(Key::Event, value)? {
-        "header" => return Ok(Line::Header(tables::header_of(value)?)),
-        "sent" => tables::sent_of(value)?,
-        "ack" => tables::ack_of(alloc, value)?,
-        "lost" => tables::lost_of(alloc, value)?,
-        "timer" => tables::timer_of(value)?,
-        "discard" => tables::discard_of(value)?,
-        "confirmed" => tables::confirmed_of(value)?,
-        "keys" => tables::keys_of(value)?,
-        "metrics" => tables::metrics_of(value)?,
-        _ => return Err(LineFault::Fault(Fault::UnknownEvent)),
+    let name = fields::required_string(Key::Event, value)?;
+    let event = match LineKind::named(name).ok_or(Fault::UnknownEvent)? {
+        LineKind::Header => return Ok(Line::Header(tables::header_of(value)?)),
+        LineKind::Sent => tables::sent_of(value)?,
+        LineKind::Ack => tables::ack_of(alloc, value)?,
+        LineKind::Lost => tables::lost_of(alloc, value)?,
+        LineKind::Timer => tables::timer_of(value)?,
+        LineKind::Discard => tables::discard_of(value)?,
+        LineKind::Confirmed => tables::confirmed_of(value)?,
+        LineKind::Keys => tables::keys_of(value)?,
+        LineKind::Metrics => tables::metrics_of(value)?,
     };
     Ok(Line::Event(event))
 }

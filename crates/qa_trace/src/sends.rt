@@ -11,7 +11,7 @@ ghost use Rattle.qa_trace.specs.Gives.{Gives};
 use crate::fault::LineFault;
 use crate::json::{is_blank, json_of};
 use crate::{fields, tables};
-use qa_base::{Fault, Key, Line};
+use qa_base::{Fault, Key, Line, LineKind};
 use serde_json::Value;
 use std::alloc::Global;
 
@@ -26,10 +26,11 @@ fn object_says(value: &Value) -> Result<Line, Fault>
     if !value.is_object() {
         return Err(Fault::NotObject);
     }
-    match fields::required_string(Key::Event, value)? {
-        "header" => Ok(Line::Header(tables::header_of(value)?)),
-        "sent" => Ok(Line::Event(tables::sent_of(value)?)),
-        "metrics" => Ok(Line::Event(tables::metrics_of(value)?)),
+    let name = fields::required_string(Key::Event, value)?;
+    match LineKind::named(name) {
+        Some(LineKind::Header) => Ok(Line::Header(tables::header_of(value)?)),
+        Some(LineKind::Sent) => Ok(Line::Event(tables::sent_of(value)?)),
+        Some(LineKind::Metrics) => Ok(Line::Event(tables::metrics_of(value)?)),
         _ => Err(Fault::UnknownEvent),
     }
 }

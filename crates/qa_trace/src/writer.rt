@@ -13,7 +13,8 @@ ghost use Rattle.qa_base.specs.values.Settings.{AreInRange};
 ghost use Rattle.qa_base.specs.format.Written.{written, line_fits, object_of, header_pairs, event_pairs, integer_pairs, integer};
 
 use qa_base::{
-    Event, Field, Header, Key, Kind, Leave, Line, MetricValues, Micros, PacketNumber, Space, Spans,
+    Event, Field, Header, Key, Kind, Leave, Line, LineKind, MetricValues, Micros, PacketNumber,
+    Space, Spans,
 };
 use serde_json::{Map, Value, json};
 use std::alloc::{AllocError, Global};
@@ -58,7 +59,7 @@ fn header_object(alloc: Global, header: &Header) -> Result<Value, AllocError>
     ensures proper { OnOk result (AreInRange header.now) }
 {
     json!(in alloc; {
-        (Key::Event.name()): "header",
+        (Key::Event.name()): LineKind::Header.name(),
         (Key::InitialRtt.name()): header.initial_rtt(),
         (Key::InitialWindow.name()): header.initial_window(),
         (Key::MaxAckDelay.name()): header.max_ack_delay(),
@@ -124,7 +125,7 @@ fn sent_object(
 {
     json!(in alloc; {
         (Key::Eliciting.name()): eliciting,
-        (Key::Event.name()): "sent",
+        (Key::Event.name()): LineKind::Sent.name(),
         (Key::InFlight.name()): in_flight,
         (Key::Leave.name()): leave.name(),
         (Key::Number.name()): number.get(),
@@ -151,7 +152,7 @@ fn ack_object(
     let ranges = ranges_list(alloc, ranges)?;
     json!(in alloc; {
         (Key::Delay.name()): delay,
-        (Key::Event.name()): "ack",
+        (Key::Event.name()): LineKind::Ack.name(),
         (Key::Limited.name()): limited,
         (Key::Ranges.name()): ranges,
         (Key::Space.name()): space.name(),
@@ -173,7 +174,7 @@ fn lost_object(
 {
     let ranges = ranges_list(alloc, ranges)?;
     json!(in alloc; {
-        (Key::Event.name()): "lost",
+        (Key::Event.name()): LineKind::Lost.name(),
         (Key::Ranges.name()): ranges,
         (Key::Space.name()): space.name(),
         (Key::Time.name()): time.get(),
@@ -200,7 +201,7 @@ fn timer_object(alloc: Global, time: Micros, kind: Kind, space: Space) -> Result
     ensures in_time { OnOk result (time ≤ max_time) }
 {
     json!(in alloc; {
-        (Key::Event.name()): "timer",
+        (Key::Event.name()): LineKind::Timer.name(),
         (Key::Kind.name()): kind.name(),
         (Key::Space.name()): space.name(),
         (Key::Time.name()): time.get(),
@@ -214,7 +215,7 @@ fn discard_object(alloc: Global, time: Micros, space: Space) -> Result<Value, Al
     ensures in_time { OnOk result (time ≤ max_time) }
 {
     json!(in alloc; {
-        (Key::Event.name()): "discard",
+        (Key::Event.name()): LineKind::Discard.name(),
         (Key::Space.name()): space.name(),
         (Key::Time.name()): time.get(),
     })
@@ -226,7 +227,7 @@ fn confirmed_object(alloc: Global, time: Micros) -> Result<Value, AllocError>
     ensures in_time { OnOk result (time ≤ max_time) }
 {
     json!(in alloc; {
-        (Key::Event.name()): "confirmed",
+        (Key::Event.name()): LineKind::Confirmed.name(),
         (Key::Time.name()): time.get(),
     })
 }
@@ -237,7 +238,7 @@ fn keys_object(alloc: Global, time: Micros) -> Result<Value, AllocError>
     ensures in_time { OnOk result (time ≤ max_time) }
 {
     json!(in alloc; {
-        (Key::Event.name()): "keys",
+        (Key::Event.name()): LineKind::Keys.name(),
         (Key::Time.name()): time.get(),
     })
 }
@@ -256,7 +257,7 @@ fn metrics_object(alloc: Global, time: Micros, values: &MetricValues) -> Result<
         Field::BytesInFlight,
         values.bytes_in_flight,
     )?;
-    let name = Value::try_from_str(alloc, "metrics")?;
+    let name = Value::try_from_str(alloc, LineKind::Metrics.name())?;
     serde_json::put(&mut map, alloc, Key::Event.name(), name)?;
     report(&mut map, alloc, Field::LatestRtt, values.latest_rtt)?;
     report(&mut map, alloc, Field::MinRtt, values.min_rtt)?;

@@ -18,6 +18,7 @@ use Rattle.qa_base.specs.declared.fault.Key.{Key}
 use Rattle.qa_base.specs.declared.fault.Key.TheVariants as key
 use Rattle.qa_base.specs.declared.line.Line.{Line}
 use Rattle.qa_base.specs.declared.line.Line.TheVariants as line
+use Rattle.qa_base.specs.declared.line.LineKind.TheVariants as kinds
 use Rattle.qa_base.specs.declared.rule.Field.TheVariants.{Window, Ssthresh, BytesInFlight, LatestRtt, MinRtt, SmoothedRtt, Rttvar}
 use Rattle.qa_base.specs.declared.space.Kind.{Kind as TimerKind}
 use Rattle.qa_base.specs.declared.space.Leave.{Leave}
@@ -28,7 +29,7 @@ use Rattle.qa_base.specs.values.Events.{is_space}
 use Rattle.qa_base.specs.format.Keys.{◌>>=◌, integer, integer_from, string, string_among, boolean, ranges, required, if_present}
 use Rattle.qa_base.specs.format.Lines.{has_lf}
 use Rattle.qa_base.specs.values.Limits.{max_time, max_packet_number, max_packet_size}
-use Rattle.qa_base.specs.values.Names.{key_name, role_name, role_named, space_name, space_named, discarded_named, leave_name, leave_named, kind_name, kind_named}
+use Rattle.qa_base.specs.values.Names.{key_name, line_kind_name, role_name, role_named, space_name, space_named, discarded_named, leave_name, leave_named, kind_name, kind_named}
 use Rattle.qa_base.specs.values.Proper.{IsProperEvent, IsProperLine}
 use Rattle.qa_base.specs.format.Reading.{reader_named, object_says, json_of, reading_by, reading}
 use Rattle.qa_base.specs.values.Settings.{Settings, AreInRange, is_outside, checked}
@@ -153,7 +154,7 @@ abbrev behind_event : ℕ → MetricValues → Pairs
 behind_event t v = reported LatestRtt v.latest_rtt ++ behind_latest t v
 
 abbrev behind_flight : ℕ → MetricValues → Pairs
-behind_flight t v = (key.Event, written.string (codes "metrics")) ∷ behind_event t v
+behind_flight t v = (key.Event, written.string (line_kind_name kinds.Metrics)) ∷ behind_event t v
 
 abbrev metrics_pairs : ℕ → MetricValues → Pairs
 metrics_pairs t v = reported BytesInFlight v.bytes_in_flight ++ behind_flight t v
@@ -168,7 +169,7 @@ regroup (x ∷ a) e b c d f g h = ap (λ ps. x ∷ ps) (regroup a e b c d f g h)
 -- the keys of a report, grouped from behind
 metrics_pairs_are : (t : ℕ) (v : MetricValues) → event_pairs (Metrics t v) ≡ metrics_pairs t v
 metrics_pairs_are t v =
-    regroup (reported BytesInFlight v.bytes_in_flight) (key.Event, written.string (codes "metrics")) (reported LatestRtt v.latest_rtt) (reported MinRtt v.min_rtt)
+    regroup (reported BytesInFlight v.bytes_in_flight) (key.Event, written.string (line_kind_name kinds.Metrics)) (reported LatestRtt v.latest_rtt) (reported MinRtt v.min_rtt)
     (reported Rttvar v.rttvar) (reported SmoothedRtt v.smoothed_rtt) (reported Ssthresh v.ssthresh) (behind_threshold t v)
 
 -- each value that is reported is found at its key
@@ -251,7 +252,7 @@ time_found t v =
     ∙ past_reported (codes "time") SmoothedRtt v.smoothed_rtt (behind_smoothed t v) (λ e. cc)
     ∙ past_reported (codes "time") Ssthresh v.ssthresh (behind_threshold t v) (λ e. cc)
 
-event_found : (t : ℕ) (v : MetricValues) → get (codes "event") (object_of (metrics_pairs t v)) ≡ Some (written.string (codes "metrics"))
+event_found : (t : ℕ) (v : MetricValues) → get (codes "event") (object_of (metrics_pairs t v)) ≡ Some (written.string (line_kind_name kinds.Metrics))
 event_found t v = past_reported (codes "event") BytesInFlight v.bytes_in_flight (behind_flight t v) (λ e. cc)
 
 metrics_read : (t : ℕ) (v : MetricValues) → IsProperEvent (Metrics t v) → metrics_of (object_of (metrics_pairs t v)) ≡ Ok (Metrics t v)
@@ -393,8 +394,8 @@ metrics_are_said : (t : ℕ) (v : MetricValues) → IsProperEvent (Metrics t v) 
 unfolding object_says
 metrics_are_said t v proper =
     let d = object_of (metrics_pairs t v) in
-    let named = required_reads string key.Event d (written.string (codes "metrics")) (codes "metrics") (event_found t v) refl refl in
-    then_reads (required string key.Event d) _ (codes "metrics") (line.Event (Metrics t v)) named (event_of (Metrics t v) _ (metrics_read t v proper))
+    let named = required_reads string key.Event d (written.string (line_kind_name kinds.Metrics)) (line_kind_name kinds.Metrics) (event_found t v) refl refl in
+    then_reads (required string key.Event d) _ (line_kind_name kinds.Metrics) (line.Event (Metrics t v)) named (event_of (Metrics t v) _ (metrics_read t v proper))
 
 -- the object of an event says the event
 event_is_said : (e : Event) → IsProperEvent e → object_says reader_named (object_of (event_pairs e)) ≡ Ok (line.Event e)

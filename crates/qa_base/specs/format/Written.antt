@@ -1,5 +1,5 @@
 -- The text that is written for a line.
-use Rattle.std.specs.Prelude.{ℕ, List, [], ◌∷◌, ◌++◌, codes, Bool, true, Option, Some, None}
+use Rattle.std.specs.Prelude.{ℕ, List, [], ◌∷◌, ◌++◌, Bool, true, Option, Some, None}
 use Rattle.serde_json.specs.Data as json
 use Rattle.serde_json.specs.Data.{Data, Items, no_items, item, Members, no_members, member}
 use Rattle.serde_json.specs.Written.{compact_text}
@@ -9,10 +9,11 @@ use Rattle.qa_base.specs.declared.fault.Key.{Key}
 use Rattle.qa_base.specs.declared.fault.Key.TheVariants as key
 use Rattle.qa_base.specs.declared.line.Line.{Line}
 use Rattle.qa_base.specs.declared.line.Line.TheVariants as line
+use Rattle.qa_base.specs.declared.line.LineKind.TheVariants as kinds
 use Rattle.qa_base.specs.declared.rule.Field.{Field}
 use Rattle.qa_base.specs.declared.rule.Field.TheVariants.{Window, Ssthresh, BytesInFlight, LatestRtt, MinRtt, SmoothedRtt, Rttvar}
 use Rattle.qa_base.specs.values.Events.{fits}
-use Rattle.qa_base.specs.values.Names.{key_name, role_name, space_name, leave_name, kind_name}
+use Rattle.qa_base.specs.values.Names.{key_name, line_kind_name, role_name, space_name, leave_name, kind_name}
 use Rattle.qa_base.specs.values.Settings.{Settings}
 
 -- ---- values
@@ -42,7 +43,7 @@ Pairs = List (Key × Data)
 
 abbrev pub header_pairs : Settings → Pairs
 header_pairs s =
-    (key.Event, string (codes "header"))
+    (key.Event, string (line_kind_name kinds.Header))
     ∷ (key.InitialRtt, integer s.initial_rtt)
     ∷ (key.InitialWindow, integer s.initial_window)
     ∷ (key.MaxAckDelay, integer s.max_ack_delay)
@@ -59,7 +60,7 @@ reported f (Some n) = (key.Metric f, integer n) ∷ []
 abbrev pub event_pairs : Event → Pairs
 event_pairs (Sent time space number size eliciting in_flight leave) =
     (key.Eliciting, boolean eliciting)
-    ∷ (key.Event, string (codes "sent"))
+    ∷ (key.Event, string (line_kind_name kinds.Sent))
     ∷ (key.InFlight, boolean in_flight)
     ∷ (key.Leave, string (leave_name leave))
     ∷ (key.Number, integer number)
@@ -69,22 +70,22 @@ event_pairs (Sent time space number size eliciting in_flight leave) =
     ∷ []
 event_pairs (Ack time space ranges delay limited) =
     (key.Delay, integer delay)
-    ∷ (key.Event, string (codes "ack"))
+    ∷ (key.Event, string (line_kind_name kinds.Ack))
     ∷ (key.Limited, boolean limited)
     ∷ (key.Ranges, json.array (integer_pairs ranges))
     ∷ (key.Space, string (space_name space))
     ∷ (key.Time, integer time)
     ∷ []
 event_pairs (Lost time space ranges) =
-    (key.Event, string (codes "lost")) ∷ (key.Ranges, json.array (integer_pairs ranges)) ∷ (key.Space, string (space_name space)) ∷ (key.Time, integer time) ∷ []
+    (key.Event, string (line_kind_name kinds.Lost)) ∷ (key.Ranges, json.array (integer_pairs ranges)) ∷ (key.Space, string (space_name space)) ∷ (key.Time, integer time) ∷ []
 event_pairs (Timer time kind space) =
-    (key.Event, string (codes "timer")) ∷ (key.Kind, string (kind_name kind)) ∷ (key.Space, string (space_name space)) ∷ (key.Time, integer time) ∷ []
-event_pairs (Discard time space) = (key.Event, string (codes "discard")) ∷ (key.Space, string (space_name space)) ∷ (key.Time, integer time) ∷ []
-event_pairs (Confirmed time) = (key.Event, string (codes "confirmed")) ∷ (key.Time, integer time) ∷ []
-event_pairs (Keys time) = (key.Event, string (codes "keys")) ∷ (key.Time, integer time) ∷ []
+    (key.Event, string (line_kind_name kinds.Timer)) ∷ (key.Kind, string (kind_name kind)) ∷ (key.Space, string (space_name space)) ∷ (key.Time, integer time) ∷ []
+event_pairs (Discard time space) = (key.Event, string (line_kind_name kinds.Discard)) ∷ (key.Space, string (space_name space)) ∷ (key.Time, integer time) ∷ []
+event_pairs (Confirmed time) = (key.Event, string (line_kind_name kinds.Confirmed)) ∷ (key.Time, integer time) ∷ []
+event_pairs (Keys time) = (key.Event, string (line_kind_name kinds.Keys)) ∷ (key.Time, integer time) ∷ []
 event_pairs (Metrics time values) =
     reported BytesInFlight values.bytes_in_flight
-    ++ (key.Event, string (codes "metrics"))
+    ++ (key.Event, string (line_kind_name kinds.Metrics))
     ∷ reported LatestRtt values.latest_rtt
     ++ reported MinRtt values.min_rtt
     ++ reported Rttvar values.rttvar

@@ -19,12 +19,12 @@ pub returns-clause-object : goal.returns-clause-object
 returns-clause-object c =
     let none : Holds [] [] (members_view c.new-map.result.entries) = rw c.new-map.ensures.empty holds_none in
     let bytes = holds_reported _ BytesInFlight _ none refl c.in_ok-report.ensures.put in
-    let event = holds_put _ Event _ bytes refl (rw (c.name.ensures, c.in_ok-name.ensures) at c.in_ok-put.ensures.ok) in
+    let event = holds_put _ Event _ bytes refl (rw (c.name-2.ensures, c.in_ok-name.ensures, c.name.ensures) at c.in_ok-put.ensures.ok) in
     let latest = holds_reported _ LatestRtt _ event refl c.in_ok-report-2.ensures.put in
     let least = holds_reported _ MinRtt _ latest refl c.in_ok-report-3.ensures.put in
     let varied = holds_reported _ Rttvar _ least refl c.in_ok-report-4.ensures.put in
     let smoothed = holds_reported _ SmoothedRtt _ varied refl c.in_ok-report-5.ensures.put in
     let threshold = holds_reported _ Ssthresh _ smoothed refl c.in_ok-report-6.ensures.put in
-    let timed = holds_put _ Time _ threshold refl (rw (c.name-2.ensures, c.from.ensures, c.get.ensures.value) at c.in_ok-put-2.ensures.ok) in
+    let timed = holds_put _ Time _ threshold refl (rw (c.name-3.ensures, c.from.ensures, c.get.ensures.value) at c.in_ok-put-2.ensures.ok) in
     let window = holds_reported _ Window _ timed refl c.in_ok-report-7.ensures.put in
     rw view-Object (ap object (window.same ∙ ap members (one_by_one _ _ _ _ _ _ _ _ _)))
