@@ -21,7 +21,7 @@ mod verdict;
 pub use event::{Event, MetricValues};
 pub use fault::{Fault, Key, RangeFault};
 pub use header::Header;
-pub use line::Line;
+pub use line::{Line, LineKind};
 pub use number::{Micros, PacketNumber, Span, Spans};
 pub use rule::{Field, Rule};
 pub use space::{Kind, Leave, Role, Space};

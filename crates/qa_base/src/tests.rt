@@ -1,7 +1,7 @@
 //! The edges of the ranges, the defaults, and the names and numbers.
 use crate::{
-    Event, Fault, Field, Header, Key, Kind, Leave, MetricValues, Micros, PacketNumber, RangeFault,
-    Role, Rule, Space, Span, Spans,
+    Event, Fault, Field, Header, Key, Kind, Leave, LineKind, MetricValues, Micros, PacketNumber,
+    RangeFault, Role, Rule, Space, Span, Spans,
 };
 use std::test::Fail;
 
@@ -424,5 +424,26 @@ fn choices_have_the_names_that_name_them(rt: HostRuntime) {
     }
     for (kind, name) in [(Kind::Loss, "loss"), (Kind::Pto, "pto")] {
         assert_eq!(rt; kind.name(), name);
+    }
+}
+
+#[test]
+fn kinds_of_lines_have_the_names_that_name_them(rt: HostRuntime) {
+    for (kind, name) in [
+        (LineKind::Header, "header"),
+        (LineKind::Sent, "sent"),
+        (LineKind::Ack, "ack"),
+        (LineKind::Lost, "lost"),
+        (LineKind::Timer, "timer"),
+        (LineKind::Discard, "discard"),
+        (LineKind::Confirmed, "confirmed"),
+        (LineKind::Keys, "keys"),
+        (LineKind::Metrics, "metrics"),
+    ] {
+        assert_eq!(rt; kind.name(), name);
+        assert_eq!(rt; LineKind::named(name), Some(kind), "{name}");
+    }
+    for name in ["", "Sent", "sents", " ack"] {
+        assert_eq!(rt; LineKind::named(name), None, "{name}");
     }
 }

@@ -9,7 +9,7 @@ use Rattle.qa_base.specs.verdicts.Verdict.{first_stop, verdict_of, AreGood, AreD
 use Rattle.qa_base.proofs.verdicts.Cuts.{Cut, cut_without_lf, cut_ended, first_line, first_line_is_long, short_snoc, ended_snoc, lines_at_end, lines_at_lf, lf_inside, length-ended}
 use Rattle.qa_base.proofs.verdicts.Fixed.{fixed_by_line, fixed_by_length}
 use Rattle.qa_base.proofs.verdicts.Stops.{good_are_few}
-use Rattle.qa_trace.specs.Stream.{IsFirstLine, IsLastLine, BeginsTooLong}
+use Rattle.qa_split.specs.Stream.{IsFirstLine, IsLastLine, BeginsTooLong}
 use Rattle.qa_check.specs.declared.checker.Stop.{Stop}
 use Rattle.qa_check.specs.declared.checker.Stop.TheVariants.{Decided, OutOfMemory}
 use Rattle.qa_check.specs.Following.{FollowsBy, AnswersBy}

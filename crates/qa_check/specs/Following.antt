@@ -4,7 +4,7 @@ use Rattle.std.specs.List.{AllByRecursion}
 use Rattle.qa_base.specs.format.Lines.{ended, IsShortLine}
 use Rattle.qa_base.specs.format.Sends.{reading}
 use Rattle.qa_base.specs.verdicts.Verdict.{verdict, verdict_of, AreGood}
-use Rattle.qa_trace.specs.Stream.{Stream}
+use Rattle.qa_split.specs.Stream.{Stream}
 use Rattle.qa_check.specs.declared.checker.Checker.{Checker}
 use Rattle.qa_check.specs.Standing.{StandsFor, has_failed}
 

@@ -3,7 +3,7 @@ ghost use Rattle.std.specs.Prelude.{◌≡◌, ◌≢◌, ◌++◌, ℕ, List, t
 ghost use Rattle.std.specs.Io.KnownBytes.{Appends};
 ghost use Rattle.qa_base.specs.format.Sends.{reading};
 ghost use Rattle.qa_base.specs.verdicts.Verdict.{IsFixed, verdict};
-ghost use Rattle.qa_trace.specs.Stream.{HasNoLine};
+ghost use Rattle.qa_split.specs.Stream.{HasNoLine};
 ghost use Rattle.qa_check.specs.Audit.{outcome_of, Reads, ReadsEnough, JudgesRead, Reports, BeginsReport, is_read_fault, is_write_fault};
 ghost use Rattle.qa_check.specs.Failures.{failures_after};
 ghost use Rattle.qa_check.specs.Following.{Follows, Answers, IsReady};
@@ -13,7 +13,7 @@ use crate::checker::{Checker, Stop};
 use crate::streams::{Sink, Source};
 use crate::text::report;
 use qa_base::Verdict;
-use qa_trace::{SplitFault, Splitter};
+use qa_split::{SplitFault, Splitter};
 use std::alloc::Global;
 use thiserror::Error;
 

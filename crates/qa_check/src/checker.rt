@@ -10,7 +10,8 @@ ghost use Rattle.qa_check.specs.Taking.{says_plain, flight_said};
 
 use crate::judge;
 use qa_base::{Event, Fault, Header, Line, Verdict};
-use qa_trace::{LINE_LIMIT, LineFault, read_sends};
+use qa_read::{LineFault, read_sends};
+use qa_split::LINE_LIMIT;
 use std::alloc::{AllocError, Global};
 use thiserror::Error;
 

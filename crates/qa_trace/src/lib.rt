@@ -1,23 +1,16 @@
-//! The line format: bytes that come in pieces are cut into lines, a line is read, and a line is
-//! written.
+//! The line format, for someone who reads or writes traces: bytes that come in pieces are cut into
+//! lines, a line is read, and a line is written.
+//!
+//! What it re-exports is proved in the crates below it, one for each of these three.
 #![tactic(auto)]
 
-mod fault;
-mod fields;
-mod json;
-mod ranges;
-mod reader;
-mod sends;
-mod split;
-mod tables;
-mod writer;
+#[cfg(test)]
+mod tests;
 
-pub use fault::LineFault;
 pub use qa_base::{
-    Event, Fault, Field, Header, Key, Kind, Leave, Line, MetricValues, Micros, PacketNumber,
-    RangeFault, Role, Space, Span, Spans,
+    Event, Fault, Field, Header, Key, Kind, Leave, Line, LineKind, MetricValues, Micros,
+    PacketNumber, RangeFault, Role, Space, Span, Spans,
 };
-pub use reader::read_line;
-pub use sends::read_sends;
-pub use split::{LINE_LIMIT, SplitFault, Splitter};
-pub use writer::write_line;
+pub use qa_read::{LineFault, read_line, read_sends};
+pub use qa_split::{LINE_LIMIT, SplitFault, Splitter};
+pub use qa_write::write_line;

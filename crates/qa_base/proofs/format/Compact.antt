@@ -1,4 +1,4 @@
--- A value of null, whole numbers of 64 bits, truth values, ASCII texts, lists, and objects whose keys rise:
+-- A value of null, integers of 64 bits, booleans, ASCII strings, lists, and objects whose keys rise:
 -- its text without spaces is UTF-8, and is read as that very value.
 use Rattle.std.proofs.Common.{◌≡◌, ℕ, suc, ◌^◌, ◌<◌, ◌≤◌, max, List, [], ◌∷◌, Bool, true, false, Some, option_map, option_and_then, IsUtf8, decimal, Greater, Less, refl, sym, ap, ap₂, ◌∙◌, arith, append-nil}
 use Rattle.std.proofs.lemmas.Cmp.{nat_list_cmp_total}
@@ -23,23 +23,23 @@ use Rattle.serde_json.proofs.Texts.{print-outline}
 
 -- ---- simple values
 
--- the number is whole, not negative, and fits 64 bits
-abbrev pub IsWhole : Num → Type 0
-IsWhole (unsigned n) = n < 2 ^ 64
-IsWhole (negative z) = ⊥
-IsWhole (float x) = ⊥
+-- the number is an unsigned integer of 64 bits
+abbrev pub IsUnsigned : Num → Type 0
+IsUnsigned (unsigned n) = n < 2 ^ 64
+IsUnsigned (negative z) = ⊥
+IsUnsigned (float x) = ⊥
 
 -- the key comes before each key of the members
 abbrev pub IsBefore : List ℕ → Members → Type 0
 IsBefore k no_members = ⊤
 IsBefore k (member l d ms) = (slice_cmp nat_cmp k l ≡ Less) × IsBefore k ms
 
--- a value of null, whole numbers of 64 bits, truth values, ASCII texts, lists, and objects whose keys rise
+-- a value of null, integers of 64 bits, booleans, ASCII strings, lists, and objects whose keys rise
 abbrev mutual
   pub IsSimple : Data → Type 0
   IsSimple null = ⊤
   IsSimple (boolean b) = ⊤
-  IsSimple (number n) = IsWhole n
+  IsSimple (number n) = IsUnsigned n
   IsSimple (string s) = are_ascii s ≡ true
   IsSimple (array ds) = AreSimple ds
   IsSimple (object ms) = HaveSimple ms
@@ -88,7 +88,7 @@ put_behind (member l e done) k d ms h =
 
 -- ---- the outline of a simple value stands for the value
 
-number_is : (n : Num) → IsWhole n → number_of (number_text n) ≡ Some n
+number_is : (n : Num) → IsUnsigned n → number_of (number_text n) ≡ Some n
 number_is (unsigned n) h = number_of-decimal n h
 number_is (negative z) h = absurd h
 number_is (float x) h = absurd h
@@ -118,7 +118,7 @@ mutual
 
 -- ---- it can be printed, and nests as deep as the value
 
-number_is_printable : (n : Num) → IsWhole n → tree.HasNumbers (json.number (number_text n))
+number_is_printable : (n : Num) → IsUnsigned n → tree.HasNumbers (json.number (number_text n))
 number_is_printable (unsigned n) h = IsNumber-decimal n h
 number_is_printable (negative z) h = absurd h
 number_is_printable (float x) h = absurd h
@@ -174,7 +174,7 @@ read-compact_text d h shallow =
 
 -- ---- what is written is UTF-8
 
-IsUtf8-number : (n : Num) → IsWhole n → IsUtf8 (number_text n)
+IsUtf8-number : (n : Num) → IsUnsigned n → IsUtf8 (number_text n)
 IsUtf8-number (unsigned n) h = IsUtf8-from_ascii (decimal n) (IsAscii-decimal n h)
 IsUtf8-number (negative z) h = absurd h
 IsUtf8-number (float x) h = absurd h

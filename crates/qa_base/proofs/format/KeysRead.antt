@@ -9,7 +9,7 @@ use Rattle.qa_base.specs.declared.fault.Fault.{Fault}
 use Rattle.qa_base.specs.declared.fault.Fault.TheVariants.{Missing}
 use Rattle.qa_base.specs.declared.fault.Key.{Key}
 use Rattle.qa_base.specs.values.Events.{has_ranges}
-use Rattle.qa_base.specs.format.Keys.{◌>>=◌, both, Kind, ranged, whole, whole_from, pairs, is_range, ranges_in, ranges, present, required_value, required, read_or, optional, if_present}
+use Rattle.qa_base.specs.format.Keys.{◌>>=◌, both, Kind, ranged, integer, integer_from, pairs, is_range, ranges_in, ranges, present, required_value, required, read_or, optional, if_present}
 use Rattle.qa_base.specs.values.Limits.{max_packet_number, in_range}
 use Rattle.qa_base.specs.values.Names.{key_name}
 use Rattle.qa_base.specs.values.Proper.{IsRange, IsWord}
@@ -64,9 +64,9 @@ said kind absent k d (Some v) x is h = inr (v, present_is k d v is, h)
 pub optional_stands : {A : Type 0} → (kind : Kind A) (absent : A) (k : Key) (d : Data) (x : A) → optional kind absent k d ≡ Ok x → (x ≡ absent) ⊎ StandsAt kind k d x
 optional_stands kind absent k d x h = said kind absent k d (present k d) x refl h
 
--- ---- whole numbers
+-- ---- integers
 
-unsigned_is : (v : Data) (k : Key) (n : ℕ) → whole k v ≡ Ok n → v ≡ number (unsigned n)
+unsigned_is : (v : Data) (k : Key) (n : ℕ) → integer k v ≡ Ok n → v ≡ number (unsigned n)
 unsigned_is null k n h = cc
 unsigned_is (boolean b) k n h = cc
 unsigned_is (number (unsigned m)) k n h = cc
@@ -76,37 +76,37 @@ unsigned_is (string s) k n h = cc
 unsigned_is (array ds) k n h = cc
 unsigned_is (object ms) k n h = cc
 
--- a whole number has 64 bits where all numbers of the object have
-pub whole_is_word : (k : Key) (d : Data) (n : ℕ) → IsSized d → StandsAt whole k d n → n < 2 ^ 64
-whole_is_word k d n sized stands = rw (unsigned_is stands.0 k n stands.2) at (get-IsSized (key_name k) d stands.0 sized stands.1)
+-- an integer has 64 bits where all numbers of the object have
+pub integer_is_word : (k : Key) (d : Data) (n : ℕ) → IsSized d → StandsAt integer k d n → n < 2 ^ 64
+integer_is_word k d n sized stands = rw (unsigned_is stands.0 k n stands.2) at (get-IsSized (key_name k) d stands.0 sized stands.1)
 
 within : (k : Key) (b : Bool) (n m : ℕ) → ranged k (cond b (Some n) None) ≡ Ok m → (b ≡ true) × (n ≡ m)
 within k true n m h = (refl, cc)
 within k false n m h = cc
 
 -- a number that was asked to be in a range is in it
-pub number_within : (lo hi : ℕ) (k : Key) (v : Data) (n : ℕ) → whole_from lo hi k v ≡ Ok n → (nat_le lo n && nat_le n hi) ≡ true
+pub number_within : (lo hi : ℕ) (k : Key) (v : Data) (n : ℕ) → integer_from lo hi k v ≡ Ok n → (nat_le lo n && nat_le n hi) ≡ true
 number_within lo hi k v n h =
-    let read = bind_ok (whole k v) (λ m. ranged k (in_range lo hi m)) n h in
+    let read = bind_ok (integer k v) (λ m. ranged k (in_range lo hi m)) n h in
     let inside = within k (nat_le lo read.0 && nat_le read.0 hi) read.0 n read.2 in
     rw inside.1 at inside.0
 
-pub required_within : (lo hi : ℕ) (k : Key) (d : Data) (n : ℕ) → required (whole_from lo hi) k d ≡ Ok n → (nat_le lo n && nat_le n hi) ≡ true
-required_within lo hi k d n h = let stands = required_stands (whole_from lo hi) k d n h in number_within lo hi k stands.0 n stands.2
+pub required_within : (lo hi : ℕ) (k : Key) (d : Data) (n : ℕ) → required (integer_from lo hi) k d ≡ Ok n → (nat_le lo n && nat_le n hi) ≡ true
+required_within lo hi k d n h = let stands = required_stands (integer_from lo hi) k d n h in number_within lo hi k stands.0 n stands.2
 
-pub required_high : (lo hi : ℕ) (k : Key) (d : Data) (n : ℕ) → required (whole_from lo hi) k d ≡ Ok n → n ≤ hi
+pub required_high : (lo hi : ℕ) (k : Key) (d : Data) (n : ℕ) → required (integer_from lo hi) k d ≡ Ok n → n ≤ hi
 required_high lo hi k d n h = leb-true n hi (and_parts (nat_le lo n) (nat_le n hi) (required_within lo hi k d n h)).1
 
--- a whole number that may be absent has 64 bits, and so has what it stands for
-pub optional_is_word : (absent : ℕ) (k : Key) (d : Data) (n : ℕ) → IsSized d → absent < 2 ^ 64 → optional whole absent k d ≡ Ok n → n < 2 ^ 64
-optional_is_word absent k d n sized small h = elim (optional_stands whole absent k d n h) [
+-- an integer that may be absent has 64 bits, and so has what it stands for
+pub optional_is_word : (absent : ℕ) (k : Key) (d : Data) (n : ℕ) → IsSized d → absent < 2 ^ 64 → optional integer absent k d ≡ Ok n → n < 2 ^ 64
+optional_is_word absent k d n sized small h = elim (optional_stands integer absent k d n h) [
   | inl same ↦ rw same small
-  | inr stands ↦ whole_is_word k d n sized stands
+  | inr stands ↦ integer_is_word k d n sized stands
 ]
 
--- a whole number that is there
-abbrev maybe_whole : Kind (Option ℕ)
-maybe_whole k v = whole k v >>= λ n. Ok (Some n)
+-- an integer that is there
+abbrev maybe_integer : Kind (Option ℕ)
+maybe_integer k v = integer k v >>= λ n. Ok (Some n)
 
 some_is_word : (n : ℕ) → n < 2 ^ 64 → IsWord (Some n)
 some_is_word n small m is = let same : n ≡ m = cc in rw (← same) small
@@ -114,13 +114,13 @@ some_is_word n small m is = let same : n ≡ m = cc in rw (← same) small
 none_is_word : IsWord None
 none_is_word m is = cc
 
-word_of : (k : Key) (d v : Data) (o : Option ℕ) → IsSized d → get (key_name k) d ≡ Some v → maybe_whole k v ≡ Ok o → IsWord o
+word_of : (k : Key) (d v : Data) (o : Option ℕ) → IsSized d → get (key_name k) d ≡ Some v → maybe_integer k v ≡ Ok o → IsWord o
 word_of k d v o sized at h =
-    let read = bind_ok (whole k v) (λ n. Ok (Some n)) o h in
-    rw (← ok_is (Some read.0) o read.2) (some_is_word read.0 (whole_is_word k d read.0 sized (v, at, read.1)))
+    let read = bind_ok (integer k v) (λ n. Ok (Some n)) o h in
+    rw (← ok_is (Some read.0) o read.2) (some_is_word read.0 (integer_is_word k d read.0 sized (v, at, read.1)))
 
-pub present_is_word : (k : Key) (d : Data) (o : Option ℕ) → IsSized d → if_present whole k d ≡ Ok o → IsWord o
-present_is_word k d o sized h = elim (optional_stands maybe_whole None k d o h) [
+pub present_is_word : (k : Key) (d : Data) (o : Option ℕ) → IsSized d → if_present integer k d ≡ Ok o → IsWord o
+present_is_word k d o sized h = elim (optional_stands maybe_integer None k d o h) [
   | inl same ↦ rw same none_is_word
   | inr stands ↦ word_of k d stands.0 o sized stands.1 stands.2
 ]

@@ -23,7 +23,7 @@ use Rattle.qa_base.specs.declared.space.Role.TheVariants.{Client, Server}
 use Rattle.qa_base.specs.declared.space.Space.{Space}
 use Rattle.qa_base.specs.declared.space.Space.TheVariants.{Initial, Handshake, App}
 use Rattle.qa_base.specs.values.Events.{has_ranges}
-use Rattle.qa_base.specs.format.Keys.{◌>>=◌, both, Kind, ranged, whole_from, text_among, pairs_of, is_range, ranges, present, required, read_or, optional}
+use Rattle.qa_base.specs.format.Keys.{◌>>=◌, both, Kind, ranged, integer_from, string_among, pairs_of, is_range, ranges, present, required, read_or, optional}
 use Rattle.qa_base.specs.values.Limits.{max_packet_number}
 use Rattle.qa_base.specs.values.Names.{key_name, field_name, role_name, role_named, space_name, space_named, leave_name, leave_named, kind_name, kind_named}
 use Rattle.qa_base.specs.values.Proper.{IsRange, IsWord}
@@ -49,28 +49,28 @@ both_reads r s x y first second = rw (first, second) refl
 
 -- ---- kinds of values
 
-pub whole_from_reads : (lo hi : ℕ) (k : Key) (n : ℕ) → lo ≤ n → n ≤ hi → whole_from lo hi k (written.whole n) ≡ Ok n
-whole_from_reads lo hi k n low high = ap (λ b. ranged k (cond b (Some n) None)) (and_from (nat_le lo n) (nat_le n hi) (le-leb lo n low) (le-leb n hi high))
+pub integer_from_reads : (lo hi : ℕ) (k : Key) (n : ℕ) → lo ≤ n → n ≤ hi → integer_from lo hi k (written.integer n) ≡ Ok n
+integer_from_reads lo hi k n low high = ap (λ b. ranged k (cond b (Some n) None)) (and_from (nat_le lo n) (nat_le n hi) (le-leb lo n low) (le-leb n hi high))
 
-pub role_reads : (k : Key) (r : Role) → text_among role_named k (written.text (role_name r)) ≡ Ok r
+pub role_reads : (k : Key) (r : Role) → string_among role_named k (written.string (role_name r)) ≡ Ok r
 role_reads k Client = refl
 role_reads k Server = refl
 
-pub space_reads : (k : Key) (s : Space) → text_among space_named k (written.text (space_name s)) ≡ Ok s
+pub space_reads : (k : Key) (s : Space) → string_among space_named k (written.string (space_name s)) ≡ Ok s
 space_reads k Initial = refl
 space_reads k Handshake = refl
 space_reads k App = refl
 
-pub leave_reads : (k : Key) (l : Leave) → text_among leave_named k (written.text (leave_name l)) ≡ Ok l
+pub leave_reads : (k : Key) (l : Leave) → string_among leave_named k (written.string (leave_name l)) ≡ Ok l
 leave_reads k Window = refl
 leave_reads k Probe = refl
 leave_reads k Recovery = refl
 
-pub kind_reads : (k : Key) (t : TimerKind) → text_among kind_named k (written.text (kind_name t)) ≡ Ok t
+pub kind_reads : (k : Key) (t : TimerKind) → string_among kind_named k (written.string (kind_name t)) ≡ Ok t
 kind_reads k Loss = refl
 kind_reads k Pto = refl
 
-pairs_read : (rs : List (ℕ × ℕ)) → pairs_of (written.whole_pairs rs) ≡ Some rs
+pairs_read : (rs : List (ℕ × ℕ)) → pairs_of (written.integer_pairs rs) ≡ Some rs
 pairs_read [] = refl
 pairs_read (r ∷ rs) = ap (option_map (λ ps. r ∷ ps)) (pairs_read rs)
 
@@ -81,7 +81,7 @@ all_ranges (r ∷ rs) each =
     (and_from (nat_le r.0 r.1) (nat_le r.1 max_packet_number) (le-leb r.0 r.1 each.0.0) (le-leb r.1 max_packet_number each.0.1))
     (all_ranges rs each.1)
 
-pub ranges_read : (k : Key) (rs : List (ℕ × ℕ)) → has_ranges rs ≡ true → AllByRecursion IsRange rs → ranges k (json.array (written.whole_pairs rs)) ≡ Ok rs
+pub ranges_read : (k : Key) (rs : List (ℕ × ℕ)) → has_ranges rs ≡ true → AllByRecursion IsRange rs → ranges k (json.array (written.integer_pairs rs)) ≡ Ok rs
 ranges_read k rs some each =
     ap (λ o. ok_or o (Fault.WrongKind k) >>= λ ps. ranged k (cond (has_ranges ps && list_all is_range ps) (Some ps) None)) (pairs_read rs)
     ∙ ap (λ b. ranged k (cond b (Some rs) None)) (and_from (has_ranges rs) (list_all is_range rs) some (all_ranges rs each))
@@ -97,28 +97,28 @@ other_key Greater a b other = refl
 pub past_reported : (k : List ℕ) (f : Field) (o : Option ℕ) (ps : Pairs) → (slice_cmp nat_cmp k (field_name f) ≡ Equal → ⊥)
     → get_member k (members (reported f o ++ ps)) ≡ get_member k (members ps)
 past_reported k f None ps other = refl
-past_reported k f (Some n) ps other = other_key (slice_cmp nat_cmp k (field_name f)) (get_member k (members ps)) (Some (written.whole n)) other
+past_reported k f (Some n) ps other = other_key (slice_cmp nat_cmp k (field_name f)) (get_member k (members ps)) (Some (written.integer n)) other
 
 -- a value stands at its key where it is reported
 pub reported_stands : (f : Field) (o : Option ℕ) (ps : Pairs) → slice_cmp nat_cmp (field_name f) (field_name f) ≡ Equal → get_member (field_name f) (members ps) ≡ None
-    → get_member (field_name f) (members (reported f o ++ ps)) ≡ option_map written.whole o
+    → get_member (field_name f) (members (reported f o ++ ps)) ≡ option_map written.integer o
 reported_stands f None ps same none = none
 reported_stands f (Some n) ps same none = rw same refl
 
 -- the same where no key stands behind it
 pub past_last : (k : List ℕ) (f : Field) (o : Option ℕ) → (slice_cmp nat_cmp k (field_name f) ≡ Equal → ⊥) → get_member k (members (reported f o)) ≡ None
 past_last k f None other = refl
-past_last k f (Some n) other = other_key (slice_cmp nat_cmp k (field_name f)) None (Some (written.whole n)) other
+past_last k f (Some n) other = other_key (slice_cmp nat_cmp k (field_name f)) None (Some (written.integer n)) other
 
-pub last_stands : (f : Field) (o : Option ℕ) → slice_cmp nat_cmp (field_name f) (field_name f) ≡ Equal → get_member (field_name f) (members (reported f o)) ≡ option_map written.whole o
+pub last_stands : (f : Field) (o : Option ℕ) → slice_cmp nat_cmp (field_name f) (field_name f) ≡ Equal → get_member (field_name f) (members (reported f o)) ≡ option_map written.integer o
 last_stands f None same = refl
 last_stands f (Some n) same = rw same refl
 
-metric_at : (f : Field) (d : Data) (o : Option ℕ) (v : Option Data) → get (field_name f) d ≡ v → v ≡ option_map written.whole o → metric f d ≡ Ok o
+metric_at : (f : Field) (d : Data) (o : Option ℕ) (v : Option Data) → get (field_name f) d ≡ v → v ≡ option_map written.integer o → metric f d ≡ Ok o
 metric_at f d None v at is = rw (at, is) refl
 metric_at f d (Some n) v at is = rw (at, is) refl
 
-pub metric_reads : (f : Field) (d : Data) (o : Option ℕ) → get (field_name f) d ≡ option_map written.whole o → metric f d ≡ Ok o
+pub metric_reads : (f : Field) (d : Data) (o : Option ℕ) → get (field_name f) d ≡ option_map written.integer o → metric f d ≡ Ok o
 metric_reads f d o at = metric_at f d o (get (field_name f) d) refl at
 
 -- ---- values that can be written and read
@@ -127,42 +127,42 @@ pub record IsKept (d : Data) : Type 0 where
   pub simple : IsSimple d
   pub shallow : depth d ≤ 2
 
-pub whole_is_kept : (n : ℕ) → n < 2 ^ 64 → IsKept (written.whole n)
-whole_is_kept n small = record { simple = small; shallow = omega arith }
+pub integer_is_kept : (n : ℕ) → n < 2 ^ 64 → IsKept (written.integer n)
+integer_is_kept n small = record { simple = small; shallow = omega arith }
 
-pub text_is_kept : (t : List ℕ) → are_ascii t ≡ true → IsKept (written.text t)
-text_is_kept t ascii = record { simple = ascii; shallow = omega arith }
+pub string_is_kept : (t : List ℕ) → are_ascii t ≡ true → IsKept (written.string t)
+string_is_kept t ascii = record { simple = ascii; shallow = omega arith }
 
-pub truth_is_kept : (b : Bool) → IsKept (written.truth b)
-truth_is_kept b = record { simple = tt; shallow = omega arith }
+pub boolean_is_kept : (b : Bool) → IsKept (written.boolean b)
+boolean_is_kept b = record { simple = tt; shallow = omega arith }
 
-pub role_is_kept : (r : Role) → IsKept (written.text (role_name r))
-role_is_kept Client = text_is_kept _ refl
-role_is_kept Server = text_is_kept _ refl
+pub role_is_kept : (r : Role) → IsKept (written.string (role_name r))
+role_is_kept Client = string_is_kept _ refl
+role_is_kept Server = string_is_kept _ refl
 
-pub space_is_kept : (s : Space) → IsKept (written.text (space_name s))
-space_is_kept Initial = text_is_kept _ refl
-space_is_kept Handshake = text_is_kept _ refl
-space_is_kept App = text_is_kept _ refl
+pub space_is_kept : (s : Space) → IsKept (written.string (space_name s))
+space_is_kept Initial = string_is_kept _ refl
+space_is_kept Handshake = string_is_kept _ refl
+space_is_kept App = string_is_kept _ refl
 
-pub leave_is_kept : (l : Leave) → IsKept (written.text (leave_name l))
-leave_is_kept Window = text_is_kept _ refl
-leave_is_kept Probe = text_is_kept _ refl
-leave_is_kept Recovery = text_is_kept _ refl
+pub leave_is_kept : (l : Leave) → IsKept (written.string (leave_name l))
+leave_is_kept Window = string_is_kept _ refl
+leave_is_kept Probe = string_is_kept _ refl
+leave_is_kept Recovery = string_is_kept _ refl
 
-pub kind_is_kept : (t : TimerKind) → IsKept (written.text (kind_name t))
-kind_is_kept Loss = text_is_kept _ refl
-kind_is_kept Pto = text_is_kept _ refl
+pub kind_is_kept : (t : TimerKind) → IsKept (written.string (kind_name t))
+kind_is_kept Loss = string_is_kept _ refl
+kind_is_kept Pto = string_is_kept _ refl
 
-pairs_are_simple : (rs : List (ℕ × ℕ)) → AllByRecursion IsRange rs → AreSimple (written.whole_pairs rs)
+pairs_are_simple : (rs : List (ℕ × ℕ)) → AllByRecursion IsRange rs → AreSimple (written.integer_pairs rs)
 pairs_are_simple [] each = tt
 pairs_are_simple (r ∷ rs) each = ((omega (arith, each.0.0, each.0.1), (omega (arith, each.0.1), tt)), pairs_are_simple rs each.1)
 
-pairs_are_shallow : (rs : List (ℕ × ℕ)) → items_depth (written.whole_pairs rs) ≤ 1
+pairs_are_shallow : (rs : List (ℕ × ℕ)) → items_depth (written.integer_pairs rs) ≤ 1
 pairs_are_shallow [] = omega arith
 pairs_are_shallow (r ∷ rs) = omega (arith, pairs_are_shallow rs)
 
-pub ranges_are_kept : (rs : List (ℕ × ℕ)) → AllByRecursion IsRange rs → IsKept (json.array (written.whole_pairs rs))
+pub ranges_are_kept : (rs : List (ℕ × ℕ)) → AllByRecursion IsRange rs → IsKept (json.array (written.integer_pairs rs))
 ranges_are_kept rs each = record { simple = pairs_are_simple rs each; shallow = omega (arith, pairs_are_shallow rs) }
 
 -- ---- keys that rise
@@ -190,8 +190,8 @@ follow j k d ps less ascii kept more = record {
 pub follow_reported : (j : List ℕ) (f : Field) (o : Option ℕ) (ps : Pairs) → slice_cmp nat_cmp j (field_name f) ≡ Less → are_ascii (field_name f) ≡ true → IsWord o → Follow (field_name f) ps
     → Follow j (reported f o ++ ps)
 follow_reported j f None ps less ascii small more = record { before = before_more j (field_name f) (members ps) less more.before; simple = more.simple; shallow = more.shallow }
-follow_reported j f (Some n) ps less ascii small more = follow j (key.Metric f) (written.whole n) ps less ascii (whole_is_kept n (small n refl)) more
+follow_reported j f (Some n) ps less ascii small more = follow j (key.Metric f) (written.integer n) ps less ascii (integer_is_kept n (small n refl)) more
 
 pub follow_last : (j : List ℕ) (f : Field) (o : Option ℕ) → slice_cmp nat_cmp j (field_name f) ≡ Less → are_ascii (field_name f) ≡ true → IsWord o → Follow j (reported f o)
 follow_last j f None less ascii small = none_follow j
-follow_last j f (Some n) less ascii small = follow j (key.Metric f) (written.whole n) [] less ascii (whole_is_kept n (small n refl)) (none_follow (field_name f))
+follow_last j f (Some n) less ascii small = follow j (key.Metric f) (written.integer n) [] less ascii (integer_is_kept n (small n refl)) (none_follow (field_name f))

@@ -18,6 +18,7 @@ use Rattle.qa_base.specs.declared.fault.Key.{Key}
 use Rattle.qa_base.specs.declared.fault.Key.TheVariants as key
 use Rattle.qa_base.specs.declared.line.Line.{Line}
 use Rattle.qa_base.specs.declared.line.Line.TheVariants as line
+use Rattle.qa_base.specs.declared.line.LineKind.TheVariants as kinds
 use Rattle.qa_base.specs.declared.rule.Field.TheVariants.{Window, Ssthresh, BytesInFlight, LatestRtt, MinRtt, SmoothedRtt, Rttvar}
 use Rattle.qa_base.specs.declared.space.Kind.{Kind as TimerKind}
 use Rattle.qa_base.specs.declared.space.Leave.{Leave}
@@ -25,10 +26,10 @@ use Rattle.qa_base.specs.declared.space.Leave.TheVariants as leaves
 use Rattle.qa_base.specs.declared.space.Space.{Space}
 use Rattle.qa_base.specs.declared.space.Space.TheVariants.{Initial, Handshake, App}
 use Rattle.qa_base.specs.values.Events.{is_space}
-use Rattle.qa_base.specs.format.Keys.{◌>>=◌, whole, whole_from, text, text_among, truth, ranges, required, if_present}
+use Rattle.qa_base.specs.format.Keys.{◌>>=◌, integer, integer_from, string, string_among, boolean, ranges, required, if_present}
 use Rattle.qa_base.specs.format.Lines.{has_lf}
 use Rattle.qa_base.specs.values.Limits.{max_time, max_packet_number, max_packet_size}
-use Rattle.qa_base.specs.values.Names.{key_name, role_name, role_named, space_name, space_named, discarded_named, leave_name, leave_named, kind_name, kind_named}
+use Rattle.qa_base.specs.values.Names.{key_name, line_kind_name, role_name, role_named, space_name, space_named, discarded_named, leave_name, leave_named, kind_name, kind_named}
 use Rattle.qa_base.specs.values.Proper.{IsProperEvent, IsProperLine}
 use Rattle.qa_base.specs.format.Reading.{reader_named, object_says, json_of, reading_by, reading}
 use Rattle.qa_base.specs.values.Settings.{Settings, AreInRange, is_outside, checked}
@@ -37,18 +38,18 @@ use Rattle.qa_base.specs.format.Written as written
 use Rattle.qa_base.specs.format.Written.{Pairs, reported, header_pairs, event_pairs, members, object_of, written as text_of}
 use Rattle.qa_base.proofs.format.Compact.{IsSimple, read-compact_text, is_utf8-compact_text}
 use Rattle.qa_base.proofs.format.OneLine.{has_lf-compact_text}
-use Rattle.qa_base.proofs.format.KeysWritten.{required_reads, optional_reads, both_reads, whole_from_reads, role_reads, space_reads, leave_reads, kind_reads, ranges_read, past_reported, reported_stands, metric_reads, past_last, last_stands, IsKept, whole_is_kept, text_is_kept, truth_is_kept, role_is_kept, space_is_kept, leave_is_kept, kind_is_kept, ranges_are_kept, Follow, none_follow, follow, follow_reported, follow_last}
+use Rattle.qa_base.proofs.format.KeysWritten.{required_reads, optional_reads, both_reads, integer_from_reads, role_reads, space_reads, leave_reads, kind_reads, ranges_read, past_reported, reported_stands, metric_reads, past_last, last_stands, IsKept, integer_is_kept, string_is_kept, boolean_is_kept, role_is_kept, space_is_kept, leave_is_kept, kind_is_kept, ranges_are_kept, Follow, none_follow, follow, follow_reported, follow_last}
 
 -- ---- keys that several kinds of line have
 
-time_reads : (d : Data) (t : ℕ) → get (codes "time") d ≡ Some (written.whole t) → t ≤ max_time → time d ≡ Ok t
-time_reads d t at high = required_reads (whole_from 0 max_time) key.Time d (written.whole t) t at refl (whole_from_reads 0 max_time key.Time t (omega arith) high)
+time_reads : (d : Data) (t : ℕ) → get (codes "time") d ≡ Some (written.integer t) → t ≤ max_time → time d ≡ Ok t
+time_reads d t at high = required_reads (integer_from 0 max_time) key.Time d (written.integer t) t at refl (integer_from_reads 0 max_time key.Time t (omega arith) high)
 
-space_stands : (d : Data) (s : Space) → get (codes "space") d ≡ Some (written.text (space_name s)) → space d ≡ Ok s
-space_stands d s at = required_reads (text_among space_named) key.Space d (written.text (space_name s)) s at refl (space_reads key.Space s)
+space_stands : (d : Data) (s : Space) → get (codes "space") d ≡ Some (written.string (space_name s)) → space d ≡ Ok s
+space_stands d s at = required_reads (string_among space_named) key.Space d (written.string (space_name s)) s at refl (space_reads key.Space s)
 
-ranges_stand : (d : Data) (rs : List (ℕ × ℕ)) → get (codes "ranges") d ≡ Some (json.array (written.whole_pairs rs)) → ranges key.Ranges (json.array (written.whole_pairs rs)) ≡ Ok rs → required ranges key.Ranges d ≡ Ok rs
-ranges_stand d rs at reads = required_reads ranges key.Ranges d (json.array (written.whole_pairs rs)) rs at refl reads
+ranges_stand : (d : Data) (rs : List (ℕ × ℕ)) → get (codes "ranges") d ≡ Some (json.array (written.integer_pairs rs)) → ranges key.Ranges (json.array (written.integer_pairs rs)) ≡ Ok rs → required ranges key.Ranges d ≡ Ok rs
+ranges_stand d rs at reads = required_reads ranges key.Ranges d (json.array (written.integer_pairs rs)) rs at refl reads
 
 -- ---- packets
 
@@ -68,13 +69,13 @@ sent_reads t s number size eliciting in_flight leave proper =
     let d = object_of (event_pairs (Sent t s number size eliciting in_flight leave)) in
     let parts = and_parts (nat_le 1 size && nat_le size max_packet_size) (not eliciting || in_flight) proper.fitting in
     let bounds = and_parts (nat_le 1 size) (nat_le size max_packet_size) parts.0 in
-    let leaves_read = optional_reads (text_among leave_named) leaves.Window key.Leave d (written.text (leave_name leave)) leave refl refl (leave_reads key.Leave leave) in
-    let flags_read = both_reads _ _ eliciting _ (required_reads truth key.Eliciting d (written.truth eliciting) eliciting refl refl refl)
-    (both_reads _ _ in_flight leave (required_reads truth key.InFlight d (written.truth in_flight) in_flight refl refl refl) leaves_read) in
-    let size_read = required_reads (whole_from 1 max_packet_size) key.Size d (written.whole size) size refl refl
-    (whole_from_reads 1 max_packet_size key.Size size (leb-true 1 size bounds.0) (leb-true size max_packet_size bounds.1)) in
-    let number_read = required_reads (whole_from 0 max_packet_number) key.Number d (written.whole number) number refl refl
-    (whole_from_reads 0 max_packet_number key.Number number (omega arith) proper.numbers) in
+    let leaves_read = optional_reads (string_among leave_named) leaves.Window key.Leave d (written.string (leave_name leave)) leave refl refl (leave_reads key.Leave leave) in
+    let flags_read = both_reads _ _ eliciting _ (required_reads boolean key.Eliciting d (written.boolean eliciting) eliciting refl refl refl)
+    (both_reads _ _ in_flight leave (required_reads boolean key.InFlight d (written.boolean in_flight) in_flight refl refl refl) leaves_read) in
+    let size_read = required_reads (integer_from 1 max_packet_size) key.Size d (written.integer size) size refl refl
+    (integer_from_reads 1 max_packet_size key.Size size (leb-true 1 size bounds.0) (leb-true size max_packet_size bounds.1)) in
+    let number_read = required_reads (integer_from 0 max_packet_number) key.Number d (written.integer number) number refl refl
+    (integer_from_reads 0 max_packet_number key.Number number (omega arith) proper.numbers) in
     let fields = both_reads _ _ t _ (time_reads d t refl proper.in_time)
     (both_reads _ _ s _ (space_stands d s refl)
     (both_reads _ _ number _ number_read
@@ -88,8 +89,8 @@ unfolding ack_of
 ack_reads t s rs delay limited proper =
     let d = object_of (event_pairs (Ack t s rs delay limited)) in
     let listed = ranges_stand d rs refl (ranges_read key.Ranges rs proper.fitting proper.numbers.0) in
-    let rest = both_reads _ _ delay limited (optional_reads whole 0 key.Delay d (written.whole delay) delay refl refl refl)
-    (optional_reads truth false key.Limited d (written.truth limited) limited refl refl refl) in
+    let rest = both_reads _ _ delay limited (optional_reads integer 0 key.Delay d (written.integer delay) delay refl refl refl)
+    (optional_reads boolean false key.Limited d (written.boolean limited) limited refl refl refl) in
     let fields = both_reads _ _ t _ (time_reads d t refl proper.in_time) (both_reads _ _ s _ (space_stands d s refl) (both_reads _ _ rs _ listed rest)) in
     then_reads (ack_fields d) _ (t, (s, (rs, (delay, limited)))) _ fields refl
 
@@ -107,11 +108,11 @@ timer_reads : (t : ℕ) (k : TimerKind) (s : Space) → IsProperEvent (Timer t k
 unfolding timer_of
 timer_reads t k s proper =
     let d = object_of (event_pairs (Timer t k s)) in
-    let kinds = required_reads (text_among kind_named) key.Kind d (written.text (kind_name k)) k refl refl (kind_reads key.Kind k) in
+    let kinds = required_reads (string_among kind_named) key.Kind d (written.string (kind_name k)) k refl refl (kind_reads key.Kind k) in
     let fields = both_reads _ _ t _ (time_reads d t refl proper.in_time) (both_reads _ _ k s kinds (space_stands d s refl)) in
     then_reads (timer_fields d) _ (t, (k, s)) _ fields refl
 
-discarded_reads : (s : Space) → not (is_space App s) ≡ true → text_among discarded_named key.Space (written.text (space_name s)) ≡ Ok s
+discarded_reads : (s : Space) → not (is_space App s) ≡ true → string_among discarded_named key.Space (written.string (space_name s)) ≡ Ok s
 discarded_reads Initial h = refl
 discarded_reads Handshake h = refl
 discarded_reads App h = cc
@@ -120,7 +121,7 @@ discard_reads : (t : ℕ) (s : Space) → IsProperEvent (Discard t s) → discar
 unfolding discard_of
 discard_reads t s proper =
     let d = object_of (event_pairs (Discard t s)) in
-    let spaces = required_reads (text_among discarded_named) key.Space d (written.text (space_name s)) s refl refl (discarded_reads s proper.fitting) in
+    let spaces = required_reads (string_among discarded_named) key.Space d (written.string (space_name s)) s refl refl (discarded_reads s proper.fitting) in
     then_reads (discard_fields d) _ (t, s) _ (both_reads _ _ t s (time_reads d t refl proper.in_time) spaces) refl
 
 confirmed_reads : (t : ℕ) → IsProperEvent (Confirmed t) → confirmed_of (object_of (event_pairs (Confirmed t))) ≡ Ok (Confirmed t)
@@ -135,7 +136,7 @@ keys_read t proper = let d = object_of (event_pairs (Keys t)) in then_reads (tim
 
 -- what stands behind each key of a report, in the order in which the keys are written
 abbrev behind_threshold : ℕ → MetricValues → Pairs
-behind_threshold t v = (key.Time, written.whole t) ∷ reported Window v.window
+behind_threshold t v = (key.Time, written.integer t) ∷ reported Window v.window
 
 abbrev behind_smoothed : ℕ → MetricValues → Pairs
 behind_smoothed t v = reported Ssthresh v.ssthresh ++ behind_threshold t v
@@ -153,7 +154,7 @@ abbrev behind_event : ℕ → MetricValues → Pairs
 behind_event t v = reported LatestRtt v.latest_rtt ++ behind_latest t v
 
 abbrev behind_flight : ℕ → MetricValues → Pairs
-behind_flight t v = (key.Event, written.text (codes "metrics")) ∷ behind_event t v
+behind_flight t v = (key.Event, written.string (line_kind_name kinds.Metrics)) ∷ behind_event t v
 
 abbrev metrics_pairs : ℕ → MetricValues → Pairs
 metrics_pairs t v = reported BytesInFlight v.bytes_in_flight ++ behind_flight t v
@@ -168,11 +169,11 @@ regroup (x ∷ a) e b c d f g h = ap (λ ps. x ∷ ps) (regroup a e b c d f g h)
 -- the keys of a report, grouped from behind
 metrics_pairs_are : (t : ℕ) (v : MetricValues) → event_pairs (Metrics t v) ≡ metrics_pairs t v
 metrics_pairs_are t v =
-    regroup (reported BytesInFlight v.bytes_in_flight) (key.Event, written.text (codes "metrics")) (reported LatestRtt v.latest_rtt) (reported MinRtt v.min_rtt)
+    regroup (reported BytesInFlight v.bytes_in_flight) (key.Event, written.string (line_kind_name kinds.Metrics)) (reported LatestRtt v.latest_rtt) (reported MinRtt v.min_rtt)
     (reported Rttvar v.rttvar) (reported SmoothedRtt v.smoothed_rtt) (reported Ssthresh v.ssthresh) (behind_threshold t v)
 
 -- each value that is reported is found at its key
-bytes_in_flight_found : (t : ℕ) (v : MetricValues) → get (codes "bytes_in_flight") (object_of (metrics_pairs t v)) ≡ option_map written.whole v.bytes_in_flight
+bytes_in_flight_found : (t : ℕ) (v : MetricValues) → get (codes "bytes_in_flight") (object_of (metrics_pairs t v)) ≡ option_map written.integer v.bytes_in_flight
 bytes_in_flight_found t v =
     reported_stands BytesInFlight v.bytes_in_flight (behind_flight t v) refl (
     past_reported (codes "bytes_in_flight") LatestRtt v.latest_rtt (behind_latest t v) (λ e. cc)
@@ -182,7 +183,7 @@ bytes_in_flight_found t v =
     ∙ past_reported (codes "bytes_in_flight") Ssthresh v.ssthresh (behind_threshold t v) (λ e. cc)
     ∙ past_last (codes "bytes_in_flight") Window v.window (λ e. cc))
 
-latest_rtt_found : (t : ℕ) (v : MetricValues) → get (codes "latest_rtt") (object_of (metrics_pairs t v)) ≡ option_map written.whole v.latest_rtt
+latest_rtt_found : (t : ℕ) (v : MetricValues) → get (codes "latest_rtt") (object_of (metrics_pairs t v)) ≡ option_map written.integer v.latest_rtt
 latest_rtt_found t v =
     past_reported (codes "latest_rtt") BytesInFlight v.bytes_in_flight (behind_flight t v) (λ e. cc)
     ∙ reported_stands LatestRtt v.latest_rtt (behind_latest t v) refl (
@@ -192,7 +193,7 @@ latest_rtt_found t v =
     ∙ past_reported (codes "latest_rtt") Ssthresh v.ssthresh (behind_threshold t v) (λ e. cc)
     ∙ past_last (codes "latest_rtt") Window v.window (λ e. cc))
 
-min_rtt_found : (t : ℕ) (v : MetricValues) → get (codes "min_rtt") (object_of (metrics_pairs t v)) ≡ option_map written.whole v.min_rtt
+min_rtt_found : (t : ℕ) (v : MetricValues) → get (codes "min_rtt") (object_of (metrics_pairs t v)) ≡ option_map written.integer v.min_rtt
 min_rtt_found t v =
     past_reported (codes "min_rtt") BytesInFlight v.bytes_in_flight (behind_flight t v) (λ e. cc)
     ∙ past_reported (codes "min_rtt") LatestRtt v.latest_rtt (behind_latest t v) (λ e. cc)
@@ -202,7 +203,7 @@ min_rtt_found t v =
     ∙ past_reported (codes "min_rtt") Ssthresh v.ssthresh (behind_threshold t v) (λ e. cc)
     ∙ past_last (codes "min_rtt") Window v.window (λ e. cc))
 
-rttvar_found : (t : ℕ) (v : MetricValues) → get (codes "rttvar") (object_of (metrics_pairs t v)) ≡ option_map written.whole v.rttvar
+rttvar_found : (t : ℕ) (v : MetricValues) → get (codes "rttvar") (object_of (metrics_pairs t v)) ≡ option_map written.integer v.rttvar
 rttvar_found t v =
     past_reported (codes "rttvar") BytesInFlight v.bytes_in_flight (behind_flight t v) (λ e. cc)
     ∙ past_reported (codes "rttvar") LatestRtt v.latest_rtt (behind_latest t v) (λ e. cc)
@@ -212,7 +213,7 @@ rttvar_found t v =
     ∙ past_reported (codes "rttvar") Ssthresh v.ssthresh (behind_threshold t v) (λ e. cc)
     ∙ past_last (codes "rttvar") Window v.window (λ e. cc))
 
-smoothed_rtt_found : (t : ℕ) (v : MetricValues) → get (codes "smoothed_rtt") (object_of (metrics_pairs t v)) ≡ option_map written.whole v.smoothed_rtt
+smoothed_rtt_found : (t : ℕ) (v : MetricValues) → get (codes "smoothed_rtt") (object_of (metrics_pairs t v)) ≡ option_map written.integer v.smoothed_rtt
 smoothed_rtt_found t v =
     past_reported (codes "smoothed_rtt") BytesInFlight v.bytes_in_flight (behind_flight t v) (λ e. cc)
     ∙ past_reported (codes "smoothed_rtt") LatestRtt v.latest_rtt (behind_latest t v) (λ e. cc)
@@ -222,7 +223,7 @@ smoothed_rtt_found t v =
     past_reported (codes "smoothed_rtt") Ssthresh v.ssthresh (behind_threshold t v) (λ e. cc)
     ∙ past_last (codes "smoothed_rtt") Window v.window (λ e. cc))
 
-ssthresh_found : (t : ℕ) (v : MetricValues) → get (codes "ssthresh") (object_of (metrics_pairs t v)) ≡ option_map written.whole v.ssthresh
+ssthresh_found : (t : ℕ) (v : MetricValues) → get (codes "ssthresh") (object_of (metrics_pairs t v)) ≡ option_map written.integer v.ssthresh
 ssthresh_found t v =
     past_reported (codes "ssthresh") BytesInFlight v.bytes_in_flight (behind_flight t v) (λ e. cc)
     ∙ past_reported (codes "ssthresh") LatestRtt v.latest_rtt (behind_latest t v) (λ e. cc)
@@ -232,7 +233,7 @@ ssthresh_found t v =
     ∙ reported_stands Ssthresh v.ssthresh (behind_threshold t v) refl (
     past_last (codes "ssthresh") Window v.window (λ e. cc))
 
-window_found : (t : ℕ) (v : MetricValues) → get (codes "window") (object_of (metrics_pairs t v)) ≡ option_map written.whole v.window
+window_found : (t : ℕ) (v : MetricValues) → get (codes "window") (object_of (metrics_pairs t v)) ≡ option_map written.integer v.window
 window_found t v =
     past_reported (codes "window") BytesInFlight v.bytes_in_flight (behind_flight t v) (λ e. cc)
     ∙ past_reported (codes "window") LatestRtt v.latest_rtt (behind_latest t v) (λ e. cc)
@@ -242,7 +243,7 @@ window_found t v =
     ∙ past_reported (codes "window") Ssthresh v.ssthresh (behind_threshold t v) (λ e. cc)
     ∙ last_stands Window v.window refl
 
-time_found : (t : ℕ) (v : MetricValues) → get (codes "time") (object_of (metrics_pairs t v)) ≡ Some (written.whole t)
+time_found : (t : ℕ) (v : MetricValues) → get (codes "time") (object_of (metrics_pairs t v)) ≡ Some (written.integer t)
 time_found t v =
     past_reported (codes "time") BytesInFlight v.bytes_in_flight (behind_flight t v) (λ e. cc)
     ∙ past_reported (codes "time") LatestRtt v.latest_rtt (behind_latest t v) (λ e. cc)
@@ -251,7 +252,7 @@ time_found t v =
     ∙ past_reported (codes "time") SmoothedRtt v.smoothed_rtt (behind_smoothed t v) (λ e. cc)
     ∙ past_reported (codes "time") Ssthresh v.ssthresh (behind_threshold t v) (λ e. cc)
 
-event_found : (t : ℕ) (v : MetricValues) → get (codes "event") (object_of (metrics_pairs t v)) ≡ Some (written.text (codes "metrics"))
+event_found : (t : ℕ) (v : MetricValues) → get (codes "event") (object_of (metrics_pairs t v)) ≡ Some (written.string (line_kind_name kinds.Metrics))
 event_found t v = past_reported (codes "event") BytesInFlight v.bytes_in_flight (behind_flight t v) (λ e. cc)
 
 metrics_read : (t : ℕ) (v : MetricValues) → IsProperEvent (Metrics t v) → metrics_of (object_of (metrics_pairs t v)) ≡ Ok (Metrics t v)
@@ -285,67 +286,67 @@ checked_passes s are = rw (
 settings_read : (s : Settings) → AreInRange s → settings s.role s.max_datagram_size (Some s.max_ack_delay) (Some s.initial_rtt) (Some s.initial_window) ≡ Ok s
 settings_read s are = ap (result_map_both (λ t. t) (λ e. OutOfRange e.0)) (checked_passes s are)
 
-present_whole : (k : Key) (d : Data) (n : ℕ) → get (key_name k) d ≡ Some (written.whole n) → if_present whole k d ≡ Ok (Some n)
-present_whole k d n at = optional_reads (λ j v. whole j v >>= λ m. Ok (Some m)) None k d (written.whole n) (Some n) at refl refl
+present_integer : (k : Key) (d : Data) (n : ℕ) → get (key_name k) d ≡ Some (written.integer n) → if_present integer k d ≡ Ok (Some n)
+present_integer k d n at = optional_reads (λ j v. integer j v >>= λ m. Ok (Some m)) None k d (written.integer n) (Some n) at refl refl
 
 header_reads : (s : Settings) → AreInRange s → header_of (object_of (header_pairs s)) ≡ Ok s
 unfolding header_of
 header_reads s are =
     let d = object_of (header_pairs s) in
-    let fields = both_reads _ _ 1 _ (required_reads whole key.Version d (written.whole 1) 1 refl refl refl)
-    (both_reads _ _ s.role _ (required_reads (text_among role_named) key.Role d (written.text (role_name s.role)) s.role refl refl (role_reads key.Role s.role))
-    (both_reads _ _ s.max_datagram_size _ (required_reads whole key.MaxDatagramSize d (written.whole s.max_datagram_size) s.max_datagram_size refl refl refl)
-    (both_reads _ _ (Some s.max_ack_delay) _ (present_whole key.MaxAckDelay d s.max_ack_delay refl)
-    (both_reads _ _ (Some s.initial_rtt) (Some s.initial_window) (present_whole key.InitialRtt d s.initial_rtt refl) (present_whole key.InitialWindow d s.initial_window refl))))) in
+    let fields = both_reads _ _ 1 _ (required_reads integer key.Version d (written.integer 1) 1 refl refl refl)
+    (both_reads _ _ s.role _ (required_reads (string_among role_named) key.Role d (written.string (role_name s.role)) s.role refl refl (role_reads key.Role s.role))
+    (both_reads _ _ s.max_datagram_size _ (required_reads integer key.MaxDatagramSize d (written.integer s.max_datagram_size) s.max_datagram_size refl refl refl)
+    (both_reads _ _ (Some s.max_ack_delay) _ (present_integer key.MaxAckDelay d s.max_ack_delay refl)
+    (both_reads _ _ (Some s.initial_rtt) (Some s.initial_window) (present_integer key.InitialRtt d s.initial_rtt refl) (present_integer key.InitialWindow d s.initial_window refl))))) in
     then_reads (header_fields d) _ (1, (s.role, (s.max_datagram_size, (Some s.max_ack_delay, (Some s.initial_rtt, Some s.initial_window))))) _ fields
     (then_reads (settings s.role s.max_datagram_size (Some s.max_ack_delay) (Some s.initial_rtt) (Some s.initial_window)) _ s _ (settings_read s are) refl)
 
 -- ---- keys rise, and values can be written and read
 
-time_is_kept : (t : ℕ) → t ≤ max_time → IsKept (written.whole t)
-time_is_kept t high = whole_is_kept t (omega (arith, high))
+time_is_kept : (t : ℕ) → t ≤ max_time → IsKept (written.integer t)
+time_is_kept t high = integer_is_kept t (omega (arith, high))
 
-time_follows : (j : List ℕ) (t : ℕ) → slice_cmp nat_cmp j (codes "time") ≡ Less → t ≤ max_time → Follow j ((key.Time, written.whole t) ∷ [])
-time_follows j t less high = follow j key.Time (written.whole t) [] less refl (time_is_kept t high) (none_follow (codes "time"))
+time_follows : (j : List ℕ) (t : ℕ) → slice_cmp nat_cmp j (codes "time") ≡ Less → t ≤ max_time → Follow j ((key.Time, written.integer t) ∷ [])
+time_follows j t less high = follow j key.Time (written.integer t) [] less refl (time_is_kept t high) (none_follow (codes "time"))
 
 space_follows : (j : List ℕ) (s : Space) (t : ℕ) → slice_cmp nat_cmp j (codes "space") ≡ Less → t ≤ max_time
-    → Follow j ((key.Space, written.text (space_name s)) ∷ (key.Time, written.whole t) ∷ [])
-space_follows j s t less high = follow j key.Space (written.text (space_name s)) _ less refl (space_is_kept s) (time_follows (codes "space") t refl high)
+    → Follow j ((key.Space, written.string (space_name s)) ∷ (key.Time, written.integer t) ∷ [])
+space_follows j s t less high = follow j key.Space (written.string (space_name s)) _ less refl (space_is_kept s) (time_follows (codes "space") t refl high)
 
 sent_follows : (t : ℕ) (s : Space) (number size : ℕ) (eliciting in_flight : Bool) (leave : Leave)
     → IsProperEvent (Sent t s number size eliciting in_flight leave) → Follow [] (event_pairs (Sent t s number size eliciting in_flight leave))
 sent_follows t s number size eliciting in_flight leave proper =
     let parts = and_parts (nat_le 1 size && nat_le size max_packet_size) (not eliciting || in_flight) proper.fitting in
     let high = leb-true size max_packet_size (and_parts (nat_le 1 size) (nat_le size max_packet_size) parts.0).1 in
-    follow _ key.Eliciting _ _ refl refl (truth_is_kept eliciting)
-    (follow _ key.Event _ _ refl refl (text_is_kept _ refl)
-    (follow _ key.InFlight _ _ refl refl (truth_is_kept in_flight)
+    follow _ key.Eliciting _ _ refl refl (boolean_is_kept eliciting)
+    (follow _ key.Event _ _ refl refl (string_is_kept _ refl)
+    (follow _ key.InFlight _ _ refl refl (boolean_is_kept in_flight)
     (follow _ key.Leave _ _ refl refl (leave_is_kept leave)
-    (follow _ key.Number _ _ refl refl (whole_is_kept number (omega (arith, proper.numbers)))
-    (follow _ key.Size _ _ refl refl (whole_is_kept size (omega (arith, high)))
+    (follow _ key.Number _ _ refl refl (integer_is_kept number (omega (arith, proper.numbers)))
+    (follow _ key.Size _ _ refl refl (integer_is_kept size (omega (arith, high)))
     (space_follows _ s t refl proper.in_time))))))
 
 ack_follows : (t : ℕ) (s : Space) (rs : List (ℕ × ℕ)) (delay : ℕ) (limited : Bool) → IsProperEvent (Ack t s rs delay limited) → Follow [] (event_pairs (Ack t s rs delay limited))
 ack_follows t s rs delay limited proper =
-    follow _ key.Delay _ _ refl refl (whole_is_kept delay proper.numbers.1)
-    (follow _ key.Event _ _ refl refl (text_is_kept _ refl)
-    (follow _ key.Limited _ _ refl refl (truth_is_kept limited)
+    follow _ key.Delay _ _ refl refl (integer_is_kept delay proper.numbers.1)
+    (follow _ key.Event _ _ refl refl (string_is_kept _ refl)
+    (follow _ key.Limited _ _ refl refl (boolean_is_kept limited)
     (follow _ key.Ranges _ _ refl refl (ranges_are_kept rs proper.numbers.0)
     (space_follows _ s t refl proper.in_time))))
 
 lost_follows : (t : ℕ) (s : Space) (rs : List (ℕ × ℕ)) → IsProperEvent (Lost t s rs) → Follow [] (event_pairs (Lost t s rs))
 lost_follows t s rs proper =
-    follow _ key.Event _ _ refl refl (text_is_kept _ refl) (follow _ key.Ranges _ _ refl refl (ranges_are_kept rs proper.numbers) (space_follows _ s t refl proper.in_time))
+    follow _ key.Event _ _ refl refl (string_is_kept _ refl) (follow _ key.Ranges _ _ refl refl (ranges_are_kept rs proper.numbers) (space_follows _ s t refl proper.in_time))
 
 timer_follows : (t : ℕ) (k : TimerKind) (s : Space) → IsProperEvent (Timer t k s) → Follow [] (event_pairs (Timer t k s))
 timer_follows t k s proper =
-    follow _ key.Event _ _ refl refl (text_is_kept _ refl) (follow _ key.Kind _ _ refl refl (kind_is_kept k) (space_follows _ s t refl proper.in_time))
+    follow _ key.Event _ _ refl refl (string_is_kept _ refl) (follow _ key.Kind _ _ refl refl (kind_is_kept k) (space_follows _ s t refl proper.in_time))
 
 metrics_follow : (t : ℕ) (v : MetricValues) → IsProperEvent (Metrics t v) → Follow [] (metrics_pairs t v)
 metrics_follow t v proper =
     let words = proper.numbers in
     follow_reported _ BytesInFlight v.bytes_in_flight _ refl refl words.2
-    (follow _ key.Event _ _ refl refl (text_is_kept _ refl)
+    (follow _ key.Event _ _ refl refl (string_is_kept _ refl)
     (follow_reported _ LatestRtt v.latest_rtt _ refl refl words.3
     (follow_reported _ MinRtt v.min_rtt _ refl refl words.4
     (follow_reported _ Rttvar v.rttvar _ refl refl words.6
@@ -355,13 +356,13 @@ metrics_follow t v proper =
 
 header_follows : (s : Settings) → AreInRange s → Follow [] (header_pairs s)
 header_follows s are =
-    follow _ key.Event _ _ refl refl (text_is_kept _ refl)
-    (follow _ key.InitialRtt _ _ refl refl (whole_is_kept s.initial_rtt (omega (arith, are.rtt_high)))
-    (follow _ key.InitialWindow _ _ refl refl (whole_is_kept s.initial_window (omega (arith, are.window_high)))
-    (follow _ key.MaxAckDelay _ _ refl refl (whole_is_kept s.max_ack_delay (omega (arith, are.delay_high)))
-    (follow _ key.MaxDatagramSize _ _ refl refl (whole_is_kept s.max_datagram_size (omega (arith, are.datagram_high)))
+    follow _ key.Event _ _ refl refl (string_is_kept _ refl)
+    (follow _ key.InitialRtt _ _ refl refl (integer_is_kept s.initial_rtt (omega (arith, are.rtt_high)))
+    (follow _ key.InitialWindow _ _ refl refl (integer_is_kept s.initial_window (omega (arith, are.window_high)))
+    (follow _ key.MaxAckDelay _ _ refl refl (integer_is_kept s.max_ack_delay (omega (arith, are.delay_high)))
+    (follow _ key.MaxDatagramSize _ _ refl refl (integer_is_kept s.max_datagram_size (omega (arith, are.datagram_high)))
     (follow _ key.Role _ _ refl refl (role_is_kept s.role)
-    (follow _ key.Version _ _ refl refl (whole_is_kept 1 (omega arith)) (none_follow (codes "version"))))))))
+    (follow _ key.Version _ _ refl refl (integer_is_kept 1 (omega arith)) (none_follow (codes "version"))))))))
 
 -- ---- the line
 
@@ -380,9 +381,9 @@ event_follows (Sent t s number size eliciting in_flight leave) proper = sent_fol
 event_follows (Ack t s rs delay limited) proper = ack_follows t s rs delay limited proper
 event_follows (Lost t s rs) proper = lost_follows t s rs proper
 event_follows (Timer t k s) proper = timer_follows t k s proper
-event_follows (Discard t s) proper = follow _ key.Event _ _ refl refl (text_is_kept _ refl) (space_follows _ s t refl proper.in_time)
-event_follows (Confirmed t) proper = follow _ key.Event _ _ refl refl (text_is_kept _ refl) (time_follows _ t refl proper.in_time)
-event_follows (Keys t) proper = follow _ key.Event _ _ refl refl (text_is_kept _ refl) (time_follows _ t refl proper.in_time)
+event_follows (Discard t s) proper = follow _ key.Event _ _ refl refl (string_is_kept _ refl) (space_follows _ s t refl proper.in_time)
+event_follows (Confirmed t) proper = follow _ key.Event _ _ refl refl (string_is_kept _ refl) (time_follows _ t refl proper.in_time)
+event_follows (Keys t) proper = follow _ key.Event _ _ refl refl (string_is_kept _ refl) (time_follows _ t refl proper.in_time)
 event_follows (Metrics t v) proper = subst (Follow []) (sym (metrics_pairs_are t v)) (metrics_follow t v proper)
 
 event_of : (e : Event) (r : Result Event Fault) → r ≡ Ok e → (r >>= λ f. Ok (line.Event f)) ≡ Ok (line.Event e)
@@ -393,8 +394,8 @@ metrics_are_said : (t : ℕ) (v : MetricValues) → IsProperEvent (Metrics t v) 
 unfolding object_says
 metrics_are_said t v proper =
     let d = object_of (metrics_pairs t v) in
-    let named = required_reads text key.Event d (written.text (codes "metrics")) (codes "metrics") (event_found t v) refl refl in
-    then_reads (required text key.Event d) _ (codes "metrics") (line.Event (Metrics t v)) named (event_of (Metrics t v) _ (metrics_read t v proper))
+    let named = required_reads string key.Event d (written.string (line_kind_name kinds.Metrics)) (line_kind_name kinds.Metrics) (event_found t v) refl refl in
+    then_reads (required string key.Event d) _ (line_kind_name kinds.Metrics) (line.Event (Metrics t v)) named (event_of (Metrics t v) _ (metrics_read t v proper))
 
 -- the object of an event says the event
 event_is_said : (e : Event) → IsProperEvent e → object_says reader_named (object_of (event_pairs e)) ≡ Ok (line.Event e)

@@ -1,5 +1,5 @@
 -- The text of a simple value has no LF.
-use Rattle.std.proofs.Common.{◌≡◌, ℕ, zero, suc, ◌+◌, ◌%◌, ◌^◌, ◌<◌, List, [], ◌∷◌, ◌++◌, Bool, true, false, ◌&&◌, ◌||◌, not, nat_lt, decimal, inl, inr, refl, arith, ltb-true}
+use Rattle.std.proofs.Common.{◌≡◌, ℕ, zero, suc, ◌+◌, ◌%◌, ◌^◌, ◌<◌, List, [], ◌∷◌, ◌++◌, Bool, true, false, ◌&&◌, not, nat_lt, decimal, inl, inr, refl, arith, ltb-true}
 use Rattle.std.proofs.lemmas.Bool.{and_parts, or_parts, or_from, cases_eq, ne_eqb}
 use Rattle.std.proofs.lemmas.Fmt.{decimal_by_steps}
 use Rattle.json.specs.Print.{escape_byte, escape, quoted}
@@ -7,7 +7,7 @@ use Rattle.json.proofs.Printed.Utf8.{are_ascii}
 use Rattle.serde_json.specs.Data.{Num, unsigned, negative, float, Data, null, boolean, number, string, array, object, Items, no_items, item, Members, no_members, member}
 use Rattle.serde_json.specs.Written.{number_text, comma_if, compact_text, items_text, members_text}
 use Rattle.qa_base.specs.format.Lines.{is_lf, has_lf}
-use Rattle.qa_base.proofs.format.Compact.{IsWhole, IsSimple, AreSimple, HaveSimple}
+use Rattle.qa_base.proofs.format.Compact.{IsUnsigned, IsSimple, AreSimple, HaveSimple}
 
 append_none : (xs ys : List ℕ) → has_lf xs ≡ false → has_lf ys ≡ false → has_lf (xs ++ ys) ≡ false
 append_none [] ys first second = second
@@ -15,7 +15,7 @@ append_none (x ∷ xs) ys first second =
     let parts = or_parts (is_lf x) (has_lf xs) first in
     or_from (is_lf x) (has_lf (xs ++ ys)) parts.0 (append_none xs ys parts.1 second)
 
--- ---- texts
+-- ---- strings
 
 -- the escapes of the bytes below n have none
 abbrev none_below : ℕ → Bool
@@ -53,10 +53,10 @@ digit_none d = or_from (is_lf (48 + d)) false (ne_eqb (48 + d) 10 (λ e. omega a
 decimal_none : (n : ℕ) → n < 2 ^ 64 → has_lf (decimal n) ≡ false
 decimal_none n small = decimal_by_steps (λ m ds. has_lf ds ≡ false) (λ m l. digit_none m) (λ m ds l h. append_none ds ((48 + m % 10) ∷ []) h (digit_none (m % 10))) n small
 
-number_none : (n : Num) → IsWhole n → has_lf (number_text n) ≡ false
-number_none (unsigned n) whole = decimal_none n whole
-number_none (negative z) whole = absurd whole
-number_none (float x) whole = absurd whole
+number_none : (n : Num) → IsUnsigned n → has_lf (number_text n) ≡ false
+number_none (unsigned n) small = decimal_none n small
+number_none (negative z) small = absurd small
+number_none (float x) small = absurd small
 
 -- ---- values
 

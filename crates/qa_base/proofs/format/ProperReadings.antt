@@ -1,6 +1,6 @@
 -- What the reading of lines gives is such as there is.
 use Rattle.std.proofs.Common.{◌≡◌, ℕ, ◌≤◌, ◌*◌, List, Bool, true, false, cond, Option, Some, None, Result, Ok, Err, ok_or, refl, ◌&&◌, ◌||◌, not, arith, ◌⊎◌, inl, inr}
-use Rattle.std.specs.Prelude.{nat_lt, codes, bytes_eq, is_some, unwrap_or}
+use Rattle.std.specs.Prelude.{nat_lt, codes, bytes_eq, is_some, option_map, unwrap_or}
 use Rattle.std.specs.List.{list_all}
 use Rattle.std.specs.Result.{result_map_both}
 use Rattle.std.proofs.lemmas.Bool.{or_parts, and_from, ltb-false}
@@ -20,12 +20,14 @@ use Rattle.qa_base.specs.declared.space.Space.TheVariants.{Initial, Handshake, A
 use Rattle.qa_base.specs.declared.space.Role.{Role}
 use Rattle.qa_base.specs.declared.line.Line.{Line}
 use Rattle.qa_base.specs.declared.line.Line.TheVariants as line
+use Rattle.qa_base.specs.declared.line.LineKind.{LineKind}
+use Rattle.qa_base.specs.declared.line.LineKind.TheVariants as kinds
 use Rattle.qa_base.specs.values.Events.{is_space}
-use Rattle.qa_base.specs.format.Keys.{◌>>=◌, ranged, text, text_among, required}
+use Rattle.qa_base.specs.format.Keys.{◌>>=◌, ranged, string, string_among, required}
 use Rattle.qa_base.specs.values.Limits.{max_time, max_packet_number, max_packet_size}
-use Rattle.qa_base.specs.values.Names.{discarded_named}
+use Rattle.qa_base.specs.values.Names.{line_kind_named, discarded_named}
 use Rattle.qa_base.specs.values.Proper.{IsProperEvent, IsProperLine}
-use Rattle.qa_base.specs.format.Reading.{Reader, header_line, event_line, reader_named, object_says, json_of, is_blank, reading_by, reading}
+use Rattle.qa_base.specs.format.Reading.{Reader, header_line, event_line, reader_of, reader_named, object_says, json_of, is_blank, reading_by, reading}
 use Rattle.qa_base.specs.values.Settings.{Settings, AreInRange, is_outside, default_window, checked, settings_of}
 use Rattle.qa_base.specs.format.Tables.{time, header_fields, header_of, settings, sent_fields, sent_of, ack_fields, ack_of, lost_fields, lost_of, timer_fields, timer_of, discard_fields, discard_of, confirmed_of, keys_of, metrics_fields, metrics_of}
 use Rattle.qa_base.specs.format.Written.{line_fits}
@@ -100,10 +102,10 @@ either_space false true s h = let same : Handshake ≡ s = ok_is Handshake s h i
 either_space false false s h = cc
 
 -- the application's space is never one whose keys are discarded
-discarded_space : (d : Data) (s : Space) → required (text_among discarded_named) key.Space d ≡ Ok s → not (is_space App s) ≡ true
+discarded_space : (d : Data) (s : Space) → required (string_among discarded_named) key.Space d ≡ Ok s → not (is_space App s) ≡ true
 discarded_space d s h =
-    let stands = required_stands (text_among discarded_named) key.Space d s h in
-    let read = bind_ok (text key.Space stands.0) _ s stands.2 in
+    let stands = required_stands (string_among discarded_named) key.Space d s h in
+    let read = bind_ok (string key.Space stands.0) _ s stands.2 in
     either_space (bytes_eq read.0 (codes "initial")) (bytes_eq read.0 (codes "handshake")) s read.2
 
 discard_is_proper : (d : Data) (e : Event) → discard_of d ≡ Ok e → IsProperEvent e
@@ -158,7 +160,7 @@ past : (b : Bool) (fault : RangeFault) (r : Result Settings RangeFault) (s : Set
 past true fault r s h = cc
 past false fault r s h = (refl, h)
 
--- values that were held against their ranges are in them
+-- values that were compared with their ranges are in them
 checked_is_in_range : (s t : Settings) → checked s ≡ Ok t → AreInRange t
 checked_is_in_range s t h =
     let datagram = past (is_outside 1200 65527 s.max_datagram_size) _ _ t h in
@@ -222,21 +224,17 @@ abbrev pub GivesProper : Option Reader → Type 0
 GivesProper None = Unit {0}
 GivesProper (Some reader) = (d : Data) (x : Line) → IsSized d → reader d ≡ Ok x → IsProperLine x
 
-either_proper : (b : Bool) (reader : Reader) (other : Option Reader) → GivesProper (Some reader) → GivesProper other → GivesProper (cond b (Some reader) other)
-either_proper true reader other first later = first
-either_proper false reader other first later = later
-
-readers_give_proper : (t : List ℕ) → GivesProper (reader_named t)
-readers_give_proper t =
-    either_proper (bytes_eq t (codes "header")) header_line _ (λ d x sized h. proper_header d x h)
-    (either_proper (bytes_eq t (codes "sent")) (event_line sent_of) _ (λ d x sized h. proper_event sent_of d x (sent_is_proper d) h)
-    (either_proper (bytes_eq t (codes "ack")) (event_line ack_of) _ (λ d x sized h. proper_event ack_of d x (λ e. ack_is_proper d e sized) h)
-    (either_proper (bytes_eq t (codes "lost")) (event_line lost_of) _ (λ d x sized h. proper_event lost_of d x (lost_is_proper d) h)
-    (either_proper (bytes_eq t (codes "timer")) (event_line timer_of) _ (λ d x sized h. proper_event timer_of d x (timer_is_proper d) h)
-    (either_proper (bytes_eq t (codes "discard")) (event_line discard_of) _ (λ d x sized h. proper_event discard_of d x (discard_is_proper d) h)
-    (either_proper (bytes_eq t (codes "confirmed")) (event_line confirmed_of) _ (λ d x sized h. proper_event confirmed_of d x (confirmed_is_proper d) h)
-    (either_proper (bytes_eq t (codes "keys")) (event_line keys_of) _ (λ d x sized h. proper_event keys_of d x (keys_is_proper d) h)
-    (either_proper (bytes_eq t (codes "metrics")) (event_line metrics_of) None (λ d x sized h. proper_event metrics_of d x (λ e. metrics_is_proper d e sized) h) tt))))))))
+readers_give_proper : (kind : Option LineKind) → GivesProper (option_map reader_of kind)
+readers_give_proper None = tt
+readers_give_proper (Some kinds.Header) = λ d x sized h. proper_header d x h
+readers_give_proper (Some kinds.Sent) = λ d x sized h. proper_event sent_of d x (sent_is_proper d) h
+readers_give_proper (Some kinds.Ack) = λ d x sized h. proper_event ack_of d x (λ e. ack_is_proper d e sized) h
+readers_give_proper (Some kinds.Lost) = λ d x sized h. proper_event lost_of d x (lost_is_proper d) h
+readers_give_proper (Some kinds.Timer) = λ d x sized h. proper_event timer_of d x (timer_is_proper d) h
+readers_give_proper (Some kinds.Discard) = λ d x sized h. proper_event discard_of d x (discard_is_proper d) h
+readers_give_proper (Some kinds.Confirmed) = λ d x sized h. proper_event confirmed_of d x (confirmed_is_proper d) h
+readers_give_proper (Some kinds.Keys) = λ d x sized h. proper_event keys_of d x (keys_is_proper d) h
+readers_give_proper (Some kinds.Metrics) = λ d x sized h. proper_event metrics_of d x (λ e. metrics_is_proper d e sized) h
 
 -- ---- any choice of readers
 
@@ -256,7 +254,7 @@ pub object_said : (readers : List ℕ → Option Reader) (d : Data) (x : Line) �
 unfolding object_says
 object_said readers d x h =
     let object = object_ok (not (is_some (as_object d))) _ x h in
-    let named = bind_ok (required text key.Event d) _ x object in
+    let named = bind_ok (required string key.Event d) _ x object in
     let known = bind_ok (ok_or (readers named.0) UnknownEvent) _ x named.2 in
     (named.0, known.0, known_ok (readers named.0) known.0 known.1, known.2)
 
@@ -273,7 +271,7 @@ said_at : (blank : Bool) (r : Result Line Fault) (x : Line) → cond blank (Ok l
 said_at true r x h = inl (ok_is line.Blank x h)
 said_at false r x h = inr h
 
--- a line that was read is blank, or an object of whole numbers of 64 bits that one of the readers read
+-- a line that was read is blank, or an object of integers of 64 bits that one of the readers read
 pub line_said : (readers : List ℕ → Option Reader) (l : List ℕ) (x : Line) → reading_by readers l ≡ Ok x → (line.Blank ≡ x) ⊎ ((d : Data) × IsSized d × SaidBy readers d x)
 unfolding reading_by
 line_said readers l x h = elim (said_at (list_all is_blank l) (json_of l >>= object_says readers) x h) [
@@ -288,7 +286,7 @@ given o reader proper is = rw is at proper
 pub reading_is_proper : (l : List ℕ) (x : Line) → reading l ≡ Ok x → IsProperLine x
 reading_is_proper l x h = elim (line_said reader_named l x h) [
   | inl blank ↦ rw (← blank) tt
-  | inr said ↦ given (reader_named said.2.0) said.2.1 (readers_give_proper said.2.0) said.2.2 said.0 x said.1 said.2.3
+  | inr said ↦ given (reader_named said.2.0) said.2.1 (readers_give_proper (line_kind_named said.2.0)) said.2.2 said.0 x said.1 said.2.3
 ]
 
 proper_fits : (x : Line) → IsProperLine x → line_fits x ≡ true

@@ -1,4 +1,4 @@
--- The whole numbers of a value that was read have 64 bits.
+-- The integers of a value that was read have 64 bits.
 use Rattle.std.proofs.Common.{◌≡◌, ℕ, ◌<◌, ◌^◌, List, Bool, true, false, ◌&&◌, Option, Some, None, option_map, option_and_then, Ordering, Less, Equal, Greater, refl, subst}
 use Rattle.std.proofs.lemmas.Bool.{ltb-true}
 use Rattle.std.specs.Ordering.{nat_cmp, match_ordering}
@@ -15,7 +15,7 @@ IsSizedNumber (unsigned n) = n < 2 ^ 64
 IsSizedNumber (negative z) = ⊤
 IsSizedNumber (float x) = ⊤
 
--- each whole number of the value has 64 bits
+-- each integer of the value has 64 bits
 abbrev mutual
   pub IsSized : Data → Type 0
   IsSized null = ⊤
@@ -50,8 +50,8 @@ either_keeps P false x y h k = k
 -- ---- numbers
 
 -- an unsigned number is given only where a test says that it has 64 bits
-unsigned_is_sized : (whole small : Bool) (n : ℕ) (other : Option Num) → (small ≡ true → n < 2 ^ 64) → IfSome other IsSizedNumber
-    → IfSome (if whole && small then Some (unsigned n) else other) IsSizedNumber
+unsigned_is_sized : (is_integer small : Bool) (n : ℕ) (other : Option Num) → (small ≡ true → n < 2 ^ 64) → IfSome other IsSizedNumber
+    → IfSome (if is_integer && small then Some (unsigned n) else other) IsSizedNumber
 unsigned_is_sized true true n other fits h = fits refl
 unsigned_is_sized true false n other fits h = h
 unsigned_is_sized false small n other fits h = h
@@ -68,13 +68,13 @@ ordering_keeps Less a b c p q r = p
 ordering_keeps Equal a b c p q r = q
 ordering_keeps Greater a b c p q r = r
 
--- members whose whole numbers have 64 bits stay so when such a value is put among them
+-- members whose integers have 64 bits stay so when such a value is put among them
 put_keeps : (k : List ℕ) (d : Data) (ms : Members) → IsSized d → HaveSized ms → HaveSized (put k d ms)
 put_keeps k d no_members h hs = (h, tt)
 put_keeps k d (member l e ms) h hs =
     ordering_keeps (slice_cmp nat_cmp k l) (member k d (member l e ms)) (member l d ms) (member l e (put k d ms)) (h, hs) (h, hs.1) (hs.0, put_keeps k d ms h hs.1)
 
--- each whole number of what a JSON tree stands for has 64 bits
+-- each integer of what a JSON tree stands for has 64 bits
 mutual
   value_is_sized : (j : json.Json) → IfSome (of_json j) IsSized
   value_is_sized json.null = tt
@@ -98,7 +98,7 @@ json_is_sized : (o : Option json.Json) → IfSome (option_and_then of_json o) Is
 json_is_sized None = tt
 json_is_sized (Some j) = value_is_sized j
 
--- each whole number of a value that was read has 64 bits
+-- each integer of a value that was read has 64 bits
 pub read-IsSized : (text : List ℕ) (d : Data) → read text ≡ Some d → IsSized d
 read-IsSized text d e = subst (λ o. IfSome o IsSized) e (search json_is_sized)
 
@@ -121,6 +121,6 @@ get_is_sized k (string s) h = tt
 get_is_sized k (array ds) h = tt
 get_is_sized k (object ms) h = member_is_sized k ms h
 
--- where each whole number of a value has 64 bits, so has each of what a key gives of it
+-- where each integer of a value has 64 bits, so has each of what a key gives of it
 pub get-IsSized : (k : List ℕ) (d v : Data) → IsSized d → get k d ≡ Some v → IsSized v
 get-IsSized k d v h e = subst (λ o. IfSome o IsSized) e (get_is_sized k d h)

@@ -44,32 +44,32 @@ Kind A = Key → Data → Result A Fault
 abbrev pub ranged : {A : Type 0} → Key → Option A → Result A Fault
 ranged k found = ok_or found (OutOfRange k)
 
-abbrev pub whole_number : Data → Option ℕ
-whole_number v = option_and_then as_u64 (as_number v)
+abbrev pub integer_of : Data → Option ℕ
+integer_of v = option_and_then as_u64 (as_number v)
 
--- a whole number of 64 bits
-abbrev pub whole : Kind ℕ
-whole k v = ok_or (whole_number v) (WrongKind k)
+-- an integer of 64 bits
+abbrev pub integer : Kind ℕ
+integer k v = ok_or (integer_of v) (WrongKind k)
 
--- a whole number from lo to hi
-abbrev pub whole_from : ℕ → ℕ → Kind ℕ
-whole_from lo hi k v = whole k v >>= λ n. ranged k (in_range lo hi n)
+-- an integer from lo to hi
+abbrev pub integer_from : ℕ → ℕ → Kind ℕ
+integer_from lo hi k v = integer k v >>= λ n. ranged k (in_range lo hi n)
 
-abbrev pub text : Kind (List ℕ)
-text k v = ok_or (as_str v) (WrongKind k)
+abbrev pub string : Kind (List ℕ)
+string k v = ok_or (as_str v) (WrongKind k)
 
--- a text that names something
-abbrev pub text_among : {A : Type 0} → (List ℕ → Option A) → Kind A
-text_among names k v = text k v >>= λ t. ranged k (names t)
+-- a string that names something
+abbrev pub string_among : {A : Type 0} → (List ℕ → Option A) → Kind A
+string_among names k v = string k v >>= λ t. ranged k (names t)
 
-abbrev pub truth : Kind Bool
-truth k v = ok_or (as_bool v) (WrongKind k)
+abbrev pub boolean : Kind Bool
+boolean k v = ok_or (as_bool v) (WrongKind k)
 
 -- ---- lists of ranges
 
--- two whole numbers, where the items are two
+-- two integers, where the items are two
 abbrev pub two_of : Items → Option (ℕ × ℕ)
-two_of (item lo (item hi no_items)) = option_and_then (λ l. option_map (λ h. (l, h)) (whole_number hi)) (whole_number lo)
+two_of (item lo (item hi no_items)) = option_and_then (λ l. option_map (λ h. (l, h)) (integer_of hi)) (integer_of lo)
 two_of _ = None
 
 abbrev pub pair_of : Data → Option (ℕ × ℕ)
@@ -80,7 +80,7 @@ abbrev pub pairs_of : Items → Option (List (ℕ × ℕ))
 pairs_of no_items = Some []
 pairs_of (item v vs) = option_and_then (λ p. option_map (λ ps. p ∷ ps) (pairs_of vs)) (pair_of v)
 
--- a list of pairs of whole numbers
+-- a list of pairs of integers
 abbrev pub pairs : Kind (List (ℕ × ℕ))
 pairs k v = ok_or (option_and_then pairs_of (as_array v)) (WrongKind k)
 

@@ -1,5 +1,5 @@
 -- What a line says: a header, an event, nothing, or the first of the line's faults.
-use Rattle.std.specs.Prelude.{ℕ, ◌==◌, ◌||◌, not, List, [], ◌∷◌, codes, Bool, Option, is_some, ok_or, Result, Ok, Err, if◌then◌else◌}
+use Rattle.std.specs.Prelude.{ℕ, ◌==◌, ◌||◌, not, List, Bool, Option, is_some, ok_or, option_map, Result, Ok, Err, if◌then◌else◌}
 use Rattle.std.specs.List.{list_all}
 use Rattle.std.specs.Str.{is_utf8}
 use Rattle.serde_json.specs.Data.{Data}
@@ -11,8 +11,10 @@ use Rattle.qa_base.specs.declared.fault.Key.TheVariants as key
 use Rattle.qa_base.specs.declared.event.Event.{Event}
 use Rattle.qa_base.specs.declared.line.Line.{Line}
 use Rattle.qa_base.specs.declared.line.Line.TheVariants as line
-use Rattle.qa_base.specs.format.Keys.{◌>>=◌, text, required}
-use Rattle.qa_base.specs.values.Names.{named}
+use Rattle.qa_base.specs.declared.line.LineKind.{LineKind}
+use Rattle.qa_base.specs.declared.line.LineKind.TheVariants as kinds
+use Rattle.qa_base.specs.format.Keys.{◌>>=◌, string, required}
+use Rattle.qa_base.specs.values.Names.{line_kind_named}
 use Rattle.qa_base.specs.format.Tables.{header_of, sent_of, ack_of, lost_of, timer_of, discard_of, confirmed_of, keys_of, metrics_of}
 
 -- ---- by the key `event`
@@ -28,26 +30,28 @@ header_line d = header_of d >>= λ s. Ok (line.Header s)
 abbrev pub event_line : (Data → Result Event Fault) → Reader
 event_line event_of d = event_of d >>= λ e. Ok (line.Event e)
 
--- how the keys of a line are read whose `event` is this text
+-- how the keys of a line of this kind are read
+abbrev pub reader_of : LineKind → Reader
+reader_of kinds.Header = header_line
+reader_of kinds.Sent = event_line sent_of
+reader_of kinds.Ack = event_line ack_of
+reader_of kinds.Lost = event_line lost_of
+reader_of kinds.Timer = event_line timer_of
+reader_of kinds.Discard = event_line discard_of
+reader_of kinds.Confirmed = event_line confirmed_of
+reader_of kinds.Keys = event_line keys_of
+reader_of kinds.Metrics = event_line metrics_of
+
+-- how the keys of a line are read whose `event` is this string
 abbrev pub reader_named : List ℕ → Option Reader
-reader_named = named (
-    (codes "header", header_line)
-    ∷ (codes "sent", event_line sent_of)
-    ∷ (codes "ack", event_line ack_of)
-    ∷ (codes "lost", event_line lost_of)
-    ∷ (codes "timer", event_line timer_of)
-    ∷ (codes "discard", event_line discard_of)
-    ∷ (codes "confirmed", event_line confirmed_of)
-    ∷ (codes "keys", event_line keys_of)
-    ∷ (codes "metrics", event_line metrics_of)
-    ∷ [])
+reader_named t = option_map reader_of (line_kind_named t)
 
 -- ---- the line, for any choice of readers by name
 
 -- what an object says, by its key `event`
 unfoldable pub object_says : (List ℕ → Option Reader) → Reader
 object_says readers d = if not (is_some (as_object d)) then Err NotObject else
-    (required text key.Event d >>= λ t. ok_or (readers t) UnknownEvent >>= λ reader. reader d)
+    (required string key.Event d >>= λ t. ok_or (readers t) UnknownEvent >>= λ reader. reader d)
 
 -- the JSON value that the bytes are, which are text in UTF-8
 unfoldable pub json_of : List ℕ → Result Data Fault

@@ -14,39 +14,40 @@ use Rattle.qa_base.specs.declared.space.Leave.{Leave}
 use Rattle.qa_base.specs.declared.space.Leave.TheVariants as leaves
 use Rattle.qa_base.specs.declared.space.Space.{Space}
 use Rattle.qa_base.specs.declared.space.Role.{Role}
-use Rattle.qa_base.specs.format.Keys.{◌>>=◌, both, whole, whole_from, text_among, truth, ranges, required, optional, if_present}
+use Rattle.qa_base.specs.format.Keys.{◌>>=◌, both, integer, integer_from, string_among, boolean, ranges, required, optional, if_present}
 use Rattle.qa_base.specs.values.Limits.{max_time, max_packet_number, max_packet_size}
 use Rattle.qa_base.specs.values.Names.{role_named, space_named, discarded_named, leave_named, kind_named}
 use Rattle.qa_base.specs.values.Settings.{Settings, settings_of}
 
 -- the keys that several kinds of line have
 abbrev pub time : Data → Result ℕ Fault
-time = required (whole_from 0 max_time) key.Time
+time = required (integer_from 0 max_time) key.Time
 
 abbrev pub space : Data → Result Space Fault
-space = required (text_among space_named) key.Space
+space = required (string_among space_named) key.Space
 
 -- ---- the header
 
--- version, role, max_datagram_size, max_ack_delay, initial_rtt and initial_window, of which the numbers are not held against
--- their ranges yet
+-- version, role, max_datagram_size, max_ack_delay, initial_rtt and initial_window, whose numbers are not compared with their
+-- ranges yet
 abbrev pub header_fields : Data → Result (ℕ × (Role × (ℕ × (Option ℕ × (Option ℕ × Option ℕ))))) Fault
 header_fields d =
-    both (required whole key.Version d)
-    (both (required (text_among role_named) key.Role d)
-    (both (required whole key.MaxDatagramSize d)
-    (both (if_present whole key.MaxAckDelay d)
-    (both (if_present whole key.InitialRtt d)
-    (if_present whole key.InitialWindow d)))))
+    both (required integer key.Version d)
+    (both (required (string_among role_named) key.Role d)
+    (both (required integer key.MaxDatagramSize d)
+    (both (if_present integer key.MaxAckDelay d)
+    (both (if_present integer key.InitialRtt d)
+    (if_present integer key.InitialWindow d)))))
 
 -- the settings, each in its range
 abbrev pub settings : Role → ℕ → Option ℕ → Option ℕ → Option ℕ → Result Settings Fault
-settings role datagram delay rtt window = result_map_both (λ s. s) (λ e. OutOfRange e.0) (settings_of role datagram delay rtt window)
+settings role max_datagram_size max_ack_delay initial_rtt initial_window =
+    result_map_both (λ s. s) (λ e. OutOfRange e.0) (settings_of role max_datagram_size max_ack_delay initial_rtt initial_window)
 
 -- the version is judged after all other keys
 unfoldable pub header_of : Data → Result Settings Fault
-header_of d = header_fields d >>= λ (version, (role, (datagram, (delay, (rtt, window))))).
-    settings role datagram delay rtt window >>= λ s. if version == 1 then Ok s else Err Version
+header_of d = header_fields d >>= λ (version, (role, (max_datagram_size, (max_ack_delay, (initial_rtt, initial_window))))).
+    settings role max_datagram_size max_ack_delay initial_rtt initial_window >>= λ s. if version == 1 then Ok s else Err Version
 
 -- ---- packets
 
@@ -55,11 +56,11 @@ abbrev pub sent_fields : Data → Result (ℕ × (Space × (ℕ × (ℕ × (Bool
 sent_fields d =
     both (time d)
     (both (space d)
-    (both (required (whole_from 0 max_packet_number) key.Number d)
-    (both (required (whole_from 1 max_packet_size) key.Size d)
-    (both (required truth key.Eliciting d)
-    (both (required truth key.InFlight d)
-    (optional (text_among leave_named) leaves.Window key.Leave d))))))
+    (both (required (integer_from 0 max_packet_number) key.Number d)
+    (both (required (integer_from 1 max_packet_size) key.Size d)
+    (both (required boolean key.Eliciting d)
+    (both (required boolean key.InFlight d)
+    (optional (string_among leave_named) leaves.Window key.Leave d))))))
 
 -- an ack-eliciting packet is in flight (RFC 9002, section 2)
 unfoldable pub sent_of : Data → Result Event Fault
@@ -72,8 +73,8 @@ ack_fields d =
     both (time d)
     (both (space d)
     (both (required ranges key.Ranges d)
-    (both (optional whole 0 key.Delay d)
-    (optional truth false key.Limited d))))
+    (both (optional integer 0 key.Delay d)
+    (optional boolean false key.Limited d))))
 
 unfoldable pub ack_of : Data → Result Event Fault
 ack_of d = ack_fields d >>= λ (time, (space, (ranges, (delay, limited)))). Ok (Ack time space ranges delay limited)
@@ -89,14 +90,14 @@ lost_of d = lost_fields d >>= λ (time, (space, ranges)). Ok (Lost time space ra
 
 -- time, kind and space
 abbrev pub timer_fields : Data → Result (ℕ × (Kind × Space)) Fault
-timer_fields d = both (time d) (both (required (text_among kind_named) key.Kind d) (space d))
+timer_fields d = both (time d) (both (required (string_among kind_named) key.Kind d) (space d))
 
 unfoldable pub timer_of : Data → Result Event Fault
 timer_of d = timer_fields d >>= λ (time, (kind, space)). Ok (Timer time kind space)
 
 -- time and space
 abbrev pub discard_fields : Data → Result (ℕ × Space) Fault
-discard_fields d = both (time d) (required (text_among discarded_named) key.Space d)
+discard_fields d = both (time d) (required (string_among discarded_named) key.Space d)
 
 unfoldable pub discard_of : Data → Result Event Fault
 discard_of d = discard_fields d >>= λ (time, space). Ok (Discard time space)
@@ -110,7 +111,7 @@ keys_of d = time d >>= λ t. Ok (Keys t)
 -- ---- a report of the sender's state
 
 abbrev pub metric : Field → Data → Result (Option ℕ) Fault
-metric f = if_present whole (key.Metric f)
+metric f = if_present integer (key.Metric f)
 
 -- time, and each value where it is reported
 abbrev pub metrics_fields : Data → Result (ℕ × (Option ℕ × (Option ℕ × (Option ℕ × (Option ℕ × (Option ℕ × (Option ℕ × Option ℕ))))))) Fault
@@ -125,12 +126,12 @@ metrics_fields d =
     (metric Rttvar d)))))))
 
 unfoldable pub metrics_of : Data → Result Event Fault
-metrics_of d = metrics_fields d >>= λ (time, (window, (ssthresh, (bytes_in_flight, (latest, (least, (smoothed, var))))))). Ok (Metrics time (record {
+metrics_of d = metrics_fields d >>= λ (time, (window, (ssthresh, (bytes_in_flight, (latest_rtt, (min_rtt, (smoothed_rtt, rttvar))))))). Ok (Metrics time (record {
   window = window;
   ssthresh = ssthresh;
   bytes_in_flight = bytes_in_flight;
-  latest_rtt = latest;
-  min_rtt = least;
-  smoothed_rtt = smoothed;
-  rttvar = var;
+  latest_rtt = latest_rtt;
+  min_rtt = min_rtt;
+  smoothed_rtt = smoothed_rtt;
+  rttvar = rttvar;
 }))

@@ -4,6 +4,8 @@ use Rattle.qa_base.specs.declared.fault.Key.{Key}
 use Rattle.qa_base.specs.declared.fault.Key.TheVariants as key
 use Rattle.qa_base.specs.declared.fault.Fault.{Fault}
 use Rattle.qa_base.specs.declared.fault.Fault.TheVariants as fault
+use Rattle.qa_base.specs.declared.line.LineKind.{LineKind}
+use Rattle.qa_base.specs.declared.line.LineKind.TheVariants as kinds
 use Rattle.qa_base.specs.declared.rule.Field.{Field}
 use Rattle.qa_base.specs.declared.rule.Field.TheVariants as field
 use Rattle.qa_base.specs.declared.rule.Rule.{Rule}
@@ -51,6 +53,18 @@ key_name (key.Metric f) = field_name f
 
 -- ---- choices
 
+-- what stands at the key `event`
+abbrev pub line_kind_name : LineKind → List ℕ
+line_kind_name kinds.Header = codes "header"
+line_kind_name kinds.Sent = codes "sent"
+line_kind_name kinds.Ack = codes "ack"
+line_kind_name kinds.Lost = codes "lost"
+line_kind_name kinds.Timer = codes "timer"
+line_kind_name kinds.Discard = codes "discard"
+line_kind_name kinds.Confirmed = codes "confirmed"
+line_kind_name kinds.Keys = codes "keys"
+line_kind_name kinds.Metrics = codes "metrics"
+
 abbrev pub role_name : Role → List ℕ
 role_name Client = codes "client"
 role_name Server = codes "server"
@@ -80,6 +94,11 @@ named (word ∷ words) text = if bytes_eq text word.0 then Some word.1 else name
 abbrev pub with_names : {A : Type 0} → (A → List ℕ) → List A → List (List ℕ × A)
 with_names name [] = []
 with_names name (x ∷ xs) = (name x, x) ∷ with_names name xs
+
+abbrev pub line_kind_named : List ℕ → Option LineKind
+line_kind_named =
+    named (with_names line_kind_name (
+    kinds.Header ∷ kinds.Sent ∷ kinds.Ack ∷ kinds.Lost ∷ kinds.Timer ∷ kinds.Discard ∷ kinds.Confirmed ∷ kinds.Keys ∷ kinds.Metrics ∷ []))
 
 abbrev pub role_named : List ℕ → Option Role
 role_named = named (with_names role_name (Client ∷ Server ∷ []))

@@ -1,6 +1,6 @@
 use Rattle.std.proofs.Common.{◌≡◌, ◌≤◌, ℕ, List, length, false}
 use Rattle.std.specs.Io.KnownBytes.{Consumes}
-use Rattle.qa_trace.specs.Stream.{HasNoLine}
+use Rattle.qa_split.specs.Stream.{HasNoLine}
 use Rattle.qa_check.specs.Standing.{has_failed}
 use Rattle.qa_check.specs.Following.{Follows, IsReady}
 use Rattle.qa_check.proofs.auditing.judged.Given as goal

@@ -1,0 +1,10 @@
+use Rattle.std.proofs.Common.{◌∙◌, ap₂}
+use Rattle.qa_base.specs.format.Keys.{both}
+use Rattle.qa_read.proofs.tables.ack_fields.Goals as goal
+
+pub returns : goal.returns
+returns c =
+    let flags = c.both-rest.ensures ∙ ap₂ both c.delay.ensures c.limited.ensures in
+    let listed = c.both-rest-2.ensures ∙ ap₂ both c.in_ok-ranges.ensures flags in
+    let spaces = c.both-rest-3.ensures ∙ ap₂ both c.space.ensures listed in
+    c.both.ensures ∙ ap₂ both c.time.ensures spaces

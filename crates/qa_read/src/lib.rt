@@ -1,0 +1,14 @@
+//! What a line of a trace says: its bytes as JSON, its keys, and the first of its faults.
+#![tactic(auto)]
+
+mod fault;
+mod fields;
+mod json;
+mod ranges;
+mod reader;
+mod sends;
+mod tables;
+
+pub use fault::LineFault;
+pub use reader::read_line;
+pub use sends::read_sends;

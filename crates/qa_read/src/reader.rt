@@ -1,0 +1,61 @@
+//! What a line says: a header, an event, or nothing.
+ghost use Rattle.std.specs.Prelude.{◌≡◌, true, Ok, IfOk, IsErrOf};
+ghost use Rattle.std.specs.List.{list_all};
+ghost use Rattle.std.specs.Str.{is_utf8};
+ghost use Rattle.serde_json.specs.View.{view};
+ghost use Rattle.qa_base.specs.format.Reading as reading;
+ghost use Rattle.qa_base.specs.format.Written.{line_fits};
+ghost use Rattle.qa_read.specs.Gives.{Gives};
+
+use crate::fault::LineFault;
+use crate::json::{is_blank, json_of};
+use crate::{fields, tables};
+use qa_base::{Fault, Key, Line, LineKind};
+use serde_json::Value;
+use std::alloc::Global;
+
+#[cfg(test)]
+mod tests;
+
+/// What an object says, by its key `event`.
+#[tactic(auto, unfolding(qa_base::specs::format::Reading::object_says))]
+fn object_says(alloc: Global, value: &Value) -> Result<Line, LineFault>
+    ensures { Gives (λ line. line) result (reading.object_says reading.reader_named (view value.now)) }
+{
+    if !value.is_object() {
+        return Err(LineFault::Fault(Fault::NotObject));
+    }
+    let name = fields::required_string(Key::Event, value)?;
+    let event = match LineKind::named(name).ok_or(Fault::UnknownEvent)? {
+        LineKind::Header => return Ok(Line::Header(tables::header_of(value)?)),
+        LineKind::Sent => tables::sent_of(value)?,
+        LineKind::Ack => tables::ack_of(alloc, value)?,
+        LineKind::Lost => tables::lost_of(alloc, value)?,
+        LineKind::Timer => tables::timer_of(value)?,
+        LineKind::Discard => tables::discard_of(value)?,
+        LineKind::Confirmed => tables::confirmed_of(value)?,
+        LineKind::Keys => tables::keys_of(value)?,
+        LineKind::Metrics => tables::metrics_of(value)?,
+    };
+    Ok(Line::Event(event))
+}
+
+/// What the bytes of a line say, its LF not among them, or the first of the line's faults.
+///
+/// The values of the line are in the ranges of their tables, and its event fits (`Event::fits`).
+/// A line of any length is read: how long a line of a trace may be is for its splitter to say.
+/// `LineFault::OutOfMemory` comes where memory was refused, and then the call can be made again; a
+/// blank line and bytes that are not UTF-8 take no memory.
+#[tactic(auto, unfolding(qa_base::specs::format::Reading::reading_by))]
+pub fn read_line(alloc: Global, bytes: &[u8]) -> Result<Line, LineFault>
+    ensures read { Gives (λ line. line) result (reading.reading bytes.now) }
+    ensures fitting { IfOk result (λ line. line_fits line ≡ true) }
+    ensures blank { list_all reading.is_blank bytes.now ≡ true → result ≡ Ok Line.Blank }
+    ensures memory { IsErrOf result LineFault.OutOfMemory → is_utf8 bytes.now ≡ true }
+{
+    if is_blank(bytes) {
+        return Ok(Line::Blank);
+    }
+    let value = json_of(alloc, bytes)?;
+    object_says(alloc, &value)
+}

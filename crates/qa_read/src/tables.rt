@@ -1,0 +1,273 @@
+//! The keys of each kind of line, read in the order of their table, and what the line then says.
+ghost use Rattle.std.specs.Prelude.{◌≡◌, IfOk};
+ghost use Rattle.serde_json.specs.View.{view};
+ghost use Rattle.qa_base.specs.format.Tables as tables;
+ghost use Rattle.qa_read.specs.Gives.{Gives};
+
+use crate::fault::LineFault;
+use crate::fields;
+use crate::fields::both;
+use crate::ranges::ranges;
+use qa_base::{
+    Event, Fault, Field, Header, Key, Kind, Leave, MetricValues, Micros, PacketNumber, Role, Space,
+    Spans,
+};
+use serde_json::Value;
+use std::alloc::{AllocError, Global};
+
+// ---- the header
+
+/// What stands at the keys of a header, in the order of their table.
+type HeaderFields = (
+    u64,
+    (Role, (u64, (Option<u64>, (Option<u64>, Option<u64>)))),
+);
+
+fn header_fields(object: &Value) -> Result<HeaderFields, Fault>
+    ensures { result ≡ tables.header_fields (view object.now) }
+{
+    let rest = both(
+        fields::optional_integer(Key::InitialRtt, object),
+        fields::optional_integer(Key::InitialWindow, object),
+    );
+    let rest = both(fields::optional_integer(Key::MaxAckDelay, object), rest);
+    let rest = both(fields::required_integer(Key::MaxDatagramSize, object), rest);
+    let rest = both(fields::role(object), rest);
+    both(fields::required_integer(Key::Version, object), rest)
+}
+
+/// The header of these values, or the first key whose value is out of its range.
+fn settings(
+    role: Role,
+    max_datagram_size: u64,
+    max_ack_delay: Option<u64>,
+    initial_rtt: Option<u64>,
+    initial_window: Option<u64>,
+) -> Result<Header, Fault>
+    ensures { result ≡ tables.settings role max_datagram_size max_ack_delay initial_rtt initial_window }
+{
+    Header::new(
+        role,
+        max_datagram_size,
+        max_ack_delay,
+        initial_rtt,
+        initial_window,
+    )
+    .map_err(|fault| Fault::OutOfRange(fault.0))
+}
+
+/// The header of a trace.
+#[tactic(auto, unfolding(qa_base::specs::format::Tables::header_of))]
+pub fn header_of(object: &Value) -> Result<Header, Fault>
+    ensures { result ≡ tables.header_of (view object.now) }
+{
+    let (version, (role, (max_datagram_size, (max_ack_delay, (initial_rtt, initial_window))))) =
+        header_fields(object)?;
+    let header = settings(
+        role,
+        max_datagram_size,
+        max_ack_delay,
+        initial_rtt,
+        initial_window,
+    )?;
+    if version == 1 {
+        Ok(header)
+    } else {
+        Err(Fault::Version)
+    }
+}
+
+// ---- packets
+
+/// What stands at the keys of a sent line, in the order of their table.
+type SentFields = (
+    Micros,
+    (Space, (PacketNumber, (u64, (bool, (bool, Leave))))),
+);
+
+fn sent_fields(object: &Value) -> Result<SentFields, Fault>
+    ensures { result ≡ tables.sent_fields (view object.now) }
+{
+    let rest = both(
+        fields::required_boolean(Key::InFlight, object),
+        fields::leave(object),
+    );
+    let rest = both(fields::required_boolean(Key::Eliciting, object), rest);
+    let rest = both(fields::size(object), rest);
+    let rest = both(fields::number(object), rest);
+    let rest = both(fields::space(object), rest);
+    both(fields::time(object), rest)
+}
+
+/// A packet that was sent.
+#[tactic(auto, unfolding(qa_base::specs::format::Tables::sent_of))]
+pub fn sent_of(object: &Value) -> Result<Event, Fault>
+    ensures { result ≡ tables.sent_of (view object.now) }
+{
+    let (time, (space, (number, (size, (eliciting, (in_flight, leave)))))) = sent_fields(object)?;
+    if eliciting && !in_flight {
+        return Err(Fault::FlagsClash);
+    }
+    Ok(Event::Sent {
+        time,
+        space,
+        number,
+        size,
+        eliciting,
+        in_flight,
+        leave,
+    })
+}
+
+/// What stands at the keys of an ack line, in the order of their table.
+type AckFields = (Micros, (Space, (Spans, (u64, bool))));
+
+fn ack_fields(alloc: Global, object: &Value) -> Result<Result<AckFields, Fault>, AllocError>
+    ensures { IfOk result (λ fields. fields ≡ tables.ack_fields (view object.now)) }
+{
+    let ranges = ranges(alloc, object)?;
+    let rest = both(fields::delay(object), fields::limited(object));
+    let rest = both(ranges, rest);
+    let rest = both(fields::space(object), rest);
+    Ok(both(fields::time(object), rest))
+}
+
+/// An acknowledgment that came.
+#[tactic(auto, unfolding(qa_base::specs::format::Tables::ack_of))]
+pub fn ack_of(alloc: Global, object: &Value) -> Result<Event, LineFault>
+    ensures { Gives (λ event. event) result (tables.ack_of (view object.now)) }
+{
+    let (time, (space, (ranges, (delay, limited)))) = ack_fields(alloc, object)??;
+    Ok(Event::Ack {
+        time,
+        space,
+        ranges,
+        delay,
+        limited,
+    })
+}
+
+/// What stands at the keys of a lost line, in the order of their table.
+type LostFields = (Micros, (Space, Spans));
+
+fn lost_fields(alloc: Global, object: &Value) -> Result<Result<LostFields, Fault>, AllocError>
+    ensures { IfOk result (λ fields. fields ≡ tables.lost_fields (view object.now)) }
+{
+    let ranges = ranges(alloc, object)?;
+    let rest = both(fields::space(object), ranges);
+    Ok(both(fields::time(object), rest))
+}
+
+/// Packets that were declared lost.
+#[tactic(auto, unfolding(qa_base::specs::format::Tables::lost_of))]
+pub fn lost_of(alloc: Global, object: &Value) -> Result<Event, LineFault>
+    ensures { Gives (λ event. event) result (tables.lost_of (view object.now)) }
+{
+    let (time, (space, ranges)) = lost_fields(alloc, object)??;
+    Ok(Event::Lost {
+        time,
+        space,
+        ranges,
+    })
+}
+
+// ---- the timer and the handshake
+
+/// What stands at the keys of a timer line, in the order of their table.
+type TimerFields = (Micros, (Kind, Space));
+
+fn timer_fields(object: &Value) -> Result<TimerFields, Fault>
+    ensures { result ≡ tables.timer_fields (view object.now) }
+{
+    let rest = both(fields::kind(object), fields::space(object));
+    both(fields::time(object), rest)
+}
+
+/// The loss detection timer that fired.
+#[tactic(auto, unfolding(qa_base::specs::format::Tables::timer_of))]
+pub fn timer_of(object: &Value) -> Result<Event, Fault>
+    ensures { result ≡ tables.timer_of (view object.now) }
+{
+    let (time, (kind, space)) = timer_fields(object)?;
+    Ok(Event::Timer { time, kind, space })
+}
+
+/// The keys of a space that were discarded.
+#[tactic(auto, unfolding(qa_base::specs::format::Tables::discard_of))]
+pub fn discard_of(object: &Value) -> Result<Event, Fault>
+    ensures { result ≡ tables.discard_of (view object.now) }
+{
+    let (time, space) = both(fields::time(object), fields::discarded_space(object))?;
+    Ok(Event::Discard { time, space })
+}
+
+/// The handshake that was confirmed.
+#[tactic(auto, unfolding(qa_base::specs::format::Tables::confirmed_of))]
+pub fn confirmed_of(object: &Value) -> Result<Event, Fault>
+    ensures { result ≡ tables.confirmed_of (view object.now) }
+{
+    let time = fields::time(object)?;
+    Ok(Event::Confirmed { time })
+}
+
+/// The keys of the Handshake space that came.
+#[tactic(auto, unfolding(qa_base::specs::format::Tables::keys_of))]
+pub fn keys_of(object: &Value) -> Result<Event, Fault>
+    ensures { result ≡ tables.keys_of (view object.now) }
+{
+    let time = fields::time(object)?;
+    Ok(Event::Keys { time })
+}
+
+// ---- a report of the sender's state
+
+/// What stands at the keys of a metrics line, in the order of their table.
+type MetricsFields = (
+    Micros,
+    (
+        Option<u64>,
+        (
+            Option<u64>,
+            (
+                Option<u64>,
+                (Option<u64>, (Option<u64>, (Option<u64>, Option<u64>))),
+            ),
+        ),
+    ),
+);
+
+fn metrics_fields(object: &Value) -> Result<MetricsFields, Fault>
+    ensures { result ≡ tables.metrics_fields (view object.now) }
+{
+    let rest = both(
+        fields::metric(Field::SmoothedRtt, object),
+        fields::metric(Field::Rttvar, object),
+    );
+    let rest = both(fields::metric(Field::MinRtt, object), rest);
+    let rest = both(fields::metric(Field::LatestRtt, object), rest);
+    let rest = both(fields::metric(Field::BytesInFlight, object), rest);
+    let rest = both(fields::metric(Field::Ssthresh, object), rest);
+    let rest = both(fields::metric(Field::Window, object), rest);
+    both(fields::time(object), rest)
+}
+
+/// A report of the sender's state.
+#[tactic(auto, unfolding(qa_base::specs::format::Tables::metrics_of))]
+pub fn metrics_of(object: &Value) -> Result<Event, Fault>
+    ensures { result ≡ tables.metrics_of (view object.now) }
+{
+    let (time, (window, (ssthresh, (bytes_in_flight, rtt)))) = metrics_fields(object)?;
+    let (latest_rtt, (min_rtt, (smoothed_rtt, rttvar))) = rtt;
+    Ok(Event::Metrics {
+        time,
+        values: MetricValues {
+            window,
+            ssthresh,
+            bytes_in_flight,
+            latest_rtt,
+            min_rtt,
+            smoothed_rtt,
+            rttvar,
+        },
+    })
+}

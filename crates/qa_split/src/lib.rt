@@ -1,0 +1,6 @@
+//! The lines of bytes that come in pieces.
+#![tactic(auto)]
+
+mod split;
+
+pub use split::{LINE_LIMIT, SplitFault, Splitter};

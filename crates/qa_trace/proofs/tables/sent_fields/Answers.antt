@@ -1,4 +1,0 @@
-use Rattle.qa_trace.proofs.tables.sent_fields.Goals as goal
-
-pub returns : goal.returns
-returns c = cc
