@@ -5,7 +5,7 @@ PREFIX ?= /usr/local
 DESTDIR ?=
 
 program := crates/qaudit/out/qaudit
-# The same audit by devices that move one byte a call, a test of it.
+# The same audit by a reader and a writer that move one byte a call, a test of it.
 one_byte := crates/one_byte/out/one_byte
 # The reader of lines by itself, a test of it.
 lines := crates/lines/out/lines

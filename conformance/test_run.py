@@ -47,7 +47,7 @@ sys.stderr.write("{write}")
 sys.exit({status})
 """
 USAGE_CASE = {
-    "name": "no-words", "words": [], "input": {"file": ""}, "status": 64, "stdout": "", "stderr": "usage\n"
+    "name": "no-arguments", "arguments": [], "input": {"file": ""}, "status": 64, "stdout": "", "stderr": "usage\n"
 }
 
 
@@ -105,7 +105,7 @@ class AuditorTest(RunnerCase):
         self.write_files("traces", name, {"trace": trace, "report": report})
 
     def write_cases(self, cases):
-        (self.corpus / "devices.json").write_text(json.dumps({"cases": cases}))
+        (self.corpus / "streams.json").write_text(json.dumps({"cases": cases}))
 
     def test_right_program(self):
         self.assert_passes(3)
@@ -124,8 +124,8 @@ class AuditorTest(RunnerCase):
         for path in (self.corpus / "traces").iterdir():
             path.unlink()
         (self.corpus / "traces").rmdir()
-        (self.corpus / "devices.json").unlink()
-        self.assert_fails("traces", "devices.json")
+        (self.corpus / "streams.json").unlink()
+        self.assert_fails("traces", "streams.json")
 
     def test_no_trace(self):
         for path in (self.corpus / "traces").iterdir():
@@ -134,11 +134,11 @@ class AuditorTest(RunnerCase):
 
     def test_no_case(self):
         self.write_cases([])
-        self.assert_fails("devices.json")
+        self.assert_fails("streams.json")
 
     def test_cases_that_are_no_json(self):
-        (self.corpus / "devices.json").write_text("{")
-        self.assert_fails("devices.json")
+        (self.corpus / "streams.json").write_text("{")
+        self.assert_fails("streams.json")
 
     def test_trace_without_report(self):
         self.write_trace("two", TRACE, None)
@@ -176,15 +176,15 @@ class AuditorTest(RunnerCase):
 
     def test_wrong_status_of_a_case(self):
         self.write_cases([{**USAGE_CASE, "status": 0}])
-        self.assert_fails("devices/no-words")
+        self.assert_fails("streams/no-arguments")
 
     def test_wrong_error_of_a_case(self):
         self.write_cases([{**USAGE_CASE, "stderr": "usage"}])
-        self.assert_fails("devices/no-words")
+        self.assert_fails("streams/no-arguments")
 
     def test_wrong_output_of_a_case(self):
         self.write_cases([{**USAGE_CASE, "stdout": "usage\n"}])
-        self.assert_fails("devices/no-words")
+        self.assert_fails("streams/no-arguments")
 
     def test_failing_streams_reach_the_program(self):
         write = "import os\ntry:\n os.write({}, b'x')\nexcept OSError as error:\n os._exit(error.errno)\n"
@@ -195,13 +195,13 @@ class AuditorTest(RunnerCase):
             self.write_cases([{**USAGE_CASE, **other, "name": kind, stream: kind, "status": status} for kind, status in cases])
             self.write_trace("one", TRACE, b"accepted\n")
             *failures, last = self.lines(1)
-            self.assertFalse([line for line in failures if line.startswith("FAILED devices/")], failures)
+            self.assertFalse([line for line in failures if line.startswith("FAILED streams/")], failures)
             self.assertTrue(last.startswith("4 passed"), last)
 
     def test_case_that_takes_too_long(self):
         self.write_program("import sys, time\nif len(sys.argv) == 1:\n time.sleep(1000)\n" + self.honest())
         self.write_cases([{**USAGE_CASE, "seconds": 0.5}])
-        self.assert_fails("devices/no-words")
+        self.assert_fails("streams/no-arguments")
 
     def test_program_that_stops_reading(self):
         self.write_program("import os\nos.read(0, 1)\nos.write(1, b'accepted\\n')")
