@@ -8,6 +8,7 @@ mod event;
 mod fault;
 mod header;
 pub mod laws;
+pub mod limits;
 mod line;
 mod number;
 mod rule;

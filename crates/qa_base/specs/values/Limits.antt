@@ -1,5 +1,9 @@
--- The ranges of numbers.
+-- The ranges of the format's numbers.
 use Rattle.std.specs.Prelude.{ℕ, ◌&&◌, nat_le, Option, Some, None, if◌then◌else◌}
+
+-- the version of the format
+abbrev pub format_version : ℕ
+format_version = 1
 
 -- the greatest time, 10^15 microseconds
 abbrev pub max_time : ℕ
@@ -12,6 +16,22 @@ max_packet_number = 4611686018427387903
 -- the most bytes of a packet: those that a UDP datagram can carry (RFC 9000, section 18.2)
 abbrev pub max_packet_size : ℕ
 max_packet_size = 65527
+
+-- the least maximum datagram size, in bytes (RFC 9000, section 14)
+abbrev pub least_datagram_size : ℕ
+least_datagram_size = 1200
+
+-- the greatest max_ack_delay, 2^14 - 1 milliseconds (RFC 9000, section 18.2)
+abbrev pub greatest_max_ack_delay : ℕ
+greatest_max_ack_delay = 16383000
+
+-- the greatest initial RTT, 1,000 seconds
+abbrev pub greatest_initial_rtt : ℕ
+greatest_initial_rtt = 1000000000
+
+-- the greatest initial window, 2^32 - 1 bytes
+abbrev pub greatest_initial_window : ℕ
+greatest_initial_window = 4294967295
 
 -- the number, where it is from lo to hi
 abbrev pub in_range : ℕ → ℕ → ℕ → Option ℕ

@@ -1,0 +1,20 @@
+//! The ranges of the format's numbers.
+
+/// The version of the format.
+pub const VERSION: u64 = 1;
+
+/// The most bytes of a packet, and the greatest maximum datagram size: what a UDP datagram can
+/// carry (RFC 9000, section 18.2).
+pub const MAX_PACKET_SIZE: u64 = 65527;
+
+/// The least maximum datagram size, in bytes (RFC 9000, section 14).
+pub const LEAST_DATAGRAM_SIZE: u64 = 1200;
+
+/// The greatest `max_ack_delay`, 2^14 - 1 milliseconds, in microseconds (RFC 9000, section 18.2).
+pub const GREATEST_MAX_ACK_DELAY: u64 = 16_383_000;
+
+/// The greatest initial RTT, 1,000 seconds, in microseconds.
+pub const GREATEST_INITIAL_RTT: u64 = 1_000_000_000;
+
+/// The greatest initial window, 2^32 - 1 bytes.
+pub const GREATEST_INITIAL_WINDOW: u64 = 4_294_967_295;
