@@ -10,6 +10,7 @@ ghost use Rattle.qa_base.specs.values.Limits.{max_packet_number, max_packet_size
 ghost use Rattle.qa_base.specs.values.Names.{role_named, discarded_named, leave_named, kind_named};
 ghost use Rattle.qa_base.specs.format.Tables as tables;
 
+use qa_base::limits::MAX_PACKET_SIZE;
 use qa_base::{Fault, Field, Key, Kind, Leave, Micros, PacketNumber, Role, Space};
 use serde_json::Value;
 
@@ -177,7 +178,7 @@ pub fn size(object: &Value) -> Result<u64, Fault>
     ensures { result ≡ keys.required (keys.integer_from 1 max_packet_size) Key.Size (view object.now) }
 {
     let size = required_integer(Key::Size, object)?;
-    if 1 <= size && size <= 65527 {
+    if 1 <= size && size <= MAX_PACKET_SIZE {
         Ok(size)
     } else {
         Err(Fault::OutOfRange(Key::Size))

@@ -8,6 +8,7 @@ use crate::fault::LineFault;
 use crate::fields;
 use crate::fields::both;
 use crate::ranges::ranges;
+use qa_base::limits::VERSION;
 use qa_base::{
     Event, Fault, Field, Header, Key, Kind, Leave, MetricValues, Micros, PacketNumber, Role, Space,
     Spans,
@@ -17,23 +18,29 @@ use std::alloc::{AllocError, Global};
 
 // ---- the header
 
-/// What stands at the keys of a header, in the order of their table.
+/// What stands at the keys of a header: version and role, the greatest datagram size and delay,
+/// and the RTT and the window that it begins with.
 type HeaderFields = (
-    u64,
-    (Role, (u64, (Option<u64>, (Option<u64>, Option<u64>)))),
+    (u64, Role),
+    ((u64, Option<u64>), (Option<u64>, Option<u64>)),
 );
 
 fn header_fields(object: &Value) -> Result<HeaderFields, Fault>
     ensures { result ≡ tables.header_fields (view object.now) }
 {
-    let rest = both(
+    let named = both(
+        fields::required_integer(Key::Version, object),
+        fields::role(object),
+    );
+    let most = both(
+        fields::required_integer(Key::MaxDatagramSize, object),
+        fields::optional_integer(Key::MaxAckDelay, object),
+    );
+    let initial = both(
         fields::optional_integer(Key::InitialRtt, object),
         fields::optional_integer(Key::InitialWindow, object),
     );
-    let rest = both(fields::optional_integer(Key::MaxAckDelay, object), rest);
-    let rest = both(fields::required_integer(Key::MaxDatagramSize, object), rest);
-    let rest = both(fields::role(object), rest);
-    both(fields::required_integer(Key::Version, object), rest)
+    both(named, both(most, initial))
 }
 
 /// The header of these values, or the first key whose value is out of its range.
@@ -61,8 +68,9 @@ fn settings(
 pub fn header_of(object: &Value) -> Result<Header, Fault>
     ensures { result ≡ tables.header_of (view object.now) }
 {
-    let (version, (role, (max_datagram_size, (max_ack_delay, (initial_rtt, initial_window))))) =
-        header_fields(object)?;
+    let ((version, role), (most, initial)) = header_fields(object)?;
+    let (max_datagram_size, max_ack_delay) = most;
+    let (initial_rtt, initial_window) = initial;
     let header = settings(
         role,
         max_datagram_size,
@@ -70,7 +78,7 @@ pub fn header_of(object: &Value) -> Result<Header, Fault>
         initial_rtt,
         initial_window,
     )?;
-    if version == 1 {
+    if version == VERSION {
         Ok(header)
     } else {
         Err(Fault::Version)
@@ -221,34 +229,36 @@ pub fn keys_of(object: &Value) -> Result<Event, Fault>
 
 // ---- a report of the sender's state
 
-/// What stands at the keys of a metrics line, in the order of their table.
-type MetricsFields = (
-    Micros,
-    (
-        Option<u64>,
-        (
-            Option<u64>,
-            (
-                Option<u64>,
-                (Option<u64>, (Option<u64>, (Option<u64>, Option<u64>))),
-            ),
-        ),
-    ),
-);
-
-fn metrics_fields(object: &Value) -> Result<MetricsFields, Fault>
-    ensures { result ≡ tables.metrics_fields (view object.now) }
+/// The values that a metrics line reports.
+fn metric_values(object: &Value) -> Result<MetricValues, Fault>
+    ensures { result ≡ tables.metric_values (view object.now) }
 {
-    let rest = both(
+    let flight = both(
+        fields::metric(Field::Ssthresh, object),
+        fields::metric(Field::BytesInFlight, object),
+    );
+    let windows = both(fields::metric(Field::Window, object), flight);
+    let samples = both(
+        fields::metric(Field::LatestRtt, object),
+        fields::metric(Field::MinRtt, object),
+    );
+    let estimates = both(
         fields::metric(Field::SmoothedRtt, object),
         fields::metric(Field::Rttvar, object),
     );
-    let rest = both(fields::metric(Field::MinRtt, object), rest);
-    let rest = both(fields::metric(Field::LatestRtt, object), rest);
-    let rest = both(fields::metric(Field::BytesInFlight, object), rest);
-    let rest = both(fields::metric(Field::Ssthresh, object), rest);
-    let rest = both(fields::metric(Field::Window, object), rest);
-    both(fields::time(object), rest)
+    let (windows, (samples, estimates)) = both(windows, both(samples, estimates))?;
+    let (window, (ssthresh, bytes_in_flight)) = windows;
+    let (latest_rtt, min_rtt) = samples;
+    let (smoothed_rtt, rttvar) = estimates;
+    Ok(MetricValues {
+        window,
+        ssthresh,
+        bytes_in_flight,
+        latest_rtt,
+        min_rtt,
+        smoothed_rtt,
+        rttvar,
+    })
 }
 
 /// A report of the sender's state.
@@ -256,18 +266,6 @@ fn metrics_fields(object: &Value) -> Result<MetricsFields, Fault>
 pub fn metrics_of(object: &Value) -> Result<Event, Fault>
     ensures { result ≡ tables.metrics_of (view object.now) }
 {
-    let (time, (window, (ssthresh, (bytes_in_flight, rtt)))) = metrics_fields(object)?;
-    let (latest_rtt, (min_rtt, (smoothed_rtt, rttvar))) = rtt;
-    Ok(Event::Metrics {
-        time,
-        values: MetricValues {
-            window,
-            ssthresh,
-            bytes_in_flight,
-            latest_rtt,
-            min_rtt,
-            smoothed_rtt,
-            rttvar,
-        },
-    })
+    let (time, values) = both(fields::time(object), metric_values(object))?;
+    Ok(Event::Metrics { time, values })
 }

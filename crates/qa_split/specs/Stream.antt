@@ -1,5 +1,5 @@
 -- What a splitter holds, and how it gives a line.
-use Rattle.std.specs.Prelude.{◌≡◌, ◌⊎◌, ◌<◌, ◌+◌, ◌++◌, ℕ, Bool, true, false, List, [], ◌∷◌, length, take, drop, Option, None}
+use Rattle.std.specs.Prelude.{◌≡◌, ◌⊎◌, ◌<◌, ◌≤◌, ◌+◌, ◌++◌, ℕ, Bool, true, false, List, [], ◌∷◌, length, take, drop, Option, None}
 use Rattle.qa_base.specs.format.Lines.{has_lf, line_limit, IsShortLine}
 use Rattle.qa_split.specs.declared.split.SplitFault.{SplitFault}
 
@@ -35,6 +35,11 @@ HasLine s = (line : List ℕ) × (rest : List ℕ) × IsShortLine line × (IsFir
 -- no line stands ready
 abbrev pub HasNoLine : Stream → Type 0
 HasNoLine s = IsShortLine s.bytes × (s.closed ≡ true → s.bytes ≡ [])
+
+-- the first n bytes have no LF
+pub record AreSearched (bytes : List ℕ) (n : ℕ) : Type 0 where
+  pub within : n ≤ length bytes
+  pub none : has_lf (take n bytes) ≡ false
 
 -- the first LF of the bytes stands at n
 pub record IsFirstLf (bytes : List ℕ) (n : ℕ) : Type 0 where

@@ -1,7 +1,7 @@
 //! Lines out of bytes that come in pieces.
 ghost use Rattle.std.specs.Prelude.{◌≡◌, ◌++◌, false, MatchOption, IfOk};
 ghost use Rattle.qa_base.specs.format.Lines.{has_lf};
-ghost use Rattle.qa_split.specs.Stream.{IsFirstLf};
+ghost use Rattle.qa_split.specs.Stream.{AreSearched, IsFirstLf};
 
 use memchr::memchr;
 use std::alloc::{AllocError, Global};
@@ -28,19 +28,21 @@ pub const LINE_LIMIT: usize = 65536;
 /// Bytes that come in pieces, given back as lines.
 ///
 /// Lines are cut at LF, however the pieces are cut. Feeding a piece copies the piece and at most
-/// the bytes that were not given back yet.
+/// the bytes that were not given back yet. No byte is looked at twice in the search for an LF.
 #[derive(Drop)]
 pub struct Splitter {
     alloc: Global,
     bytes: Vec<u8>,
     start: usize,
+    /// How many of the bytes from `start` on were looked at and have no LF.
+    searched: usize,
     closed: bool,
     refused: Option<SplitFault>,
 }
 
 impl Model for Splitter {
     ghost use Rattle.std.specs.Prelude.{◌≤◌, drop, length};
-    ghost use Rattle.qa_split.specs.Stream.{Stream};
+    ghost use Rattle.qa_split.specs.Stream.{Stream, AreSearched};
 
     ghost Value = { Stream };
 
@@ -50,7 +52,7 @@ impl Model for Splitter {
       refused = s.refused;
     } };
 
-    ghost invariant = { λ s. s.start ≤ length s.bytes.items };
+    ghost invariant = { λ s. (s.start ≤ length s.bytes.items) × AreSearched (drop s.start s.bytes.items) s.searched };
 }
 
 impl Splitter {
@@ -65,6 +67,7 @@ impl Splitter {
             alloc,
             bytes: Vec::new(alloc),
             start: 0,
+            searched: 0,
             closed: false,
             refused: None,
         }
@@ -124,7 +127,7 @@ impl Splitter {
             return Err(fault);
         }
         let rest = &self.bytes[self.start..];
-        let (len, taken) = match first_lf(rest) {
+        let (len, taken) = match first_lf(rest, self.searched) {
             Some(place) => (place, place + 1),
             None => (rest.len(), rest.len()),
         };
@@ -133,6 +136,7 @@ impl Splitter {
             return Err(SplitFault::TooLong);
         }
         if taken == len && !(self.closed && 0 < len) {
+            self.searched = len;
             return Ok(None);
         }
         let Ok(line) = Vec::from_slice(self.alloc, &rest[..len]) else {
@@ -140,6 +144,7 @@ impl Splitter {
             return Err(SplitFault::OutOfMemory);
         };
         self.start += taken;
+        self.searched = 0;
         Ok(Some(line))
     }
 }
@@ -153,9 +158,11 @@ fn joined(alloc: Global, front: &[u8], back: &[u8]) -> Result<Vec<u8>, AllocErro
     Ok(bytes)
 }
 
-/// Where the first LF stands.
-fn first_lf(bytes: &[u8]) -> Option<usize>
+/// Where the first LF stands. Asks that the bytes before `searched` have none.
+fn first_lf(bytes: &[u8], searched: usize) -> Option<usize>
+    requires { AreSearched bytes.now searched }
     ensures { MatchOption result (has_lf bytes.now ≡ false) (IsFirstLf bytes.now) }
 {
-    memchr(b'\n', bytes)
+    let place = memchr(b'\n', &bytes[searched..])?;
+    Some(searched + place)
 }

@@ -12,6 +12,7 @@ ghost use Rattle.qa_base.specs.format.Reading.{reading};
 ghost use Rattle.qa_base.specs.values.Settings.{AreInRange};
 ghost use Rattle.qa_base.specs.format.Written.{written, line_fits, object_of, header_pairs, event_pairs, integer_pairs, integer};
 
+use qa_base::limits::VERSION;
 use qa_base::{
     Event, Field, Header, Key, Kind, Leave, Line, LineKind, MetricValues, Micros, PacketNumber,
     Space, Spans,
@@ -65,7 +66,7 @@ fn header_object(alloc: Global, header: &Header) -> Result<Value, AllocError>
         (Key::MaxAckDelay.name()): header.max_ack_delay(),
         (Key::MaxDatagramSize.name()): header.max_datagram_size(),
         (Key::Role.name()): header.role().name(),
-        (Key::Version.name()): 1u64,
+        (Key::Version.name()): VERSION,
     })
 }
 
@@ -84,9 +85,16 @@ fn event_object(alloc: Global, event: &Event) -> Result<Value, AllocError>
             eliciting,
             in_flight,
             leave,
-        } => sent_object(
-            alloc, *time, *space, *number, *size, *eliciting, *in_flight, *leave,
-        ),
+        } => {
+            let packet = Packet {
+                number: *number,
+                size: *size,
+                eliciting: *eliciting,
+                in_flight: *in_flight,
+                leave: *leave,
+            };
+            sent_object(alloc, *time, *space, packet)
+        }
         Event::Ack {
             time,
             space,
@@ -107,29 +115,36 @@ fn event_object(alloc: Global, event: &Event) -> Result<Value, AllocError>
     }
 }
 
-/// The object of a packet that was sent.
-fn sent_object(
-    alloc: Global,
-    time: Micros,
-    space: Space,
+/// What a sent line says of its packet, beside its time and its space.
+#[derive(Clone, Copy)]
+struct Packet {
     number: PacketNumber,
     size: u64,
     eliciting: bool,
     in_flight: bool,
     leave: Leave,
+}
+
+/// The object of a packet that was sent.
+fn sent_object(
+    alloc: Global,
+    time: Micros,
+    space: Space,
+    packet: Packet,
 ) -> Result<Value, AllocError>
     ensures object { IfOk result (λ v. view v
-        ≡ object_of (event_pairs (Event.Sent time space number size eliciting in_flight leave))) }
+        ≡ object_of (event_pairs (Event.Sent time space packet.number packet.size
+        packet.eliciting packet.in_flight packet.leave))) }
     ensures in_time { OnOk result (time ≤ max_time) }
-    ensures in_range { OnOk result (number ≤ max_packet_number) }
+    ensures in_range { OnOk result (packet.number ≤ max_packet_number) }
 {
     json!(in alloc; {
-        (Key::Eliciting.name()): eliciting,
+        (Key::Eliciting.name()): packet.eliciting,
         (Key::Event.name()): LineKind::Sent.name(),
-        (Key::InFlight.name()): in_flight,
-        (Key::Leave.name()): leave.name(),
-        (Key::Number.name()): number.get(),
-        (Key::Size.name()): size,
+        (Key::InFlight.name()): packet.in_flight,
+        (Key::Leave.name()): packet.leave.name(),
+        (Key::Number.name()): packet.number.get(),
+        (Key::Size.name()): packet.size,
         (Key::Space.name()): space.name(),
         (Key::Time.name()): time.get(),
     })

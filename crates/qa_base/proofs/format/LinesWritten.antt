@@ -28,12 +28,12 @@ use Rattle.qa_base.specs.declared.space.Space.TheVariants.{Initial, Handshake, A
 use Rattle.qa_base.specs.values.Events.{is_space}
 use Rattle.qa_base.specs.format.Keys.{◌>>=◌, integer, integer_from, string, string_among, boolean, ranges, required, if_present}
 use Rattle.qa_base.specs.format.Lines.{has_lf}
-use Rattle.qa_base.specs.values.Limits.{max_time, max_packet_number, max_packet_size}
+use Rattle.qa_base.specs.values.Limits.{format_version, max_time, max_packet_number, max_packet_size}
 use Rattle.qa_base.specs.values.Names.{key_name, line_kind_name, role_name, role_named, space_name, space_named, discarded_named, leave_name, leave_named, kind_name, kind_named}
 use Rattle.qa_base.specs.values.Proper.{IsProperEvent, IsProperLine}
 use Rattle.qa_base.specs.format.Reading.{reader_named, object_says, json_of, reading_by, reading}
 use Rattle.qa_base.specs.values.Settings.{Settings, AreInRange, is_outside, checked}
-use Rattle.qa_base.specs.format.Tables.{time, space, header_fields, header_of, settings, sent_fields, sent_of, ack_fields, ack_of, lost_fields, lost_of, timer_fields, timer_of, discard_fields, discard_of, confirmed_of, keys_of, metrics_fields, metrics_of}
+use Rattle.qa_base.specs.format.Tables.{time, space, header_fields, header_of, settings, sent_fields, sent_of, ack_fields, ack_of, lost_fields, lost_of, timer_fields, timer_of, discard_fields, discard_of, confirmed_of, keys_of, metric_values, metrics_of}
 use Rattle.qa_base.specs.format.Written as written
 use Rattle.qa_base.specs.format.Written.{Pairs, reported, header_pairs, event_pairs, members, object_of, written as text_of}
 use Rattle.qa_base.proofs.format.Compact.{IsSimple, read-compact_text, is_utf8-compact_text}
@@ -255,19 +255,22 @@ time_found t v =
 event_found : (t : ℕ) (v : MetricValues) → get (codes "event") (object_of (metrics_pairs t v)) ≡ Some (written.string (line_kind_name kinds.Metrics))
 event_found t v = past_reported (codes "event") BytesInFlight v.bytes_in_flight (behind_flight t v) (λ e. cc)
 
+values_read : (t : ℕ) (v : MetricValues) → metric_values (object_of (metrics_pairs t v)) ≡ Ok v
+values_read t v =
+    let d = object_of (metrics_pairs t v) in
+    let windows = both_reads _ _ v.window _ (metric_reads Window d v.window (window_found t v))
+    (both_reads _ _ v.ssthresh v.bytes_in_flight (metric_reads Ssthresh d v.ssthresh (ssthresh_found t v))
+    (metric_reads BytesInFlight d v.bytes_in_flight (bytes_in_flight_found t v))) in
+    let samples = both_reads _ _ v.latest_rtt v.min_rtt (metric_reads LatestRtt d v.latest_rtt (latest_rtt_found t v)) (metric_reads MinRtt d v.min_rtt (min_rtt_found t v)) in
+    let estimates = both_reads _ _ v.smoothed_rtt v.rttvar (metric_reads SmoothedRtt d v.smoothed_rtt (smoothed_rtt_found t v))
+    (metric_reads Rttvar d v.rttvar (rttvar_found t v)) in
+    then_reads _ _ _ v (both_reads _ _ _ _ windows (both_reads _ _ _ _ samples estimates)) refl
+
 metrics_read : (t : ℕ) (v : MetricValues) → IsProperEvent (Metrics t v) → metrics_of (object_of (metrics_pairs t v)) ≡ Ok (Metrics t v)
 unfolding metrics_of
 metrics_read t v proper =
     let d = object_of (metrics_pairs t v) in
-    let fields = both_reads _ _ t _ (time_reads d t (time_found t v) proper.in_time)
-    (both_reads _ _ v.window _ (metric_reads Window d v.window (window_found t v))
-    (both_reads _ _ v.ssthresh _ (metric_reads Ssthresh d v.ssthresh (ssthresh_found t v))
-    (both_reads _ _ v.bytes_in_flight _ (metric_reads BytesInFlight d v.bytes_in_flight (bytes_in_flight_found t v))
-    (both_reads _ _ v.latest_rtt _ (metric_reads LatestRtt d v.latest_rtt (latest_rtt_found t v))
-    (both_reads _ _ v.min_rtt _ (metric_reads MinRtt d v.min_rtt (min_rtt_found t v))
-    (both_reads _ _ v.smoothed_rtt _ (metric_reads SmoothedRtt d v.smoothed_rtt (smoothed_rtt_found t v))
-    (metric_reads Rttvar d v.rttvar (rttvar_found t v)))))))) in
-    then_reads (metrics_fields d) _ (t, (v.window, (v.ssthresh, (v.bytes_in_flight, (v.latest_rtt, (v.min_rtt, (v.smoothed_rtt, v.rttvar))))))) _ fields refl
+    then_reads _ _ (t, v) (Metrics t v) (both_reads _ _ t v (time_reads d t (time_found t v) proper.in_time) (values_read t v)) refl
 
 -- ---- the header
 
@@ -293,12 +296,14 @@ header_reads : (s : Settings) → AreInRange s → header_of (object_of (header_
 unfolding header_of
 header_reads s are =
     let d = object_of (header_pairs s) in
-    let fields = both_reads _ _ 1 _ (required_reads integer key.Version d (written.integer 1) 1 refl refl refl)
-    (both_reads _ _ s.role _ (required_reads (string_among role_named) key.Role d (written.string (role_name s.role)) s.role refl refl (role_reads key.Role s.role))
-    (both_reads _ _ s.max_datagram_size _ (required_reads integer key.MaxDatagramSize d (written.integer s.max_datagram_size) s.max_datagram_size refl refl refl)
-    (both_reads _ _ (Some s.max_ack_delay) _ (present_integer key.MaxAckDelay d s.max_ack_delay refl)
-    (both_reads _ _ (Some s.initial_rtt) (Some s.initial_window) (present_integer key.InitialRtt d s.initial_rtt refl) (present_integer key.InitialWindow d s.initial_window refl))))) in
-    then_reads (header_fields d) _ (1, (s.role, (s.max_datagram_size, (Some s.max_ack_delay, (Some s.initial_rtt, Some s.initial_window))))) _ fields
+    let named = both_reads _ _ format_version s.role (required_reads integer key.Version d (written.integer format_version) format_version refl refl refl)
+    (required_reads (string_among role_named) key.Role d (written.string (role_name s.role)) s.role refl refl (role_reads key.Role s.role)) in
+    let sizes = both_reads _ _ s.max_datagram_size (Some s.max_ack_delay)
+    (required_reads integer key.MaxDatagramSize d (written.integer s.max_datagram_size) s.max_datagram_size refl refl refl)
+    (present_integer key.MaxAckDelay d s.max_ack_delay refl) in
+    let starts = both_reads _ _ (Some s.initial_rtt) (Some s.initial_window) (present_integer key.InitialRtt d s.initial_rtt refl) (present_integer key.InitialWindow d s.initial_window refl) in
+    let fields = both_reads _ _ _ _ named (both_reads _ _ _ _ sizes starts) in
+    then_reads (header_fields d) _ ((format_version, s.role), ((s.max_datagram_size, Some s.max_ack_delay), (Some s.initial_rtt, Some s.initial_window))) _ fields
     (then_reads (settings s.role s.max_datagram_size (Some s.max_ack_delay) (Some s.initial_rtt) (Some s.initial_window)) _ s _ (settings_read s are) refl)
 
 -- ---- keys rise, and values can be written and read
@@ -362,7 +367,7 @@ header_follows s are =
     (follow _ key.MaxAckDelay _ _ refl refl (integer_is_kept s.max_ack_delay (omega (arith, are.delay_high)))
     (follow _ key.MaxDatagramSize _ _ refl refl (integer_is_kept s.max_datagram_size (omega (arith, are.datagram_high)))
     (follow _ key.Role _ _ refl refl (role_is_kept s.role)
-    (follow _ key.Version _ _ refl refl (integer_is_kept 1 (omega arith)) (none_follow (codes "version"))))))))
+    (follow _ key.Version _ _ refl refl (integer_is_kept format_version (omega arith)) (none_follow (codes "version"))))))))
 
 -- ---- the line
 

@@ -10,6 +10,7 @@ use Rattle.serde_json.specs.Read.{read}
 use Rattle.std.specs.Str.{is_utf8}
 use Rattle.qa_base.specs.declared.event.Event.{Event}
 use Rattle.qa_base.specs.declared.event.Event.TheVariants.{Sent}
+use Rattle.qa_base.specs.declared.event.MetricValues.{MetricValues}
 use Rattle.qa_base.specs.declared.fault.Fault.{Fault}
 use Rattle.qa_base.specs.declared.fault.Fault.TheVariants.{NotJson, NotObject, UnknownEvent, FlagsClash, OutOfRange, Version}
 use Rattle.qa_base.specs.declared.fault.RangeFault.{RangeFault}
@@ -23,13 +24,13 @@ use Rattle.qa_base.specs.declared.line.Line.TheVariants as line
 use Rattle.qa_base.specs.declared.line.LineKind.{LineKind}
 use Rattle.qa_base.specs.declared.line.LineKind.TheVariants as kinds
 use Rattle.qa_base.specs.values.Events.{is_space}
-use Rattle.qa_base.specs.format.Keys.{◌>>=◌, ranged, string, string_among, required}
+use Rattle.qa_base.specs.format.Keys.{◌>>=◌, both, ranged, string, string_among, required}
 use Rattle.qa_base.specs.values.Limits.{max_time, max_packet_number, max_packet_size}
 use Rattle.qa_base.specs.values.Names.{line_kind_named, discarded_named}
-use Rattle.qa_base.specs.values.Proper.{IsProperEvent, IsProperLine}
+use Rattle.qa_base.specs.values.Proper.{AreWords, IsProperEvent, IsProperLine}
 use Rattle.qa_base.specs.format.Reading.{Reader, header_line, event_line, reader_of, reader_named, object_says, json_of, is_blank, reading_by, reading}
 use Rattle.qa_base.specs.values.Settings.{Settings, AreInRange, is_outside, default_window, checked, settings_of}
-use Rattle.qa_base.specs.format.Tables.{time, header_fields, header_of, settings, sent_fields, sent_of, ack_fields, ack_of, lost_fields, lost_of, timer_fields, timer_of, discard_fields, discard_of, confirmed_of, keys_of, metrics_fields, metrics_of}
+use Rattle.qa_base.specs.format.Tables.{time, header_fields, header_of, settings, sent_fields, sent_of, ack_fields, ack_of, lost_fields, lost_of, timer_fields, timer_of, discard_fields, discard_of, confirmed_of, keys_of, metric, metric_values, metrics_of}
 use Rattle.qa_base.specs.format.Written.{line_fits}
 use Rattle.qa_base.proofs.format.KeysRead.{bind_ok, both_ok, ok_is, required_stands, required_within, required_high, optional_is_word, present_is_word, ranges_are}
 use Rattle.qa_base.proofs.format.Sized.{IsSized, read-IsSized}
@@ -125,31 +126,34 @@ keys_is_proper d e h = let read = bind_ok (time d) _ e h in rw (← ok_is _ e re
 
 -- ---- a report of the sender's state
 
+values_are_words : (d : Data) (values : MetricValues) → IsSized d → metric_values d ≡ Ok values → AreWords values
+values_are_words d values sized h =
+    let read = bind_ok
+    (both (both (metric Window d) (both (metric Ssthresh d) (metric BytesInFlight d)))
+    (both (both (metric LatestRtt d) (metric MinRtt d)) (both (metric SmoothedRtt d) (metric Rttvar d)))) _ values h in
+    let f = read.0 in
+    let halves = both_ok _ _ f read.1 in
+    let windows = both_ok _ _ f.0 halves.0 in
+    let flights = both_ok _ _ f.0.1 windows.1 in
+    let pairs = both_ok _ _ f.1 halves.1 in
+    let samples = both_ok _ _ f.1.0 pairs.0 in
+    let estimates = both_ok _ _ f.1.1 pairs.1 in
+    rw (← ok_is _ values read.2) (
+      present_is_word (key.Metric Window) d _ sized windows.0,
+      present_is_word (key.Metric Ssthresh) d _ sized flights.0,
+      present_is_word (key.Metric BytesInFlight) d _ sized flights.1,
+      present_is_word (key.Metric LatestRtt) d _ sized samples.0,
+      present_is_word (key.Metric MinRtt) d _ sized samples.1,
+      present_is_word (key.Metric SmoothedRtt) d _ sized estimates.0,
+      present_is_word (key.Metric Rttvar) d _ sized estimates.1,
+    )
+
 pub metrics_is_proper : (d : Data) (e : Event) → IsSized d → metrics_of d ≡ Ok e → IsProperEvent e
 unfolding metrics_of
 metrics_is_proper d e sized h =
-    let read = bind_ok (metrics_fields d) _ e h in
-    let f = read.0 in
-    let times = both_ok _ _ f read.1 in
-    let windows = both_ok _ _ f.1 times.1 in
-    let thresholds = both_ok _ _ f.1.1 windows.1 in
-    let flights = both_ok _ _ f.1.1.1 thresholds.1 in
-    let latest = both_ok _ _ f.1.1.1.1 flights.1 in
-    let least = both_ok _ _ f.1.1.1.1.1 latest.1 in
-    let smoothed = both_ok _ _ f.1.1.1.1.1.1 least.1 in
-    rw (← ok_is _ e read.2) (record {
-      fitting = refl;
-      in_time = time_high d f.0 times.0;
-      numbers = (
-        present_is_word (key.Metric Window) d _ sized windows.0,
-        present_is_word (key.Metric Ssthresh) d _ sized thresholds.0,
-        present_is_word (key.Metric BytesInFlight) d _ sized flights.0,
-        present_is_word (key.Metric LatestRtt) d _ sized latest.0,
-        present_is_word (key.Metric MinRtt) d _ sized least.0,
-        present_is_word (key.Metric SmoothedRtt) d _ sized smoothed.0,
-        present_is_word (key.Metric Rttvar) d _ sized smoothed.1,
-      );
-    })
+    let read = bind_ok (both (time d) (metric_values d)) _ e h in
+    let parts = both_ok _ _ read.0 read.1 in
+    rw (← ok_is _ e read.2) (record { fitting = refl; in_time = time_high d read.0.0 parts.0; numbers = values_are_words d read.0.1 sized parts.1 })
 
 -- ---- the header
 
@@ -204,8 +208,8 @@ unfolding header_of
 header_is_proper d s h =
     let read = bind_ok (header_fields d) _ s h in
     let f = read.0 in
-    let set = bind_ok (settings f.1.0 f.1.1.0 f.1.1.1.0 f.1.1.1.1.0 f.1.1.1.1.1) _ s read.2 in
-    rw (← of_version _ set.0 s set.2) (set_is_in_range f.1.0 f.1.1.0 f.1.1.1.0 f.1.1.1.1.0 f.1.1.1.1.1 set.0 set.1)
+    let set = bind_ok (settings f.0.1 f.1.0.0 f.1.0.1 f.1.1.0 f.1.1.1) _ s read.2 in
+    rw (← of_version _ set.0 s set.2) (set_is_in_range f.0.1 f.1.0.0 f.1.0.1 f.1.1.0 f.1.1.1 set.0 set.1)
 
 -- ---- a line
 

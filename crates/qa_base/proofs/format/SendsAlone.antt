@@ -10,9 +10,10 @@ use Rattle.qa_base.specs.declared.line.LineKind.{LineKind}
 use Rattle.qa_base.specs.declared.line.LineKind.TheVariants as kinds
 use Rattle.qa_base.specs.values.Events.{fits, is_sent_or_report}
 use Rattle.qa_base.specs.values.Names.{line_kind_named}
+use Rattle.qa_base.specs.format.Keys.{both}
 use Rattle.qa_base.specs.format.Reading.{Reader, header_line, event_line}
 use Rattle.qa_base.specs.format.Sends.{reader_of, reader_named, reading}
-use Rattle.qa_base.specs.format.Tables.{header_of, sent_fields, sent_of, metrics_fields, metrics_of}
+use Rattle.qa_base.specs.format.Tables.{header_of, sent_fields, sent_of, time, metric_values, metrics_of}
 use Rattle.qa_base.proofs.format.KeysRead.{bind_ok, ok_is}
 use Rattle.qa_base.proofs.format.ProperReadings.{flags_agree, sent_is_proper, metrics_is_proper, event_line_is, line_said}
 use Rattle.qa_base.proofs.format.Sized.{IsSized}
@@ -31,7 +32,7 @@ sent_is_send d e h =
 metrics_is_send : (d : Data) (e : Event) → IsSized d → metrics_of d ≡ Ok e → IsSend e
 unfolding metrics_of
 metrics_is_send d e sized h =
-    let read = bind_ok (metrics_fields d) _ e h in
+    let read = bind_ok (both (time d) (metric_values d)) _ e h in
     (rw (← ok_is _ e read.2) refl, (metrics_is_proper d e sized h).fitting)
 
 -- the reader gives no event but such

@@ -7,6 +7,7 @@ use Rattle.qa_base.specs.declared.fault.Fault.TheVariants.{OutOfRange, FlagsClas
 use Rattle.qa_base.specs.declared.fault.Key.TheVariants as key
 use Rattle.qa_base.specs.declared.event.Event.{Event}
 use Rattle.qa_base.specs.declared.event.Event.TheVariants.{Sent, Ack, Lost, Timer, Discard, Confirmed, Keys, Metrics}
+use Rattle.qa_base.specs.declared.event.MetricValues.{MetricValues}
 use Rattle.qa_base.specs.declared.rule.Field.{Field}
 use Rattle.qa_base.specs.declared.rule.Field.TheVariants.{Window, Ssthresh, BytesInFlight, LatestRtt, MinRtt, SmoothedRtt, Rttvar}
 use Rattle.qa_base.specs.declared.space.Kind.{Kind}
@@ -15,7 +16,7 @@ use Rattle.qa_base.specs.declared.space.Leave.TheVariants as leaves
 use Rattle.qa_base.specs.declared.space.Space.{Space}
 use Rattle.qa_base.specs.declared.space.Role.{Role}
 use Rattle.qa_base.specs.format.Keys.{◌>>=◌, both, integer, integer_from, string_among, boolean, ranges, required, optional, if_present}
-use Rattle.qa_base.specs.values.Limits.{max_time, max_packet_number, max_packet_size}
+use Rattle.qa_base.specs.values.Limits.{format_version, max_time, max_packet_number, max_packet_size}
 use Rattle.qa_base.specs.values.Names.{role_named, space_named, discarded_named, leave_named, kind_named}
 use Rattle.qa_base.specs.values.Settings.{Settings, settings_of}
 
@@ -28,16 +29,13 @@ space = required (string_among space_named) key.Space
 
 -- ---- the header
 
--- version, role, max_datagram_size, max_ack_delay, initial_rtt and initial_window, whose numbers are not compared with their
--- ranges yet
-abbrev pub header_fields : Data → Result (ℕ × (Role × (ℕ × (Option ℕ × (Option ℕ × Option ℕ))))) Fault
+-- version and role, max_datagram_size and max_ack_delay, initial_rtt and initial_window, whose numbers are not compared with
+-- their ranges yet
+abbrev pub header_fields : Data → Result ((ℕ × Role) × ((ℕ × Option ℕ) × (Option ℕ × Option ℕ))) Fault
 header_fields d =
-    both (required integer key.Version d)
-    (both (required (string_among role_named) key.Role d)
-    (both (required integer key.MaxDatagramSize d)
-    (both (if_present integer key.MaxAckDelay d)
-    (both (if_present integer key.InitialRtt d)
-    (if_present integer key.InitialWindow d)))))
+    both (both (required integer key.Version d) (required (string_among role_named) key.Role d))
+    (both (both (required integer key.MaxDatagramSize d) (if_present integer key.MaxAckDelay d))
+    (both (if_present integer key.InitialRtt d) (if_present integer key.InitialWindow d)))
 
 -- the settings, each in its range
 abbrev pub settings : Role → ℕ → Option ℕ → Option ℕ → Option ℕ → Result Settings Fault
@@ -46,8 +44,8 @@ settings role max_datagram_size max_ack_delay initial_rtt initial_window =
 
 -- the version is judged after all other keys
 unfoldable pub header_of : Data → Result Settings Fault
-header_of d = header_fields d >>= λ (version, (role, (max_datagram_size, (max_ack_delay, (initial_rtt, initial_window))))).
-    settings role max_datagram_size max_ack_delay initial_rtt initial_window >>= λ s. if version == 1 then Ok s else Err Version
+header_of d = header_fields d >>= λ ((version, role), ((max_datagram_size, max_ack_delay), (initial_rtt, initial_window))).
+    settings role max_datagram_size max_ack_delay initial_rtt initial_window >>= λ s. if version == format_version then Ok s else Err Version
 
 -- ---- packets
 
@@ -113,25 +111,20 @@ keys_of d = time d >>= λ t. Ok (Keys t)
 abbrev pub metric : Field → Data → Result (Option ℕ) Fault
 metric f = if_present integer (key.Metric f)
 
--- time, and each value where it is reported
-abbrev pub metrics_fields : Data → Result (ℕ × (Option ℕ × (Option ℕ × (Option ℕ × (Option ℕ × (Option ℕ × (Option ℕ × Option ℕ))))))) Fault
-metrics_fields d =
-    both (time d)
-    (both (metric Window d)
-    (both (metric Ssthresh d)
-    (both (metric BytesInFlight d)
-    (both (metric LatestRtt d)
-    (both (metric MinRtt d)
-    (both (metric SmoothedRtt d)
-    (metric Rttvar d)))))))
+-- each value where it is reported: window, ssthresh and bytes_in_flight, latest_rtt and min_rtt, smoothed_rtt and rttvar
+abbrev pub metric_values : Data → Result MetricValues Fault
+metric_values d =
+    both (both (metric Window d) (both (metric Ssthresh d) (metric BytesInFlight d)))
+    (both (both (metric LatestRtt d) (metric MinRtt d)) (both (metric SmoothedRtt d) (metric Rttvar d)))
+    >>= λ ((window, (ssthresh, bytes_in_flight)), ((latest_rtt, min_rtt), (smoothed_rtt, rttvar))). Ok (record {
+      window = window;
+      ssthresh = ssthresh;
+      bytes_in_flight = bytes_in_flight;
+      latest_rtt = latest_rtt;
+      min_rtt = min_rtt;
+      smoothed_rtt = smoothed_rtt;
+      rttvar = rttvar;
+    })
 
 unfoldable pub metrics_of : Data → Result Event Fault
-metrics_of d = metrics_fields d >>= λ (time, (window, (ssthresh, (bytes_in_flight, (latest_rtt, (min_rtt, (smoothed_rtt, rttvar))))))). Ok (Metrics time (record {
-  window = window;
-  ssthresh = ssthresh;
-  bytes_in_flight = bytes_in_flight;
-  latest_rtt = latest_rtt;
-  min_rtt = min_rtt;
-  smoothed_rtt = smoothed_rtt;
-  rttvar = rttvar;
-}))
+metrics_of d = both (time d) (metric_values d) >>= λ (time, values). Ok (Metrics time values)

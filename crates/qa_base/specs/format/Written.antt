@@ -13,6 +13,7 @@ use Rattle.qa_base.specs.declared.line.LineKind.TheVariants as kinds
 use Rattle.qa_base.specs.declared.rule.Field.{Field}
 use Rattle.qa_base.specs.declared.rule.Field.TheVariants.{Window, Ssthresh, BytesInFlight, LatestRtt, MinRtt, SmoothedRtt, Rttvar}
 use Rattle.qa_base.specs.values.Events.{fits}
+use Rattle.qa_base.specs.values.Limits.{format_version}
 use Rattle.qa_base.specs.values.Names.{key_name, line_kind_name, role_name, space_name, leave_name, kind_name}
 use Rattle.qa_base.specs.values.Settings.{Settings}
 
@@ -49,7 +50,7 @@ header_pairs s =
     ∷ (key.MaxAckDelay, integer s.max_ack_delay)
     ∷ (key.MaxDatagramSize, integer s.max_datagram_size)
     ∷ (key.Role, string (role_name s.role))
-    ∷ (key.Version, integer 1)
+    ∷ (key.Version, integer format_version)
     ∷ []
 
 -- a value that is reported; one that is not is left out
