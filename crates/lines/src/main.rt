@@ -3,9 +3,8 @@
 //!
 //! The answer to a line is the text that `write_line` gives for it, and to a faulty line its fault
 //! as a report has it, each ended by LF. A line that is too long is answered so, and is the last.
-//! The lines of the conformance corpus are run through it. It takes no notice of its arguments. It
-//! ends with status 0, or with 3 and a line on standard error where a stream fails or memory is
-//! out.
+//! The lines of the conformance corpus are run through it. It ignores its arguments. It ends with
+//! status 0, or with 3 and a line on standard error where a stream fails or it is out of memory.
 #![tactic(auto)]
 
 ghost use Rattle.std.specs.Prelude.{◌≡◌, None, Ok, IfOk};
@@ -41,7 +40,7 @@ const PIECE: usize = 4096;
 #[derive(Clone, Copy, Debug, PartialEq, Eq)]
 enum Answers {
     GoOn,
-    /// A line was too long, and the splitter gives no more.
+    /// A line was too long, and the splitter returns no more.
     End,
 }
 

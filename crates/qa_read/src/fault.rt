@@ -12,7 +12,7 @@ pub enum LineFault {
     /// The line has this fault, F1 to F6, F9 or F10.
     #[error("{0}")]
     Fault(Fault),
-    /// Memory was refused.
+    /// Out of memory.
     #[error("out of memory")]
     OutOfMemory,
 }

@@ -74,7 +74,7 @@ fn spans_in(alloc: Global, value: &Value) -> Result<Result<Spans, Fault>, AllocE
     Ok(spans.ok_or(Fault::OutOfRange(Key::Ranges)))
 }
 
-/// The key `ranges`, or its fault. AllocError where memory is refused.
+/// The key `ranges`, or its fault. `AllocError` comes where it is out of memory.
 pub fn ranges(alloc: Global, object: &Value) -> Result<Result<Spans, Fault>, AllocError>
     ensures { IfOk result (λ spans. spans ≡ keys.required keys.ranges Key.Ranges (view object.now)) }
 {

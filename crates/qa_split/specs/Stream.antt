@@ -3,7 +3,7 @@ use Rattle.std.specs.Prelude.{◌≡◌, ◌⊎◌, ◌<◌, ◌≤◌, ◌+◌,
 use Rattle.qa_base.specs.format.Lines.{has_lf, line_limit, IsShortLine}
 use Rattle.qa_split.specs.declared.split.SplitFault.{SplitFault}
 
--- the bytes that were fed and not given yet, whether no more come, and the refusal with which it failed
+-- the bytes that were fed and not returned yet, whether no more come, and the error with which it failed
 pub record Stream : Type 0 where
   pub bytes : List ℕ
   pub closed : Bool

@@ -11,13 +11,13 @@ use thiserror::Error;
 #[cfg(test)]
 mod tests;
 
-/// Why a splitter gives no more lines.
+/// Why a splitter returns no more lines.
 #[derive(Clone, Copy, Debug, PartialEq, Eq, Error)]
 pub enum SplitFault {
     /// The next line has more bytes than a line may have.
     #[error("line too long")]
     TooLong,
-    /// Memory was refused.
+    /// Out of memory.
     #[error("out of memory")]
     OutOfMemory,
 }
@@ -25,10 +25,10 @@ pub enum SplitFault {
 /// The most bytes that a line of a trace has, its LF not counted.
 pub const LINE_LIMIT: usize = 65536;
 
-/// Bytes that come in pieces, given back as lines.
+/// Bytes that come in pieces, returned as lines.
 ///
 /// Lines are cut at LF, however the pieces are cut. Feeding a piece copies the piece and at most
-/// the bytes that were not given back yet. No byte is looked at twice in the search for an LF.
+/// the bytes that were not returned yet. No byte is looked at twice in the search for an LF.
 #[derive(Drop)]
 pub struct Splitter {
     alloc: Global,
@@ -75,7 +75,7 @@ impl Splitter {
 
     /// Takes the next piece of the input. Asks for a splitter that was not closed and has not failed.
     ///
-    /// Where memory is refused it has failed, and holds what it held.
+    /// `AllocError` comes where it is out of memory: it has failed then, and holds what it held.
     pub fn feed(&mut self, piece: &[u8]) -> Result<(), AllocError>
         requires open { self.old.closed ≡ false }
         requires whole { self.old.refused ≡ None }
@@ -93,7 +93,7 @@ impl Splitter {
         fed
     }
 
-    /// Puts the piece behind the bytes that were not given yet, and lets go of those that were.
+    /// Puts the piece behind the bytes that were not returned yet, and drops those that were.
     fn refill(&mut self, piece: &[u8]) -> Result<(), AllocError>
         ensures ok { OnOk result (self.new ≡ record self.old { bytes = self.old.bytes ++ piece.now }) }
         ensures err { OnErr result (self.new ≡ self.old) }
@@ -114,7 +114,7 @@ impl Splitter {
     ///
     /// `SplitFault::TooLong` comes as soon as the next line has more than 65,536 bytes, whether
     /// its end is there or not, and `SplitFault::OutOfMemory` only where a line stands ready. After
-    /// any refusal the splitter has failed and answers that refusal from then on.
+    /// an error the splitter has failed, and returns that error from then on.
     pub fn next_line(&mut self) -> Result<Option<Vec<u8>>, SplitFault>
         ensures refused { IfSome self.old.refused (λ fault. (result ≡ Err fault) × (self.new ≡ self.old)) }
         ensures line { IfOk result (λ found. IfSome found (λ line. TakesLine self.old self.new line.items)) }

@@ -30,7 +30,7 @@ mod tests;
 /// also where its value is the default; only a value that a sender does not report is left out. So
 /// each line has one text, and `read_line` reads it as that line. Asks for an event that fits
 /// (`Event::fits`): no line says another.
-/// `AllocError` comes where memory is refused.
+/// `AllocError` comes where it is out of memory.
 pub fn write_line(alloc: Global, line: &Line) -> Result<String, AllocError>
     requires fitting { line_fits line.now ≡ true }
     ensures text { IfOk result (λ text. string_bytes text ≡ written line.now) }
