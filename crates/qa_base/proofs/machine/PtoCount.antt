@@ -20,8 +20,8 @@ use Rattle.qa_base.specs.machine.Rules.{IsRun, first_broken}
 use Rattle.qa_base.specs.values.Settings.{Settings}
 use Rattle.qa_base.specs.machine.Timer.{Due, earlier, loss_due, earliest_loss, pto_due, earliest_pto, anti_deadlock, deadline, backoff, is_pto, resets_count, last_eliciting, last_set}
 use Rattle.qa_base.proofs.machine.RunLaws.{all_hold}
-use Rattle.qa_plain.specs.Words.{IsTimely}
-use Rattle.qa_plain.proofs.Steps.{backoff_after}
+use Rattle.qa_base.specs.machine.Widths.{IsTimely}
+use Rattle.qa_base.proofs.machine.Steps.{backoff_after}
 
 -- a probe timeout lies that many doublings of the granularity behind
 abbrev IsFar : ℕ → Option Due → Type 0

@@ -14,7 +14,7 @@ use Rattle.qa_base.specs.machine.Moments.{moments, since}
 use Rattle.qa_base.specs.machine.Packets.{Packet, packets_of}
 use Rattle.qa_base.specs.machine.Reno.{moves, moves_of_last, moved, reno, is_entry, start}
 use Rattle.qa_base.specs.values.Settings.{Settings}
-use Rattle.qa_plain.specs.Words.{probe_due, unanswered_by}
+use Rattle.qa_base.specs.machine.Probes.{probe_due, unanswered_by}
 use Rattle.qa_base.specs.machine.Timer.{is_pto, resets_count, backoff, sets_timer, time_of_moment, last_set, last_eliciting}
 
 -- ---- sums since the last moment that passes a test

@@ -14,9 +14,9 @@ use Rattle.qa_base.specs.values.Events.{acknowledges, fits, time_of}
 use Rattle.qa_base.specs.machine.Loss.{owed, is_persistent, bytes_in_flight, flight_size, is_open}
 use Rattle.qa_base.specs.machine.Reno.{Move, Hit, Collapse, Grow, Control, start, moved, moves, moves_of_last, reno, hits, collapses, grows, is_limited, is_slow_start, is_outside_recovery, growth, hit, grow, collapse}
 use Rattle.qa_base.specs.values.Settings.{Settings, AreInRange}
-use Rattle.qa_plain.specs.Words.{Fits}
+use Rattle.qa_base.specs.machine.Widths.{Fits, covered_count}
 use Rattle.qa_base.proofs.machine.Histories.{length-history_of}
-use Rattle.qa_plain.proofs.Steps.{reno_after}
+use Rattle.qa_base.proofs.machine.Steps.{reno_after}
 
 -- ---- one move
 
@@ -201,9 +201,6 @@ sized : (h : List Event) → AllByRecursion Fits h → AllByRecursion IsSized (p
 sized [] fit = tt
 sized (e ∷ h) fit = each_append IsSized (packet_of (length h) e) (packets h) (sized_one e (length h) fit.0) (sized h fit.1)
 
-abbrev covered_count : List Event → ℕ
-covered_count h = count_by (is_covered h) (packets h)
-
 between : (c : Settings) (h : List Event) → AreInRange c → AllByRecursion Fits h → IsBetween c.max_datagram_size (c.initial_window + 65527 * covered_count h) (reno c h)
 between c [] range fit = record { low = range.window_low; high = omega arith }
 between c (e ∷ h) range fit =
@@ -223,12 +220,19 @@ between c (e ∷ h) range fit =
     let high = here.high in
     record { low = here.low; high = omega (arith, high, heavy, new, more, onto) }
 
+-- the window is from two datagrams to where it began and a packet's greatest size for each that was acknowledged
+pub window_low : (c : Settings) (h : List Event) → AreInRange c → AllByRecursion Fits h → 2 * c.max_datagram_size ≤ (reno c h).window
+window_low c h range fit = (between c h range fit).low
+
+pub window_high : (c : Settings) (h : List Event) → AreInRange c → AllByRecursion Fits h → (reno c h).window ≤ c.initial_window + 65527 * covered_count h
+window_high c h range fit = (between c h range fit).high
+
 packets_few : (h : List Event) → length (packets h) ≤ length h
 packets_few [] = omega arith
 packets_few (Sent time space number size eliciting in_flight leave ∷ h) = omega (arith, packets_few h)
 packets_few (_ ∷ h) = omega (arith, packets_few h)
 
--- the window of fewer than 2^28 events
+-- the window of fewer than 2^32 events
 pub window_bound : (c : Settings) (h : List Event) → AreInRange c → AllByRecursion Fits h → length h < 2 ^ 32 → (2 * c.max_datagram_size ≤ (reno c h).window) × ((reno c h).window ≤ 2 ^ 60)
 window_bound c h range fit few =
     let is = between c h range fit in
@@ -272,6 +276,13 @@ flight_sum c h (p ∷ ps) all =
     let here : flight_size c h p ≤ 65527 = flight_small (p.in_flight && is_open c h p) p.size all.0 in
     let sum : sum_by (flight_size c h) (p ∷ ps) ≡ flight_size c h p + sum_by (flight_size c h) ps = sum_by-cons (flight_size c h) p ps in
     omega (arith, rest, here, sum)
+
+-- the bytes in flight are at most a packet's greatest size for each event
+pub flight_bound : (c : Settings) (h : List Event) → AllByRecursion Fits h → bytes_in_flight c h ≤ 65527 * length h
+flight_bound c h fit =
+    let sum = flight_sum c h (packets h) (sized h fit) in
+    let fewer = packets_few h in
+    omega (arith, sum, fewer)
 
 pub bytes_bound : (c : Settings) (events : List Event) → All Fits events → length events < 2 ^ 32 → bytes_in_flight c (history_of events) < 2 ^ 48
 bytes_bound c events fit few =
