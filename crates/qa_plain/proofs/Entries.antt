@@ -10,7 +10,7 @@ use Rattle.qa_base.specs.machine.Reno.{Move, Hit, Grow, Control, reno, is_entry,
 use Rattle.qa_base.specs.values.Settings.{Settings}
 use Rattle.qa_plain.specs.Words.{last_sending, hits_at, entry_by}
 use Rattle.qa_plain.proofs.Moved.{hits_is}
-use Rattle.qa_plain.proofs.Steps.{recovery_spent_after}
+use Rattle.qa_base.proofs.machine.Steps.{recovery_spent_after}
 
 no_growth_enters : (r : Option ℕ) (ps : List Packet) → enters r (map (λ (p : Packet). Grow p.size p.time) ps) ≡ false
 no_growth_enters r [] = refl

@@ -1,10 +1,7 @@
 pub mod Owed
 pub mod Moved
-pub mod Steps
-pub mod WindowBound
 pub mod Entries
 pub mod Answered
 pub mod Powers
 pub mod Chosen
-pub mod Totals
-pub mod PtoCount
+pub mod Followed

@@ -4,12 +4,12 @@ ghost use Rattle.std.specs.List.{list_any};
 ghost use Rattle.qa_base.specs.machine.Loss as loss;
 ghost use Rattle.qa_base.specs.machine.Packets.{history_of};
 ghost use Rattle.qa_base.specs.machine.Rtt as estimates;
-ghost use Rattle.qa_plain.specs.Looks.{largest_there};
+ghost use Rattle.qa_plain.specs.Looks.{IsLook};
 
 use crate::losses::{Look, is_owed};
 use crate::packet::{Packet, packet_of};
-use crate::plain::is_covered;
 use crate::sampling::micros;
+use crate::settled::is_covered;
 use qa_base::{Event, Header, Micros};
 use qa_recovery::Rtt;
 
@@ -23,9 +23,7 @@ fn is_after(first: Option<Micros>, packet: Packet) -> bool
 }
 
 fn is_end(header: &Header, events: &[Event], look: Look, packet: Packet) -> bool
-    requires known { look.rtt ≡ estimates.rtt header.now (history_of events.now) }
-    requires detected { look.detection ≡ loss.detection (history_of events.now) }
-    requires largest { look.largest ≡ largest_there (history_of events.now) (loss.detection (history_of events.now)) }
+    requires seen { IsLook header.now (history_of events.now) look }
     ensures { result ≡ loss.is_end header.now (history_of events.now) packet }
 {
     packet.eliciting && is_after(look.rtt.first_rtt_sample, packet)
@@ -50,9 +48,7 @@ pub fn is_acknowledged_between(events: &[Event], first: Packet, second: Packet) 
 }
 
 fn are_ends(header: &Header, events: &[Event], look: Look, first: Packet, second: Packet) -> bool
-    requires known { look.rtt ≡ estimates.rtt header.now (history_of events.now) }
-    requires detected { look.detection ≡ loss.detection (history_of events.now) }
-    requires largest { look.largest ≡ largest_there (history_of events.now) (loss.detection (history_of events.now)) }
+    requires seen { IsLook header.now (history_of events.now) look }
     ensures { result ≡ loss.are_ends header.now (history_of events.now) first second }
 {
     is_end(header, events, look, first)
@@ -64,9 +60,7 @@ fn are_ends(header: &Header, events: &[Event], look: Look, first: Packet, second
 
 /// Whether the packet and one that is owed establish persistent congestion.
 fn has_end(header: &Header, events: &[Event], look: Look, first: Packet) -> bool
-    requires known { look.rtt ≡ estimates.rtt header.now (history_of events.now) }
-    requires detected { look.detection ≡ loss.detection (history_of events.now) }
-    requires largest { look.largest ≡ largest_there (history_of events.now) (loss.detection (history_of events.now)) }
+    requires seen { IsLook header.now (history_of events.now) look }
     ensures { result ≡ list_any (loss.are_ends header.now (history_of events.now) first) (loss.owed header.now (history_of events.now)) }
 {
     let mut found = false;
@@ -84,9 +78,7 @@ fn has_end(header: &Header, events: &[Event], look: Look, first: Packet) -> bool
 
 /// Whether the last event establishes persistent congestion.
 pub fn is_persistent(header: &Header, events: &[Event], look: Look) -> bool
-    requires known { look.rtt ≡ estimates.rtt header.now (history_of events.now) }
-    requires detected { look.detection ≡ loss.detection (history_of events.now) }
-    requires largest { look.largest ≡ largest_there (history_of events.now) (loss.detection (history_of events.now)) }
+    requires seen { IsLook header.now (history_of events.now) look }
     ensures { result ≡ loss.is_persistent header.now (history_of events.now) }
 {
     let mut found = false;

@@ -9,14 +9,15 @@ ghost use Rattle.qa_base.specs.machine.Loss as loss;
 ghost use Rattle.qa_base.specs.machine.Packets.{history_of};
 ghost use Rattle.qa_base.specs.machine.Reno as steps;
 ghost use Rattle.qa_base.specs.machine.Rtt as estimates;
-ghost use Rattle.qa_plain.specs.Looks.{largest_there};
+ghost use Rattle.qa_plain.specs.Looks.{IsLook};
 ghost use Rattle.qa_base.specs.machine.Timer as timers;
+ghost use Rattle.qa_base.specs.machine.Probes as probes;
 ghost use Rattle.qa_plain.specs.Words as words;
-ghost use Rattle.qa_plain.specs.Words.{Fits};
+ghost use Rattle.qa_base.specs.machine.Widths.{Fits};
 
 use crate::losses::{Look, look_at};
-use crate::plain::acknowledges_new;
 use crate::sampling::{sample_of, start, updated};
+use crate::settled::acknowledges_new;
 use crate::timer::{is_discard, is_pto};
 use crate::window::{last_owed, moved};
 use qa_base::{Event, Header, Leave, Micros, Space};
@@ -48,7 +49,7 @@ fn more_spent(spent: Option<u128>, size: u64, place: usize) -> Option<u128>
 }
 
 /// The bytes of probes since the last probe timeout; None without one.
-#[tactic(auto, using(crate::proofs::Steps::probe_spent_after))]
+#[tactic(auto, using(qa_base::proofs::machine::Steps::probe_spent_after))]
 pub fn probe_spent(events: &[Event]) -> Option<u128>
     ensures value { result ≡ leaves.probe_spent (history_of events.now) }
     ensures bound { ForSome result (λ n. n ≤ length events.now * 18446744073709551615) }
@@ -100,7 +101,7 @@ fn timer_space(event: &Event) -> Option<Space>
 }
 
 fn unanswered_by(before: &[Event], event: &Event, due: Option<Space>) -> Option<Space>
-    ensures { result ≡ words.unanswered_by (event.now ∷ history_of before.now) due }
+    ensures { result ≡ probes.unanswered_by (event.now ∷ history_of before.now) due }
 {
     match due {
         None => None,
@@ -115,9 +116,9 @@ fn unanswered_by(before: &[Event], event: &Event, due: Option<Space>) -> Option<
 }
 
 /// The space in which a probe is due.
-#[tactic(auto, using(crate::proofs::Steps::probe_due_after))]
+#[tactic(auto, using(qa_base::proofs::machine::Steps::probe_due_after))]
 pub fn probe_due(events: &[Event]) -> Option<Space>
-    ensures { result ≡ words.probe_due (history_of events.now) }
+    ensures { result ≡ probes.probe_due (history_of events.now) }
 {
     let mut due: Option<Space> = None;
     for (place, event) in events.iter().enumerate() {
@@ -131,7 +132,7 @@ pub fn probe_due(events: &[Event]) -> Option<Space>
 }
 
 /// Whether the probe of the last probe timeout is due.
-#[tactic(auto, using(crate::proofs::Steps::probe_due_is))]
+#[tactic(auto, using(qa_base::proofs::machine::Steps::probe_due_is))]
 pub fn is_probe_due(events: &[Event]) -> bool
     ensures { result ≡ leaves.is_probe_due (history_of events.now) }
 {
@@ -199,9 +200,7 @@ fn recovery_after(
     spent: Option<u64>,
 ) -> Option<u64>
     requires whole { history_of after.now ≡ event.now ∷ history_of before.now }
-    requires known { look.rtt ≡ estimates.rtt header.now (history_of after.now) }
-    requires detected { look.detection ≡ loss.detection (history_of after.now) }
-    requires largest { look.largest ≡ largest_there (history_of after.now) (loss.detection (history_of after.now)) }
+    requires seen { IsLook header.now (history_of after.now) look }
     requires window { reno ≡ steps.reno header.now (history_of before.now) }
     requires spent { spent ≡ leaves.recovery_spent header.now (history_of before.now) }
     requires room { length before.now < 2 ^ 32 }

@@ -6,10 +6,14 @@ ghost use Rattle.qa_base.specs.machine.Packets as packets;
 ghost use Rattle.qa_base.specs.values.Settings.{Settings};
 ghost use Rattle.qa_base.specs.machine.Packets.{history_of};
 ghost use Rattle.qa_base.specs.machine.Rtt as estimates;
-ghost use Rattle.qa_plain.specs.Looks.{largest_there as largest_there_of};
+ghost use Rattle.qa_plain.specs.Looks.{IsLook, largest_there as largest_there_of};
+ghost use Rattle.std.specs.List.{list_any};
 
 use crate::packet::{Packet, packet_of};
-use crate::plain::{acknowledges_new, is_covered, is_gone, is_lost, largest_acknowledged};
+use crate::settled::{acknowledges_new, is_covered, is_gone, is_lost, largest_acknowledged};
+use qa_base::constants::{
+    GRANULARITY, PACKET_THRESHOLD, TIME_THRESHOLD_DIVISOR, TIME_THRESHOLD_PARTS,
+};
 use qa_base::{Event, Header, Kind, Micros, Space};
 use qa_recovery::Rtt;
 use std::marker::Model;
@@ -36,7 +40,9 @@ fn is_old(rtt: Rtt, now: Micros, packet: Packet) -> bool
     ensures { result ≡ loss.is_old rtt now packet }
 {
     let age = now.get().saturating_sub(packet.time.get());
-    9 * rtt.latest_rtt.get().max(rtt.smoothed_rtt.get()) <= 8 * age && 1000 <= age
+    TIME_THRESHOLD_PARTS * rtt.latest_rtt.get().max(rtt.smoothed_rtt.get())
+        <= TIME_THRESHOLD_DIVISOR * age
+        && GRANULARITY <= age
 }
 
 fn is_late(rtt: Rtt, now: Micros, largest: Option<u64>, packet: Packet) -> bool
@@ -46,7 +52,7 @@ fn is_late(rtt: Rtt, now: Micros, largest: Option<u64>, packet: Packet) -> bool
         None => false,
         Some(largest) => {
             packet.number.get() < largest
-                && (3 <= largest - packet.number.get() || is_old(rtt, now, packet))
+                && (PACKET_THRESHOLD <= largest - packet.number.get() || is_old(rtt, now, packet))
         }
     }
 }
@@ -101,9 +107,7 @@ fn largest_there(events: &[Event]) -> Option<u64>
 /// What is known of the history, with its estimate.
 pub fn look_at(header: &Header, events: &[Event], rtt: Rtt) -> Look
     requires known { rtt ≡ estimates.rtt header.now (history_of events.now) }
-    ensures known { result.rtt ≡ estimates.rtt header.now (history_of events.now) }
-    ensures detected { result.detection ≡ loss.detection (history_of events.now) }
-    ensures largest { result.largest ≡ largest_there_of (history_of events.now) (loss.detection (history_of events.now)) }
+    ensures { IsLook header.now (history_of events.now) result }
 {
     Look {
         rtt,
@@ -163,9 +167,7 @@ fn is_found_at(
 
 /// Whether the last event found the packet lost.
 pub fn is_owed(header: &Header, events: &[Event], look: Look, packet: Packet) -> bool
-    requires known { look.rtt ≡ estimates.rtt header.now (history_of events.now) }
-    requires detected { look.detection ≡ loss.detection (history_of events.now) }
-    requires largest { look.largest ≡ largest_there_of (history_of events.now) (loss.detection (history_of events.now)) }
+    requires seen { IsLook header.now (history_of events.now) look }
     ensures { result ≡ loss.is_owed header.now (history_of events.now) packet }
 {
     is_found_at(
@@ -180,9 +182,7 @@ pub fn is_owed(header: &Header, events: &[Event], look: Look, packet: Packet) ->
 
 /// How many packets the last event found lost.
 pub fn owed_count(header: &Header, events: &[Event], look: Look) -> u64
-    requires known { look.rtt ≡ estimates.rtt header.now (history_of events.now) }
-    requires detected { look.detection ≡ loss.detection (history_of events.now) }
-    requires largest { look.largest ≡ largest_there_of (history_of events.now) (loss.detection (history_of events.now)) }
+    requires seen { IsLook header.now (history_of events.now) look }
     ensures { result ≡ length (loss.owed header.now (history_of events.now)) }
 {
     let mut count = 0;
@@ -198,9 +198,7 @@ pub fn owed_count(header: &Header, events: &[Event], look: Look) -> u64
 
 /// Whether the packet is neither acknowledged nor lost, and its space not discarded.
 pub fn is_open(header: &Header, events: &[Event], look: Look, packet: Packet) -> bool
-    requires known { look.rtt ≡ estimates.rtt header.now (history_of events.now) }
-    requires detected { look.detection ≡ loss.detection (history_of events.now) }
-    requires largest { look.largest ≡ largest_there_of (history_of events.now) (loss.detection (history_of events.now)) }
+    requires seen { IsLook header.now (history_of events.now) look }
     ensures { result ≡ loss.is_open header.now (history_of events.now) packet }
 {
     is_unsettled(events, packet)
@@ -209,9 +207,7 @@ pub fn is_open(header: &Header, events: &[Event], look: Look, packet: Packet) ->
 }
 
 fn flight_size(header: &Header, events: &[Event], look: Look, packet: Packet) -> u64
-    requires known { look.rtt ≡ estimates.rtt header.now (history_of events.now) }
-    requires detected { look.detection ≡ loss.detection (history_of events.now) }
-    requires largest { look.largest ≡ largest_there_of (history_of events.now) (loss.detection (history_of events.now)) }
+    requires seen { IsLook header.now (history_of events.now) look }
     ensures { result ≡ loss.flight_size header.now (history_of events.now) packet }
 {
     if packet.in_flight && is_open(header, events, look, packet) {
@@ -223,9 +219,7 @@ fn flight_size(header: &Header, events: &[Event], look: Look, packet: Packet) ->
 
 /// The bytes in flight.
 pub fn bytes_in_flight(header: &Header, events: &[Event], look: Look) -> u128
-    requires known { look.rtt ≡ estimates.rtt header.now (history_of events.now) }
-    requires detected { look.detection ≡ loss.detection (history_of events.now) }
-    requires largest { look.largest ≡ largest_there_of (history_of events.now) (loss.detection (history_of events.now)) }
+    requires seen { IsLook header.now (history_of events.now) look }
     ensures value { result ≡ loss.bytes_in_flight header.now (history_of events.now) }
     ensures bound { result ≤ length events.now * 18446744073709551615 }
 {
@@ -236,4 +230,36 @@ pub fn bytes_in_flight(header: &Header, events: &[Event], look: Look) -> u128
         }
     }
     bytes
+}
+
+/// Whether a loss is owed.
+pub fn owes(header: &Header, events: &[Event], look: Look) -> bool
+    requires seen { IsLook header.now (history_of events.now) look }
+    ensures { result ≡ packets.is_some_packet (loss.owed header.now (history_of events.now)) }
+{
+    let mut found = false;
+    for (place, event) in events.iter().enumerate() {
+        if let Some(packet) = packet_of(place, event) {
+            if is_owed(header, events, look, packet) {
+                found = true;
+            }
+        }
+    }
+    found
+}
+
+/// Whether a packet of the space is owed.
+pub fn owes_in(header: &Header, events: &[Event], look: Look, space: Space) -> bool
+    requires seen { IsLook header.now (history_of events.now) look }
+    ensures { result ≡ list_any (packets.is_of space) (loss.owed header.now (history_of events.now)) }
+{
+    let mut found = false;
+    for (place, event) in events.iter().enumerate() {
+        if let Some(packet) = packet_of(place, event) {
+            if is_owed(header, events, look, packet) && space == packet.space {
+                found = true;
+            }
+        }
+    }
+    found
 }

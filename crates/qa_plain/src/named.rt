@@ -8,7 +8,7 @@ ghost use Rattle.qa_base.specs.machine.Numbers as tests;
 ghost use Rattle.qa_base.specs.machine.Packets as packets;
 ghost use Rattle.qa_base.specs.machine.Packets.{history_of};
 ghost use Rattle.qa_base.specs.machine.Rtt as estimates;
-ghost use Rattle.qa_plain.specs.Looks.{largest_there};
+ghost use Rattle.qa_plain.specs.Looks.{IsLook};
 ghost use Rattle.qa_plain.specs.Choices.{chosen, is_chosen as is_chosen_by, numbers_chosen};
 
 use crate::event::is_named;
@@ -27,9 +27,7 @@ pub enum Choice {
 }
 
 fn is_chosen(header: &Header, events: &[Event], look: Look, choice: Choice, packet: Packet) -> bool
-    requires known { look.rtt ≡ estimates.rtt header.now (history_of events.now) }
-    requires detected { look.detection ≡ loss.detection (history_of events.now) }
-    requires largest { look.largest ≡ largest_there (history_of events.now) (loss.detection (history_of events.now)) }
+    requires seen { IsLook header.now (history_of events.now) look }
     ensures { result ≡ is_chosen_by header.now (history_of events.now) choice packet }
 {
     match choice {
@@ -39,9 +37,7 @@ fn is_chosen(header: &Header, events: &[Event], look: Look, choice: Choice, pack
 }
 
 fn is_in(header: &Header, events: &[Event], look: Look, choice: Choice, wanted: u64) -> bool
-    requires known { look.rtt ≡ estimates.rtt header.now (history_of events.now) }
-    requires detected { look.detection ≡ loss.detection (history_of events.now) }
-    requires largest { look.largest ≡ largest_there (history_of events.now) (loss.detection (history_of events.now)) }
+    requires seen { IsLook header.now (history_of events.now) look }
     ensures { result ≡ tests.is_in (numbers_chosen header.now (history_of events.now) choice (history_of events.now)) wanted }
 {
     let mut found = false;
@@ -63,9 +59,7 @@ fn has_next(
     range: Span,
     number: PacketNumber,
 ) -> bool
-    requires known { look.rtt ≡ estimates.rtt header.now (history_of events.now) }
-    requires detected { look.detection ≡ loss.detection (history_of events.now) }
-    requires largest { look.largest ≡ largest_there (history_of events.now) (loss.detection (history_of events.now)) }
+    requires seen { IsLook header.now (history_of events.now) look }
     ensures { result ≡ tests.has_next (numbers_chosen header.now (history_of events.now) choice (history_of events.now)) range.0 range.1 number }
 {
     !(range.lo() <= number && number < range.hi())
@@ -73,9 +67,7 @@ fn has_next(
 }
 
 fn has_no_gap(header: &Header, events: &[Event], look: Look, choice: Choice, range: Span) -> bool
-    requires known { look.rtt ≡ estimates.rtt header.now (history_of events.now) }
-    requires detected { look.detection ≡ loss.detection (history_of events.now) }
-    requires largest { look.largest ≡ largest_there (history_of events.now) (loss.detection (history_of events.now)) }
+    requires seen { IsLook header.now (history_of events.now) look }
     ensures { result ≡ list_all (tests.has_next (numbers_chosen header.now (history_of events.now) choice (history_of events.now)) range.0 range.1) (numbers_chosen header.now (history_of events.now) choice (history_of events.now)) }
 {
     let mut all = true;
@@ -92,9 +84,7 @@ fn has_no_gap(header: &Header, events: &[Event], look: Look, choice: Choice, ran
 }
 
 fn has_range(header: &Header, events: &[Event], look: Look, choice: Choice, range: Span) -> bool
-    requires known { look.rtt ≡ estimates.rtt header.now (history_of events.now) }
-    requires detected { look.detection ≡ loss.detection (history_of events.now) }
-    requires largest { look.largest ≡ largest_there (history_of events.now) (loss.detection (history_of events.now)) }
+    requires seen { IsLook header.now (history_of events.now) look }
     ensures { result ≡ tests.has_range (numbers_chosen header.now (history_of events.now) choice (history_of events.now)) range }
 {
     is_in(header, events, look, choice, range.lo().get())
@@ -108,9 +98,7 @@ fn has_ranges(
     choice: Choice,
     ranges: &[Span],
 ) -> bool
-    requires known { look.rtt ≡ estimates.rtt header.now (history_of events.now) }
-    requires detected { look.detection ≡ loss.detection (history_of events.now) }
-    requires largest { look.largest ≡ largest_there (history_of events.now) (loss.detection (history_of events.now)) }
+    requires seen { IsLook header.now (history_of events.now) look }
     ensures { result ≡ tests.has_all (numbers_chosen header.now (history_of events.now) choice (history_of events.now)) ranges.now }
 {
     let mut all = true;
@@ -131,18 +119,14 @@ pub fn has_all(
     choice: Choice,
     ranges: &[Span],
 ) -> bool
-    requires known { look.rtt ≡ estimates.rtt header.now (history_of events.now) }
-    requires detected { look.detection ≡ loss.detection (history_of events.now) }
-    requires largest { look.largest ≡ largest_there (history_of events.now) (loss.detection (history_of events.now)) }
+    requires seen { IsLook header.now (history_of events.now) look }
     ensures { result ≡ tests.has_all (breaches.numbers (chosen header.now (history_of events.now) choice)) ranges.now }
 {
     has_ranges(header, events, look, choice, ranges)
 }
 
 fn all_named(header: &Header, events: &[Event], look: Look, choice: Choice, ranges: &[Span]) -> bool
-    requires known { look.rtt ≡ estimates.rtt header.now (history_of events.now) }
-    requires detected { look.detection ≡ loss.detection (history_of events.now) }
-    requires largest { look.largest ≡ largest_there (history_of events.now) (loss.detection (history_of events.now)) }
+    requires seen { IsLook header.now (history_of events.now) look }
     ensures { result ≡ list_all (questions.is_named ranges.now) (numbers_chosen header.now (history_of events.now) choice (history_of events.now)) }
 {
     let mut all = true;
@@ -159,9 +143,7 @@ fn all_named(header: &Header, events: &[Event], look: Look, choice: Choice, rang
 /// Whether the ranges name exactly the packets that are owed.
 #[tactic(auto, using(crate::proofs::Chosen::numbers_are))]
 pub fn names_owed(header: &Header, events: &[Event], look: Look, ranges: &[Span]) -> bool
-    requires known { look.rtt ≡ estimates.rtt header.now (history_of events.now) }
-    requires detected { look.detection ≡ loss.detection (history_of events.now) }
-    requires largest { look.largest ≡ largest_there (history_of events.now) (loss.detection (history_of events.now)) }
+    requires seen { IsLook header.now (history_of events.now) look }
     ensures { result ≡ tests.names_exactly ranges.now (breaches.numbers (loss.owed header.now (history_of events.now))) }
 {
     has_all(header, events, look, Choice::Owed, ranges)
@@ -170,9 +152,7 @@ pub fn names_owed(header: &Header, events: &[Event], look: Look, ranges: &[Span]
 
 #[tactic(auto, using(crate::proofs::Chosen::numbers_are))]
 fn all_owed_named(header: &Header, events: &[Event], look: Look, ranges: &[Span]) -> bool
-    requires known { look.rtt ≡ estimates.rtt header.now (history_of events.now) }
-    requires detected { look.detection ≡ loss.detection (history_of events.now) }
-    requires largest { look.largest ≡ largest_there (history_of events.now) (loss.detection (history_of events.now)) }
+    requires seen { IsLook header.now (history_of events.now) look }
     ensures { result ≡ list_all (questions.is_named ranges.now) (breaches.numbers (loss.owed header.now (history_of events.now))) }
 {
     all_named(header, events, look, Choice::Owed, ranges)
@@ -187,10 +167,23 @@ pub fn were_sent(
     space: Space,
     ranges: &[Span],
 ) -> bool
-    requires known { look.rtt ≡ estimates.rtt header.now (history_of events.now) }
-    requires detected { look.detection ≡ loss.detection (history_of events.now) }
-    requires largest { look.largest ≡ largest_there (history_of events.now) (loss.detection (history_of events.now)) }
+    requires seen { IsLook header.now (history_of events.now) look }
     ensures { result ≡ tests.has_all (breaches.numbers (packets.packets_of (history_of events.now) space)) ranges.now }
 {
     has_all(header, events, look, Choice::Of(space), ranges)
+}
+
+/// Whether a packet of the space has this number or a higher one.
+pub fn has_at_or_above(events: &[Event], space: Space, lowest: u64) -> bool
+    ensures { result ≡ breaches.has_at_or_above space lowest (history_of events.now) }
+{
+    let mut found = false;
+    for (place, event) in events.iter().enumerate() {
+        if let Some(packet) = packet_of(place, event) {
+            if space == packet.space && lowest <= packet.number.get() {
+                found = true;
+            }
+        }
+    }
+    found
 }

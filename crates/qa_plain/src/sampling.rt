@@ -7,8 +7,9 @@ ghost use Rattle.qa_base.specs.machine.Packets.{history_of, newly_acknowledged};
 ghost use Rattle.qa_base.specs.machine.Rtt as estimates;
 
 use crate::event::greatest;
+use crate::handshake::is_confirmed;
 use crate::packet::{Packet, packet_of};
-use crate::plain::is_newly_acknowledged;
+use crate::settled::is_newly_acknowledged;
 use qa_base::{Event, Header, Micros};
 use qa_recovery::Rtt;
 use std::marker::Model;
@@ -37,28 +38,6 @@ pub fn micros(value: u64) -> Micros
     ensures { result ≡ value }
 {
     Micros::new(value).unwrap()
-}
-
-fn confirms(event: &Event) -> bool
-    ensures { result ≡ handshake.confirms event.now }
-{
-    match event {
-        Event::Confirmed { .. } => true,
-        _ => false,
-    }
-}
-
-/// Whether the handshake is confirmed.
-pub fn is_confirmed(events: &[Event]) -> bool
-    ensures { result ≡ handshake.is_confirmed (history_of events.now) }
-{
-    let mut found = false;
-    for event in events {
-        if confirms(event) {
-            found = true;
-        }
-    }
-    found
 }
 
 /// Whether the event newly acknowledges an ack-eliciting packet.

@@ -10,11 +10,9 @@ ghost use Rattle.qa_base.specs.machine.Rtt as estimates;
 ghost use Rattle.qa_base.specs.machine.Timer as timers;
 ghost use Rattle.qa_plain.specs.Words.{is_discard as is_discard_of};
 
-use crate::plain::acknowledges_new;
-use crate::sampling::is_confirmed;
-use qa_base::{Event, Header, Kind, Role, Space};
-
-// ---- the PTO count
+use crate::handshake::is_validated;
+use crate::settled::acknowledges_new;
+use qa_base::{Event, Header, Kind};
 
 pub fn is_pto(event: &Event) -> bool
     ensures { (h : List Event) → result ≡ timers.is_pto (event.now ∷ h) }
@@ -26,34 +24,6 @@ pub fn is_pto(event: &Event) -> bool
         } => true,
         _ => false,
     }
-}
-
-fn acknowledges_handshake(event: &Event) -> bool
-    ensures { result ≡ handshake.acknowledges_handshake event.now }
-{
-    match event {
-        Event::Ack { space, .. } => *space == Space::Handshake,
-        _ => false,
-    }
-}
-
-/// Whether the peer has validated the sender's address.
-pub fn is_validated(header: &Header, events: &[Event]) -> bool
-    ensures { result ≡ handshake.is_validated header.now (history_of events.now) }
-{
-    header.role() == Role::Server || some_handshake(events) || is_confirmed(events)
-}
-
-fn some_handshake(events: &[Event]) -> bool
-    ensures { result ≡ list_any handshake.acknowledges_handshake (history_of events.now) }
-{
-    let mut found = false;
-    for event in events {
-        if acknowledges_handshake(event) {
-            found = true;
-        }
-    }
-    found
 }
 
 pub fn is_discard(event: &Event) -> bool
@@ -74,7 +44,7 @@ pub fn resets_count(header: &Header, before: &[Event], event: &Event, after: &[E
 }
 
 /// The PTO count.
-#[tactic(auto, using(crate::proofs::Steps::backoff_after))]
+#[tactic(auto, using(qa_base::proofs::machine::Steps::backoff_after))]
 pub fn backoff(header: &Header, events: &[Event]) -> u64
     ensures value { result ≡ timers.backoff header.now (history_of events.now) }
     ensures bound { result ≤ length events.now }

@@ -1,19 +1,20 @@
-//! The congestion window, computed plainly.
+//! The congestion window.
 ghost use Rattle.std.specs.Prelude.{◌≡◌, ◌∷◌, [], ◌++◌, ◌≤◌, ◌<◌, ◌^◌, ◌*◌, ◌+◌, Some, unwrap_or, max, fold, length};
 ghost use Rattle.std.specs.List.{All};
 ghost use Rattle.qa_base.specs.machine.Loss as loss;
 ghost use Rattle.qa_base.specs.machine.Packets.{history_of, newly_acknowledged};
 ghost use Rattle.qa_base.specs.machine.Reno as steps;
 ghost use Rattle.qa_base.specs.machine.Rtt as estimates;
-ghost use Rattle.qa_plain.specs.Looks.{largest_there};
-ghost use Rattle.qa_plain.specs.Words.{Fits, last_sending, hits_at};
+ghost use Rattle.qa_plain.specs.Looks.{IsLook};
+ghost use Rattle.qa_base.specs.machine.Widths.{Fits};
+ghost use Rattle.qa_plain.specs.Words.{last_sending, hits_at};
 
 use crate::congestion::is_persistent;
 use crate::event::time_of;
 use crate::losses::{Look, is_owed, look_at};
 use crate::packet::packet_of;
-use crate::plain::is_newly_acknowledged;
 use crate::sampling::{sample_of, start, updated};
+use crate::settled::is_newly_acknowledged;
 use qa_base::{Event, Header, Micros};
 use qa_recovery::{Reno, Rtt};
 
@@ -28,9 +29,7 @@ fn later(last: Option<Micros>, time: Micros) -> Micros
 
 /// When the last of the packets was sent that the last event found lost.
 pub fn last_owed(header: &Header, events: &[Event], look: Look) -> Option<Micros>
-    requires known { look.rtt ≡ estimates.rtt header.now (history_of events.now) }
-    requires detected { look.detection ≡ loss.detection (history_of events.now) }
-    requires largest { look.largest ≡ largest_there (history_of events.now) (loss.detection (history_of events.now)) }
+    requires seen { IsLook header.now (history_of events.now) look }
     ensures { result ≡ last_sending (loss.owed header.now (history_of events.now)) }
 {
     let mut last = None;
@@ -72,7 +71,7 @@ fn collapsed(header: &Header, reno: Reno, persistent: bool) -> Reno
     more
 }
 
-#[tactic(auto, using(crate::proofs::WindowBound::grown_little))]
+#[tactic(auto, using(qa_base::proofs::machine::WindowBound::grown_little))]
 fn grow_by(header: &Header, reno: Reno, size: u64, sent: Micros) -> Reno
     requires low { 2 * header.now.max_datagram_size ≤ reno.window }
     requires high { reno.window ≤ 2 ^ 62 }
@@ -125,9 +124,7 @@ pub fn moved(
     reno: Reno,
 ) -> Reno
     requires whole { history_of after.now ≡ event.now ∷ history_of before.now }
-    requires known { look.rtt ≡ estimates.rtt header.now (history_of after.now) }
-    requires detected { look.detection ≡ loss.detection (history_of after.now) }
-    requires largest { look.largest ≡ largest_there (history_of after.now) (loss.detection (history_of after.now)) }
+    requires seen { IsLook header.now (history_of after.now) look }
     requires low { 2 * header.now.max_datagram_size ≤ reno.window }
     requires high { reno.window ≤ 2 ^ 60 }
     requires few { length before.now < 2 ^ 32 }

@@ -1,6 +1,6 @@
 use Rattle.std.proofs.Common.{ap, arith}
 use Rattle.qa_base.specs.machine.Reno.{Control}
-use Rattle.qa_plain.proofs.WindowBound.{window_at}
+use Rattle.qa_base.proofs.machine.WindowBound.{window_at}
 use Rattle.qa_plain.proofs.leave.recovery_spent.Goals as goal
 
 pub moved-reno-requires-clause-low : goal.moved-reno-requires-clause-low
