@@ -4,3 +4,6 @@ pub mod Quiet
 pub mod SendsAndReports
 pub mod RunLaws
 pub mod Ranges
+pub mod Steps
+pub mod PtoCount
+pub mod WindowBound

@@ -15,3 +15,5 @@ pub mod Rules
 pub mod Plain
 pub mod Order
 pub mod Kept
+pub mod Widths
+pub mod Probes

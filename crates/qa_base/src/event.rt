@@ -1,10 +1,11 @@
 //! What a sender did, one event a line.
-ghost use Rattle.std.specs.Prelude.{◌≡◌};
+ghost use Rattle.std.specs.Prelude.{◌≡◌, IfOk};
 ghost use Rattle.qa_base.specs.values.Events.{fits as fits_of};
 
 use crate::limits::MAX_PACKET_SIZE;
 use crate::number::{Micros, PacketNumber, Spans};
 use crate::space::{Kind, Leave, Space};
+use std::alloc::{AllocError, Global};
 
 /// What a sender reports of its own state, each value where it reports it.
 ///
@@ -95,5 +96,68 @@ impl Event {
             | Event::Keys { .. }
             | Event::Metrics { .. } => true,
         }
+    }
+
+    /// An equal event, in memory of its own. `AllocError` comes only of an event with ranges, where
+    /// it is out of memory.
+    pub fn duplicate(&self, alloc: Global) -> Result<Event, AllocError>
+        ensures { IfOk result (λ copy. copy ≡ self.now) }
+    {
+        Ok(match self {
+            Event::Sent {
+                time,
+                space,
+                number,
+                size,
+                eliciting,
+                in_flight,
+                leave,
+            } => Event::Sent {
+                time: *time,
+                space: *space,
+                number: *number,
+                size: *size,
+                eliciting: *eliciting,
+                in_flight: *in_flight,
+                leave: *leave,
+            },
+            Event::Ack {
+                time,
+                space,
+                ranges,
+                delay,
+                limited,
+            } => Event::Ack {
+                time: *time,
+                space: *space,
+                ranges: ranges.duplicate(alloc)?,
+                delay: *delay,
+                limited: *limited,
+            },
+            Event::Lost {
+                time,
+                space,
+                ranges,
+            } => Event::Lost {
+                time: *time,
+                space: *space,
+                ranges: ranges.duplicate(alloc)?,
+            },
+            Event::Timer { time, kind, space } => Event::Timer {
+                time: *time,
+                kind: *kind,
+                space: *space,
+            },
+            Event::Discard { time, space } => Event::Discard {
+                time: *time,
+                space: *space,
+            },
+            Event::Confirmed { time } => Event::Confirmed { time: *time },
+            Event::Keys { time } => Event::Keys { time: *time },
+            Event::Metrics { time, values } => Event::Metrics {
+                time: *time,
+                values: *values,
+            },
+        })
     }
 }

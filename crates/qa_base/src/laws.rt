@@ -1,5 +1,5 @@
 //! Facts over the definitions alone. Each is the contract of a function that does nothing.
-ghost use Rattle.std.specs.Prelude.{◌≡◌, ◌≤◌, ◌++◌, ◌∷◌, ◌+◌, ◌-◌, ◌&&◌, ◌↔◌, [], List, ℕ, Bool, true, false, not, Ok, if◌then◌else◌};
+ghost use Rattle.std.specs.Prelude.{◌≡◌, ◌≤◌, ◌++◌, ◌∷◌, ◌+◌, ◌-◌, ◌*◌, ◌&&◌, ◌↔◌, [], List, length, ℕ, Bool, true, false, not, Ok, if◌then◌else◌};
 ghost use Rattle.qa_base.specs.declared.event.Event.{Event};
 ghost use Rattle.qa_base.specs.declared.event.Event.TheVariants as events;
 ghost use Rattle.qa_base.specs.declared.line.Line.{Line};
@@ -16,14 +16,18 @@ ghost use Rattle.qa_base.specs.machine.Order.{NumbersFall};
 ghost use Rattle.qa_base.specs.machine.Packets.{Packet, packets, is_gone, newly_acknowledged};
 ghost use Rattle.qa_base.specs.values.Proper.{IsProperLine};
 ghost use Rattle.qa_base.specs.format.Reading.{reading};
-ghost use Rattle.qa_base.specs.machine.Reno.{moves};
+ghost use Rattle.qa_base.specs.machine.Reno.{moves, reno};
 ghost use Rattle.qa_base.specs.machine.Rtt.{Estimate, rtt};
 ghost use Rattle.qa_base.specs.machine.Rules.{IsRun};
 ghost use Rattle.qa_base.specs.format.Sends.{reading as sends};
-ghost use Rattle.qa_base.specs.values.Settings.{Settings};
+ghost use Rattle.qa_base.specs.values.Constants.{minimum_window};
+ghost use Rattle.qa_base.specs.values.Limits.{max_packet_size};
+ghost use Rattle.qa_base.specs.values.Settings.{Settings, AreInRange};
 ghost use Rattle.qa_base.specs.machine.Timer.{backoff, loss_delay};
 ghost use Rattle.qa_base.specs.verdicts.Verdict.{Reading, IsFixed, IsTraceOfRun, verdict};
 ghost use Rattle.qa_base.specs.format.Written.{written};
+ghost use Rattle.qa_base.specs.machine.Widths.{Fits, IsTimely, covered_count};
+ghost use Rattle.std.specs.List.{AllByRecursion};
 
 /// No byte that follows changes a verdict that is fixed, whatever the reading of lines.
 pub fn fixed_stays()
@@ -94,4 +98,22 @@ pub fn ranges_name()
 /// rounded up, has passed since it was sent.
 pub fn old_is_after_loss_delay()
     ensures { (r : Estimate) (now : ℕ) (p : Packet) → (is_old r now p ≡ true) ↔ (loss_delay r ≤ now - p.time) }
+{}
+
+/// In a run whose times are in their range the PTO count is at most 40: a timeout is not before its
+/// deadline, which lies as many doublings of the granularity behind.
+pub fn pto_count_is_small()
+    ensures { (c : Settings) (h : List Event) → IsRun c h → AllByRecursion IsTimely h → backoff c h ≤ 40 }
+{}
+
+/// The window is at least two datagrams, and at most the initial window and the greatest size of a
+/// packet for each that was acknowledged.
+pub fn window_is_bounded()
+    ensures low { (c : Settings) (h : List Event) → AreInRange c → AllByRecursion Fits h → minimum_window c.max_datagram_size ≤ (reno c h).window }
+    ensures high { (c : Settings) (h : List Event) → AreInRange c → AllByRecursion Fits h → (reno c h).window ≤ c.initial_window + max_packet_size * covered_count h }
+{}
+
+/// The bytes in flight are at most the greatest size of a packet for each event.
+pub fn bytes_in_flight_are_bounded()
+    ensures { (c : Settings) (h : List Event) → AllByRecursion Fits h → bytes_in_flight c h ≤ max_packet_size * length h }
 {}

@@ -5,6 +5,7 @@
 #![tactic(auto)]
 
 pub mod constants;
+mod due;
 mod event;
 mod fault;
 mod header;
@@ -18,6 +19,7 @@ mod space;
 mod tests;
 mod verdict;
 
+pub use due::Due;
 pub use event::{Event, MetricValues};
 pub use fault::{Fault, Key, RangeFault};
 pub use header::Header;

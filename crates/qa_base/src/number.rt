@@ -1,5 +1,5 @@
 //! Numbers in their ranges, and ranges of packet numbers.
-ghost use Rattle.std.specs.Prelude.{◌≡◌, ◌≤◌, [], ◌∷◌, ◌++◌, OnOk, OnErr, nat_le, Some, None, if◌then◌else◌};
+ghost use Rattle.std.specs.Prelude.{◌≡◌, ◌≤◌, [], ◌∷◌, ◌++◌, IfOk, OnOk, OnErr, nat_le, Some, None, if◌then◌else◌};
 ghost use Rattle.qa_base.specs.values.Limits.{max_time, max_packet_number, in_range};
 
 use std::alloc::{AllocError, Global};
@@ -196,6 +196,17 @@ impl Spans {
     {
         self.items.push(span)?;
         Ok(())
+    }
+
+    /// An equal list, in memory of its own. `AllocError` comes where it is out of memory.
+    pub fn duplicate(&self, alloc: Global) -> Result<Spans, AllocError>
+        ensures { IfOk result (λ copy. copy ≡ self.now) }
+    {
+        let mut copy = Spans::new(alloc);
+        for span in self.as_slice() {
+            copy.push(*span)?;
+        }
+        Ok(copy)
     }
 
     /// The spans in their order.

@@ -1,0 +1,26 @@
+-- One more event that breaks no rule.
+use Rattle.std.proofs.Common.{◌≡◌, List, [], ◌∷◌, ◌++◌, ◌<◌, arith, None, sym, subst, ap, length, ◌∙◌}
+use Rattle.std.proofs.lemmas.List.{length-append}
+use Rattle.std.proofs.lemmas.List.Elements.{All-from_recursion, recursion_from_All}
+use Rattle.std.specs.List.{All, AllByRecursion}
+use Rattle.qa_base.specs.declared.event.Event.{Event}
+use Rattle.qa_base.specs.machine.Packets.{history_of}
+use Rattle.qa_base.specs.machine.Rules.{IsRun, first_broken}
+use Rattle.qa_base.specs.values.Settings.{Settings}
+use Rattle.qa_base.proofs.machine.Histories.{history_of-snoc, length-history_of}
+use Rattle.qa_ledger.specs.Holding.{IsSound}
+use Rattle.qa_base.specs.machine.Widths.{Fits, IsTimely}
+
+each_append : {X : Type 0} (P : X → Type 0) (xs ys : List X) → AllByRecursion P xs → AllByRecursion P ys → AllByRecursion P (xs ++ ys)
+each_append P [] ys a b = b
+each_append P (x ∷ xs) ys a b = (a.0, each_append P xs ys a.1 b)
+
+pub sound_more : (c : Settings) (events : List Event) (e : Event) → IsSound c events → first_broken c (history_of events) e ≡ None → IsTimely e → Fits e → length events < 4294967295 → IsSound c (events ++ e ∷ [])
+sound_more c events e sound allowed timely fit few =
+    let longer : e ∷ history_of events ≡ history_of (events ++ e ∷ []) = sym (history_of-snoc events e) in
+    record {
+      run = subst (λ (h : List Event). IsRun c h) longer (sound.run, allowed);
+      timely = subst (λ (h : List Event). AllByRecursion IsTimely h) longer (timely, sound.timely);
+      fit = All-from_recursion Fits (events ++ e ∷ []) (each_append Fits events (e ∷ []) (recursion_from_All Fits events sound.fit) (fit, tt));
+      few = omega (arith, few, length-append events (e ∷ []));
+    }

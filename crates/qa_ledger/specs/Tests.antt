@@ -1,0 +1,45 @@
+-- The tests of the rules from one of them on, and the totals by their parts.
+use Rattle.std.specs.Prelude.{ℕ, Bool, List, ◌∷◌}
+use Rattle.qa_base.specs.declared.event.Event.{Event}
+use Rattle.qa_base.specs.declared.rule.Rule.{Rule}
+use Rattle.qa_base.specs.declared.rule.Rule.TheVariants as rule
+use Rattle.qa_base.specs.declared.verdict.Totals.{Totals}
+use Rattle.qa_base.specs.machine.Breaches.{is_past_window, is_past_probe, is_past_recovery, is_ack_unsent, is_timer_not_set, is_timer_other, is_timer_early, is_probe_owed, is_not_confirmed}
+use Rattle.qa_base.specs.machine.Metrics.{metric_tests}
+use Rattle.qa_base.specs.machine.Reno.{Control}
+use Rattle.qa_base.specs.machine.Rtt.{Estimate}
+use Rattle.qa_base.specs.values.Settings.{Settings}
+
+-- from V11 on
+abbrev pub timer_tests : Settings → List Event → Event → List (Bool × Rule)
+timer_tests c h e =
+    (is_timer_not_set c h e, rule.TimerNotSet)
+    ∷ (is_timer_other c h e, rule.TimerOther)
+    ∷ (is_timer_early c h e, rule.TimerEarly)
+    ∷ (is_probe_owed h e, rule.ProbeOwed)
+    ∷ (is_not_confirmed h e, rule.NotConfirmed)
+    ∷ metric_tests c h e
+
+-- from V7 on
+abbrev pub leave_tests : Settings → List Event → Event → List (Bool × Rule)
+leave_tests c h e =
+    (is_past_window c h e, rule.PastWindow)
+    ∷ (is_past_probe c h e, rule.PastProbe)
+    ∷ (is_past_recovery c h e, rule.PastRecovery)
+    ∷ (is_ack_unsent h e, rule.AckUnsent)
+    ∷ timer_tests c h e
+
+-- the totals of so many events with this window, estimate, bytes in flight, PTO count and number of packets owed
+abbrev pub totals_of : ℕ → Control → Estimate → ℕ → ℕ → ℕ → Totals
+totals_of events control estimate bytes count owed = record {
+  events = events;
+  window = control.window;
+  ssthresh = control.ssthresh;
+  bytes_in_flight = bytes;
+  latest_rtt = estimate.latest_rtt;
+  min_rtt = estimate.min_rtt;
+  smoothed_rtt = estimate.smoothed_rtt;
+  rttvar = estimate.rttvar;
+  pto_count = count;
+  owed = owed;
+}

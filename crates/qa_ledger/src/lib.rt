@@ -1,0 +1,11 @@
+//! Ledgers: what holds the state of the machine of RFC 9002 while events come one after another.
+#![tactic(auto)]
+
+mod ledger;
+mod metrics;
+mod rules;
+mod whole;
+
+pub use ledger::{Ledger, LedgerFault};
+pub use qa_plain as plain;
+pub use whole::Whole;

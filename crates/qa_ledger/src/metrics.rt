@@ -1,0 +1,109 @@
+//! The totals of a history, and what a sender reports compared with them.
+ghost use Rattle.std.specs.Prelude.{◌≡◌, ◌<◌, ◌^◌, length};
+ghost use Rattle.std.specs.List.{All};
+ghost use Rattle.qa_base.specs.machine.Loss as loss;
+ghost use Rattle.qa_base.specs.machine.Metrics as metrics;
+ghost use Rattle.qa_base.specs.machine.Packets.{history_of};
+ghost use Rattle.qa_base.specs.machine.Rules as rules;
+ghost use Rattle.qa_base.specs.machine.State as state;
+ghost use Rattle.qa_base.specs.machine.Widths.{Fits};
+ghost use Rattle.qa_ledger.specs.Tests.{totals_of};
+
+use qa_base::{Event, Field, Header, MetricValues, Rule, Totals};
+use qa_plain::{backoff, bytes_in_flight, owed_count, reno, rtt};
+use qa_recovery::{Reno, Rtt};
+
+/// Whether a value is reported that is not the machine's, which may have none.
+fn differs(reported: Option<u64>, held: Option<u64>) -> bool
+    ensures { result ≡ metrics.differs reported held }
+{
+    match (reported, held) {
+        (None, _) => false,
+        (Some(_), None) => true,
+        (Some(reported), Some(held)) => reported != held,
+    }
+}
+
+/// The first of the reported values that differs from the machine's, as a rule that is broken.
+fn metric_rule(values: &MetricValues, held: &Totals) -> Option<Rule>
+    ensures { result ≡ rules.first_of (metrics.tests values.now held.now) }
+{
+    if differs(values.window, Some(held.window)) {
+        return Some(Rule::Metric(Field::Window));
+    }
+    if differs(values.ssthresh, held.ssthresh) {
+        return Some(Rule::Metric(Field::Ssthresh));
+    }
+    if differs(values.bytes_in_flight, Some(held.bytes_in_flight)) {
+        return Some(Rule::Metric(Field::BytesInFlight));
+    }
+    if differs(values.latest_rtt, Some(held.latest_rtt)) {
+        return Some(Rule::Metric(Field::LatestRtt));
+    }
+    if differs(values.min_rtt, Some(held.min_rtt)) {
+        return Some(Rule::Metric(Field::MinRtt));
+    }
+    if differs(values.smoothed_rtt, Some(held.smoothed_rtt)) {
+        return Some(Rule::Metric(Field::SmoothedRtt));
+    }
+    if differs(values.rttvar, Some(held.rttvar)) {
+        return Some(Rule::Metric(Field::Rttvar));
+    }
+    None
+}
+
+/// The totals by their parts.
+fn totals_by(events: u64, reno: Reno, rtt: Rtt, bytes: u64, count: u64, owed: u64) -> Totals
+    ensures { result ≡ totals_of events reno rtt bytes count owed }
+{
+    Totals {
+        events,
+        window: reno.window,
+        ssthresh: reno.ssthresh,
+        bytes_in_flight: bytes,
+        latest_rtt: rtt.latest_rtt.get(),
+        min_rtt: rtt.min_rtt.get(),
+        smoothed_rtt: rtt.smoothed_rtt.get(),
+        rttvar: rtt.rttvar.get(),
+        pto_count: count,
+        owed,
+    }
+}
+
+/// The bytes in flight, which 64 bits hold.
+#[tactic(auto, using(qa_base::proofs::machine::WindowBound::bytes_bound))]
+fn bytes_within(header: &Header, events: &[Event]) -> u64
+    requires few { length events.now < 2 ^ 32 }
+    requires fit { All Fits events.now }
+    ensures { result ≡ loss.bytes_in_flight header.now (history_of events.now) }
+{
+    bytes_in_flight(header, events) as u64
+}
+
+/// The state of the machine after these events.
+pub fn totals(header: &Header, events: &[Event]) -> Totals
+    requires few { length events.now < 2 ^ 32 }
+    requires fit { All Fits events.now }
+    ensures { result ≡ state.totals header.now (history_of events.now) }
+{
+    totals_by(
+        events.len() as u64,
+        reno(header, events),
+        rtt(header, events),
+        bytes_within(header, events),
+        backoff(header, events),
+        owed_count(header, events),
+    )
+}
+
+/// V16: the first reported value that is not the machine's.
+pub fn metrics_rule(header: &Header, events: &[Event], event: &Event) -> Option<Rule>
+    requires few { length events.now < 2 ^ 32 }
+    requires fit { All Fits events.now }
+    ensures { result ≡ rules.first_of (metrics.metric_tests header.now (history_of events.now) event.now) }
+{
+    match event {
+        Event::Metrics { values, .. } => metric_rule(values, &totals(header, events)),
+        _ => None,
+    }
+}

@@ -1,0 +1,7 @@
+pub mod Owed
+pub mod Moved
+pub mod Entries
+pub mod Answered
+pub mod Powers
+pub mod Chosen
+pub mod Followed

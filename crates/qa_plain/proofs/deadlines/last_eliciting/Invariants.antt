@@ -1,0 +1,11 @@
+use Rattle.std.proofs.Common.{◌≡◌, ◌≤◌, ◌<◌, ◌+◌, ◌*◌, ◌^◌, take, length, filter, find, sum_by, fold}
+use Rattle.std.specs.List.{list_any, list_all}
+use Rattle.qa_base.specs.machine.Packets.{Packet, history_of, packets}
+use Rattle.qa_base.specs.machine.Timer.{last_eliciting}
+use Rattle.qa_plain.proofs.deadlines.last_eliciting.Given as goal
+
+abbrev pub invariant-loop-place : goal.invariant-loop-place
+invariant-loop-place l = record {
+  last : l.last ≡ last_eliciting (history_of (take l.place l.events)) l.space;
+  long : length (history_of (take l.place l.events)) ≡ l.place;
+}

@@ -1,0 +1,13 @@
+use Rattle.std.proofs.Common.{◌≡◌, ◌≤◌, ◌<◌, ◌+◌, ◌*◌, ◌^◌, take, length, filter, find, sum_by, fold}
+use Rattle.std.specs.List.{list_any, list_all}
+use Rattle.qa_base.specs.machine.Packets.{Packet, history_of, packets}
+use Rattle.std.specs.Option.{ForSome}
+use Rattle.qa_base.specs.machine.Leave.{probe_spent}
+use Rattle.qa_plain.proofs.leave.probe_spent.Given as goal
+
+abbrev pub invariant-loop-place : goal.invariant-loop-place
+invariant-loop-place l = record {
+  value : l.spent ≡ probe_spent (history_of (take l.place l.events));
+  few : ForSome l.spent (λ n. n ≤ l.place * 18446744073709551615);
+  long : length (history_of (take l.place l.events)) ≡ l.place;
+}

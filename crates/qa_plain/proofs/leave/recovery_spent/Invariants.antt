@@ -1,0 +1,17 @@
+use Rattle.std.proofs.Common.{◌≡◌, ◌≤◌, ◌<◌, ◌+◌, ◌*◌, ◌^◌, take, length, filter, find, sum_by, fold}
+use Rattle.std.specs.List.{list_any, list_all}
+use Rattle.qa_base.specs.machine.Packets.{Packet, history_of, packets}
+use Rattle.std.specs.Option.{ForSome}
+use Rattle.qa_base.specs.machine.Leave.{recovery_spent}
+use Rattle.qa_base.specs.machine.Rtt.{rtt}
+use Rattle.qa_base.specs.machine.Reno.{reno}
+use Rattle.qa_plain.proofs.leave.recovery_spent.Given as goal
+
+abbrev pub invariant-loop-place : goal.invariant-loop-place
+invariant-loop-place l = record {
+  rtt : l.rtt ≡ rtt l.header (history_of (take l.place l.events));
+  reno : l.reno ≡ reno l.header (history_of (take l.place l.events));
+  value : l.spent ≡ recovery_spent l.header (history_of (take l.place l.events));
+  few : ForSome l.spent (λ n. n ≤ l.place);
+  long : length (history_of (take l.place l.events)) ≡ l.place;
+}

@@ -1,0 +1,8 @@
+use Rattle.std.proofs.Common.{◌∙◌, sym, rules, arith}
+use Rattle.qa_plain.proofs.sampling.sample_of.Goals as goal
+
+pub returns-else-not-acknowledges_eliciting : goal.returns-else-not-acknowledges_eliciting
+returns-else-not-acknowledges_eliciting c =
+    let some = rw c.in-Ack.is at c.acknowledges_eliciting.ensures in
+    let packet = rw c.in-Ack.is at c.newly_numbered-packet.ensures in
+    rw (c.in-Ack.is) (grind (arith, some, packet))

@@ -1,0 +1,12 @@
+use Rattle.std.proofs.Common.{◌≡◌, ◌≤◌, ◌<◌, ◌+◌, ◌*◌, ◌^◌, take, length, filter, find, sum_by, fold}
+use Rattle.std.specs.List.{list_any, list_all}
+use Rattle.qa_base.specs.machine.Packets.{Packet, history_of, packets}
+use Rattle.qa_base.specs.machine.Timer.{backoff}
+use Rattle.qa_plain.proofs.timer.backoff.Given as goal
+
+abbrev pub invariant-loop-place : goal.invariant-loop-place
+invariant-loop-place l = record {
+  value : l.count ≡ backoff l.header (history_of (take l.place l.events));
+  bound : l.count ≤ l.place;
+  long : length (history_of (take l.place l.events)) ≡ l.place;
+}

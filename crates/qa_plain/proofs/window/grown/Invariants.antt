@@ -1,0 +1,14 @@
+use Rattle.std.proofs.Common.{◌≡◌, ◌≤◌, ◌<◌, ◌+◌, ◌*◌, ◌^◌, take, length, filter, find, sum_by, fold}
+use Rattle.std.specs.List.{list_any, list_all}
+use Rattle.qa_base.specs.machine.Packets.{Packet, history_of, packets}
+use Rattle.qa_base.specs.machine.Packets.{is_newly_acknowledged}
+use Rattle.qa_base.specs.machine.Reno.{moved, grows}
+use Rattle.qa_plain.proofs.window.grown.Given as goal
+
+abbrev pub invariant-loop-place : goal.invariant-loop-place
+invariant-loop-place l = record {
+  value : l.reno ≡ fold (moved l.header.max_datagram_size) l.fn.reno (grows (filter (is_newly_acknowledged l.event (history_of l.before)) (packets (history_of (take l.place l.before)))));
+  low : 2 * l.header.max_datagram_size ≤ l.reno.window;
+  high : l.reno.window ≤ 2 ^ 60 + l.place * 65527;
+  long : length (history_of (take l.place l.before)) ≡ l.place;
+}

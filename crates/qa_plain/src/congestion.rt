@@ -1,0 +1,93 @@
+//! Persistent congestion, computed plainly.
+ghost use Rattle.std.specs.Prelude.{◌≡◌};
+ghost use Rattle.std.specs.List.{list_any};
+ghost use Rattle.qa_base.specs.machine.Loss as loss;
+ghost use Rattle.qa_base.specs.machine.Packets.{history_of};
+ghost use Rattle.qa_base.specs.machine.Rtt as estimates;
+ghost use Rattle.qa_plain.specs.Looks.{IsLook};
+
+use crate::losses::{Look, is_owed};
+use crate::packet::{Packet, packet_of};
+use crate::sampling::micros;
+use crate::settled::is_covered;
+use qa_base::{Event, Header, Micros};
+use qa_recovery::Rtt;
+
+fn is_after(first: Option<Micros>, packet: Packet) -> bool
+    ensures { result ≡ loss.is_after first packet }
+{
+    match first {
+        None => false,
+        Some(time) => time < packet.time,
+    }
+}
+
+fn is_end(header: &Header, events: &[Event], look: Look, packet: Packet) -> bool
+    requires seen { IsLook header.now (history_of events.now) look }
+    ensures { result ≡ loss.is_end header.now (history_of events.now) packet }
+{
+    packet.eliciting && is_after(look.rtt.first_rtt_sample, packet)
+}
+
+/// Whether a packet that was sent between the two is acknowledged.
+pub fn is_acknowledged_between(events: &[Event], first: Packet, second: Packet) -> bool
+    ensures { result ≡ loss.is_acknowledged_between (history_of events.now) first second }
+{
+    let mut found = false;
+    for (place, event) in events.iter().enumerate() {
+        if let Some(packet) = packet_of(place, event) {
+            if first.place < packet.place
+                && packet.place < second.place
+                && is_covered(events, packet)
+            {
+                found = true;
+            }
+        }
+    }
+    found
+}
+
+fn are_ends(header: &Header, events: &[Event], look: Look, first: Packet, second: Packet) -> bool
+    requires seen { IsLook header.now (history_of events.now) look }
+    ensures { result ≡ loss.are_ends header.now (history_of events.now) first second }
+{
+    is_end(header, events, look, first)
+        && is_end(header, events, look, second)
+        && look.rtt.persistent_after(micros(header.max_ack_delay()))
+            < second.time.get().saturating_sub(first.time.get())
+        && !is_acknowledged_between(events, first, second)
+}
+
+/// Whether the packet and one that is owed establish persistent congestion.
+fn has_end(header: &Header, events: &[Event], look: Look, first: Packet) -> bool
+    requires seen { IsLook header.now (history_of events.now) look }
+    ensures { result ≡ list_any (loss.are_ends header.now (history_of events.now) first) (loss.owed header.now (history_of events.now)) }
+{
+    let mut found = false;
+    for (place, event) in events.iter().enumerate() {
+        if let Some(packet) = packet_of(place, event) {
+            if is_owed(header, events, look, packet)
+                && are_ends(header, events, look, first, packet)
+            {
+                found = true;
+            }
+        }
+    }
+    found
+}
+
+/// Whether the last event establishes persistent congestion.
+pub fn is_persistent(header: &Header, events: &[Event], look: Look) -> bool
+    requires seen { IsLook header.now (history_of events.now) look }
+    ensures { result ≡ loss.is_persistent header.now (history_of events.now) }
+{
+    let mut found = false;
+    for (place, event) in events.iter().enumerate() {
+        if let Some(packet) = packet_of(place, event) {
+            if is_owed(header, events, look, packet) && has_end(header, events, look, packet) {
+                found = true;
+            }
+        }
+    }
+    found
+}

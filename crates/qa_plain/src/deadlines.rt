@@ -1,0 +1,291 @@
+//! The deadline of the loss detection timer, computed plainly.
+ghost use Rattle.std.specs.Prelude.{List, ◌≡◌, ◌∷◌, ◌≤◌, ◌<◌, ◌^◌, ◌*◌, ◌+◌, Some, None, Option, length, option_map, find, filter, map, min, unwrap_or, if◌then◌else◌};
+ghost use Rattle.std.specs.List.{list_any};
+ghost use Rattle.std.specs.Option.{ForSome, option_or};
+ghost use Rattle.qa_base.specs.declared.event.Event.{Event};
+ghost use Rattle.qa_base.specs.machine.Handshake as handshake;
+ghost use Rattle.qa_base.specs.machine.Loss as loss;
+ghost use Rattle.qa_base.specs.machine.Packets.{history_of, packets_of};
+ghost use Rattle.qa_base.specs.machine.Rtt as estimates;
+ghost use Rattle.qa_plain.specs.Looks.{IsLook};
+ghost use Rattle.qa_base.specs.machine.Timer as timers;
+ghost use Rattle.qa_base.specs.declared.space.Space.TheVariants as spaces;
+
+use crate::event::time_of;
+use crate::handshake::{has_keys, is_confirmed, is_validated};
+use crate::losses::{Look, is_open};
+use crate::packet::{Packet, packet_of};
+use crate::settled::{acknowledges_new, largest_acknowledged};
+use qa_base::{Due, Event, Header, Kind, Micros, Space};
+use qa_recovery::Rtt;
+
+fn earlier(due: Option<Due>, later: Option<Due>) -> Option<Due>
+    ensures { result ≡ timers.earlier due later }
+{
+    match (due, later) {
+        (None, later) => later,
+        (Some(due), None) => Some(due),
+        (Some(due), Some(later)) => {
+            if due.time <= later.time {
+                Some(due)
+            } else {
+                Some(later)
+            }
+        }
+    }
+}
+
+fn sooner(least: Option<Micros>, time: Micros) -> Micros
+    ensures { result ≡ min time (unwrap_or least time) }
+{
+    match least {
+        None => time,
+        Some(least) => time.min(least),
+    }
+}
+
+fn is_below_largest(number: u64, largest: Option<u64>) -> bool
+    ensures { result ≡ timers.is_below_largest number largest }
+{
+    match largest {
+        None => false,
+        Some(largest) => number < largest,
+    }
+}
+
+fn awaits_loss(header: &Header, events: &[Event], look: Look, packet: Packet) -> bool
+    requires seen { IsLook header.now (history_of events.now) look }
+    ensures { result ≡ timers.awaits_loss header.now (history_of events.now) packet }
+{
+    packet.in_flight
+        && is_open(header, events, look, packet)
+        && is_below_largest(
+            packet.number.get(),
+            largest_acknowledged(events, packet.space),
+        )
+}
+
+fn first_awaiting(header: &Header, events: &[Event], look: Look, space: Space) -> Option<Micros>
+    requires seen { IsLook header.now (history_of events.now) look }
+    ensures { result ≡ timers.least_of (map (λ p. p.time) (filter (timers.awaits_loss header.now (history_of events.now)) (packets_of (history_of events.now) space))) }
+{
+    let mut least = None;
+    for (place, event) in events.iter().enumerate() {
+        if let Some(packet) = packet_of(place, event) {
+            if space == packet.space && awaits_loss(header, events, look, packet) {
+                least = Some(sooner(least, packet.time));
+            }
+        }
+    }
+    least
+}
+
+fn loss_due(header: &Header, events: &[Event], look: Look, space: Space) -> Option<Due>
+    requires seen { IsLook header.now (history_of events.now) look }
+    ensures { result ≡ timers.loss_due header.now (history_of events.now) space }
+{
+    match first_awaiting(header, events, look, space) {
+        None => None,
+        Some(sent) => Some(Due {
+            kind: Kind::Loss,
+            space,
+            time: u128::from(sent.get() + look.rtt.loss_delay()),
+        }),
+    }
+}
+
+fn earliest_loss(header: &Header, events: &[Event], look: Look) -> Option<Due>
+    requires seen { IsLook header.now (history_of events.now) look }
+    ensures { result ≡ timers.earliest_loss header.now (history_of events.now) }
+{
+    earlier(
+        loss_due(header, events, look, Space::Initial),
+        earlier(
+            loss_due(header, events, look, Space::Handshake),
+            loss_due(header, events, look, Space::App),
+        ),
+    )
+}
+
+fn some_awaits(header: &Header, events: &[Event], look: Look, space: Space) -> bool
+    requires seen { IsLook header.now (history_of events.now) look }
+    ensures { result ≡ list_any (timers.awaits_acknowledgment header.now (history_of events.now)) (packets_of (history_of events.now) space) }
+{
+    let mut found = false;
+    for (place, event) in events.iter().enumerate() {
+        if let Some(packet) = packet_of(place, event) {
+            if space == packet.space && packet.eliciting && is_open(header, events, look, packet) {
+                found = true;
+            }
+        }
+    }
+    found
+}
+
+/// The time of the last ack-eliciting packet of the space, open or not.
+pub fn last_eliciting(events: &[Event], space: Space) -> Option<Micros>
+    ensures { result ≡ timers.last_eliciting (history_of events.now) space }
+{
+    let mut last = None;
+    for (place, event) in events.iter().enumerate() {
+        if let Some(packet) = packet_of(place, event) {
+            if space == packet.space && packet.eliciting {
+                last = Some(packet.time);
+            }
+        }
+    }
+    last
+}
+
+#[tactic(auto, using(crate::proofs::Powers::power_is, crate::proofs::Powers::power_small))]
+fn power(count: u64) -> u128
+    requires count { count ≤ 40 }
+    ensures value { result ≡ 2 ^ count }
+    ensures bound { result ≤ 1099511627776 }
+{
+    1 << count
+}
+
+#[tactic(auto, using(crate::proofs::Powers::product_small))]
+fn doubled(base: u64, count: u64) -> u128
+    requires count { count ≤ 40 }
+    requires base { base ≤ 6000000000000000 }
+    ensures value { result ≡ base * 2 ^ count }
+    ensures bound { result ≤ 6597069766656000000000000000 }
+{
+    u128::from(base) * power(count)
+}
+
+fn pto_due(
+    header: &Header,
+    events: &[Event],
+    look: Look,
+    count: u64,
+    peer_delay: u64,
+    space: Space,
+) -> Option<Due>
+    requires seen { IsLook header.now (history_of events.now) look }
+    requires counted { count ≡ timers.backoff header.now (history_of events.now) }
+    requires few { count ≤ 40 }
+    requires delay { peer_delay ≤ 16383000 }
+    ensures { result ≡ timers.pto_due header.now (history_of events.now) peer_delay space }
+{
+    if !some_awaits(header, events, look, space) {
+        return None;
+    }
+    match last_eliciting(events, space) {
+        None => None,
+        Some(sent) => Some(Due {
+            kind: Kind::Pto,
+            space,
+            time: u128::from(sent.get()) + doubled(look.rtt.pto_base() + peer_delay, count),
+        }),
+    }
+}
+
+fn app_pto(header: &Header, events: &[Event], look: Look, count: u64) -> Option<Due>
+    requires seen { IsLook header.now (history_of events.now) look }
+    requires counted { count ≡ timers.backoff header.now (history_of events.now) }
+    requires few { count ≤ 40 }
+    ensures { result ≡ (if handshake.is_confirmed (history_of events.now) then timers.pto_due header.now (history_of events.now) header.now.max_ack_delay spaces.App else None) }
+{
+    if !is_confirmed(events) {
+        return None;
+    }
+    pto_due(
+        header,
+        events,
+        look,
+        count,
+        header.max_ack_delay(),
+        Space::App,
+    )
+}
+
+fn earliest_pto(header: &Header, events: &[Event], look: Look, count: u64) -> Option<Due>
+    requires seen { IsLook header.now (history_of events.now) look }
+    requires counted { count ≡ timers.backoff header.now (history_of events.now) }
+    requires few { count ≤ 40 }
+    ensures { result ≡ timers.earliest_pto header.now (history_of events.now) }
+{
+    earlier(
+        pto_due(header, events, look, count, 0, Space::Initial),
+        earlier(
+            pto_due(header, events, look, count, 0, Space::Handshake),
+            app_pto(header, events, look, count),
+        ),
+    )
+}
+
+fn sets_timer(before: &[Event], event: &Event) -> bool
+    ensures { result ≡ timers.sets_timer (event.now ∷ history_of before.now) }
+{
+    match event {
+        Event::Sent { in_flight, .. } => *in_flight,
+        Event::Timer { .. } | Event::Discard { .. } => true,
+        _ => acknowledges_new(before, event),
+    }
+}
+
+/// When the timer was last set.
+#[tactic(auto, using(qa_base::proofs::machine::Steps::last_set_after))]
+pub fn last_set(events: &[Event]) -> Option<Micros>
+    ensures { result ≡ timers.last_set (history_of events.now) }
+{
+    let mut last = None;
+    for (place, event) in events.iter().enumerate() {
+        if sets_timer(&events[..place], event) {
+            last = Some(time_of(event));
+        }
+    }
+    last
+}
+
+fn anti_deadlock(header: &Header, events: &[Event], look: Look, count: u64) -> Option<Due>
+    requires seen { IsLook header.now (history_of events.now) look }
+    requires counted { count ≡ timers.backoff header.now (history_of events.now) }
+    requires few { count ≤ 40 }
+    ensures { result ≡ timers.anti_deadlock header.now (history_of events.now) }
+{
+    if is_validated(header, events) {
+        return None;
+    }
+    let space = if has_keys(events) {
+        Space::Handshake
+    } else {
+        Space::Initial
+    };
+    match last_set(events) {
+        None => None,
+        Some(set) => Some(Due {
+            kind: Kind::Pto,
+            space,
+            time: u128::from(set.get()) + doubled(look.rtt.pto_base(), count),
+        }),
+    }
+}
+
+fn or_else(due: Option<Due>, other: Option<Due>) -> Option<Due>
+    ensures { result ≡ option_or due other }
+{
+    match due {
+        None => other,
+        Some(due) => Some(due),
+    }
+}
+
+/// What the timer is set for.
+pub fn deadline(header: &Header, events: &[Event], look: Look, count: u64) -> Option<Due>
+    requires seen { IsLook header.now (history_of events.now) look }
+    requires counted { count ≡ timers.backoff header.now (history_of events.now) }
+    requires few { count ≤ 40 }
+    ensures { result ≡ timers.deadline header.now (history_of events.now) }
+{
+    or_else(
+        earliest_loss(header, events, look),
+        or_else(
+            earliest_pto(header, events, look, count),
+            anti_deadlock(header, events, look, count),
+        ),
+    )
+}

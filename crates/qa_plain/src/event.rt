@@ -1,0 +1,87 @@
+//! Questions to one event.
+ghost use Rattle.std.specs.Prelude.{◌≡◌};
+ghost use Rattle.qa_base.specs.values.Events as events;
+ghost use Rattle.qa_base.specs.machine.Packets as packets;
+ghost use Rattle.qa_plain.specs.Listed.{listed};
+
+use qa_base::{Event, Micros, PacketNumber, Space, Span};
+
+/// The time of the event.
+pub fn time_of(event: &Event) -> Micros
+    ensures { result ≡ events.time_of event.now }
+{
+    match event {
+        Event::Sent { time, .. }
+        | Event::Ack { time, .. }
+        | Event::Lost { time, .. }
+        | Event::Timer { time, .. }
+        | Event::Discard { time, .. }
+        | Event::Confirmed { time }
+        | Event::Keys { time }
+        | Event::Metrics { time, .. } => *time,
+    }
+}
+
+/// Whether a range has the number.
+pub fn is_named(ranges: &[Span], number: PacketNumber) -> bool
+    ensures { result ≡ events.is_named ranges.now number }
+{
+    ranges
+        .iter()
+        .any(|range| range.lo() <= number && number <= range.hi())
+}
+
+/// Whether the event is an acknowledgment of this number in this space.
+pub fn acknowledges(event: &Event, in_space: Space, number: PacketNumber) -> bool
+    ensures { result ≡ events.acknowledges in_space number event.now }
+{
+    match event {
+        Event::Ack { space, ranges, .. } => {
+            in_space == *space && is_named(ranges.as_slice(), number)
+        }
+        _ => false,
+    }
+}
+
+/// Whether the event declares this number of this space lost.
+pub fn declares_lost(event: &Event, in_space: Space, number: PacketNumber) -> bool
+    ensures { result ≡ events.declares_lost in_space number event.now }
+{
+    match event {
+        Event::Lost { space, ranges, .. } => {
+            in_space == *space && is_named(ranges.as_slice(), number)
+        }
+        _ => false,
+    }
+}
+
+/// Whether the event discards the keys of this space.
+pub fn discards(event: &Event, in_space: Space) -> bool
+    ensures { result ≡ events.discards in_space event.now }
+{
+    match event {
+        Event::Discard { space, .. } => in_space == *space,
+        _ => false,
+    }
+}
+
+/// The greatest number of the ranges; 0 where there is none.
+pub fn greatest(ranges: &[Span]) -> u64
+    ensures { result ≡ packets.greatest ranges.now }
+{
+    let mut most = 0;
+    for range in ranges {
+        most = range.hi().get().max(most);
+    }
+    most
+}
+
+/// The greatest number that the event acknowledges in the space.
+pub fn greatest_in(event: &Event, in_space: Space) -> Option<u64>
+    ensures { listed result ≡ packets.greatest_in in_space event.now }
+{
+    match event {
+        Event::Ack { space, ranges, .. } if in_space == *space => Some(greatest(ranges.as_slice())),
+        _ => None,
+    }
+}

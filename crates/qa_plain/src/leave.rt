@@ -1,0 +1,233 @@
+//! By what leave packets go out, and how much of it is left, computed plainly.
+ghost use Rattle.std.specs.Prelude.{List, ◌||◌, ◌≡◌, ◌∷◌, ◌≤◌, ◌<◌, ◌^◌, ◌*◌, ◌+◌, Some, None, length, option_map, if◌then◌else◌};
+ghost use Rattle.std.specs.List.{All};
+ghost use Rattle.std.specs.Option.{ForSome};
+ghost use Rattle.qa_base.specs.declared.event.Event.{Event};
+ghost use Rattle.qa_base.specs.machine.Leave as leaves;
+ghost use Rattle.qa_base.specs.machine.Packets as packets;
+ghost use Rattle.qa_base.specs.machine.Loss as loss;
+ghost use Rattle.qa_base.specs.machine.Packets.{history_of};
+ghost use Rattle.qa_base.specs.machine.Reno as steps;
+ghost use Rattle.qa_base.specs.machine.Rtt as estimates;
+ghost use Rattle.qa_plain.specs.Looks.{IsLook};
+ghost use Rattle.qa_base.specs.machine.Timer as timers;
+ghost use Rattle.qa_base.specs.machine.Probes as probes;
+ghost use Rattle.qa_plain.specs.Words as words;
+ghost use Rattle.qa_base.specs.machine.Widths.{Fits};
+
+use crate::losses::{Look, look_at};
+use crate::sampling::{sample_of, start, updated};
+use crate::settled::acknowledges_new;
+use crate::timer::{is_discard, is_pto};
+use crate::window::{last_owed, moved};
+use qa_base::{Event, Header, Leave, Micros, Space};
+use qa_recovery::{Reno, Rtt};
+
+fn probe_size(event: &Event) -> u64
+    ensures { (h : List Event) → result ≡ leaves.probe_size (event.now ∷ h) }
+{
+    match event {
+        Event::Sent {
+            size,
+            in_flight,
+            leave: Leave::Probe,
+            ..
+        } => { if *in_flight { *size } else { 0 } }
+        _ => 0,
+    }
+}
+
+fn more_spent(spent: Option<u128>, size: u64, place: usize) -> Option<u128>
+    requires few { ForSome spent (λ n. n ≤ place * 18446744073709551615) }
+    ensures value { result ≡ option_map (λ n. size + n) spent }
+    ensures few { ForSome result (λ n. n ≤ (place + 1) * 18446744073709551615) }
+{
+    match spent {
+        None => None,
+        Some(spent) => Some(u128::from(size) + spent),
+    }
+}
+
+/// The bytes of probes since the last probe timeout; None without one.
+#[tactic(auto, using(qa_base::proofs::machine::Steps::probe_spent_after))]
+pub fn probe_spent(events: &[Event]) -> Option<u128>
+    ensures value { result ≡ leaves.probe_spent (history_of events.now) }
+    ensures bound { ForSome result (λ n. n ≤ length events.now * 18446744073709551615) }
+{
+    let mut spent: Option<u128> = None;
+    for (place, event) in events.iter().enumerate() {
+        if is_pto(event) {
+            spent = Some(0);
+        } else {
+            spent = more_spent(spent, probe_size(event), place);
+        }
+    }
+    spent
+}
+
+fn is_probe_of(event: &Event, in_space: Space) -> bool
+    ensures { (h : List Event) → result ≡ leaves.is_probe_of in_space (event.now ∷ h) }
+{
+    match event {
+        Event::Sent {
+            space,
+            eliciting,
+            ..
+        } => *eliciting && in_space == *space,
+        _ => false,
+    }
+}
+
+fn is_probe_or_new(before: &[Event], event: &Event, space: Space) -> bool
+    ensures { result ≡ (leaves.is_probe_of space (event.now ∷ history_of before.now) || packets.acknowledges_new (event.now ∷ history_of before.now)) }
+{
+    is_probe_of(event, space) || acknowledges_new(before, event)
+}
+
+#[tactic(auto, using(crate::proofs::Answered::answers_is))]
+fn answers_pto(before: &[Event], event: &Event, space: Space) -> bool
+    ensures { result ≡ leaves.answers_pto space (event.now ∷ history_of before.now) }
+{
+    is_discard(event) || is_probe_or_new(before, event, space)
+}
+
+fn timer_space(event: &Event) -> Option<Space>
+    ensures { (h : List Event) → result ≡ leaves.timer_space (event.now ∷ h) }
+{
+    match event {
+        Event::Timer { space, .. } => Some(*space),
+        _ => None,
+    }
+}
+
+fn unanswered_by(before: &[Event], event: &Event, due: Option<Space>) -> Option<Space>
+    ensures { result ≡ probes.unanswered_by (event.now ∷ history_of before.now) due }
+{
+    match due {
+        None => None,
+        Some(space) => {
+            if answers_pto(before, event, space) {
+                None
+            } else {
+                Some(space)
+            }
+        }
+    }
+}
+
+/// The space in which a probe is due.
+#[tactic(auto, using(qa_base::proofs::machine::Steps::probe_due_after))]
+pub fn probe_due(events: &[Event]) -> Option<Space>
+    ensures { result ≡ probes.probe_due (history_of events.now) }
+{
+    let mut due: Option<Space> = None;
+    for (place, event) in events.iter().enumerate() {
+        if is_pto(event) {
+            due = timer_space(event);
+        } else {
+            due = unanswered_by(&events[..place], event, due);
+        }
+    }
+    due
+}
+
+/// Whether the probe of the last probe timeout is due.
+#[tactic(auto, using(qa_base::proofs::machine::Steps::probe_due_is))]
+pub fn is_probe_due(events: &[Event]) -> bool
+    ensures { result ≡ leaves.is_probe_due (history_of events.now) }
+{
+    probe_due(events).is_some()
+}
+
+fn enters(reno: Reno, last: Option<Micros>) -> bool
+    ensures { result ≡ words.entry_by reno.recovery_start_time last }
+{
+    match (reno.recovery_start_time, last) {
+        (_, None) => false,
+        (None, Some(_)) => true,
+        (Some(began), Some(last)) => began < last,
+    }
+}
+
+fn recovery_mark(event: &Event) -> u64
+    ensures value { (h : List Event) → result ≡ (if leaves.is_recovery_packet (event.now ∷ h) then 1 else 0) }
+    ensures one { result ≤ 1 }
+{
+    match event {
+        Event::Sent {
+            in_flight: true,
+            leave: Leave::Recovery,
+            ..
+        } => 1,
+        _ => 0,
+    }
+}
+
+fn one_more(spent: Option<u64>, more: u64, place: usize) -> Option<u64>
+    requires one { more ≤ 1 }
+    requires room { place < 2 ^ 32 }
+    requires few { ForSome spent (λ n. n ≤ place) }
+    ensures value { result ≡ option_map (λ n. more + n) spent }
+    ensures few { ForSome result (λ n. n ≤ place + 1) }
+{
+    match spent {
+        None => None,
+        Some(spent) => Some(more + spent),
+    }
+}
+
+fn spent_after(spent: Option<u64>, entered: bool, more: u64, place: usize) -> Option<u64>
+    requires one { more ≤ 1 }
+    requires room { place < 2 ^ 32 }
+    requires few { ForSome spent (λ n. n ≤ place) }
+    ensures value { result ≡ (if entered then Some 0 else option_map (λ n. more + n) spent) }
+    ensures few { ForSome result (λ n. n ≤ place + 1) }
+{
+    if entered {
+        return Some(0);
+    }
+    one_more(spent, more, place)
+}
+
+#[tactic(auto, using(crate::proofs::Entries::recovery_spent_is))]
+fn recovery_after(
+    header: &Header,
+    before: &[Event],
+    event: &Event,
+    after: &[Event],
+    look: Look,
+    reno: Reno,
+    spent: Option<u64>,
+) -> Option<u64>
+    requires whole { history_of after.now ≡ event.now ∷ history_of before.now }
+    requires seen { IsLook header.now (history_of after.now) look }
+    requires window { reno ≡ steps.reno header.now (history_of before.now) }
+    requires spent { spent ≡ leaves.recovery_spent header.now (history_of before.now) }
+    requires room { length before.now < 2 ^ 32 }
+    requires few { ForSome spent (λ n. n ≤ length before.now) }
+    ensures value { result ≡ leaves.recovery_spent header.now (event.now ∷ history_of before.now) }
+    ensures few { ForSome result (λ n. n ≤ length before.now + 1) }
+{
+    let entered = enters(reno, last_owed(header, after, look));
+    spent_after(spent, entered, recovery_mark(event), before.len())
+}
+
+/// How many packets went out by leave of recovery since the last entry; None without one.
+pub fn recovery_spent(header: &Header, events: &[Event]) -> Option<u64>
+    requires few { length events.now < 2 ^ 32 }
+    requires fit { All Fits events.now }
+    ensures { result ≡ leaves.recovery_spent header.now (history_of events.now) }
+{
+    let mut rtt = start(header);
+    let mut reno = Reno::start(header.initial_window());
+    let mut spent: Option<u64> = None;
+    for (place, event) in events.iter().enumerate() {
+        let before = &events[..place];
+        let after = &events[..place + 1];
+        rtt = updated(rtt, sample_of(header, before, event));
+        let seen = look_at(header, after, rtt);
+        spent = recovery_after(header, before, event, after, seen, reno, spent);
+        reno = moved(header, before, event, after, seen, reno);
+    }
+    spent
+}

@@ -1,0 +1,265 @@
+//! Detection, what is open, and the bytes in flight, computed plainly.
+ghost use Rattle.std.specs.Prelude.{List, ◌&&◌, ◌≡◌, ◌∷◌, ◌≤◌, ◌*◌, length};
+ghost use Rattle.qa_base.specs.declared.space.Space.{Space};
+ghost use Rattle.qa_base.specs.machine.Loss as loss;
+ghost use Rattle.qa_base.specs.machine.Packets as packets;
+ghost use Rattle.qa_base.specs.values.Settings.{Settings};
+ghost use Rattle.qa_base.specs.machine.Packets.{history_of};
+ghost use Rattle.qa_base.specs.machine.Rtt as estimates;
+ghost use Rattle.qa_plain.specs.Looks.{IsLook, largest_there as largest_there_of};
+ghost use Rattle.std.specs.List.{list_any};
+
+use crate::packet::{Packet, packet_of};
+use crate::settled::{acknowledges_new, is_covered, is_gone, is_lost, largest_acknowledged};
+use qa_base::constants::{
+    GRANULARITY, PACKET_THRESHOLD, TIME_THRESHOLD_DIVISOR, TIME_THRESHOLD_PARTS,
+};
+use qa_base::{Event, Header, Kind, Micros, Space};
+use qa_recovery::Rtt;
+use std::marker::Model;
+
+/// What is known of a history before its packets are asked.
+#[derive(Clone, Copy, Debug, PartialEq, Eq)]
+pub struct Look {
+    pub rtt: Rtt,
+    pub detection: Option<(Space, Micros)>,
+    pub largest: Option<u64>,
+}
+
+impl Model for Look {
+    ghost use Rattle.qa_plain.specs.Looks.{Seen};
+
+    ghost Value = { Seen };
+
+    ghost view = { λ l. record { rtt = l.rtt; detection = l.detection; largest = l.largest } };
+
+    ghost inverse = { λ l. record { rtt = l.rtt; detection = l.detection; largest = l.largest } };
+}
+
+fn is_old(rtt: Rtt, now: Micros, packet: Packet) -> bool
+    ensures { result ≡ loss.is_old rtt now packet }
+{
+    let age = now.get().saturating_sub(packet.time.get());
+    TIME_THRESHOLD_PARTS * rtt.latest_rtt.get().max(rtt.smoothed_rtt.get())
+        <= TIME_THRESHOLD_DIVISOR * age
+        && GRANULARITY <= age
+}
+
+fn is_late(rtt: Rtt, now: Micros, largest: Option<u64>, packet: Packet) -> bool
+    ensures { result ≡ loss.is_late rtt now largest packet }
+{
+    match largest {
+        None => false,
+        Some(largest) => {
+            packet.number.get() < largest
+                && (PACKET_THRESHOLD <= largest - packet.number.get() || is_old(rtt, now, packet))
+        }
+    }
+}
+
+/// Whether the packet is neither acknowledged nor declared lost.
+pub fn is_unsettled(events: &[Event], packet: Packet) -> bool
+    ensures { result ≡ loss.is_unsettled (history_of events.now) packet }
+{
+    !is_covered(events, packet) && !is_lost(events, packet)
+}
+
+/// Where and when an event looks for losses.
+pub fn detection_by(before: &[Event], event: &Event) -> Option<(Space, Micros)>
+    ensures { result ≡ loss.detection (event.now ∷ history_of before.now) }
+{
+    match event {
+        Event::Ack { time, space, .. } => {
+            if acknowledges_new(before, event) {
+                Some((*space, *time))
+            } else {
+                None
+            }
+        }
+        Event::Timer {
+            time,
+            kind: Kind::Loss,
+            space,
+        } => Some((*space, *time)),
+        _ => None,
+    }
+}
+
+/// Where and when the last event looks for losses.
+pub fn detection(events: &[Event]) -> Option<(Space, Micros)>
+    ensures { result ≡ loss.detection (history_of events.now) }
+{
+    match events.split_last() {
+        None => None,
+        Some((event, before)) => detection_by(before, event),
+    }
+}
+
+fn largest_there(events: &[Event]) -> Option<u64>
+    ensures { result ≡ largest_there_of (history_of events.now) (loss.detection (history_of events.now)) }
+{
+    match detection(events) {
+        None => None,
+        Some((space, _)) => largest_acknowledged(events, space),
+    }
+}
+
+/// What is known of the history, with its estimate.
+pub fn look_at(header: &Header, events: &[Event], rtt: Rtt) -> Look
+    requires known { rtt ≡ estimates.rtt header.now (history_of events.now) }
+    ensures { IsLook header.now (history_of events.now) result }
+{
+    Look {
+        rtt,
+        detection: detection(events),
+        largest: largest_there(events),
+    }
+}
+
+fn is_found(
+    header: &Header,
+    events: &[Event],
+    rtt: Rtt,
+    largest: Option<u64>,
+    now: Micros,
+    space: Space,
+    packet: Packet,
+) -> bool
+    requires known { rtt ≡ estimates.rtt header.now (history_of events.now) }
+    requires largest { largest ≡ packets.largest_acknowledged (history_of events.now) space }
+    ensures { result ≡ loss.is_found header.now (history_of events.now) now space packet }
+{
+    packet.in_flight && is_late_open(events, rtt, largest, now, packet)
+}
+
+#[tactic(auto, using(crate::proofs::Owed::and_turned))]
+fn is_late_open(
+    events: &[Event],
+    rtt: Rtt,
+    largest: Option<u64>,
+    now: Micros,
+    packet: Packet,
+) -> bool
+    ensures { result ≡ (loss.is_unsettled (history_of events.now) packet && loss.is_late rtt now largest packet) }
+{
+    is_late(rtt, now, largest, packet) && is_unsettled(events, packet)
+}
+
+fn is_found_at(
+    header: &Header,
+    events: &[Event],
+    rtt: Rtt,
+    largest: Option<u64>,
+    detection: Option<(Space, Micros)>,
+    packet: Packet,
+) -> bool
+    requires known { rtt ≡ estimates.rtt header.now (history_of events.now) }
+    requires largest { largest ≡ largest_there_of (history_of events.now) detection }
+    ensures { result ≡ loss.is_found_at header.now (history_of events.now) packet detection }
+{
+    match detection {
+        None => false,
+        Some((space, now)) => {
+            space == packet.space && is_found(header, events, rtt, largest, now, space, packet)
+        }
+    }
+}
+
+/// Whether the last event found the packet lost.
+pub fn is_owed(header: &Header, events: &[Event], look: Look, packet: Packet) -> bool
+    requires seen { IsLook header.now (history_of events.now) look }
+    ensures { result ≡ loss.is_owed header.now (history_of events.now) packet }
+{
+    is_found_at(
+        header,
+        events,
+        look.rtt,
+        look.largest,
+        look.detection,
+        packet,
+    )
+}
+
+/// How many packets the last event found lost.
+pub fn owed_count(header: &Header, events: &[Event], look: Look) -> u64
+    requires seen { IsLook header.now (history_of events.now) look }
+    ensures { result ≡ length (loss.owed header.now (history_of events.now)) }
+{
+    let mut count = 0;
+    for (place, event) in events.iter().enumerate() {
+        if let Some(packet) = packet_of(place, event) {
+            if is_owed(header, events, look, packet) {
+                count += 1;
+            }
+        }
+    }
+    count
+}
+
+/// Whether the packet is neither acknowledged nor lost, and its space not discarded.
+pub fn is_open(header: &Header, events: &[Event], look: Look, packet: Packet) -> bool
+    requires seen { IsLook header.now (history_of events.now) look }
+    ensures { result ≡ loss.is_open header.now (history_of events.now) packet }
+{
+    is_unsettled(events, packet)
+        && !is_owed(header, events, look, packet)
+        && !is_gone(events, packet.space)
+}
+
+fn flight_size(header: &Header, events: &[Event], look: Look, packet: Packet) -> u64
+    requires seen { IsLook header.now (history_of events.now) look }
+    ensures { result ≡ loss.flight_size header.now (history_of events.now) packet }
+{
+    if packet.in_flight && is_open(header, events, look, packet) {
+        packet.size
+    } else {
+        0
+    }
+}
+
+/// The bytes in flight.
+pub fn bytes_in_flight(header: &Header, events: &[Event], look: Look) -> u128
+    requires seen { IsLook header.now (history_of events.now) look }
+    ensures value { result ≡ loss.bytes_in_flight header.now (history_of events.now) }
+    ensures bound { result ≤ length events.now * 18446744073709551615 }
+{
+    let mut bytes: u128 = 0;
+    for (place, event) in events.iter().enumerate() {
+        if let Some(packet) = packet_of(place, event) {
+            bytes += u128::from(flight_size(header, events, look, packet));
+        }
+    }
+    bytes
+}
+
+/// Whether a loss is owed.
+pub fn owes(header: &Header, events: &[Event], look: Look) -> bool
+    requires seen { IsLook header.now (history_of events.now) look }
+    ensures { result ≡ packets.is_some_packet (loss.owed header.now (history_of events.now)) }
+{
+    let mut found = false;
+    for (place, event) in events.iter().enumerate() {
+        if let Some(packet) = packet_of(place, event) {
+            if is_owed(header, events, look, packet) {
+                found = true;
+            }
+        }
+    }
+    found
+}
+
+/// Whether a packet of the space is owed.
+pub fn owes_in(header: &Header, events: &[Event], look: Look, space: Space) -> bool
+    requires seen { IsLook header.now (history_of events.now) look }
+    ensures { result ≡ list_any (packets.is_of space) (loss.owed header.now (history_of events.now)) }
+{
+    let mut found = false;
+    for (place, event) in events.iter().enumerate() {
+        if let Some(packet) = packet_of(place, event) {
+            if is_owed(header, events, look, packet) && space == packet.space {
+                found = true;
+            }
+        }
+    }
+    found
+}

@@ -1,0 +1,90 @@
+//! Questions to a history under its header, each answered from the events alone.
+ghost use Rattle.std.specs.Prelude.{◌≡◌, ◌≤◌, ◌*◌, length};
+ghost use Rattle.std.specs.List.{list_any};
+ghost use Rattle.qa_base.specs.machine.Breaches as breaches;
+ghost use Rattle.qa_base.specs.machine.Loss as loss;
+ghost use Rattle.qa_base.specs.machine.Numbers as tests;
+ghost use Rattle.qa_base.specs.machine.Packets as packets;
+ghost use Rattle.qa_base.specs.machine.Packets.{history_of};
+ghost use Rattle.qa_base.specs.machine.Timer as timers;
+ghost use Rattle.qa_plain.specs.Looks.{IsLook};
+
+use crate::losses::{Look, look_at};
+use crate::packet::Packet;
+use crate::sampling::rtt;
+use crate::timer::backoff;
+use crate::{deadlines, losses, named};
+use qa_base::{Due, Event, Header, Space, Span};
+
+fn look(header: &Header, events: &[Event]) -> Look
+    ensures { IsLook header.now (history_of events.now) result }
+{
+    look_at(header, events, rtt(header, events))
+}
+
+/// Whether the last event found the packet lost, so that the next has to declare it: an
+/// acknowledgment of something new and a loss timer look for losses (RFC 9002, section 6.1, A.10).
+pub fn is_owed(header: &Header, events: &[Event], packet: Packet) -> bool
+    ensures { result ≡ loss.is_owed header.now (history_of events.now) packet }
+{
+    losses::is_owed(header, events, look(header, events), packet)
+}
+
+/// Whether the last event found a packet lost.
+pub fn owes(header: &Header, events: &[Event]) -> bool
+    ensures { result ≡ packets.is_some_packet (loss.owed header.now (history_of events.now)) }
+{
+    losses::owes(header, events, look(header, events))
+}
+
+/// Whether the last event found a packet of the space lost.
+pub fn owes_in(header: &Header, events: &[Event], space: Space) -> bool
+    ensures { result ≡ list_any (packets.is_of space) (loss.owed header.now (history_of events.now)) }
+{
+    losses::owes_in(header, events, look(header, events), space)
+}
+
+/// How many packets the last event found lost.
+pub fn owed_count(header: &Header, events: &[Event]) -> u64
+    ensures { result ≡ length (loss.owed header.now (history_of events.now)) }
+{
+    losses::owed_count(header, events, look(header, events))
+}
+
+/// Whether the ranges name exactly the packets that the last event found lost.
+pub fn names_owed(header: &Header, events: &[Event], ranges: &[Span]) -> bool
+    ensures { result ≡ tests.names_exactly ranges.now (breaches.numbers (loss.owed header.now (history_of events.now))) }
+{
+    named::names_owed(header, events, look(header, events), ranges)
+}
+
+/// Whether each number of the ranges was sent in the space.
+pub fn were_sent(header: &Header, events: &[Event], space: Space, ranges: &[Span]) -> bool
+    ensures { result ≡ tests.has_all (breaches.numbers (packets.packets_of (history_of events.now) space)) ranges.now }
+{
+    named::were_sent(header, events, look(header, events), space, ranges)
+}
+
+/// The bytes in flight: the sizes of the in-flight packets that are neither acknowledged nor lost,
+/// and whose space is not discarded (RFC 9002, B.4, B.9).
+pub fn bytes_in_flight(header: &Header, events: &[Event]) -> u128
+    ensures value { result ≡ loss.bytes_in_flight header.now (history_of events.now) }
+    ensures bound { result ≤ length events.now * 18446744073709551615 }
+{
+    losses::bytes_in_flight(header, events, look(header, events))
+}
+
+/// What the loss detection timer is set for; None where it is not set (RFC 9002, A.8).
+///
+/// Asks for a PTO count of at most 40. The count of a run is, where its times are in their range.
+pub fn deadline(header: &Header, events: &[Event]) -> Option<Due>
+    requires counted { timers.backoff header.now (history_of events.now) ≤ 40 }
+    ensures { result ≡ timers.deadline header.now (history_of events.now) }
+{
+    deadlines::deadline(
+        header,
+        events,
+        look(header, events),
+        backoff(header, events),
+    )
+}

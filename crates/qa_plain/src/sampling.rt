@@ -1,0 +1,147 @@
+//! The round-trip time by its samples, computed plainly.
+ghost use Rattle.std.specs.Prelude.{◌≡◌, ◌≤◌, ◌∷◌, ◌==◌, find};
+ghost use Rattle.std.specs.List.{list_any};
+ghost use Rattle.qa_base.specs.machine.Handshake as handshake;
+ghost use Rattle.qa_base.specs.values.Limits.{max_time};
+ghost use Rattle.qa_base.specs.machine.Packets.{history_of, newly_acknowledged};
+ghost use Rattle.qa_base.specs.machine.Rtt as estimates;
+
+use crate::event::greatest;
+use crate::handshake::is_confirmed;
+use crate::packet::{Packet, packet_of};
+use crate::settled::is_newly_acknowledged;
+use qa_base::{Event, Header, Micros};
+use qa_recovery::Rtt;
+use std::marker::Model;
+
+/// How long the packet with the largest acknowledged number took, the peer's delay, and when the acknowledgment came.
+#[derive(Clone, Copy, Debug, PartialEq, Eq)]
+pub struct Sample {
+    pub latest_rtt: Micros,
+    pub ack_delay: u64,
+    pub time: Micros,
+}
+
+impl Model for Sample {
+    ghost use Rattle.qa_base.specs.machine.Rtt.{Sample as Shown};
+
+    ghost Value = { Shown };
+
+    ghost view = { λ s. record { latest_rtt = s.latest_rtt; ack_delay = s.ack_delay; time = s.time } };
+
+    ghost inverse = { λ s. record { latest_rtt = s.latest_rtt; ack_delay = s.ack_delay; time = s.time } };
+}
+
+/// A number of microseconds that is known to be a time.
+pub fn micros(value: u64) -> Micros
+    requires { value ≤ max_time }
+    ensures { result ≡ value }
+{
+    Micros::new(value).unwrap()
+}
+
+/// Whether the event newly acknowledges an ack-eliciting packet.
+pub fn acknowledges_eliciting(before: &[Event], event: &Event) -> bool
+    ensures { result ≡ list_any (λ p. p.eliciting) (newly_acknowledged (event.now ∷ history_of before.now)) }
+{
+    let mut found = false;
+    for (place, earlier) in before.iter().enumerate() {
+        if let Some(packet) = packet_of(place, earlier) {
+            if is_newly_acknowledged(before, event, packet) && packet.eliciting {
+                found = true;
+            }
+        }
+    }
+    found
+}
+
+/// The packet of this number that the event newly acknowledges, the latest such.
+pub fn newly_numbered(before: &[Event], event: &Event, number: u64) -> Option<Packet>
+    ensures { result ≡ find (λ p. p.number == number) (newly_acknowledged (event.now ∷ history_of before.now)) }
+{
+    let mut found = None;
+    for (place, earlier) in before.iter().enumerate() {
+        if let Some(packet) = packet_of(place, earlier) {
+            if is_newly_acknowledged(before, event, packet) && packet.number.get() == number {
+                found = Some(packet);
+            }
+        }
+    }
+    found
+}
+
+fn limited_delay(header: &Header, before: &[Event], delay: u64) -> u64
+    ensures { result ≡ estimates.limited_delay header.now (history_of before.now) delay }
+{
+    if is_confirmed(before) {
+        delay.min(header.max_ack_delay())
+    } else {
+        delay
+    }
+}
+
+fn sample_by(time: Micros, delay: u64, packet: Option<Packet>) -> Option<Sample>
+    ensures { result ≡ estimates.sample_by time delay packet }
+{
+    match packet {
+        None => None,
+        Some(packet) => Some(Sample {
+            latest_rtt: micros(time.get().saturating_sub(packet.time.get())),
+            ack_delay: delay,
+            time,
+        }),
+    }
+}
+
+/// The sample of an event.
+pub fn sample_of(header: &Header, before: &[Event], event: &Event) -> Option<Sample>
+    ensures { result ≡ estimates.sample_of header.now (event.now ∷ history_of before.now) }
+{
+    match event {
+        Event::Ack {
+            time,
+            ranges,
+            delay,
+            ..
+        } => {
+            if !acknowledges_eliciting(before, event) {
+                return None;
+            }
+            let packet = newly_numbered(before, event, greatest(ranges.as_slice()));
+            sample_by(*time, limited_delay(header, before, *delay), packet)
+        }
+        _ => None,
+    }
+}
+
+/// The estimate with the sample that there may be.
+pub fn updated(rtt: Rtt, sample: Option<Sample>) -> Rtt
+    ensures { result ≡ estimates.updated rtt sample }
+{
+    match sample {
+        None => rtt,
+        Some(sample) => {
+            let mut more = rtt;
+            more.sample(sample.latest_rtt, sample.ack_delay, sample.time);
+            more
+        }
+    }
+}
+
+/// The estimate before the first sample.
+pub fn start(header: &Header) -> Rtt
+    ensures { result ≡ estimates.start header.now.initial_rtt }
+{
+    Rtt::start(micros(header.initial_rtt()))
+}
+
+/// The estimate after the events.
+pub fn rtt(header: &Header, events: &[Event]) -> Rtt
+    ensures { result ≡ estimates.rtt header.now (history_of events.now) }
+{
+    let mut rtt = start(header);
+    for (place, event) in events.iter().enumerate() {
+        rtt = updated(rtt, sample_of(header, &events[..place], event));
+    }
+    rtt
+}

@@ -1,0 +1,165 @@
+//! The congestion window.
+ghost use Rattle.std.specs.Prelude.{◌≡◌, ◌∷◌, [], ◌++◌, ◌≤◌, ◌<◌, ◌^◌, ◌*◌, ◌+◌, Some, unwrap_or, max, fold, length};
+ghost use Rattle.std.specs.List.{All};
+ghost use Rattle.qa_base.specs.machine.Loss as loss;
+ghost use Rattle.qa_base.specs.machine.Packets.{history_of, newly_acknowledged};
+ghost use Rattle.qa_base.specs.machine.Reno as steps;
+ghost use Rattle.qa_base.specs.machine.Rtt as estimates;
+ghost use Rattle.qa_plain.specs.Looks.{IsLook};
+ghost use Rattle.qa_base.specs.machine.Widths.{Fits};
+ghost use Rattle.qa_plain.specs.Words.{last_sending, hits_at};
+
+use crate::congestion::is_persistent;
+use crate::event::time_of;
+use crate::losses::{Look, is_owed, look_at};
+use crate::packet::packet_of;
+use crate::sampling::{sample_of, start, updated};
+use crate::settled::is_newly_acknowledged;
+use qa_base::{Event, Header, Micros};
+use qa_recovery::{Reno, Rtt};
+
+fn later(last: Option<Micros>, time: Micros) -> Micros
+    ensures { result ≡ max time (unwrap_or last 0) }
+{
+    match last {
+        None => time,
+        Some(last) => time.max(last),
+    }
+}
+
+/// When the last of the packets was sent that the last event found lost.
+pub fn last_owed(header: &Header, events: &[Event], look: Look) -> Option<Micros>
+    requires seen { IsLook header.now (history_of events.now) look }
+    ensures { result ≡ last_sending (loss.owed header.now (history_of events.now)) }
+{
+    let mut last = None;
+    for (place, event) in events.iter().enumerate() {
+        if let Some(packet) = packet_of(place, event) {
+            if is_owed(header, events, look, packet) {
+                last = Some(later(last, packet.time));
+            }
+        }
+    }
+    last
+}
+
+fn hit_by(header: &Header, reno: Reno, last: Option<Micros>, now: Micros) -> Reno
+    requires low { 2 * header.now.max_datagram_size ≤ reno.window }
+    requires high { reno.window ≤ 2 ^ 60 }
+    ensures value { result ≡ fold (steps.moved header.now.max_datagram_size) reno (hits_at now last) }
+    ensures low { 2 * header.now.max_datagram_size ≤ result.window }
+    ensures high { result.window ≤ 2 ^ 60 }
+{
+    let mut more = reno;
+    if let Some(last) = last {
+        more.hit(last, now, header.max_datagram_size());
+    }
+    more
+}
+
+fn collapsed(header: &Header, reno: Reno, persistent: bool) -> Reno
+    requires low { 2 * header.now.max_datagram_size ≤ reno.window }
+    requires high { reno.window ≤ 2 ^ 60 }
+    ensures value { result ≡ fold (steps.moved header.now.max_datagram_size) reno (steps.collapses persistent) }
+    ensures low { 2 * header.now.max_datagram_size ≤ result.window }
+    ensures high { result.window ≤ 2 ^ 60 }
+{
+    let mut more = reno;
+    if persistent {
+        more.collapse(header.max_datagram_size());
+    }
+    more
+}
+
+#[tactic(auto, using(qa_base::proofs::machine::WindowBound::grown_little))]
+fn grow_by(header: &Header, reno: Reno, size: u64, sent: Micros) -> Reno
+    requires low { 2 * header.now.max_datagram_size ≤ reno.window }
+    requires high { reno.window ≤ 2 ^ 62 }
+    requires size_low { 1 ≤ size }
+    requires size_high { size ≤ 65527 }
+    ensures value { result ≡ steps.moved header.now.max_datagram_size reno (steps.Grow size sent) }
+    ensures low { reno.window ≤ result.window }
+    ensures high { result.window ≤ reno.window + 65527 }
+{
+    let mut more = reno;
+    more.grow(size, sent, header.max_datagram_size());
+    more
+}
+
+#[tactic(auto, using(crate::proofs::Moved::grown_by, crate::proofs::Moved::grown_bare))]
+fn grown(header: &Header, before: &[Event], event: &Event, reno: Reno) -> Reno
+    requires low { 2 * header.now.max_datagram_size ≤ reno.window }
+    requires high { reno.window ≤ 2 ^ 60 }
+    requires few { length before.now < 2 ^ 32 }
+    requires fit { All Fits before.now }
+    ensures { result ≡ fold (steps.moved header.now.max_datagram_size) reno (steps.grows (newly_acknowledged (event.now ∷ history_of before.now))) }
+{
+    let mut reno = reno;
+    for (place, earlier) in before.iter().enumerate() {
+        if let Some(packet) = packet_of(place, earlier) {
+            if is_newly_acknowledged(before, event, packet) && packet.in_flight {
+                reno = grow_by(header, reno, packet.size, packet.time);
+            }
+        }
+    }
+    reno
+}
+
+fn is_limited(event: &Event) -> bool
+    ensures { result ≡ steps.is_limited event.now }
+{
+    match event {
+        Event::Ack { limited, .. } => *limited,
+        _ => false,
+    }
+}
+
+/// The window after the moves of an event.
+pub fn moved(
+    header: &Header,
+    before: &[Event],
+    event: &Event,
+    after: &[Event],
+    look: Look,
+    reno: Reno,
+) -> Reno
+    requires whole { history_of after.now ≡ event.now ∷ history_of before.now }
+    requires seen { IsLook header.now (history_of after.now) look }
+    requires low { 2 * header.now.max_datagram_size ≤ reno.window }
+    requires high { reno.window ≤ 2 ^ 60 }
+    requires few { length before.now < 2 ^ 32 }
+    requires fit { All Fits before.now }
+    ensures { result ≡ fold (steps.moved header.now.max_datagram_size) reno (steps.moves_of_last header.now (event.now ∷ history_of before.now)) }
+{
+    let reno = hit_by(header, reno, last_owed(header, after, look), time_of(event));
+    let reno = collapsed(header, reno, is_persistent(header, after, look));
+    if is_limited(event) {
+        reno
+    } else {
+        grown(header, before, event, reno)
+    }
+}
+
+/// The window after the events.
+pub fn reno(header: &Header, events: &[Event]) -> Reno
+    requires few { length events.now < 2 ^ 32 }
+    requires fit { All Fits events.now }
+    ensures { result ≡ steps.reno header.now (history_of events.now) }
+{
+    let mut rtt = start(header);
+    let mut reno = Reno::start(header.initial_window());
+    for (place, event) in events.iter().enumerate() {
+        let before = &events[..place];
+        rtt = updated(rtt, sample_of(header, before, event));
+        let after = &events[..place + 1];
+        reno = moved(
+            header,
+            before,
+            event,
+            after,
+            look_at(header, after, rtt),
+            reno,
+        );
+    }
+    reno
+}
