@@ -224,7 +224,7 @@ class LinesTest(RunnerCase):
         self.write_files("lines", name, {"lines": lines, "said": said})
 
     def assert_fails_with(self, *failures):
-        """The one file fails in both its runs, and each has these words."""
+        """The one file fails in both its runs, for these reasons."""
         *printed, last = self.lines(1)
         self.assertEqual(printed, [
             f"FAILED lines/one{run}: {'; '.join(failures)}" for run in ("", " byte by byte")

@@ -286,7 +286,8 @@ def short_of(kind):
     return changed(kind, {key.name: None for key in TABLES[kind] if key.absent != FAULT})
 
 
-def cases_of(kind):
+def good_cases(kind):
+    """Good lines, also with white space between tokens and with members that no table has."""
     for members in good_lines(kind):
         yield object_text(members), written(kind, members)
     said = written(kind, usual(kind))
@@ -297,7 +298,10 @@ def cases_of(kind):
         yield f"{{{member},{short[1:]}", said
         yield f"{short[:-1]},{member}}}", said
 
-    whole = object_text(usual(kind))
+
+def json_cases(kind):
+    """Lines that are not JSON, or no object: cut at each byte, with a bad member, with more behind them."""
+    whole, short = object_text(usual(kind)), object_text(short_of(kind))
     for end in range(1, len(whole)):
         yield whole[:end], "F1 not-json"
     for member in NOT_JSON:
@@ -306,11 +310,14 @@ def cases_of(kind):
     yield short + "}", "F1 not-json"
     yield f"[{short}]", "F2 not-object"
 
+
+def fault_cases(kind):
+    """Lines with one fault, and with each two faults of two keys, which stand in both orders."""
     for fault in faults_of(kind):
         yield object_text(changed(kind, {fault.name: fault.value})), fault.said
     for first, second in itertools.combinations(first_faults_of(kind), 2):
         if first.name != second.name:
-            said = min(first, second).said
+            said = min(first, second, key=lambda fault: fault.rank).said
             for pair in ((first, second), (second, first)):
                 yield object_text(changed_at_the_end(kind, {fault.name: fault.value for fault in pair})), said
 
@@ -322,7 +329,7 @@ def files():
     """Each file that is written, with its bytes. A line that comes up twice stands there once."""
     for kind in TABLES:
         cases = {}
-        for line, said in cases_of(kind):
+        for line, said in (*good_cases(kind), *json_cases(kind), *fault_cases(kind)):
             assert cases.setdefault(line, said) == said, line
         for suffix, texts in (("lines", cases.keys()), ("said", cases.values())):
             text = "".join(f"{text}\n" for text in texts)

@@ -123,8 +123,8 @@ fn answer<W: Write>(alloc: Global, line: &[u8], answers: &mut W) -> Result<(), F
             let text = write_line(alloc, &line)?;
             write_answer(answers, text)
         }
-        Err(LineFault::Fault(fault)) => write_answer(answers, fault),
         Err(LineFault::OutOfMemory) => Err(Failure::OutOfMemory),
+        Err(fault) => write_answer(answers, fault),
     }
 }
 
