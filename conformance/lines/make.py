@@ -63,7 +63,7 @@ OTHER_SPACES = (
     '"Initial"', '"initials"', '"Handshake"', '"handshakes"', '"null"', '"window"',
 )
 OTHER_EVENTS = (
-    '""', '" "', '"null"', '"event"', '"Header"', '"HEADER"', '"headers"', '"Sent"', '"SENT"', '"sen"', '"sent "',
+    '""', '" "', '"null"', '"event"', '"Header"', '"HEADER"', '"headers"', '"Sent"', '"SENT"', '"sen"', '"sents"', '"sent "',
     '"Ack"', '"ACK"', '"acks"', '"ac"', '" ack"', '"ack "', '"ack\\u0000"', '"acc\\u006b"', '"Lost"', '"loss"',
     '"Timer"', '"timers"', '"pto"', '"Discard"', '"discarded"', '"Confirmed"', '"confirm"', '"Keys"', '"key"',
     '"Metrics"', '"metric"', '"\\u00e9"', '"sent\\n"',
@@ -133,7 +133,7 @@ TABLES = {
         Key("in_flight", ("true",), NOT_BOOLEAN, late=("false",), late_fault="F9 flags-clash"),
         Key(
             "leave", ('"probe"', '"window"', '"recovery"'), NOT_STRING,
-            ('"Window"', '""', '"windows"', '"pto"', '"app"'), '"window"',
+            ('"Window"', '""', '"windo"', '"windows"', '"pto"', '"app"'), '"window"',
         ),
     ),
     "ack": (
@@ -146,7 +146,7 @@ TABLES = {
     "lost": (TIME, SPACE, RANGES),
     "timer": (
         TIME,
-        Key("kind", ('"loss"', '"pto"'), NOT_STRING, ('"Loss"', '""', '"losses"', '"PTO"', '"app"')),
+        Key("kind", ('"loss"', '"pto"'), NOT_STRING, ('"Loss"', '""', '"losses"', '"PTO"', '"pto "', '"app"')),
         SPACE,
     ),
     "discard": (

@@ -1,7 +1,10 @@
-//! The edges of the ranges, the defaults, and the names and numbers.
+//! What only the interface shows: events that no line says, the order of spaces and numbers, lists of
+//! spans, and the names and numbers of all rules and faults.
+//!
+//! Ranges, defaults, and the names of keys and choices are cases of lines, in `conformance/lines`.
 use crate::{
-    Event, Fault, Field, Header, Key, Kind, Leave, LineKind, MetricValues, Micros, PacketNumber,
-    RangeFault, Role, Rule, Space, Span, Spans,
+    Event, Fault, Field, Key, Kind, Leave, MetricValues, Micros, PacketNumber, Rule, Space, Span,
+    Spans,
 };
 use std::test::Fail;
 
@@ -14,58 +17,6 @@ const NOTHING_REPORTED: MetricValues = MetricValues {
     smoothed_rtt: None,
     rttvar: None,
 };
-
-#[test]
-fn times_end_at_10_to_the_15(rt: HostRuntime) {
-    for (value, time) in [
-        (0, Some(0)),
-        (999_999_999_999_999, Some(999_999_999_999_999)),
-        (1_000_000_000_000_000, Some(1_000_000_000_000_000)),
-        (1_000_000_000_000_001, None),
-        (18_446_744_073_709_551_615, None),
-    ] {
-        assert_eq!(rt; Micros::new(value).map(Micros::get), time, "at {value}");
-    }
-    assert_eq!(rt; Micros::MAX, 1_000_000_000_000_000);
-}
-
-#[test]
-fn packet_numbers_end_below_2_to_the_62(rt: HostRuntime) {
-    for (value, number) in [
-        (0, Some(0)),
-        (4_611_686_018_427_387_902, Some(4_611_686_018_427_387_902)),
-        (4_611_686_018_427_387_903, Some(4_611_686_018_427_387_903)),
-        (4_611_686_018_427_387_904, None),
-        (18_446_744_073_709_551_615, None),
-    ] {
-        assert_eq!(rt;
-            PacketNumber::new(value).map(PacketNumber::get),
-            number,
-            "at {value}"
-        );
-    }
-    assert_eq!(rt; PacketNumber::MAX, 4_611_686_018_427_387_903);
-}
-
-#[test]
-fn spans_rise_or_stand_still(rt: HostRuntime) -> Result<(), Fail> {
-    for (lo, hi, is_span) in [
-        (0, 0, true),
-        (3, 3, true),
-        (3, 4, true),
-        (4, 3, false),
-        (0, 4_611_686_018_427_387_903, true),
-        (4_611_686_018_427_387_903, 4_611_686_018_427_387_903, true),
-        (4_611_686_018_427_387_903, 4_611_686_018_427_387_902, false),
-    ] {
-        let low = PacketNumber::new(lo).ok_or("a packet number")?;
-        let high = PacketNumber::new(hi).ok_or("a packet number")?;
-        let ends = Span::new(low, high).map(|span| (span.lo().get(), span.hi().get()));
-        let wanted = if is_span { Some((lo, hi)) } else { None };
-        assert_eq!(rt; ends, wanted, "from {lo} to {hi}");
-    }
-    Ok(())
-}
 
 /// The span of these two numbers.
 fn span(lo: u64, hi: u64) -> Result<Span, Fail> {
@@ -92,73 +43,6 @@ fn lists_of_spans_keep_their_order(rt: HostRuntime) -> Result<(), Fail> {
     again.push(span(0, 3)?)?;
     assert!(rt; given == again, "the same spans in the same order");
     Ok(())
-}
-
-#[test]
-fn headers_default_what_is_absent(rt: HostRuntime) -> Result<(), Fail> {
-    for (datagram, window) in [
-        (1200, 12000),
-        (1472, 14720),
-        (1473, 14720),
-        (1500, 14720),
-        (7360, 14720),
-        (7361, 14722),
-        (9000, 18000),
-        (65527, 131_054),
-    ] {
-        let header = Header::new(Role::Server, datagram, None, None, None)?;
-        assert_eq!(rt; header.role(), Role::Server);
-        assert_eq!(rt; header.max_datagram_size(), datagram);
-        assert_eq!(rt; header.max_ack_delay(), 25_000);
-        assert_eq!(rt; header.initial_rtt(), 333_000);
-        assert_eq!(rt; header.initial_window(), window, "at {datagram}");
-    }
-    Ok(())
-}
-
-#[test]
-fn headers_keep_what_is_given(rt: HostRuntime) -> Result<(), Fail> {
-    for (datagram, delay, rtt, window) in [
-        (1200, 0, 1, 2400),
-        (1201, 16_383_000, 1_000_000_000, 4_294_967_295),
-        (65527, 1, 2, 131_054),
-    ] {
-        let header = Header::new(Role::Client, datagram, Some(delay), Some(rtt), Some(window))?;
-        assert_eq!(rt; header.role(), Role::Client);
-        assert_eq!(rt; header.max_datagram_size(), datagram);
-        assert_eq!(rt; header.max_ack_delay(), delay);
-        assert_eq!(rt; header.initial_rtt(), rtt);
-        assert_eq!(rt; header.initial_window(), window);
-    }
-    Ok(())
-}
-
-#[test]
-fn headers_name_the_first_value_out_of_range(rt: HostRuntime) {
-    let most = 18_446_744_073_709_551_615;
-    for (datagram, delay, rtt, window, key) in [
-        (1199, None, None, None, Key::MaxDatagramSize),
-        (65528, None, None, None, Key::MaxDatagramSize),
-        (most, None, None, None, Key::MaxDatagramSize),
-        (1200, Some(16_383_001), None, None, Key::MaxAckDelay),
-        (1200, Some(most), None, None, Key::MaxAckDelay),
-        (1200, None, Some(0), None, Key::InitialRtt),
-        (1200, None, Some(1_000_000_001), None, Key::InitialRtt),
-        (1200, None, None, Some(2399), Key::InitialWindow),
-        (9000, None, None, Some(17999), Key::InitialWindow),
-        (1200, None, None, Some(4_294_967_296), Key::InitialWindow),
-        (1200, None, None, Some(most), Key::InitialWindow),
-        (0, Some(most), Some(0), Some(0), Key::MaxDatagramSize),
-        (1200, Some(most), Some(0), Some(0), Key::MaxAckDelay),
-        (1200, Some(0), Some(0), Some(0), Key::InitialRtt),
-    ] {
-        let answer = Header::new(Role::Client, datagram, delay, rtt, window);
-        assert_eq!(rt;
-            answer,
-            Err(RangeFault(key)),
-            "{datagram} {delay:?} {rtt:?} {window:?}"
-        );
-    }
 }
 
 #[test]
@@ -342,108 +226,5 @@ fn faults_have_names_and_numbers(rt: HostRuntime) {
     ] {
         assert_eq!(rt; (fault.number(), fault.name()), (number, name));
         assert_eq!(rt; fault.key(), key, "{name}");
-    }
-}
-
-#[test]
-fn keys_have_the_text_of_a_line(rt: HostRuntime) {
-    for (key, name) in [
-        (Key::Event, "event"),
-        (Key::Version, "version"),
-        (Key::Role, "role"),
-        (Key::MaxDatagramSize, "max_datagram_size"),
-        (Key::MaxAckDelay, "max_ack_delay"),
-        (Key::InitialRtt, "initial_rtt"),
-        (Key::InitialWindow, "initial_window"),
-        (Key::Time, "time"),
-        (Key::Space, "space"),
-        (Key::Number, "number"),
-        (Key::Size, "size"),
-        (Key::Eliciting, "eliciting"),
-        (Key::InFlight, "in_flight"),
-        (Key::Leave, "leave"),
-        (Key::Ranges, "ranges"),
-        (Key::Delay, "delay"),
-        (Key::Limited, "limited"),
-        (Key::Kind, "kind"),
-    ] {
-        assert_eq!(rt; key.name(), name);
-    }
-}
-
-#[test]
-fn texts_name_choices(rt: HostRuntime) {
-    for (text, role, space) in [
-        ("client", Some(Role::Client), None),
-        ("server", Some(Role::Server), None),
-        ("initial", None, Some(Space::Initial)),
-        ("handshake", None, Some(Space::Handshake)),
-        ("app", None, Some(Space::App)),
-        ("", None, None),
-        ("Client", None, None),
-        ("clients", None, None),
-        ("1rtt", None, None),
-    ] {
-        assert_eq!(rt; Role::named(text), role, "{text}");
-        assert_eq!(rt; Space::named(text), space, "{text}");
-    }
-    for (text, leave, kind) in [
-        ("window", Some(Leave::Window), None),
-        ("probe", Some(Leave::Probe), None),
-        ("recovery", Some(Leave::Recovery), None),
-        ("loss", None, Some(Kind::Loss)),
-        ("pto", None, Some(Kind::Pto)),
-        ("", None, None),
-        ("windo", None, None),
-        ("PTO", None, None),
-        ("pto ", None, None),
-    ] {
-        assert_eq!(rt; Leave::named(text), leave, "{text}");
-        assert_eq!(rt; Kind::named(text), kind, "{text}");
-    }
-}
-
-#[test]
-fn choices_have_the_names_that_name_them(rt: HostRuntime) {
-    for (role, name) in [(Role::Client, "client"), (Role::Server, "server")] {
-        assert_eq!(rt; role.name(), name);
-    }
-    for (space, name) in [
-        (Space::Initial, "initial"),
-        (Space::Handshake, "handshake"),
-        (Space::App, "app"),
-    ] {
-        assert_eq!(rt; space.name(), name);
-    }
-    for (leave, name) in [
-        (Leave::Window, "window"),
-        (Leave::Probe, "probe"),
-        (Leave::Recovery, "recovery"),
-    ] {
-        assert_eq!(rt; leave.name(), name);
-    }
-    for (kind, name) in [(Kind::Loss, "loss"), (Kind::Pto, "pto")] {
-        assert_eq!(rt; kind.name(), name);
-    }
-}
-
-#[test]
-fn kinds_of_lines_have_the_names_that_name_them(rt: HostRuntime) {
-    for (kind, name) in [
-        (LineKind::Header, "header"),
-        (LineKind::Sent, "sent"),
-        (LineKind::Ack, "ack"),
-        (LineKind::Lost, "lost"),
-        (LineKind::Timer, "timer"),
-        (LineKind::Discard, "discard"),
-        (LineKind::Confirmed, "confirmed"),
-        (LineKind::Keys, "keys"),
-        (LineKind::Metrics, "metrics"),
-    ] {
-        assert_eq!(rt; kind.name(), name);
-        assert_eq!(rt; LineKind::named(name), Some(kind), "{name}");
-    }
-    for name in ["", "Sent", "sents", " ack"] {
-        assert_eq!(rt; LineKind::named(name), None, "{name}");
     }
 }
