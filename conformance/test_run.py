@@ -198,6 +198,19 @@ class AuditorTest(RunnerCase):
             self.assertFalse([line for line in failures if line.startswith("FAILED streams/")], failures)
             self.assertTrue(last.startswith("4 passed"), last)
 
+    def test_reset_connection_reaches_the_program(self):
+        self.write_program(
+            "import os\nread = b''\ntry:\n while True:\n  read += os.read(0, 4096) or os._exit(1)\n"
+            "except OSError as error:\n os.write(1, read)\n os._exit(error.errno)\n"
+        )
+        case = {**USAGE_CASE, "status": 104, "stderr": ""}
+        self.write_cases([
+            {**case, "name": text, "input": {"reset": text}, "stdout": text} for text in ("", "a line", "x" * 100000)
+        ])
+        *failures, last = self.lines(1)
+        self.assertFalse([line for line in failures if line.startswith("FAILED streams/")], failures)
+        self.assertTrue(last.startswith("3 passed"), last)
+
     def test_case_that_takes_too_long(self):
         self.write_program("import sys, time\nif len(sys.argv) == 1:\n time.sleep(1000)\n" + self.honest())
         self.write_cases([{**USAGE_CASE, "seconds": 0.5}])
