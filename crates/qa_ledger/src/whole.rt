@@ -1,13 +1,9 @@
 //! A ledger that keeps all events, and judges each by the history before it.
-ghost use Rattle.std.specs.Prelude.{◌≡◌, ◌<◌, ◌≤◌, ◌+◌, ◌∷◌, ◌++◌, [], List, length, true, false, Ok, Err, Some, None, OnOk, OnErr};
-ghost use Rattle.qa_base.specs.declared.event.Event.{Event as AnEvent};
-ghost use Rattle.qa_base.specs.declared.rule.Rule.{Rule as ARule};
+ghost use Rattle.std.specs.Prelude.{◌≡◌, ◌<◌, ◌+◌, ◌∷◌, ◌++◌, [], length, true, false, Ok, Err, Some, None, OnOk, OnErr};
 ghost use Rattle.qa_base.specs.machine.Loss.{owed};
-ghost use Rattle.qa_base.specs.machine.Packets.{history_of, is_some_packet};
+ghost use Rattle.qa_base.specs.machine.Packets.{history_of};
 ghost use Rattle.qa_base.specs.machine.Rules as rules;
-ghost use Rattle.qa_base.specs.machine.State as state;
 ghost use Rattle.qa_base.specs.machine.Widths.{Fits};
-ghost use Rattle.qa_base.specs.values.Settings.{Settings};
 ghost use Rattle.qa_ledger.specs.Holding.{StandsFor};
 
 use crate::ledger::{Ledger, LedgerFault};
