@@ -426,3 +426,13 @@ fn choices_have_the_names_that_name_them(rt: HostRuntime) {
         assert_eq!(rt; kind.name(), name);
     }
 }
+
+#[test]
+fn an_event_is_duplicated(rt: HostRuntime) -> Result<(), Fail> {
+    let mut ranges = Spans::new(rt.alloc());
+    ranges.push(span(3, 3)?)?;
+    ranges.push(span(0, 3)?)?;
+    let event = ack(Micros::new(5).ok_or("a time")?, ranges);
+    assert!(rt; event.duplicate(rt.alloc())? == event);
+    Ok(())
+}

@@ -15,8 +15,8 @@ use std::marker::Model;
 
 /// A ledger that keeps all events, and judges each by the definitions over those before it.
 ///
-/// It takes memory for each event, and time that grows faster than the square of their number for
-/// each: a hundred events are judged at once, a thousand are too many.
+/// It keeps a copy of each event. The time grows about as the fourth power of their number: 300
+/// events take a fraction of a second, and 1,000 about ten seconds.
 #[derive(Drop)]
 pub struct Whole {
     alloc: Global,
