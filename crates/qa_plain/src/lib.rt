@@ -21,6 +21,8 @@ mod packet;
 mod questions;
 mod sampling;
 mod settled;
+#[cfg(test)]
+mod tests;
 mod timer;
 mod window;
 
