@@ -228,3 +228,13 @@ fn faults_have_names_and_numbers(rt: HostRuntime) {
         assert_eq!(rt; fault.key(), key, "{name}");
     }
 }
+
+#[test]
+fn an_event_is_duplicated(rt: HostRuntime) -> Result<(), Fail> {
+    let mut ranges = Spans::new(rt.alloc());
+    ranges.push(span(3, 3)?)?;
+    ranges.push(span(0, 3)?)?;
+    let event = ack(Micros::new(5).ok_or("a time")?, ranges);
+    assert!(rt; event.duplicate(rt.alloc())? == event);
+    Ok(())
+}

@@ -1,5 +1,5 @@
 //! What a ledger is.
-ghost use Rattle.std.specs.Prelude.{◌≡◌, ◌<◌, ◌+◌, ℕ, Bool, true, false, List, [], ◌∷◌, Ok, Err, OnOk, Some, None};
+ghost use Rattle.std.specs.Prelude.{◌≡◌, ◌<◌, ◌+◌, ℕ, Bool, true, false, List, [], ◌∷◌, Err, OnOk, Some, None};
 ghost use Rattle.qa_base.specs.declared.event.Event.{Event as AnEvent};
 ghost use Rattle.qa_base.specs.declared.rule.Rule.{Rule as ARule};
 ghost use Rattle.qa_base.specs.machine.Loss.{owed};

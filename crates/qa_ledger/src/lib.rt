@@ -4,6 +4,8 @@
 mod ledger;
 mod metrics;
 mod rules;
+#[cfg(test)]
+mod tests;
 mod whole;
 
 pub use ledger::{Ledger, LedgerFault};

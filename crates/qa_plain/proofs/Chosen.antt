@@ -1,5 +1,5 @@
 -- The chosen packets, as one filter.
-use Rattle.std.proofs.Common.{◌≡◌, List, ℕ, refl, ap, filter}
+use Rattle.std.proofs.Common.{◌≡◌, List, refl, ap}
 use Rattle.qa_base.specs.declared.event.Event.{Event}
 use Rattle.qa_base.specs.machine.Breaches.{numbers}
 use Rattle.qa_base.specs.values.Settings.{Settings}

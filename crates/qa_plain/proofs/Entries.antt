@@ -1,12 +1,12 @@
 -- Entries into recovery, by the last packet that was found lost.
-use Rattle.std.proofs.Common.{◌≡◌, ◌∙◌, ◌+◌, ℕ, List, [], ◌∷◌, ◌++◌, Bool, true, false, Option, Some, None, option_map, refl, ap, sym, map}
+use Rattle.std.proofs.Common.{◌≡◌, ◌∙◌, ◌+◌, ℕ, List, [], ◌∷◌, ◌++◌, Bool, true, false, Option, Some, None, option_map, refl, ap, map}
 use Rattle.std.specs.Prelude.{if◌then◌else◌}
 use Rattle.qa_base.specs.declared.event.Event.{Event}
 use Rattle.qa_base.specs.values.Events.{time_of}
 use Rattle.qa_base.specs.machine.Leave.{recovery_spent, is_recovery_packet}
 use Rattle.qa_base.specs.machine.Loss.{owed, is_persistent}
 use Rattle.qa_base.specs.machine.Packets.{Packet, newly_acknowledged}
-use Rattle.qa_base.specs.machine.Reno.{Move, Hit, Grow, Control, reno, is_entry, enters, grows, collapses, is_limited, moves_of_last}
+use Rattle.qa_base.specs.machine.Reno.{Move, Grow, reno, is_entry, enters, grows, collapses, is_limited}
 use Rattle.qa_base.specs.values.Settings.{Settings}
 use Rattle.qa_plain.specs.Words.{last_sending, hits_at, entry_by}
 use Rattle.qa_plain.proofs.Moved.{hits_is}

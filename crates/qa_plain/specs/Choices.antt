@@ -1,5 +1,5 @@
 -- The packets whose numbers are asked of.
-use Rattle.std.specs.Prelude.{ℕ, Bool, List, map, filter}
+use Rattle.std.specs.Prelude.{ℕ, Bool, List, filter}
 use Rattle.qa_base.specs.declared.event.Event.{Event}
 use Rattle.qa_base.specs.machine.Breaches.{numbers}
 use Rattle.qa_base.specs.machine.Loss.{owed, is_owed}

@@ -1,9 +1,8 @@
-//! Persistent congestion, computed plainly.
+//! Persistent congestion (RFC 9002, section 7.6).
 ghost use Rattle.std.specs.Prelude.{◌≡◌};
 ghost use Rattle.std.specs.List.{list_any};
 ghost use Rattle.qa_base.specs.machine.Loss as loss;
 ghost use Rattle.qa_base.specs.machine.Packets.{history_of};
-ghost use Rattle.qa_base.specs.machine.Rtt as estimates;
 ghost use Rattle.qa_plain.specs.Looks.{IsLook};
 
 use crate::losses::{Look, is_owed};
@@ -11,8 +10,8 @@ use crate::packet::{Packet, packet_of};
 use crate::sampling::micros;
 use crate::settled::is_covered;
 use qa_base::{Event, Header, Micros};
-use qa_recovery::Rtt;
 
+/// Whether the packet was sent after the first sample.
 fn is_after(first: Option<Micros>, packet: Packet) -> bool
     ensures { result ≡ loss.is_after first packet }
 {
@@ -22,6 +21,8 @@ fn is_after(first: Option<Micros>, packet: Packet) -> bool
     }
 }
 
+/// Whether the packet can be an end of persistent congestion: ack-eliciting, and sent after the
+/// first sample.
 fn is_end(header: &Header, events: &[Event], look: Look, packet: Packet) -> bool
     requires seen { IsLook header.now (history_of events.now) look }
     ensures { result ≡ loss.is_end header.now (history_of events.now) packet }
@@ -47,6 +48,7 @@ pub fn is_acknowledged_between(events: &[Event], first: Packet, second: Packet) 
     found
 }
 
+/// Whether the two lie too far apart, and nothing that was sent between them was acknowledged.
 fn are_ends(header: &Header, events: &[Event], look: Look, first: Packet, second: Packet) -> bool
     requires seen { IsLook header.now (history_of events.now) look }
     ensures { result ≡ loss.are_ends header.now (history_of events.now) first second }

@@ -1,12 +1,10 @@
-//! The deadline of the loss detection timer, computed plainly.
-ghost use Rattle.std.specs.Prelude.{List, ◌≡◌, ◌∷◌, ◌≤◌, ◌<◌, ◌^◌, ◌*◌, ◌+◌, Some, None, Option, length, option_map, find, filter, map, min, unwrap_or, if◌then◌else◌};
+//! The deadline of the loss detection timer (RFC 9002, section 6.2, A.8).
+ghost use Rattle.std.specs.Prelude.{◌≡◌, ◌∷◌, ◌≤◌, ◌<◌, ◌^◌, ◌*◌, ◌+◌, Some, None, Option, filter, map, min, unwrap_or, if◌then◌else◌};
 ghost use Rattle.std.specs.List.{list_any};
-ghost use Rattle.std.specs.Option.{ForSome, option_or};
+ghost use Rattle.std.specs.Option.{option_or};
 ghost use Rattle.qa_base.specs.declared.event.Event.{Event};
 ghost use Rattle.qa_base.specs.machine.Handshake as handshake;
-ghost use Rattle.qa_base.specs.machine.Loss as loss;
 ghost use Rattle.qa_base.specs.machine.Packets.{history_of, packets_of};
-ghost use Rattle.qa_base.specs.machine.Rtt as estimates;
 ghost use Rattle.qa_plain.specs.Looks.{IsLook};
 ghost use Rattle.qa_base.specs.machine.Timer as timers;
 ghost use Rattle.qa_base.specs.declared.space.Space.TheVariants as spaces;
@@ -17,8 +15,8 @@ use crate::losses::{Look, is_open};
 use crate::packet::{Packet, packet_of};
 use crate::settled::{acknowledges_new, largest_acknowledged};
 use qa_base::{Due, Event, Header, Kind, Micros, Space};
-use qa_recovery::Rtt;
 
+/// The earlier of the two; of equal times the first.
 fn earlier(due: Option<Due>, later: Option<Due>) -> Option<Due>
     ensures { result ≡ timers.earlier due later }
 {
@@ -35,6 +33,7 @@ fn earlier(due: Option<Due>, later: Option<Due>) -> Option<Due>
     }
 }
 
+/// The earlier of the two times.
 fn sooner(least: Option<Micros>, time: Micros) -> Micros
     ensures { result ≡ min time (unwrap_or least time) }
 {
@@ -44,6 +43,7 @@ fn sooner(least: Option<Micros>, time: Micros) -> Micros
     }
 }
 
+/// Whether the number is below the largest that was acknowledged.
 fn is_below_largest(number: u64, largest: Option<u64>) -> bool
     ensures { result ≡ timers.is_below_largest number largest }
 {
@@ -53,6 +53,8 @@ fn is_below_largest(number: u64, largest: Option<u64>) -> bool
     }
 }
 
+/// Whether the packet is lost once it is old: open, in flight, below the largest acknowledged
+/// number of its space.
 fn awaits_loss(header: &Header, events: &[Event], look: Look, packet: Packet) -> bool
     requires seen { IsLook header.now (history_of events.now) look }
     ensures { result ≡ timers.awaits_loss header.now (history_of events.now) packet }
@@ -65,6 +67,7 @@ fn awaits_loss(header: &Header, events: &[Event], look: Look, packet: Packet) ->
         )
 }
 
+/// When the first such packet of the space was sent.
 fn first_awaiting(header: &Header, events: &[Event], look: Look, space: Space) -> Option<Micros>
     requires seen { IsLook header.now (history_of events.now) look }
     ensures { result ≡ timers.least_of (map (λ p. p.time) (filter (timers.awaits_loss header.now (history_of events.now)) (packets_of (history_of events.now) space))) }
@@ -80,6 +83,7 @@ fn first_awaiting(header: &Header, events: &[Event], look: Look, space: Space) -
     least
 }
 
+/// When the first packet of the space is old.
 fn loss_due(header: &Header, events: &[Event], look: Look, space: Space) -> Option<Due>
     requires seen { IsLook header.now (history_of events.now) look }
     ensures { result ≡ timers.loss_due header.now (history_of events.now) space }
@@ -94,6 +98,7 @@ fn loss_due(header: &Header, events: &[Event], look: Look, space: Space) -> Opti
     }
 }
 
+/// The earliest of these of all spaces.
 fn earliest_loss(header: &Header, events: &[Event], look: Look) -> Option<Due>
     requires seen { IsLook header.now (history_of events.now) look }
     ensures { result ≡ timers.earliest_loss header.now (history_of events.now) }
@@ -107,6 +112,7 @@ fn earliest_loss(header: &Header, events: &[Event], look: Look) -> Option<Due>
     )
 }
 
+/// Whether an open packet of the space asks for an acknowledgment.
 fn some_awaits(header: &Header, events: &[Event], look: Look, space: Space) -> bool
     requires seen { IsLook header.now (history_of events.now) look }
     ensures { result ≡ list_any (timers.awaits_acknowledgment header.now (history_of events.now)) (packets_of (history_of events.now) space) }
@@ -137,6 +143,7 @@ pub fn last_eliciting(events: &[Event], space: Space) -> Option<Micros>
     last
 }
 
+/// Two to the power of the PTO count.
 #[tactic(auto, using(crate::proofs::Powers::power_is, crate::proofs::Powers::power_small))]
 fn power(count: u64) -> u128
     requires count { count ≤ 40 }
@@ -146,6 +153,7 @@ fn power(count: u64) -> u128
     1 << count
 }
 
+/// A duration, doubled for each probe timeout.
 #[tactic(auto, using(crate::proofs::Powers::product_small))]
 fn doubled(base: u64, count: u64) -> u128
     requires count { count ≤ 40 }
@@ -156,6 +164,8 @@ fn doubled(base: u64, count: u64) -> u128
     u128::from(base) * power(count)
 }
 
+/// The probe timeout of the space, doubled for each before it; the peer may delay its
+/// acknowledgments.
 fn pto_due(
     header: &Header,
     events: &[Event],
@@ -183,6 +193,7 @@ fn pto_due(
     }
 }
 
+/// The probe timeout of application data, which counts once the handshake is confirmed.
 fn app_pto(header: &Header, events: &[Event], look: Look, count: u64) -> Option<Due>
     requires seen { IsLook header.now (history_of events.now) look }
     requires counted { count ≡ timers.backoff header.now (history_of events.now) }
@@ -202,6 +213,7 @@ fn app_pto(header: &Header, events: &[Event], look: Look, count: u64) -> Option<
     )
 }
 
+/// The earliest probe timeout of all spaces.
 fn earliest_pto(header: &Header, events: &[Event], look: Look, count: u64) -> Option<Due>
     requires seen { IsLook header.now (history_of events.now) look }
     requires counted { count ≡ timers.backoff header.now (history_of events.now) }
@@ -217,6 +229,7 @@ fn earliest_pto(header: &Header, events: &[Event], look: Look, count: u64) -> Op
     )
 }
 
+/// Whether an event after these sets the timer.
 fn sets_timer(before: &[Event], event: &Event) -> bool
     ensures { result ≡ timers.sets_timer (event.now ∷ history_of before.now) }
 {
@@ -241,6 +254,7 @@ pub fn last_set(events: &[Event]) -> Option<Micros>
     last
 }
 
+/// The timer that a client keeps until its address is validated (RFC 9002, section 6.2.2.1).
 fn anti_deadlock(header: &Header, events: &[Event], look: Look, count: u64) -> Option<Due>
     requires seen { IsLook header.now (history_of events.now) look }
     requires counted { count ≡ timers.backoff header.now (history_of events.now) }
@@ -265,6 +279,7 @@ fn anti_deadlock(header: &Header, events: &[Event], look: Look, count: u64) -> O
     }
 }
 
+/// The first of the two that there is.
 fn or_else(due: Option<Due>, other: Option<Due>) -> Option<Due>
     ensures { result ≡ option_or due other }
 {

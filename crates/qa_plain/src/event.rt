@@ -6,7 +6,7 @@ ghost use Rattle.qa_plain.specs.Listed.{listed};
 
 use qa_base::{Event, Micros, PacketNumber, Space, Span};
 
-/// The time of the event.
+/// When the event happened.
 pub fn time_of(event: &Event) -> Micros
     ensures { result ≡ events.time_of event.now }
 {

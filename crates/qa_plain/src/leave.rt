@@ -1,16 +1,13 @@
-//! By what leave packets go out, and how much of it is left, computed plainly.
+//! By whose leave packets go out, and how much of it was spent.
 ghost use Rattle.std.specs.Prelude.{List, ◌||◌, ◌≡◌, ◌∷◌, ◌≤◌, ◌<◌, ◌^◌, ◌*◌, ◌+◌, Some, None, length, option_map, if◌then◌else◌};
 ghost use Rattle.std.specs.List.{All};
 ghost use Rattle.std.specs.Option.{ForSome};
 ghost use Rattle.qa_base.specs.declared.event.Event.{Event};
 ghost use Rattle.qa_base.specs.machine.Leave as leaves;
 ghost use Rattle.qa_base.specs.machine.Packets as packets;
-ghost use Rattle.qa_base.specs.machine.Loss as loss;
 ghost use Rattle.qa_base.specs.machine.Packets.{history_of};
 ghost use Rattle.qa_base.specs.machine.Reno as steps;
-ghost use Rattle.qa_base.specs.machine.Rtt as estimates;
 ghost use Rattle.qa_plain.specs.Looks.{IsLook};
-ghost use Rattle.qa_base.specs.machine.Timer as timers;
 ghost use Rattle.qa_base.specs.machine.Probes as probes;
 ghost use Rattle.qa_plain.specs.Words as words;
 ghost use Rattle.qa_base.specs.machine.Widths.{Fits};
@@ -21,8 +18,9 @@ use crate::settled::acknowledges_new;
 use crate::timer::{is_discard, is_pto};
 use crate::window::{last_owed, moved};
 use qa_base::{Event, Header, Leave, Micros, Space};
-use qa_recovery::{Reno, Rtt};
+use qa_recovery::Reno;
 
+/// The size of the in-flight packet marked as a probe that the event sent.
 fn probe_size(event: &Event) -> u64
     ensures { (h : List Event) → result ≡ leaves.probe_size (event.now ∷ h) }
 {
@@ -37,6 +35,7 @@ fn probe_size(event: &Event) -> u64
     }
 }
 
+/// What was spent, with this.
 fn more_spent(spent: Option<u128>, size: u64, place: usize) -> Option<u128>
     requires few { ForSome spent (λ n. n ≤ place * 18446744073709551615) }
     ensures value { result ≡ option_map (λ n. size + n) spent }
@@ -48,7 +47,8 @@ fn more_spent(spent: Option<u128>, size: u64, place: usize) -> Option<u128>
     }
 }
 
-/// The bytes of probes since the last probe timeout; None without one.
+/// The bytes of in-flight packets marked as probes since the last probe timeout; None without one
+/// (RFC 9002, section 6.2.4).
 #[tactic(auto, using(qa_base::proofs::machine::Steps::probe_spent_after))]
 pub fn probe_spent(events: &[Event]) -> Option<u128>
     ensures value { result ≡ leaves.probe_spent (history_of events.now) }
@@ -65,6 +65,7 @@ pub fn probe_spent(events: &[Event]) -> Option<u128>
     spent
 }
 
+/// Whether the event sends an ack-eliciting packet of the space.
 fn is_probe_of(event: &Event, in_space: Space) -> bool
     ensures { (h : List Event) → result ≡ leaves.is_probe_of in_space (event.now ∷ h) }
 {
@@ -78,12 +79,14 @@ fn is_probe_of(event: &Event, in_space: Space) -> bool
     }
 }
 
+/// Whether an event after these does, or acknowledges something new.
 fn is_probe_or_new(before: &[Event], event: &Event, space: Space) -> bool
     ensures { result ≡ (leaves.is_probe_of space (event.now ∷ history_of before.now) || packets.acknowledges_new (event.now ∷ history_of before.now)) }
 {
     is_probe_of(event, space) || acknowledges_new(before, event)
 }
 
+/// Whether an event after these makes a probe of the space needless.
 #[tactic(auto, using(crate::proofs::Answered::answers_is))]
 fn answers_pto(before: &[Event], event: &Event, space: Space) -> bool
     ensures { result ≡ leaves.answers_pto space (event.now ∷ history_of before.now) }
@@ -91,6 +94,7 @@ fn answers_pto(before: &[Event], event: &Event, space: Space) -> bool
     is_discard(event) || is_probe_or_new(before, event, space)
 }
 
+/// The space of a timer.
 fn timer_space(event: &Event) -> Option<Space>
     ensures { (h : List Event) → result ≡ leaves.timer_space (event.now ∷ h) }
 {
@@ -100,6 +104,7 @@ fn timer_space(event: &Event) -> Option<Space>
     }
 }
 
+/// The space in which a probe is due, unless an event after these makes it needless.
 fn unanswered_by(before: &[Event], event: &Event, due: Option<Space>) -> Option<Space>
     ensures { result ≡ probes.unanswered_by (event.now ∷ history_of before.now) due }
 {
@@ -131,7 +136,8 @@ pub fn probe_due(events: &[Event]) -> Option<Space>
     due
 }
 
-/// Whether the probe of the last probe timeout is due.
+/// Whether the probe of the last probe timeout is still due (RFC 9002, section 6.2.4): since it there
+/// was no ack-eliciting packet in its space, no acknowledgment of something new and no discard.
 #[tactic(auto, using(qa_base::proofs::machine::Steps::probe_due_is))]
 pub fn is_probe_due(events: &[Event]) -> bool
     ensures { result ≡ leaves.is_probe_due (history_of events.now) }
@@ -139,6 +145,7 @@ pub fn is_probe_due(events: &[Event]) -> bool
     probe_due(events).is_some()
 }
 
+/// Whether a loss enters recovery, of packets the last of which was sent then.
 fn enters(reno: Reno, last: Option<Micros>) -> bool
     ensures { result ≡ words.entry_by reno.recovery_start_time last }
 {
@@ -149,6 +156,7 @@ fn enters(reno: Reno, last: Option<Micros>) -> bool
     }
 }
 
+/// 1 for an in-flight packet that is marked for recovery, else 0.
 fn recovery_mark(event: &Event) -> u64
     ensures value { (h : List Event) → result ≡ (if leaves.is_recovery_packet (event.now ∷ h) then 1 else 0) }
     ensures one { result ≤ 1 }
@@ -163,6 +171,7 @@ fn recovery_mark(event: &Event) -> u64
     }
 }
 
+/// What was spent, with this.
 fn one_more(spent: Option<u64>, more: u64, place: usize) -> Option<u64>
     requires one { more ≤ 1 }
     requires room { place < 2 ^ 32 }
@@ -176,6 +185,7 @@ fn one_more(spent: Option<u64>, more: u64, place: usize) -> Option<u64>
     }
 }
 
+/// What was spent after an event: nothing where it enters recovery.
 fn spent_after(spent: Option<u64>, entered: bool, more: u64, place: usize) -> Option<u64>
     requires one { more ≤ 1 }
     requires room { place < 2 ^ 32 }
@@ -189,6 +199,7 @@ fn spent_after(spent: Option<u64>, entered: bool, more: u64, place: usize) -> Op
     one_more(spent, more, place)
 }
 
+/// How many recovery packets there were since the last entry, with one more event.
 #[tactic(auto, using(crate::proofs::Entries::recovery_spent_is))]
 fn recovery_after(
     header: &Header,
@@ -212,7 +223,10 @@ fn recovery_after(
     spent_after(spent, entered, recovery_mark(event), before.len())
 }
 
-/// How many packets went out by leave of recovery since the last entry; None without one.
+/// How many in-flight packets went out by leave of recovery since the last entry into it; None
+/// without one (RFC 9002, section 7.3.2).
+///
+/// Asks for fewer than 2^32 events, each of which fits.
 pub fn recovery_spent(header: &Header, events: &[Event]) -> Option<u64>
     requires few { length events.now < 2 ^ 32 }
     requires fit { All Fits events.now }

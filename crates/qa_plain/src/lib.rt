@@ -1,4 +1,13 @@
-//! The machine of RFC 9002, computed from the events alone.
+//! The quantities of the machine of RFC 9002, each computed from the events alone.
+//!
+//! Each function is its definition over the events in their order, and nothing else: it keeps no
+//! state, takes no memory, and always returns. So it takes time: the estimate and the window walk
+//! the events behind each packet for each acknowledgment. For 300 events that is about a millisecond
+//! a call. Events need not be a run, nor their times or numbers rise. What is asked of them stands at
+//! each function: `reno` and `recovery_spent` ask that each fits (`Event::fits`) and that there are
+//! fewer than 2^32, `deadline` for a PTO count of at most 40, and the others for nothing.
+//!
+//! Times are in microseconds, sizes and windows in bytes.
 #![tactic(auto)]
 
 mod congestion;
@@ -12,6 +21,8 @@ mod packet;
 mod questions;
 mod sampling;
 mod settled;
+#[cfg(test)]
+mod tests;
 mod timer;
 mod window;
 

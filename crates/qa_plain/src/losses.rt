@@ -1,9 +1,8 @@
-//! Detection, what is open, and the bytes in flight, computed plainly.
-ghost use Rattle.std.specs.Prelude.{List, ◌&&◌, ◌≡◌, ◌∷◌, ◌≤◌, ◌*◌, length};
+//! Detection of losses, what is open, and the bytes in flight (RFC 9002, section 6.1, A.10).
+ghost use Rattle.std.specs.Prelude.{◌&&◌, ◌≡◌, ◌∷◌, ◌≤◌, ◌*◌, length};
 ghost use Rattle.qa_base.specs.declared.space.Space.{Space};
 ghost use Rattle.qa_base.specs.machine.Loss as loss;
 ghost use Rattle.qa_base.specs.machine.Packets as packets;
-ghost use Rattle.qa_base.specs.values.Settings.{Settings};
 ghost use Rattle.qa_base.specs.machine.Packets.{history_of};
 ghost use Rattle.qa_base.specs.machine.Rtt as estimates;
 ghost use Rattle.qa_plain.specs.Looks.{IsLook, largest_there as largest_there_of};
@@ -18,11 +17,14 @@ use qa_base::{Event, Header, Kind, Micros, Space};
 use qa_recovery::Rtt;
 use std::marker::Model;
 
-/// What is known of a history before its packets are asked.
+/// What is found out of a history once, before its packets are asked.
 #[derive(Clone, Copy, Debug, PartialEq, Eq)]
 pub struct Look {
+    /// The estimate of the round-trip time.
     pub rtt: Rtt,
+    /// Where and when the last event looks for losses.
     pub detection: Option<(Space, Micros)>,
+    /// The largest number that was acknowledged there.
     pub largest: Option<u64>,
 }
 
@@ -36,6 +38,8 @@ impl Model for Look {
     ghost inverse = { λ l. record { rtt = l.rtt; detection = l.detection; largest = l.largest } };
 }
 
+/// Whether the packet was sent as long ago as the time threshold of the RTT and the granularity
+/// (RFC 9002, section 6.1.2).
 fn is_old(rtt: Rtt, now: Micros, packet: Packet) -> bool
     ensures { result ≡ loss.is_old rtt now packet }
 {
@@ -45,6 +49,8 @@ fn is_old(rtt: Rtt, now: Micros, packet: Packet) -> bool
         && GRANULARITY <= age
 }
 
+/// Whether the packet is below the largest acknowledged number, by the packet threshold or for long
+/// enough.
 fn is_late(rtt: Rtt, now: Micros, largest: Option<u64>, packet: Packet) -> bool
     ensures { result ≡ loss.is_late rtt now largest packet }
 {
@@ -95,6 +101,7 @@ pub fn detection(events: &[Event]) -> Option<(Space, Micros)>
     }
 }
 
+/// The largest number that was acknowledged where the last event looks for losses.
 fn largest_there(events: &[Event]) -> Option<u64>
     ensures { result ≡ largest_there_of (history_of events.now) (loss.detection (history_of events.now)) }
 {
@@ -116,6 +123,7 @@ pub fn look_at(header: &Header, events: &[Event], rtt: Rtt) -> Look
     }
 }
 
+/// Whether a detection in this space, at this time, finds the packet lost.
 fn is_found(
     header: &Header,
     events: &[Event],
@@ -132,6 +140,7 @@ fn is_found(
     packet.in_flight && is_late_open(events, rtt, largest, now, packet)
 }
 
+/// Whether the packet is late and unsettled, the cheaper test first.
 #[tactic(auto, using(crate::proofs::Owed::and_turned))]
 fn is_late_open(
     events: &[Event],
@@ -145,6 +154,7 @@ fn is_late_open(
     is_late(rtt, now, largest, packet) && is_unsettled(events, packet)
 }
 
+/// Whether a detection in the packet's space finds it lost.
 fn is_found_at(
     header: &Header,
     events: &[Event],
@@ -206,6 +216,7 @@ pub fn is_open(header: &Header, events: &[Event], look: Look, packet: Packet) ->
         && !is_gone(events, packet.space)
 }
 
+/// What the packet adds to the bytes in flight.
 fn flight_size(header: &Header, events: &[Event], look: Look, packet: Packet) -> u64
     requires seen { IsLook header.now (history_of events.now) look }
     ensures { result ≡ loss.flight_size header.now (history_of events.now) packet }

@@ -1,4 +1,4 @@
-//! Which packet numbers ranges name, computed plainly.
+//! Which packet numbers ranges name.
 ghost use Rattle.std.specs.Prelude.{◌≡◌};
 ghost use Rattle.std.specs.List.{list_all};
 ghost use Rattle.qa_base.specs.machine.Breaches as breaches;
@@ -7,7 +7,6 @@ ghost use Rattle.qa_base.specs.machine.Loss as loss;
 ghost use Rattle.qa_base.specs.machine.Numbers as tests;
 ghost use Rattle.qa_base.specs.machine.Packets as packets;
 ghost use Rattle.qa_base.specs.machine.Packets.{history_of};
-ghost use Rattle.qa_base.specs.machine.Rtt as estimates;
 ghost use Rattle.qa_plain.specs.Looks.{IsLook};
 ghost use Rattle.qa_plain.specs.Choices.{chosen, is_chosen as is_chosen_by, numbers_chosen};
 
@@ -15,7 +14,6 @@ use crate::event::is_named;
 use crate::losses::{Look, is_owed};
 use crate::packet::{Packet, packet_of};
 use qa_base::{Event, Header, PacketNumber, Space, Span};
-use qa_recovery::Rtt;
 
 /// The packets whose numbers are asked of.
 #[derive(Clone, Copy, Debug, PartialEq, Eq)]
@@ -26,6 +24,7 @@ pub enum Choice {
     Of(Space),
 }
 
+/// Whether the packet is one of those asked of.
 fn is_chosen(header: &Header, events: &[Event], look: Look, choice: Choice, packet: Packet) -> bool
     requires seen { IsLook header.now (history_of events.now) look }
     ensures { result ≡ is_chosen_by header.now (history_of events.now) choice packet }
@@ -36,6 +35,7 @@ fn is_chosen(header: &Header, events: &[Event], look: Look, choice: Choice, pack
     }
 }
 
+/// Whether one of them has this number.
 fn is_in(header: &Header, events: &[Event], look: Look, choice: Choice, wanted: u64) -> bool
     requires seen { IsLook header.now (history_of events.now) look }
     ensures { result ≡ tests.is_in (numbers_chosen header.now (history_of events.now) choice (history_of events.now)) wanted }
@@ -51,6 +51,7 @@ fn is_in(header: &Header, events: &[Event], look: Look, choice: Choice, wanted: 
     found
 }
 
+/// Whether a number of the range, but for its last, has the next one beside it.
 fn has_next(
     header: &Header,
     events: &[Event],
@@ -66,6 +67,7 @@ fn has_next(
         || is_in(header, events, look, choice, number.get() + 1)
 }
 
+/// Whether each of them has.
 fn has_no_gap(header: &Header, events: &[Event], look: Look, choice: Choice, range: Span) -> bool
     requires seen { IsLook header.now (history_of events.now) look }
     ensures { result ≡ list_all (tests.has_next (numbers_chosen header.now (history_of events.now) choice (history_of events.now)) range.0 range.1) (numbers_chosen header.now (history_of events.now) choice (history_of events.now)) }
@@ -83,6 +85,7 @@ fn has_no_gap(header: &Header, events: &[Event], look: Look, choice: Choice, ran
     all
 }
 
+/// Whether each number of the range is one of theirs: its first is, and it has no gap.
 fn has_range(header: &Header, events: &[Event], look: Look, choice: Choice, range: Span) -> bool
     requires seen { IsLook header.now (history_of events.now) look }
     ensures { result ≡ tests.has_range (numbers_chosen header.now (history_of events.now) choice (history_of events.now)) range }
@@ -91,6 +94,7 @@ fn has_range(header: &Header, events: &[Event], look: Look, choice: Choice, rang
         && has_no_gap(header, events, look, choice, range)
 }
 
+/// Whether each number of the ranges is one of theirs.
 fn has_ranges(
     header: &Header,
     events: &[Event],
@@ -125,6 +129,7 @@ pub fn has_all(
     has_ranges(header, events, look, choice, ranges)
 }
 
+/// Whether the ranges name each of them.
 fn all_named(header: &Header, events: &[Event], look: Look, choice: Choice, ranges: &[Span]) -> bool
     requires seen { IsLook header.now (history_of events.now) look }
     ensures { result ≡ list_all (questions.is_named ranges.now) (numbers_chosen header.now (history_of events.now) choice (history_of events.now)) }
@@ -150,6 +155,7 @@ pub fn names_owed(header: &Header, events: &[Event], look: Look, ranges: &[Span]
         && all_owed_named(header, events, look, ranges)
 }
 
+/// Whether the ranges name each packet that is owed.
 #[tactic(auto, using(crate::proofs::Chosen::numbers_are))]
 fn all_owed_named(header: &Header, events: &[Event], look: Look, ranges: &[Span]) -> bool
     requires seen { IsLook header.now (history_of events.now) look }
@@ -173,7 +179,7 @@ pub fn were_sent(
     has_all(header, events, look, Choice::Of(space), ranges)
 }
 
-/// Whether a packet of the space has this number or a higher one.
+/// Whether a packet of the space was sent with this number or a higher one.
 pub fn has_at_or_above(events: &[Event], space: Space, lowest: u64) -> bool
     ensures { result ≡ breaches.has_at_or_above space lowest (history_of events.now) }
 {

@@ -6,16 +6,24 @@ ghost use Rattle.qa_plain.specs.Listed.{listed};
 use qa_base::{Event, Leave, Micros, PacketNumber, Space};
 use std::marker::Model;
 
-/// A packet, and how many events stand before the one that sent it.
+/// A packet, as the event tells it that sent it (RFC 9002, A.1).
 #[derive(Clone, Copy, Debug, PartialEq, Eq)]
 pub struct Packet {
+    /// How many events stand before the one that sent it.
     pub place: usize,
+    /// When it was sent.
     pub time: Micros,
+    /// Its packet number space.
     pub space: Space,
+    /// Its number in that space.
     pub number: PacketNumber,
+    /// Its size in bytes.
     pub size: u64,
+    /// Whether it asks for an acknowledgment.
     pub eliciting: bool,
+    /// Whether it counts as in flight (RFC 9002, section 2).
     pub in_flight: bool,
+    /// By whose leave it went out.
     pub leave: Leave,
 }
 
@@ -47,7 +55,8 @@ impl Model for Packet {
     } };
 }
 
-/// The packet that an event sent, which stands after so many others.
+/// The packet that the event sent, where `place` events stand before it; None of an event that
+/// sent none.
 pub fn packet_of(place: usize, event: &Event) -> Option<Packet>
     ensures { listed result ≡ packets.packet_of place event.now }
 {

@@ -16,6 +16,7 @@ use crate::timer::backoff;
 use crate::{deadlines, losses, named};
 use qa_base::{Due, Event, Header, Space, Span};
 
+/// What is found out of the events once.
 fn look(header: &Header, events: &[Event]) -> Look
     ensures { IsLook header.now (history_of events.now) result }
 {

@@ -1,7 +1,6 @@
-//! The round-trip time by its samples, computed plainly.
+//! The round-trip time, by its samples (RFC 9002, section 5).
 ghost use Rattle.std.specs.Prelude.{◌≡◌, ◌≤◌, ◌∷◌, ◌==◌, find};
 ghost use Rattle.std.specs.List.{list_any};
-ghost use Rattle.qa_base.specs.machine.Handshake as handshake;
 ghost use Rattle.qa_base.specs.values.Limits.{max_time};
 ghost use Rattle.qa_base.specs.machine.Packets.{history_of, newly_acknowledged};
 ghost use Rattle.qa_base.specs.machine.Rtt as estimates;
@@ -14,11 +13,14 @@ use qa_base::{Event, Header, Micros};
 use qa_recovery::Rtt;
 use std::marker::Model;
 
-/// How long the packet with the largest acknowledged number took, the peer's delay, and when the acknowledgment came.
+/// A sample of the round-trip time.
 #[derive(Clone, Copy, Debug, PartialEq, Eq)]
 pub struct Sample {
+    /// How long the packet with the largest acknowledged number took.
     pub latest_rtt: Micros,
+    /// The peer's delay, limited.
     pub ack_delay: u64,
+    /// When the acknowledgment came.
     pub time: Micros,
 }
 
@@ -70,6 +72,7 @@ pub fn newly_numbered(before: &[Event], event: &Event, number: u64) -> Option<Pa
     found
 }
 
+/// The peer's delay, limited once the handshake is confirmed.
 fn limited_delay(header: &Header, before: &[Event], delay: u64) -> u64
     ensures { result ≡ estimates.limited_delay header.now (history_of before.now) delay }
 {
@@ -80,6 +83,7 @@ fn limited_delay(header: &Header, before: &[Event], delay: u64) -> u64
     }
 }
 
+/// The sample by the packet with the largest acknowledged number, where it is newly acknowledged.
 fn sample_by(time: Micros, delay: u64, packet: Option<Packet>) -> Option<Sample>
     ensures { result ≡ estimates.sample_by time delay packet }
 {
@@ -93,7 +97,7 @@ fn sample_by(time: Micros, delay: u64, packet: Option<Packet>) -> Option<Sample>
     }
 }
 
-/// The sample of an event.
+/// The sample of an event after these, where it gives one.
 pub fn sample_of(header: &Header, before: &[Event], event: &Event) -> Option<Sample>
     ensures { result ≡ estimates.sample_of header.now (event.now ∷ history_of before.now) }
 {
@@ -135,7 +139,11 @@ pub fn start(header: &Header) -> Rtt
     Rtt::start(micros(header.initial_rtt()))
 }
 
-/// The estimate after the events.
+/// The estimate of the round-trip time after the events (RFC 9002, section 5, A.7).
+///
+/// An acknowledgment gives a sample where it newly acknowledges both the packet with its largest
+/// number and an ack-eliciting one. The peer's delay counts up to its `max_ack_delay` once the
+/// handshake is confirmed.
 pub fn rtt(header: &Header, events: &[Event]) -> Rtt
     ensures { result ≡ estimates.rtt header.now (history_of events.now) }
 {

@@ -1,4 +1,4 @@
-//! The quantities of a list of events, computed plainly.
+//! What became of packets: acknowledged, lost, or gone with their space.
 ghost use Rattle.std.specs.Prelude.{◌≡◌, ◌∷◌, ◌+◌, drop};
 ghost use Rattle.std.specs.List.{list_any};
 ghost use Rattle.qa_base.specs.values.Events as questions;
@@ -39,14 +39,16 @@ fn some_declares_lost(events: &[Event], packet: Packet) -> bool
         .any(|event| declares_lost(event, packet.space, packet.number))
 }
 
-/// Whether an acknowledgment covers the packet, also one that came after it was declared lost.
+/// Whether an acknowledgment that came after the packet covers its number in its space, also one
+/// that came after the packet was declared lost (RFC 9002, A.7).
 pub fn is_covered(events: &[Event], packet: Packet) -> bool
     ensures { result ≡ packets.is_covered (history_of events.now) packet }
 {
     some_acknowledges(behind(events, packet), packet)
 }
 
-/// Whether a Lost line names the packet.
+/// Whether the sender declared the packet lost after it was sent: a Lost line of its space names
+/// its number (RFC 9002, A.10).
 pub fn is_lost(events: &[Event], packet: Packet) -> bool
     ensures { result ≡ packets.is_lost (history_of events.now) packet }
 {
@@ -66,7 +68,8 @@ pub fn is_gone(events: &[Event], space: Space) -> bool
     found
 }
 
-/// Whether the event newly acknowledges the packet.
+/// Whether an event after these newly acknowledges the packet: it acknowledges it, and the packet
+/// was neither acknowledged nor declared lost before (RFC 9002, A.7).
 pub fn is_newly_acknowledged(before: &[Event], event: &Event, packet: Packet) -> bool
     ensures { result ≡ packets.is_newly_acknowledged event.now (history_of before.now) packet }
 {
@@ -75,7 +78,7 @@ pub fn is_newly_acknowledged(before: &[Event], event: &Event, packet: Packet) ->
         && !is_lost(before, packet)
 }
 
-/// Whether the event newly acknowledges some packet.
+/// Whether an event after these newly acknowledges some packet.
 pub fn acknowledges_new(before: &[Event], event: &Event) -> bool
     ensures { result ≡ packets.acknowledges_new (event.now ∷ history_of before.now) }
 {
@@ -90,7 +93,8 @@ pub fn acknowledges_new(before: &[Event], event: &Event) -> bool
     found
 }
 
-/// The largest number that was ever acknowledged in the space.
+/// The largest number that was acknowledged in the space; None before any acknowledgment there
+/// (RFC 9002, A.3).
 pub fn largest_acknowledged(events: &[Event], space: Space) -> Option<u64>
     ensures { result ≡ packets.largest_acknowledged (history_of events.now) space }
 {

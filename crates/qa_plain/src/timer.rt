@@ -1,12 +1,7 @@
-//! The PTO count, allowances and the deadline, computed plainly.
-ghost use Rattle.std.specs.Prelude.{List, ◌≡◌, ◌∷◌, ◌≤◌, ◌<◌, ◌^◌, ◌*◌, ◌+◌, Some, None, length, count_by, option_map, find, filter, map, if◌then◌else◌};
-ghost use Rattle.std.specs.List.{list_any, All};
+//! The PTO count (RFC 9002, section 6.2.1).
+ghost use Rattle.std.specs.Prelude.{List, ◌≡◌, ◌∷◌, ◌≤◌, ◌+◌, length};
 ghost use Rattle.qa_base.specs.declared.event.Event.{Event};
-ghost use Rattle.qa_base.specs.machine.Handshake as handshake;
-ghost use Rattle.qa_base.specs.machine.Leave as leaves;
-ghost use Rattle.qa_base.specs.machine.Loss as loss;
-ghost use Rattle.qa_base.specs.machine.Packets.{history_of, packets_of};
-ghost use Rattle.qa_base.specs.machine.Rtt as estimates;
+ghost use Rattle.qa_base.specs.machine.Packets.{history_of};
 ghost use Rattle.qa_base.specs.machine.Timer as timers;
 ghost use Rattle.qa_plain.specs.Words.{is_discard as is_discard_of};
 
@@ -14,6 +9,7 @@ use crate::handshake::is_validated;
 use crate::settled::acknowledges_new;
 use qa_base::{Event, Header, Kind};
 
+/// Whether the event is a probe timeout.
 pub fn is_pto(event: &Event) -> bool
     ensures { (h : List Event) → result ≡ timers.is_pto (event.now ∷ h) }
 {
@@ -26,6 +22,7 @@ pub fn is_pto(event: &Event) -> bool
     }
 }
 
+/// Whether the event discards the keys of a space.
 pub fn is_discard(event: &Event) -> bool
     ensures { result ≡ is_discard_of event.now }
 {
@@ -43,7 +40,9 @@ pub fn resets_count(header: &Header, before: &[Event], event: &Event, after: &[E
     is_discard(event) || (acknowledges_new(before, event) && is_validated(header, after))
 }
 
-/// The PTO count.
+/// The PTO count after the events: how many probe timeouts there were since the last event that
+/// sets it to 0 (RFC 9002, section 6.2.1). Those are a discard, and an acknowledgment of something
+/// new where the peer has validated the sender's address.
 #[tactic(auto, using(qa_base::proofs::machine::Steps::backoff_after))]
 pub fn backoff(header: &Header, events: &[Event]) -> u64
     ensures value { result ≡ timers.backoff header.now (history_of events.now) }

@@ -1,10 +1,9 @@
-//! The congestion window.
-ghost use Rattle.std.specs.Prelude.{◌≡◌, ◌∷◌, [], ◌++◌, ◌≤◌, ◌<◌, ◌^◌, ◌*◌, ◌+◌, Some, unwrap_or, max, fold, length};
+//! The congestion window, move by move (RFC 9002, section 7, appendix B).
+ghost use Rattle.std.specs.Prelude.{◌≡◌, ◌∷◌, ◌≤◌, ◌<◌, ◌^◌, ◌*◌, ◌+◌, Some, unwrap_or, max, fold, length};
 ghost use Rattle.std.specs.List.{All};
 ghost use Rattle.qa_base.specs.machine.Loss as loss;
 ghost use Rattle.qa_base.specs.machine.Packets.{history_of, newly_acknowledged};
 ghost use Rattle.qa_base.specs.machine.Reno as steps;
-ghost use Rattle.qa_base.specs.machine.Rtt as estimates;
 ghost use Rattle.qa_plain.specs.Looks.{IsLook};
 ghost use Rattle.qa_base.specs.machine.Widths.{Fits};
 ghost use Rattle.qa_plain.specs.Words.{last_sending, hits_at};
@@ -16,8 +15,9 @@ use crate::packet::packet_of;
 use crate::sampling::{sample_of, start, updated};
 use crate::settled::is_newly_acknowledged;
 use qa_base::{Event, Header, Micros};
-use qa_recovery::{Reno, Rtt};
+use qa_recovery::Reno;
 
+/// The later of the two times.
 fn later(last: Option<Micros>, time: Micros) -> Micros
     ensures { result ≡ max time (unwrap_or last 0) }
 {
@@ -43,6 +43,7 @@ pub fn last_owed(header: &Header, events: &[Event], look: Look) -> Option<Micros
     last
 }
 
+/// The window after a loss, of packets the last of which was sent then.
 fn hit_by(header: &Header, reno: Reno, last: Option<Micros>, now: Micros) -> Reno
     requires low { 2 * header.now.max_datagram_size ≤ reno.window }
     requires high { reno.window ≤ 2 ^ 60 }
@@ -57,6 +58,7 @@ fn hit_by(header: &Header, reno: Reno, last: Option<Micros>, now: Micros) -> Ren
     more
 }
 
+/// The window after persistent congestion, where there is any.
 fn collapsed(header: &Header, reno: Reno, persistent: bool) -> Reno
     requires low { 2 * header.now.max_datagram_size ≤ reno.window }
     requires high { reno.window ≤ 2 ^ 60 }
@@ -71,6 +73,7 @@ fn collapsed(header: &Header, reno: Reno, persistent: bool) -> Reno
     more
 }
 
+/// The window after a packet of this size was acknowledged.
 #[tactic(auto, using(qa_base::proofs::machine::WindowBound::grown_little))]
 fn grow_by(header: &Header, reno: Reno, size: u64, sent: Micros) -> Reno
     requires low { 2 * header.now.max_datagram_size ≤ reno.window }
@@ -86,6 +89,7 @@ fn grow_by(header: &Header, reno: Reno, size: u64, sent: Micros) -> Reno
     more
 }
 
+/// The window after the packets that an event newly acknowledges, in the order of sending.
 #[tactic(auto, using(crate::proofs::Moved::grown_by, crate::proofs::Moved::grown_bare))]
 fn grown(header: &Header, before: &[Event], event: &Event, reno: Reno) -> Reno
     requires low { 2 * header.now.max_datagram_size ≤ reno.window }
@@ -105,6 +109,7 @@ fn grown(header: &Header, before: &[Event], event: &Event, reno: Reno) -> Reno
     reno
 }
 
+/// Whether the sender did not use the window that it had.
 fn is_limited(event: &Event) -> bool
     ensures { result ≡ steps.is_limited event.now }
 {
@@ -140,7 +145,11 @@ pub fn moved(
     }
 }
 
-/// The window after the events.
+/// The congestion window, the slow start threshold and recovery after the events (RFC 9002, section
+/// 7, appendix B): of each event first its losses count, then persistent congestion, then growth by
+/// each packet that it newly acknowledges, in the order of sending.
+///
+/// Asks for fewer than 2^32 events, each of which fits. Then the window is below 2^48 bytes.
 pub fn reno(header: &Header, events: &[Event]) -> Reno
     requires few { length events.now < 2 ^ 32 }
     requires fit { All Fits events.now }

@@ -1,5 +1,5 @@
-use Rattle.std.proofs.Common.{◌≡◌, ◌≤◌, ◌<◌, ◌+◌, ◌*◌, ◌^◌, take, length, filter, find, sum_by, fold}
-use Rattle.std.specs.List.{list_any, list_all}
+use Rattle.std.proofs.Common.{◌≡◌, take, length}
+use Rattle.std.specs.List.{list_any}
 use Rattle.qa_base.specs.machine.Packets.{Packet, history_of, packets}
 use Rattle.std.specs.Prelude.{◌&&◌, nat_lt}
 use Rattle.qa_base.specs.machine.Packets.{is_covered}

@@ -1,4 +1,4 @@
-use Rattle.std.proofs.Common.{◌≡◌, arith, ◌∙◌, rules, length, filter, sym, ap, List}
+use Rattle.std.proofs.Common.{◌≡◌, arith, ◌∙◌, filter, sym, ap, List}
 use Rattle.std.proofs.lemmas.Grind.{common_steps}
 use Rattle.std.specs.List.{list_any}
 use Rattle.qa_base.specs.machine.Loss.{is_owed, are_ends, owed}

@@ -1,5 +1,5 @@
-use Rattle.std.proofs.Common.{◌≡◌, ◌≤◌, ◌<◌, ◌+◌, ◌*◌, ◌^◌, take, length, filter, find, sum_by, fold}
-use Rattle.std.specs.List.{list_any, list_all}
+use Rattle.std.proofs.Common.{◌≡◌, take, length, filter}
+use Rattle.std.specs.List.{list_any}
 use Rattle.qa_base.specs.machine.Packets.{Packet, history_of, packets}
 use Rattle.qa_base.specs.machine.Loss.{is_owed, owed, are_ends}
 use Rattle.qa_plain.proofs.congestion.is_persistent.Given as goal

@@ -1,4 +1,4 @@
-use Rattle.std.proofs.Common.{◌≡◌, arith, rules, length, filter}
+use Rattle.std.proofs.Common.{◌≡◌, arith, length, filter}
 use Rattle.std.proofs.lemmas.Grind.{common_steps}
 use Rattle.qa_base.specs.machine.Loss.{is_owed}
 use Rattle.qa_base.specs.machine.Packets.{history_of, packets}

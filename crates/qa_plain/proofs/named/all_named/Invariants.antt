@@ -1,6 +1,6 @@
-use Rattle.std.proofs.Common.{◌≡◌, ◌≤◌, ◌<◌, ◌+◌, ◌*◌, ◌^◌, take, length, filter, find, sum_by, fold}
-use Rattle.std.specs.List.{list_any, list_all}
-use Rattle.qa_base.specs.machine.Packets.{Packet, history_of, packets}
+use Rattle.std.proofs.Common.{◌≡◌, take, length}
+use Rattle.std.specs.List.{list_all}
+use Rattle.qa_base.specs.machine.Packets.{history_of}
 use Rattle.qa_plain.specs.Choices.{numbers_chosen}
 use Rattle.qa_base.specs.values.Events.{is_named}
 use Rattle.qa_plain.proofs.named.all_named.Given as goal

@@ -1,6 +1,6 @@
-use Rattle.std.proofs.Common.{◌≡◌, ◌≤◌, ◌<◌, ◌+◌, ◌*◌, ◌^◌, take, length, filter, find, sum_by, fold}
-use Rattle.std.specs.List.{list_any, list_all}
-use Rattle.qa_base.specs.machine.Packets.{Packet, history_of, packets}
+use Rattle.std.proofs.Common.{◌≡◌, take, length}
+use Rattle.std.specs.List.{list_all}
+use Rattle.qa_base.specs.machine.Packets.{history_of}
 use Rattle.qa_plain.specs.Choices.{numbers_chosen}
 use Rattle.qa_base.specs.machine.Numbers.{has_next}
 use Rattle.qa_plain.proofs.named.has_no_gap.Given as goal

@@ -1,6 +1,5 @@
-use Rattle.std.proofs.Common.{◌≡◌, ◌≤◌, ◌<◌, ◌+◌, ◌*◌, ◌^◌, take, length, filter, find, sum_by, fold}
-use Rattle.std.specs.List.{list_any, list_all}
-use Rattle.qa_base.specs.machine.Packets.{Packet, history_of, packets}
+use Rattle.std.proofs.Common.{◌≡◌, take, length}
+use Rattle.qa_base.specs.machine.Packets.{history_of}
 use Rattle.qa_plain.specs.Choices.{numbers_chosen}
 use Rattle.qa_base.specs.machine.Numbers.{is_in}
 use Rattle.qa_plain.proofs.named.is_in.Given as goal

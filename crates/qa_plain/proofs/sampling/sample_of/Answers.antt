@@ -1,4 +1,4 @@
-use Rattle.std.proofs.Common.{◌∙◌, sym, rules, arith}
+use Rattle.std.proofs.Common.{arith}
 use Rattle.qa_plain.proofs.sampling.sample_of.Goals as goal
 
 pub returns-else-not-acknowledges_eliciting : goal.returns-else-not-acknowledges_eliciting

@@ -1,6 +1,5 @@
-use Rattle.std.proofs.Common.{◌≡◌, ◌≤◌, ◌<◌, ◌+◌, ◌*◌, ◌^◌, take, length, filter, find, sum_by, fold}
-use Rattle.std.specs.List.{list_any, list_all}
-use Rattle.qa_base.specs.machine.Packets.{Packet, history_of, packets}
+use Rattle.std.proofs.Common.{◌≡◌, ◌≤◌, ◌+◌, ◌*◌, ◌^◌, take, length, filter, fold}
+use Rattle.qa_base.specs.machine.Packets.{history_of, packets}
 use Rattle.qa_base.specs.machine.Packets.{is_newly_acknowledged}
 use Rattle.qa_base.specs.machine.Reno.{moved, grows}
 use Rattle.qa_plain.proofs.window.grown.Given as goal

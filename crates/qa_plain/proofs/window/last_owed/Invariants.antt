@@ -1,6 +1,5 @@
-use Rattle.std.proofs.Common.{◌≡◌, ◌≤◌, ◌<◌, ◌+◌, ◌*◌, ◌^◌, take, length, filter, find, sum_by, fold}
-use Rattle.std.specs.List.{list_any, list_all}
-use Rattle.qa_base.specs.machine.Packets.{Packet, history_of, packets}
+use Rattle.std.proofs.Common.{◌≡◌, take, length, filter}
+use Rattle.qa_base.specs.machine.Packets.{history_of, packets}
 use Rattle.qa_base.specs.machine.Loss.{is_owed}
 use Rattle.qa_plain.specs.Words.{last_sending}
 use Rattle.qa_plain.proofs.window.last_owed.Given as goal
