@@ -94,7 +94,7 @@ and_false true = refl
 and_false false = refl
 
 -- nothing that stands in the history follows a packet that is sent after it
-not_followed : (test : Event → Bool) (h : List Event) (p : Packet) → length h ≤ p.place → is_followed_by test h p ≡ false
+pub not_followed : (test : Event → Bool) (h : List Event) (p : Packet) → length h ≤ p.place → is_followed_by test h p ≡ false
 not_followed test [] p late = refl
 not_followed test (e ∷ h) p late =
     let not_later : nat_lt p.place (length h) ≡ false = le-ltb p.place (length h) (omega arith) in

@@ -24,7 +24,7 @@ since_if : (test : List Event → Bool) (weight : List Event → ℕ) (e : Event
 since_if test weight e h true = refl
 since_if test weight e h false = sum_by-cons weight (e ∷ h) (since test h)
 
-sum_since : (test : List Event → Bool) (weight : List Event → ℕ) (e : Event) (h : List Event)
+pub sum_since : (test : List Event → Bool) (weight : List Event → ℕ) (e : Event) (h : List Event)
     → sum_by weight (since test (e ∷ h)) ≡ (if test (e ∷ h) then 0 else weight (e ∷ h) + sum_by weight (since test h))
 sum_since test weight e h = since_if test weight e h (test (e ∷ h))
 

@@ -19,27 +19,17 @@ use Rattle.qa_base.specs.declared.rule.Rule.TheVariants.{OwedAtEnd}
 use Rattle.qa_base.specs.machine.Loss.{owed}
 use Rattle.qa_base.specs.values.Settings.{Settings}
 use Rattle.qa_base.specs.machine.State.{totals}
-use Rattle.qa_base.specs.verdicts.Verdict.{Reading, header_said, event_said, header_in, events_in, said, stop_at, stop_after, first_stop, end_at, last_event_line, verdict_of, verdict, is_saying, sayings, trace_of, IsTraceOfRun}
+use Rattle.qa_base.specs.verdicts.Verdict.{Reading, header_said, event_said, header_in, events_in, said, stop_at, stop_after, first_stop, end_at, last_event_line, verdict_of, verdict, is_saying, sayings, trace_of, opening, IsRunBy, IsTraceOfRun}
 use Rattle.qa_base.specs.format.Lines.{lines}
 use Rattle.qa_base.proofs.machine.Histories.{history_of-snoc}
 use Rattle.qa_base.proofs.verdicts.Stops.{or_parts, header_in-snoc, said_reading, good_are_few, good_are_short}
 
 -- ---- a line more
 
--- a header and a run behind it, or no header and no events
-abbrev pub IsRunBy : Option Settings → List Event → Type 0
-IsRunBy None events = events ≡ []
-IsRunBy (Some c) events = IsRun c (history_of events)
-
--- what lines say whose header and whose events are these, where they are good
-abbrev pub so_far : Option Settings → List Event → List (Result Line Fault)
-so_far None events = []
-so_far (Some c) events = trace_of c events
-
 abbrev pub AreRun : Reading → List (List ℕ) → Type 0
 AreRun reading ls =
     IsRunBy (header_in reading ls) (events_in reading ls)
-    × (sayings reading ls ≡ so_far (header_in reading ls) (events_in reading ls))
+    × (sayings reading ls ≡ opening (header_in reading ls) (events_in reading ls))
 
 none_broken : (n : ℕ) (t : Totals) (o : Option Rule) → option_map (λ r. Refused n r t) o ≡ None → o ≡ None
 none_broken n t None h = refl
@@ -59,7 +49,7 @@ run_grows n (Some c) events (Ok (line.Event e)) good run =
 
 -- and is all that it says
 sayings_grow : (n : ℕ) (header : Option Settings) (events : List Event) (s : Result Line Fault) → stop_at n header (history_of events) s ≡ None → IsRunBy header events
-    → so_far header events ++ filter is_saying (s ∷ []) ≡ so_far (option_or header (header_said s)) (events ++ filter_map event_said (s ∷ []))
+    → opening header events ++ filter is_saying (s ∷ []) ≡ opening (option_or header (header_said s)) (events ++ filter_map event_said (s ∷ []))
 sayings_grow n header events (Err f) good run = cc
 sayings_grow n None events (Ok line.Blank) good run = refl
 sayings_grow n (Some c) events (Ok line.Blank) good run = append-nil (trace_of c events) ∙ ap (trace_of c) (sym (append-nil events))
@@ -89,9 +79,9 @@ line_more reading before l good run =
     filter_map-append (λ m. event_said (reading m)) before (l ∷ []) ∙ ap (λ r. events_in reading before ++ filter_map event_said (r ∷ [])) reads in
     let header : header_in reading (before ++ l ∷ []) ≡ option_or (header_in reading before) (header_said s) =
     header_in-snoc reading before l ∙ ap (λ r. option_or (header_in reading before) (header_said r)) reads in
-    let says : sayings reading (before ++ l ∷ []) ≡ so_far (header_in reading before) (events_in reading before) ++ filter is_saying (s ∷ []) =
+    let says : sayings reading (before ++ l ∷ []) ≡ opening (header_in reading before) (events_in reading before) ++ filter is_saying (s ∷ []) =
     sayings-snoc reading before l ∙ ap (λ k. k ++ filter is_saying (reading l ∷ [])) run.1
-    ∙ ap (λ r. so_far (header_in reading before) (events_in reading before) ++ filter is_saying (r ∷ [])) reads in
+    ∙ ap (λ r. opening (header_in reading before) (events_in reading before) ++ filter is_saying (r ∷ [])) reads in
     (rw (header, events) grown, rw (header, events) (says ∙ said_more))
 
 -- ---- all lines
@@ -135,7 +125,7 @@ ends_accepted : (o : Option Verdict) (v : Verdict) (t : Totals) → (o ≡ Some 
 ends_accepted None v t never is = (refl, is)
 ends_accepted (Some w) v t never is = absurd (never (ap Some is))
 
-no_packet : (ps : List Packet) → is_some_packet ps ≡ false → ps ≡ []
+pub no_packet : (ps : List Packet) → is_some_packet ps ≡ false → ps ≡ []
 no_packet [] none = refl
 no_packet (p ∷ ps) none = cc
 
@@ -144,7 +134,7 @@ complete_end true last u t is = cc
 complete_end false last u t is = (refl, cc)
 
 ends_in_run : (n last : ℕ) (header : Option Settings) (events : List Event) (says : List (Result Line Fault)) (t : Totals)
-    → end_at n last header (history_of events) ≡ Accepted t → IsRunBy header events → says ≡ so_far header events
+    → end_at n last header (history_of events) ≡ Accepted t → IsRunBy header events → says ≡ opening header events
     → (c : Settings) × (events : List Event) × (says ≡ trace_of c events)
     × IsRun c (history_of events) × IsComplete c (history_of events) × (t ≡ totals c (history_of events))
 ends_in_run n last None events says t is run so = cc

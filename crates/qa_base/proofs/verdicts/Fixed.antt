@@ -90,7 +90,7 @@ long_stops reading ls l h = let fault = long_fault reading (length ls) l h in (
   rw fault.1 refl,
 )
 
-long_verdict : (reading : Reading) (ls ms : List (List ℕ)) (l : List ℕ) (v : Verdict) → AreGood reading ls → stop_after reading ls l ≡ Some v
+pub long_verdict : (reading : Reading) (ls ms : List (List ℕ)) (l : List ℕ) (v : Verdict) → AreGood reading ls → stop_after reading ls l ≡ Some v
     → verdict_of reading (ls ++ l ∷ ms) ≡ v
 long_verdict reading ls ms l v good bad =
     let one : first_stop reading [] (ls ++ l ∷ []) ≡ Some v = first_stop-snoc reading [] ls l good ∙ bad in

@@ -19,8 +19,8 @@ use Rattle.qa_base.specs.machine.Packets.{history_of, is_some_packet}
 use Rattle.qa_base.specs.machine.Rules.{first_broken, IsRun}
 use Rattle.qa_base.specs.values.Settings.{Settings}
 use Rattle.qa_base.specs.machine.State.{totals}
-use Rattle.qa_base.specs.verdicts.Verdict.{Reading, header_said, event_said, header_in, events_in, said, stop_at, stop_after, first_stop, last_event_line, verdict_of, verdict, is_saying, sayings, event_line, trace_of, IsWithinLimit, IsTraceOfRun}
-use Rattle.qa_base.proofs.verdicts.Accepted.{so_far, good_run, accepted_is_run}
+use Rattle.qa_base.specs.verdicts.Verdict.{Reading, header_said, event_said, header_in, events_in, said, stop_at, stop_after, first_stop, last_event_line, verdict_of, verdict, is_saying, sayings, event_line, trace_of, opening, IsWithinLimit, IsTraceOfRun}
+use Rattle.qa_base.proofs.verdicts.Accepted.{good_run, accepted_is_run}
 use Rattle.qa_base.proofs.machine.Histories.{history_of-snoc}
 use Rattle.qa_base.proofs.machine.RunLaws.{prefix_of_run}
 use Rattle.qa_base.proofs.verdicts.Stops.{header_in-snoc}
@@ -28,7 +28,7 @@ use Rattle.qa_base.proofs.verdicts.Stops.{header_in-snoc}
 -- ---- one line
 
 -- a line within the limits says what it is read as
-read_as_said : (reading : Reading) (n : ℕ) (l : List ℕ) → n < max_lines → length l ≤ line_limit → said reading n l ≡ reading l
+pub read_as_said : (reading : Reading) (n : ℕ) (l : List ℕ) → n < max_lines → length l ≤ line_limit → said reading n l ≡ reading l
 unfolding said
 read_as_said reading n l few short =
     rw (lt-leb 4294967295 n few) (rw (lt-leb 65537 (length l) (omega arith)) refl)
@@ -86,10 +86,10 @@ begins c events (Ok (line.Event e)) rest says = cc
 
 -- ---- all lines
 
-events_in-snoc : (reading : Reading) (ls : List (List ℕ)) (l : List ℕ) → events_in reading (ls ++ l ∷ []) ≡ events_in reading ls ++ filter_map event_said (reading l ∷ [])
+pub events_in-snoc : (reading : Reading) (ls : List (List ℕ)) (l : List ℕ) → events_in reading (ls ++ l ∷ []) ≡ events_in reading ls ++ filter_map event_said (reading l ∷ [])
 events_in-snoc reading ls l = filter_map-append (λ m. event_said (reading m)) ls (l ∷ [])
 
-stop_of_reading : (reading : Reading) (before : List (List ℕ)) (l : List ℕ) (header : Option Settings) (events : List Event) (s : Result Line Fault)
+pub stop_of_reading : (reading : Reading) (before : List (List ℕ)) (l : List ℕ) (header : Option Settings) (events : List Event) (s : Result Line Fault)
     → length before < max_lines → length l ≤ line_limit → header_in reading before ≡ header → events_in reading before ≡ events → reading l ≡ s
     → stop_after reading before l ≡ stop_at (length before + 1) header (history_of events) s
 unfolding stop_after
@@ -97,7 +97,7 @@ stop_of_reading reading before l header events s few short is_header are_events 
     let says : said reading (length before) l ≡ s = read_as_said reading (length before) l few short ∙ is in
     rw (is_header, are_events, says) refl
 
-longer : (before : List (List ℕ)) (l : List ℕ) (ls : List (List ℕ)) → length before + length (l ∷ ls) ≤ max_lines → length (before ++ l ∷ []) + length ls ≤ max_lines
+pub longer : (before : List (List ℕ)) (l : List ℕ) (ls : List (List ℕ)) → length before + length (l ∷ ls) ≤ max_lines → length (before ++ l ∷ []) + length ls ≤ max_lines
 longer before l ls few = let more : length (before ++ l ∷ []) ≡ length before + 1 = length-append before (l ∷ []) in omega arith
 
 -- behind a header
@@ -116,7 +116,7 @@ no_stop reading before (l ∷ ls) c events header says run few short =
     rw stop (no_stop reading (before ++ l ∷ []) ls c step.1 header_after step.2 (rw (sym same) run) (longer before l ls few) short.1)
 
 -- where no header came yet
-no_stop_yet : (reading : Reading) (before ls : List (List ℕ)) (c : Settings) (events : List Event) → header_in reading before ≡ None → events_in reading before ≡ []
+pub no_stop_yet : (reading : Reading) (before ls : List (List ℕ)) (c : Settings) (events : List Event) → header_in reading before ≡ None → events_in reading before ≡ []
     → sayings reading ls ≡ trace_of c events → IsRun c (history_of events)
     → length before + length ls ≤ max_lines → AllByRecursion IsWithinLimit ls → first_stop reading before ls ≡ None
 no_stop_yet reading before [] c events no_header no_events says run few short = refl
@@ -140,7 +140,7 @@ no_stop_yet reading before (l ∷ ls) c events no_header no_events says run few 
 
 -- ---- the verdict
 
-events_of_lines : (events others : List Event) → map event_line events ≡ map event_line others → events ≡ others
+pub events_of_lines : (events others : List Event) → map event_line events ≡ map event_line others → events ≡ others
 events_of_lines [] [] same = refl
 events_of_lines [] (f ∷ others) same = cc
 events_of_lines (e ∷ events) [] same = cc
@@ -149,7 +149,7 @@ events_of_lines (e ∷ events) (f ∷ others) same =
     let rest : events ≡ others = events_of_lines events others cc in
     rw (first, rest) refl
 
-known_trace : (header : Option Settings) (events : List Event) (c : Settings) (others : List Event) → so_far header events ≡ trace_of c others → (header ≡ Some c) × (events ≡ others)
+pub known_trace : (header : Option Settings) (events : List Event) (c : Settings) (others : List Event) → opening header events ≡ trace_of c others → (header ≡ Some c) × (events ≡ others)
 known_trace None events c others same = cc
 known_trace (Some d) events c others same = (cc, events_of_lines events others cc)
 

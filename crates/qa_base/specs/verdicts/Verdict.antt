@@ -128,6 +128,16 @@ event_line e = Ok (line.Event e)
 abbrev pub trace_of : Settings → List Event → List (Result Line Fault)
 trace_of c events = Ok (line.Header c) ∷ map event_line events
 
+-- what good lines say that are not blank: nothing, or a header and then events
+abbrev pub opening : Option Settings → List Event → List (Result Line Fault)
+opening None events = []
+opening (Some c) events = trace_of c events
+
+-- events that form a run under their header; none without a header
+abbrev pub IsRunBy : Option Settings → List Event → Type 0
+IsRunBy None events = events ≡ []
+IsRunBy (Some c) events = IsRun c (history_of events)
+
 -- the lines, within the limits of a trace, say a header and events that form a complete run, and these are its totals
 abbrev pub IsTraceOfRun : Reading → List (List ℕ) → Totals → Type 0
 IsTraceOfRun reading ls t =

@@ -1,0 +1,73 @@
+-- What each kind of event makes of the bytes in flight.
+use Rattle.std.proofs.Common.{◌≡◌, ◌+◌, ℕ, List, [], ◌∷◌, length, Bool, true, false, refl, ap, arith, sum_by, filter}
+use Rattle.qa_base.specs.declared.event.Event.{Event}
+use Rattle.qa_base.specs.declared.event.Event.TheVariants.{Ack, Timer, Discard}
+use Rattle.qa_base.specs.declared.space.Kind.{Kind}
+use Rattle.qa_base.specs.declared.space.Space.{Space}
+use Rattle.qa_base.specs.values.Events.{is_quiet}
+use Rattle.qa_base.specs.machine.Loss.{owed, bytes_in_flight}
+use Rattle.qa_base.specs.machine.Packets.{Packet, packets, packet_of, newly_acknowledged}
+use Rattle.qa_base.specs.machine.Rules.{IsRun}
+use Rattle.qa_base.specs.values.Settings.{Settings}
+use Rattle.qa_laws.specs.machine.Sums.{discarded, bytes}
+use Rattle.qa_laws.proofs.machine.Closing.{bytes_in_flight_is, open_sum_after}
+use Rattle.qa_laws.proofs.machine.Pairs.{none_left, of_each}
+use Rattle.qa_base.proofs.machine.Quiet.{newly-quiet, owed-quiet}
+
+no_packets : (ps : List Packet) → filter (λ p. false) ps ≡ []
+no_packets ps = none_left (λ p. false) ps (of_each (λ p. false ≡ false) ps (λ p has. refl))
+
+pub none_weigh : (weight : Packet → ℕ) (ps : List Packet) → sum_by weight (filter (λ p. false) ps) ≡ 0
+none_weigh weight ps = ap (sum_by weight) (no_packets ps)
+
+-- an acknowledgment takes off what it newly acknowledges and what it finds lost
+pub bytes-ack : (c : Settings) (h : List Event) (time : ℕ) (space : Space) (ranges : List (ℕ × ℕ)) (delay : ℕ) (limited : Bool) → IsRun c (Ack time space ranges delay limited ∷ h)
+    → bytes_in_flight c (Ack time space ranges delay limited ∷ h)
+    + (sum_by bytes (newly_acknowledged (Ack time space ranges delay limited ∷ h)) + sum_by bytes (owed c (Ack time space ranges delay limited ∷ h))) ≡ bytes_in_flight c h
+bytes-ack c h time space ranges delay limited run =
+    let e = Ack time space ranges delay limited in
+    let all = open_sum_after bytes c e h run in
+    let none : sum_by bytes (discarded c e h) ≡ 0 = none_weigh bytes (packets h) in
+    let before = bytes_in_flight_is c h in
+    let after = bytes_in_flight_is c (e ∷ h) in
+    omega (arith, all, none, before, after)
+
+-- a timer what it finds lost
+pub bytes-timer : (c : Settings) (h : List Event) (time : ℕ) (kind : Kind) (space : Space) → IsRun c (Timer time kind space ∷ h)
+    → bytes_in_flight c (Timer time kind space ∷ h) + sum_by bytes (owed c (Timer time kind space ∷ h)) ≡ bytes_in_flight c h
+bytes-timer c h time kind space run =
+    let e = Timer time kind space in
+    let all = open_sum_after bytes c e h run in
+    let none : sum_by bytes (discarded c e h) ≡ 0 = none_weigh bytes (packets h) in
+    let nothing : sum_by bytes (newly_acknowledged (e ∷ h)) ≡ 0 = none_weigh bytes (packets h) in
+    let before = bytes_in_flight_is c h in
+    let after = bytes_in_flight_is c (e ∷ h) in
+    omega (arith, all, none, nothing, before, after)
+
+-- a discard what was open in its space
+pub bytes-discard : (c : Settings) (h : List Event) (time : ℕ) (space : Space) → IsRun c (Discard time space ∷ h)
+    → bytes_in_flight c (Discard time space ∷ h) + sum_by bytes (discarded c (Discard time space) h) ≡ bytes_in_flight c h
+bytes-discard c h time space run =
+    let e = Discard time space in
+    let all = open_sum_after bytes c e h run in
+    let nothing : sum_by bytes (newly_acknowledged (e ∷ h)) ≡ 0 = none_weigh bytes (packets h) in
+    let before = bytes_in_flight_is c h in
+    let after = bytes_in_flight_is c (e ∷ h) in
+    omega (arith, all, nothing, before, after)
+
+discarded-quiet : (c : Settings) (e : Event) (h : List Event) → is_quiet e ≡ true → discarded c e h ≡ []
+discarded-quiet c (Ack time space ranges delay limited) h quiet = cc
+discarded-quiet c (Timer time kind space) h quiet = cc
+discarded-quiet c (Discard time space) h quiet = cc
+discarded-quiet c _ h quiet = no_packets (packets h)
+
+-- a quiet event adds the packet that it sends, where it sends one
+pub bytes-quiet : (c : Settings) (e : Event) (h : List Event) → IsRun c (e ∷ h) → is_quiet e ≡ true → bytes_in_flight c (e ∷ h) ≡ bytes_in_flight c h + sum_by bytes (packet_of (length h) e)
+bytes-quiet c e h run quiet =
+    let all = open_sum_after bytes c e h run in
+    let nothing : sum_by bytes (newly_acknowledged (e ∷ h)) ≡ 0 = ap (sum_by bytes) (newly-quiet e h quiet) in
+    let none : sum_by bytes (owed c (e ∷ h)) ≡ 0 = ap (sum_by bytes) (owed-quiet c e h quiet) in
+    let there : sum_by bytes (discarded c e h) ≡ 0 = ap (sum_by bytes) (discarded-quiet c e h quiet) in
+    let before = bytes_in_flight_is c h in
+    let after = bytes_in_flight_is c (e ∷ h) in
+    omega (arith, all, nothing, none, there, before, after)

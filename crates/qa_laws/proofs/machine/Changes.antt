@@ -1,0 +1,135 @@
+-- What one more event makes of a packet.
+use Rattle.std.proofs.Common.{◌≡◌, ◌∙◌, ◌<◌, ℕ, List, [], ◌∷◌, length, Bool, true, false, ◌&&◌, ◌||◌, not, Option, Some, None, refl, sym, ap, subst, Contains, inl, inr}
+use Rattle.std.proofs.lemmas.Bool.{and_parts, and_from, or_cases, both_ways, false_from_ne_true, lt-ltb, eqb-true}
+use Rattle.std.specs.List.{list_all}
+use Rattle.std.specs.Prelude.{nat_lt, nat_eq}
+use Rattle.qa_base.specs.declared.event.Event.{Event}
+use Rattle.qa_base.specs.declared.event.Event.TheVariants.{Ack, Lost}
+use Rattle.qa_base.specs.declared.space.Space.{Space}
+use Rattle.qa_base.specs.machine.Breaches.{numbers}
+use Rattle.qa_base.specs.values.Events.{is_space, is_named, acknowledges, declares_lost}
+use Rattle.qa_base.specs.machine.Loss.{is_found, is_found_at, detection, owed, is_owed, is_open, is_unsettled}
+use Rattle.qa_base.specs.machine.Numbers.{is_in, has_all}
+use Rattle.qa_laws.specs.machine.Oldest.{is_flying}
+use Rattle.qa_base.specs.machine.Packets.{Packet, packets, is_of, is_some_packet, is_followed_by, is_covered, is_lost, is_newly_acknowledged, largest_acknowledged}
+use Rattle.qa_base.specs.machine.Rtt.{rtt}
+use Rattle.qa_base.specs.machine.Loss.{is_late}
+use Rattle.qa_base.specs.machine.Rules.{IsRun}
+use Rattle.qa_base.specs.values.Settings.{Settings}
+use Rattle.qa_laws.proofs.machine.Courses.{are_below, is_space_same, is_space_is, same_number}
+use Rattle.qa_laws.proofs.machine.Detection.{asked_was_flying}
+use Rattle.qa_laws.proofs.machine.Pairs.{at_one, has_first, has_later}
+use Rattle.qa_base.proofs.machine.Ranges.{has_all_names}
+use Rattle.qa_base.proofs.machine.RunLaws.{all_hold}
+use Rattle.qa_laws.proofs.machine.Settled.{opens_from, owed_has, owed_is, owed_space, names_all, owed_is_named, has_some}
+
+-- ---- what one more event makes of a packet
+
+followed : (test : Event → Bool) (e : Event) (h : List Event) (p : Packet) (more : Bool) → test e ≡ more → nat_lt p.place (length h) ≡ true
+    → is_followed_by test (e ∷ h) p ≡ (more || is_followed_by test h p)
+followed test e h p true is below = rw (is, below) refl
+followed test e h p false is below = rw is refl
+
+within : (h : List Event) (p : Packet) → Contains (packets h) p → nat_lt p.place (length h) ≡ true
+within h p has = lt-ltb p.place (length h) (at_one (λ q. q.place < length h) (packets h) p (are_below h) has)
+
+-- it is covered where the event acknowledges its number, or it was before
+pub covered_after : (e : Event) (h : List Event) (p : Packet) → Contains (packets h) p → is_covered (e ∷ h) p ≡ (acknowledges p.space p.number e || is_covered h p)
+covered_after e h p has = followed (acknowledges p.space p.number) e h p (acknowledges p.space p.number e) refl (within h p has)
+
+-- it is declared lost where the event declares its number so, or it was before
+pub lost_after : (e : Event) (h : List Event) (p : Packet) → Contains (packets h) p → is_lost (e ∷ h) p ≡ (declares_lost p.space p.number e || is_lost h p)
+lost_after e h p has = followed (declares_lost p.space p.number) e h p (declares_lost p.space p.number e) refl (within h p has)
+
+-- ---- a Lost line
+
+pub same_tests : (a b : Bool) → (a ≡ true → b ≡ true) → (b ≡ true → a ≡ true) → a ≡ b
+same_tests true b there back = sym (there refl)
+same_tests false true there back = absurd (both_ways false refl (back refl))
+same_tests false false there back = refl
+
+pub one_of_numbers : (ps : List Packet) (n : ℕ) → is_in (numbers ps) n ≡ true → (p : Packet) × Contains ps p × (p.number ≡ n)
+one_of_numbers [] n is = cc
+one_of_numbers (p ∷ ps) n is = elim (or_cases (nat_eq p.number n) (is_in (numbers ps) n) is) [
+  | inl here ↦ (p, has_first p ps, eqb-true p.number n here)
+  | inr behind ↦ (let one = one_of_numbers ps n behind in (one.0, has_later p one.0 ps one.1, one.2))
+]
+
+same_spaces : (s t u : Space) → s ≡ u → t ≡ u → is_space s t ≡ true
+same_spaces s t u is_s is_t = rw (is_s, is_t) (is_space_same u)
+
+named_is_owed : (c : Settings) (h : List Event) (time : ℕ) (space : Space) (ranges : List (ℕ × ℕ)) → IsRun c (Lost time space ranges ∷ h)
+    → (p : Packet) → Contains (packets h) p → declares_lost p.space p.number (Lost time space ranges) ≡ true → is_owed c h p ≡ true
+named_is_owed c h time space ranges run p has named =
+    let parts = and_parts (is_space p.space space) (is_named ranges p.number) named in
+    let exactly = names_all c h time space ranges run in
+    let all = (and_parts (has_all (numbers (owed c h)) ranges) (list_all (is_named ranges) (numbers (owed c h))) exactly).0 in
+    let one = one_of_numbers (owed c h) p.number (has_all_names (numbers (owed c h)) ranges all p.number parts.1) in
+    let q = one.0 in
+    let owed_q = owed_is c h q one.1 in
+    let of_q : q.space ≡ space = owed_space c h time space ranges run q owed_q.1 in
+    let same : is_of p.space q ≡ true = same_spaces p.space q.space space (is_space_is p.space space parts.0) of_q in
+    let is : q ≡ p = sym (same_number c h run.0 p q has owed_q.0 same one.2) in
+    subst (λ (x : Packet). is_owed c h x ≡ true) is owed_q.1
+
+-- in a run a Lost line names exactly the packets that are owed, of all that were sent
+pub names_owed : (c : Settings) (h : List Event) (time : ℕ) (space : Space) (ranges : List (ℕ × ℕ)) → IsRun c (Lost time space ranges ∷ h)
+    → (p : Packet) → Contains (packets h) p → declares_lost p.space p.number (Lost time space ranges) ≡ is_owed c h p
+names_owed c h time space ranges run p has =
+    same_tests (declares_lost p.space p.number (Lost time space ranges)) (is_owed c h p)
+    (named_is_owed c h time space ranges run p has) (owed_is_named c h time space ranges run p has)
+
+-- ---- what was open before
+
+-- in a run no event declares an open packet lost
+pub open_not_named : (c : Settings) (e : Event) (h : List Event) → IsRun c (e ∷ h) → (p : Packet) → Contains (packets h) p → is_owed c h p ≡ false → declares_lost p.space p.number e ≡ false
+open_not_named c (Lost time space ranges) h run p has free = names_owed c h time space ranges run p has ∙ free
+open_not_named c _ h run p has free = refl
+
+not_owed_now : (c : Settings) (e : Event) (h : List Event) (p : Packet) → Contains (packets h) p → is_some_packet (owed c h) ≡ false → is_owed c h p ≡ false
+not_owed_now c e h p has none = false_from_ne_true (is_owed c h p) (λ is. both_ways (is_some_packet (owed c h)) none (has_some (owed c h) p (owed_has c h p has is)))
+
+or_same : (a b l : Bool) → a ≡ b → (a || l) ≡ (b || l)
+or_same a b l is = ap (λ x. x || l) is
+
+-- in a run the packets that are declared lost are those that were, and those that were owed before the last event
+pub lost_is_owed : (c : Settings) (e : Event) (h : List Event) → IsRun c (e ∷ h) → (p : Packet) → Contains (packets h) p → is_lost (e ∷ h) p ≡ (is_owed c h p || is_lost h p)
+lost_is_owed c (Lost time space ranges) h run p has =
+    lost_after (Lost time space ranges) h p has ∙ or_same (declares_lost p.space p.number (Lost time space ranges)) (is_owed c h p) (is_lost h p) (names_owed c h time space ranges run p has)
+lost_is_owed c e h run p has =
+    lost_after e h p has ∙ or_same (declares_lost p.space p.number e) (is_owed c h p) (is_lost h p) (sym (not_owed_now c e h p has (all_hold c h e run.1).1.0))
+
+found_was_flying : (c : Settings) (e : Event) (h : List Event) → IsRun c (e ∷ h) → (p : Packet) → Contains (packets h) p
+    → (d : Option (Space × ℕ)) → detection (e ∷ h) ≡ d → is_found_at c (e ∷ h) p d ≡ true → is_flying c h p ≡ true
+found_was_flying c e h run p has None at is = cc
+found_was_flying c e h run p has (Some (s, now)) at is =
+    let parts = and_parts (is_of s p) (is_found c (e ∷ h) now s p) is in
+    let more = and_parts (p.in_flight && is_unsettled (e ∷ h) p) (is_late (rtt c (e ∷ h)) now (largest_acknowledged (e ∷ h) s) p) parts.1 in
+    asked_was_flying c e h run s now at p has (and_from (is_of s p) (p.in_flight && is_unsettled (e ∷ h) p) parts.0 more.0)
+
+-- in a run whatever an event finds lost was open and in flight
+pub owed_was_flying : (c : Settings) (e : Event) (h : List Event) → IsRun c (e ∷ h) → (p : Packet) → Contains (packets h) p → is_owed c (e ∷ h) p ≡ true → is_flying c h p ≡ true
+owed_was_flying c e h run p has is = found_was_flying c e h run p has (detection (e ∷ h)) refl is
+
+-- in a run whatever an event newly acknowledges was open
+pub newly_was_open : (c : Settings) (e : Event) (h : List Event) → IsRun c (e ∷ h) → (p : Packet) → Contains (packets h) p → is_newly_acknowledged e h p ≡ true → is_open c h p ≡ true
+newly_was_open c (Ack time space ranges delay limited) h run p has is =
+    let holds = all_hold c h (Ack time space ranges delay limited) run.1 in
+    let parts = and_parts (acknowledges p.space p.number (Ack time space ranges delay limited) && not (is_covered h p)) (not (is_lost h p)) is in
+    let more = and_parts (acknowledges p.space p.number (Ack time space ranges delay limited)) (not (is_covered h p)) parts.0 in
+    let of_space = (and_parts (is_space p.space space) (is_named ranges p.number) more.0).0 in
+    opens_from c h p (record {
+      unsettled = and_from (not (is_covered h p)) (not (is_lost h p)) more.1 parts.1;
+      free = false_from_ne_true (is_owed c h p) (λ owed_then. both_ways (is_some_packet (owed c h)) holds.1.0 (has_some (owed c h) p (owed_has c h p has owed_then)));
+      there = rw (is_space_is p.space space of_space) holds.1.1.1.1.0;
+    })
+newly_was_open c _ h run p has is = cc
+
+-- ---- what is found lost is unsettled
+
+pub found_unsettled : (c : Settings) (h : List Event) (p : Packet) (d : Option (Space × ℕ)) → is_found_at c h p d ≡ true → is_unsettled h p ≡ true
+found_unsettled c h p None is = cc
+found_unsettled c h p (Some (s, now)) is =
+    let parts = and_parts (is_of s p) (is_found c h now s p) is in
+    let more = and_parts (p.in_flight && is_unsettled h p) (is_late (rtt c h) now (largest_acknowledged h s) p) parts.1 in
+    (and_parts p.in_flight (is_unsettled h p) more.0).1

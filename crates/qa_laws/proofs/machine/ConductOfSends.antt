@@ -1,0 +1,270 @@
+-- What a run sends stays within the window, or has its leave.
+use Rattle.std.proofs.Common.{◌≡◌, ◌∙◌, ◌+◌, ◌*◌, ◌<◌, ◌≤◌, ℕ, List, [], ◌∷◌, ◌++◌, Bool, true, false, cond, ◌&&◌, ◌||◌, not, Some, None, refl, sym, ap, arith, inl, inr, sum_by, count_by}
+use Rattle.std.proofs.lemmas.Bool.{both_ways, ltb-false}
+use Rattle.std.proofs.lemmas.List.Sums.{sum_by-cons}
+use Rattle.std.specs.List.{list_any}
+use Rattle.std.specs.Prelude.{if◌then◌else◌}
+use Rattle.qa_base.specs.declared.event.Event.{Event}
+use Rattle.qa_base.specs.declared.event.Event.TheVariants.{Sent, Timer}
+use Rattle.qa_base.specs.declared.space.Kind.TheVariants.{Loss, Pto}
+use Rattle.qa_base.specs.declared.space.Leave.{Leave}
+use Rattle.qa_base.specs.declared.space.Leave.TheVariants.{Window, Probe, Recovery}
+use Rattle.qa_base.specs.declared.space.Space.{Space}
+use Rattle.qa_base.specs.machine.Breaches.{is_over}
+use Rattle.qa_laws.specs.machine.Conduct.{is_pto_event, is_probe, probe_bytes, is_recovery, IsAmong, HasLeave}
+use Rattle.qa_base.specs.machine.Leave.{probe_size, is_recovery_packet}
+use Rattle.qa_base.specs.machine.Loss.{owed, bytes_in_flight}
+use Rattle.qa_base.specs.machine.Moments.{moments, since}
+use Rattle.qa_base.specs.machine.Packets.{is_gone}
+use Rattle.qa_base.specs.machine.Reno.{reno, is_entry}
+use Rattle.qa_base.specs.machine.Rules.{IsRun}
+use Rattle.qa_base.specs.values.Settings.{Settings}
+use Rattle.qa_base.specs.machine.Timer.{is_pto}
+use Rattle.qa_base.proofs.verdicts.Accepted.{no_packet}
+use Rattle.qa_base.proofs.machine.Quiet.{bytes_in_flight-sent, moves_of_last-quiet, moves-quiet}
+use Rattle.qa_base.proofs.machine.RunLaws.{all_hold}
+use Rattle.qa_base.proofs.machine.Steps.{sum_since}
+
+-- ---- the window
+
+fits_window : (gone : Bool) (flight size window : ℕ) → flight + size ≤ window → flight + (if true && not gone then size else 0) ≤ window
+fits_window true flight size window le = omega (arith, le)
+fits_window false flight size window le = le
+
+-- in a run, after an in-flight packet that is sent by leave of the window, the bytes in flight are within the window
+pub within_window : (c : Settings) (h : List Event) (time : ℕ) (space : Space) (number size : ℕ) (eliciting : Bool) → IsRun c (Sent time space number size eliciting true Window ∷ h)
+    → bytes_in_flight c (Sent time space number size eliciting true Window ∷ h) ≤ (reno c (Sent time space number size eliciting true Window ∷ h)).window
+within_window c h time space number size eliciting run =
+    let e = Sent time space number size eliciting true Window in
+    let holds = all_hold c h e run.1 in
+    let none = no_packet (owed c h) holds.1.0 in
+    let le = ltb-false (reno c h).window (bytes_in_flight c h + size) holds.1.1.1.1.1.1.0 in
+    let bytes = bytes_in_flight-sent c h time space number size eliciting true Window none in
+    let same : (reno c (e ∷ h)).window ≡ (reno c h).window = rw (moves-quiet c e h refl) refl in
+    let within = fits_window (is_gone h space) (bytes_in_flight c h) size (reno c h).window le in
+    rw (bytes, same) within
+
+-- ---- since the last moment that passes a test
+
+-- none of these events, which come after a history, is the last of a moment that passes the test
+abbrev NonePasses : (List Event → Bool) → List Event → List Event → Type 0
+NonePasses test [] h = Unit {0}
+NonePasses test (e ∷ events) h = (test (e ∷ events ++ h) ≡ false) × NonePasses test events h
+
+-- the events since the last moment that passes the test, and a sum over them
+abbrev SinceLast : (List Event → Bool) → (Event → ℕ) → List Event → ℕ → Type 0
+SinceLast test own h n =
+    (later : List Event) × (event : Event) × (before : List Event)
+    × (h ≡ later ++ event ∷ before) × (test (event ∷ before) ≡ true) × NonePasses test later (event ∷ before) × (n ≡ sum_by own later)
+
+since_if : (test : List Event → Bool) (weight : List Event → ℕ) (own : Event → ℕ) (e : Event) (h : List Event) (here : Bool) → ((e : Event) (h : List Event) → weight (e ∷ h) ≡ own e)
+    → test (e ∷ h) ≡ here → (here || list_any test (moments h)) ≡ true → (list_any test (moments h) ≡ true → SinceLast test own h (sum_by weight (since test h)))
+    → SinceLast test own (e ∷ h) (sum_by weight (since test (e ∷ h)))
+since_if test weight own e h true same is some rest = ([], e, h, refl, is, tt, sum_since test weight e h ∙ rw is refl)
+since_if test weight own e h false same is some rest =
+    let found = rest some in (
+      e ∷ found.0,
+      found.1,
+      found.2,
+      ap (λ k. e ∷ k) found.3,
+      found.4,
+      (rw (← found.3) is, found.5),
+      sum_since test weight e h ∙ (rw is (rw (same e h, found.6) refl) ∙ sym (sum_by-cons own e found.0)),
+    )
+
+since_last : (test : List Event → Bool) (weight : List Event → ℕ) (own : Event → ℕ) → ((e : Event) (h : List Event) → weight (e ∷ h) ≡ own e)
+    → (h : List Event) → list_any test (moments h) ≡ true → SinceLast test own h (sum_by weight (since test h))
+since_last test weight own same [] some = cc
+since_last test weight own same (e ∷ h) some =
+    since_if test weight own e h (test (e ∷ h)) same refl some (since_last test weight own same h)
+
+over_not : (allowance more : ℕ) (ever : Bool) (spent : ℕ) → is_over allowance more (if ever then Some spent else None) ≡ false → (ever ≡ true) × (spent + more ≤ allowance)
+over_not allowance more true spent is = (refl, ltb-false allowance (spent + more) is)
+over_not allowance more false spent is = cc
+
+-- ---- probes
+
+pto_is : (e : Event) (h : List Event) → is_pto (e ∷ h) ≡ is_pto_event e
+pto_is (Timer time Pto space) h = refl
+pto_is (Timer time Loss space) h = refl
+pto_is _ h = refl
+
+probe_is : (e : Event) (h : List Event) → probe_size (e ∷ h) ≡ probe_bytes e
+probe_is (Sent time space number size eliciting in_flight Probe) h = refl
+probe_is (Sent time space number size eliciting in_flight Window) h = refl
+probe_is (Sent time space number size eliciting in_flight Recovery) h = refl
+probe_is _ h = refl
+
+no_pto : (events h : List Event) → NonePasses is_pto events h → list_any is_pto_event events ≡ false
+no_pto [] h none = refl
+no_pto (e ∷ events) h none = rw (sym (pto_is e (events ++ h)) ∙ none.0) (no_pto events h none.1)
+
+-- the leave of a probe
+probe_leave : (c : Settings) (h : List Event) (time : ℕ) (space : Space) (number size : ℕ) (eliciting : Bool) → IsRun c (Sent time space number size eliciting true Probe ∷ h) → HasLeave c h size Probe
+probe_leave c h time space number size eliciting run =
+    let holds = all_hold c h (Sent time space number size eliciting true Probe) run.1 in
+    let spent = over_not (2 * c.max_datagram_size) size (list_any is_pto (moments h)) (sum_by probe_size (since is_pto h)) holds.1.1.1.1.1.1.1.0 in
+    let found = since_last is_pto probe_size probe_bytes probe_is h spent.0 in
+    inl (refl, found.0, found.1, found.2, found.3, sym (pto_is found.1 found.2) ∙ found.4, no_pto found.0 (found.1 ∷ found.2) found.5, rw (← found.6) spent.1)
+
+-- ---- recovery
+
+recovery_is : (e : Event) (h : List Event) → is_recovery_packet (e ∷ h) ≡ is_recovery e
+recovery_is (Sent time space number size eliciting in_flight Recovery) h = refl
+recovery_is (Sent time space number size eliciting in_flight Window) h = refl
+recovery_is (Sent time space number size eliciting in_flight Probe) h = refl
+recovery_is _ h = refl
+
+counted_is : (e : Event) (h : List Event) → ◌≡◌ {A = ℕ} (cond (is_recovery_packet (e ∷ h)) 1 0) (cond (is_recovery e) 1 0)
+counted_is e h = ap {B = ℕ} (λ b. cond b 1 0) (recovery_is e h)
+
+none_counted : (events : List Event) → sum_by (λ e. cond (is_recovery e) 1 0) events ≡ 0 → list_any is_recovery events ≡ false
+none_counted [] none = refl
+none_counted (e ∷ events) none = none_if e events (is_recovery e) refl (sym (sum_by-cons (λ e. cond (is_recovery e) 1 0) e events) ∙ none) (none_counted events)
+  where
+    none_if : (e : Event) (events : List Event) (here : Bool) → is_recovery e ≡ here → cond (is_recovery e) 1 0 + sum_by (λ e. cond (is_recovery e) 1 0) events ≡ 0
+        → (sum_by (λ e. cond (is_recovery e) 1 0) events ≡ 0 → list_any is_recovery events ≡ false) → (is_recovery e || list_any is_recovery events) ≡ false
+    none_if e events true is none rest = let some : 1 + sum_by (λ e. cond (is_recovery e) 1 0) events ≡ 0 = rw is at none in absurd (omega (arith, some))
+    none_if e events false is none rest = let more : 0 + sum_by (λ e. cond (is_recovery e) 1 0) events ≡ 0 = rw is at none in rw is (rest (omega (arith, more)))
+
+recovery_leave : (c : Settings) (h : List Event) (time : ℕ) (space : Space) (number size : ℕ) (eliciting : Bool) → IsRun c (Sent time space number size eliciting true Recovery ∷ h) → HasLeave c h size Recovery
+recovery_leave c h time space number size eliciting run =
+    let holds = all_hold c h (Sent time space number size eliciting true Recovery) run.1 in
+    let spent = over_not 1 1 (list_any (is_entry c) (moments h)) (count_by is_recovery_packet (since (is_entry c) h)) holds.1.1.1.1.1.1.1.1.0 in
+    let found = since_last (is_entry c) (λ m. cond (is_recovery_packet m) 1 0) (λ e. cond (is_recovery e) 1 0) counted_is h spent.0 in
+    inr (refl, found.0, found.1, found.2, found.3, found.4, none_counted found.0 (omega (arith, spent.1, found.6)))
+
+-- in a run an in-flight packet that takes the bytes in flight past the window has its leave
+pub past_window_by_leave : (c : Settings) (h : List Event) (time : ℕ) (space : Space) (number size : ℕ) (eliciting : Bool) (leave : Leave)
+    → IsRun c (Sent time space number size eliciting true leave ∷ h) → (reno c h).window < bytes_in_flight c h + size → HasLeave c h size leave
+past_window_by_leave c h time space number size eliciting Window run past =
+    let le = ltb-false (reno c h).window (bytes_in_flight c h + size) (all_hold c h (Sent time space number size eliciting true Window) run.1).1.1.1.1.1.1.0 in
+    absurd (omega (arith, past, le))
+past_window_by_leave c h time space number size eliciting Probe run past = probe_leave c h time space number size eliciting run
+past_window_by_leave c h time space number size eliciting Recovery run past = recovery_leave c h time space number size eliciting run
+
+-- ---- between two probe timeouts, and before the first
+
+probe_step : (c : Settings) (e : Event) (h : List Event) (n : ℕ) → IsRun c (e ∷ h) → sum_by probe_size (since is_pto h) ≤ 2 * c.max_datagram_size
+    → probe_size (e ∷ h) + sum_by probe_size (since is_pto h) ≤ 2 * c.max_datagram_size
+probe_step c (Sent time space number size eliciting true Probe) h n run before =
+    let holds = all_hold c h (Sent time space number size eliciting true Probe) run.1 in
+    let spent = over_not (2 * c.max_datagram_size) size (list_any is_pto (moments h)) (sum_by probe_size (since is_pto h)) holds.1.1.1.1.1.1.1.0 in
+    omega (arith, spent.1)
+probe_step c (Sent time space number size eliciting false Probe) h n run before = omega (arith, before)
+probe_step c (Sent time space number size eliciting in_flight Window) h n run before = omega (arith, before)
+probe_step c (Sent time space number size eliciting in_flight Recovery) h n run before = omega (arith, before)
+probe_step c _ h n run before = omega (arith, before)
+
+unless_pto : (here : Bool) (n limit : ℕ) → n ≤ limit → (if here then 0 else n) ≤ limit
+unless_pto true n limit le = omega arith
+unless_pto false n limit le = le
+
+probes_spent : (c : Settings) (h : List Event) → IsRun c h → sum_by probe_size (since is_pto h) ≤ 2 * c.max_datagram_size
+probes_spent c [] run = omega arith
+probes_spent c (e ∷ h) run =
+    rw (sum_since is_pto probe_size e h)
+    (unless_pto (is_pto (e ∷ h)) (probe_size (e ∷ h) + sum_by probe_size (since is_pto h)) (2 * c.max_datagram_size) (probe_step c e h 0 run (probes_spent c h run.0)))
+
+either_false : (a b : Bool) → (a || b) ≡ false → (a ≡ false) × (b ≡ false)
+either_false true b is = cc
+either_false false b is = (refl, is)
+
+part_of_spent : (events h : List Event) → list_any is_pto_event events ≡ false → sum_by probe_bytes events ≤ sum_by probe_size (since is_pto (events ++ h))
+part_of_spent [] h none = omega arith
+part_of_spent (e ∷ events) h none =
+    let both = either_false (is_pto_event e) (list_any is_pto_event events) none in
+    let rest = part_of_spent events h both.1 in
+    let no : is_pto (e ∷ events ++ h) ≡ false = pto_is e (events ++ h) ∙ both.0 in
+    let sum : sum_by probe_size (since is_pto (e ∷ events ++ h)) ≡ probe_size (e ∷ events ++ h) + sum_by probe_size (since is_pto (events ++ h)) =
+    sum_since is_pto probe_size e (events ++ h) ∙ rw no refl in
+    let own : sum_by probe_bytes (e ∷ events) ≡ probe_bytes e + sum_by probe_bytes events = sum_by-cons probe_bytes e events in
+    let same : probe_size (e ∷ events ++ h) ≡ probe_bytes e = probe_is e (events ++ h) in
+    omega (arith, rest, sum, own, same)
+
+-- in a run the probes between two probe timeouts have two datagrams' bytes at most
+pub probes_between : (c : Settings) (between h : List Event) → IsRun c (between ++ h) → list_any is_pto_event between ≡ false → sum_by probe_bytes between ≤ 2 * c.max_datagram_size
+probes_between c between h run none =
+    let part = part_of_spent between h none in
+    let all = probes_spent c (between ++ h) run in
+    omega (arith, part, all)
+
+never_pto : (h : List Event) → list_any is_pto_event h ≡ false → list_any is_pto (moments h) ≡ false
+never_pto [] none = refl
+never_pto (e ∷ h) none =
+    let both = either_false (is_pto_event e) (list_any is_pto_event h) none in
+    rw (pto_is e h ∙ both.0) (never_pto h both.1)
+
+not_a_probe : (c : Settings) (e : Event) (h : List Event) → IsRun c (e ∷ h) → list_any is_pto (moments h) ≡ false → is_probe e ≡ false
+not_a_probe c (Sent time space number size eliciting true Probe) h run none =
+    let holds = all_hold c h (Sent time space number size eliciting true Probe) run.1 in
+    let spent = over_not (2 * c.max_datagram_size) size (list_any is_pto (moments h)) (sum_by probe_size (since is_pto h)) holds.1.1.1.1.1.1.1.0 in
+    absurd (both_ways (list_any is_pto (moments h)) none spent.0)
+not_a_probe c (Sent time space number size eliciting false Probe) h run none = refl
+not_a_probe c (Sent time space number size eliciting in_flight Window) h run none = refl
+not_a_probe c (Sent time space number size eliciting in_flight Recovery) h run none = refl
+not_a_probe c _ h run none = refl
+
+-- in a run no in-flight packet is marked as a probe before the first probe timeout
+pub no_probe_before : (c : Settings) (h : List Event) → IsRun c h → list_any is_pto_event h ≡ false → list_any is_probe h ≡ false
+no_probe_before c [] run none = refl
+no_probe_before c (e ∷ h) run none =
+    let both = either_false (is_pto_event e) (list_any is_pto_event h) none in
+    rw (not_a_probe c e h run (never_pto h both.1)) (no_probe_before c h run.0 both.1)
+
+-- ---- between two entries into recovery, and before the first
+
+recovery_spent_none : (c : Settings) (e : Event) (h : List Event) → IsRun c (e ∷ h) → is_recovery e ≡ true
+    → (list_any (is_entry c) (moments h) ≡ true) × (count_by is_recovery_packet (since (is_entry c) h) ≡ 0)
+recovery_spent_none c (Sent time space number size eliciting true Recovery) h run is =
+    let holds = all_hold c h (Sent time space number size eliciting true Recovery) run.1 in
+    let spent = over_not 1 1 (list_any (is_entry c) (moments h)) (count_by is_recovery_packet (since (is_entry c) h)) holds.1.1.1.1.1.1.1.1.0 in
+    (spent.0, (omega (arith, spent.1)))
+recovery_spent_none c (Sent time space number size eliciting false Recovery) h run is = cc
+recovery_spent_none c (Sent time space number size eliciting in_flight Window) h run is = cc
+recovery_spent_none c (Sent time space number size eliciting in_flight Probe) h run is = cc
+recovery_spent_none c _ h run is = cc
+
+-- in a run each in-flight packet that is marked for recovery has an entry before it
+pub entry_before : (c : Settings) (e : Event) (h : List Event) → IsRun c (e ∷ h) → is_recovery e ≡ true
+    → (later : List Event) × (entry : Event) × (before : List Event) × (h ≡ later ++ entry ∷ before) × (is_entry c (entry ∷ before) ≡ true)
+entry_before c e h run is =
+    let found = since_last (is_entry c) (λ m. cond (is_recovery_packet m) 1 0) (λ e. cond (is_recovery e) 1 0) counted_is h (recovery_spent_none c e h run is).0 in
+    (found.0, found.1, found.2, found.3, found.4)
+
+no_entry : (c : Settings) (f : Event) (h : List Event) → is_recovery f ≡ true → is_entry c (f ∷ h) ≡ false
+no_entry c (Sent time space number size eliciting in_flight Recovery) h is =
+    rw (moves_of_last-quiet c (Sent time space number size eliciting in_flight Recovery) h refl) refl
+no_entry c (Sent time space number size eliciting in_flight Window) h is = cc
+no_entry c (Sent time space number size eliciting in_flight Probe) h is = cc
+no_entry c _ h is = cc
+
+push : (d : Event) (events others : List Event) → events ≡ others → d ∷ events ≡ d ∷ others
+push d events others same = ap (λ k. d ∷ k) same
+
+among_if : (test : List Event → Bool) (weight : List Event → ℕ) (d : Event) (events h : List Event) (here : Bool) → test (d ∷ events ++ h) ≡ here
+    → sum_by weight (since test (d ∷ events ++ h)) ≡ 0 → (sum_by weight (since test (events ++ h)) ≡ 0 → IsAmong test events h) → IsAmong test (d ∷ events) h
+among_if test weight d events h true is none rest = record { later = []; event = d; earlier = events; stands = refl; passes = is }
+among_if test weight d events h false is none rest =
+    let sum : sum_by weight (since test (d ∷ events ++ h)) ≡ weight (d ∷ events ++ h) + sum_by weight (since test (events ++ h)) =
+    sum_since test weight d (events ++ h) ∙ rw is refl in
+    let found = rest (omega (arith, sum, none)) in
+    record { later = d ∷ found.later; event = found.event; earlier = found.earlier; stands = push d events (found.later ++ found.event ∷ found.earlier) found.stands; passes = found.passes }
+
+among : (test : List Event → Bool) (weight : List Event → ℕ) (events : List Event) (f : Event) (h : List Event) → test (f ∷ h) ≡ false → 0 < weight (f ∷ h)
+    → sum_by weight (since test (events ++ f ∷ h)) ≡ 0 → IsAmong test events (f ∷ h)
+among test weight [] f h not some none =
+    let sum : sum_by weight (since test (f ∷ h)) ≡ weight (f ∷ h) + sum_by weight (since test h) = sum_since test weight f h ∙ rw not refl in
+    absurd (omega (arith, sum, some, none))
+among test weight (d ∷ events) f h not some none =
+    among_if test weight d events (f ∷ h) (test (d ∷ events ++ f ∷ h)) refl none (λ rest. among test weight events f h not some rest)
+
+counts_one : (e : Event) (h : List Event) → is_recovery e ≡ true → 0 < cond (is_recovery_packet (e ∷ h)) 1 0
+counts_one e h is = rw (recovery_is e h ∙ is) (omega arith)
+
+-- in a run, of two in-flight packets that are marked for recovery, an entry stands between
+pub entry_between : (c : Settings) (e f : Event) (between h : List Event) → IsRun c (e ∷ between ++ f ∷ h) → is_recovery e ≡ true → is_recovery f ≡ true
+    → IsAmong (is_entry c) between (f ∷ h)
+entry_between c e f between h run is_e is_f =
+    among (is_entry c) (λ m. cond (is_recovery_packet m) 1 0) between f h (no_entry c f h is_f) (counts_one f h is_f)
+    (recovery_spent_none c e (between ++ f ∷ h) run is_e).1

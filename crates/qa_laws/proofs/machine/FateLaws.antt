@@ -1,0 +1,69 @@
+-- What one more event makes of a packet.
+use Rattle.std.proofs.Common.{◌≡◌, List, ◌∷◌, Bool, true, false, ◌&&◌, ◌||◌, not, refl, sym, subst, reverse, ◌++◌, Contains}
+use Rattle.std.proofs.lemmas.List.Elements.{Contains-append_left}
+use Rattle.std.proofs.lemmas.Bool.{and_parts, and_from, both_ways, false_from_ne_true}
+use Rattle.qa_base.specs.declared.event.Event.{Event}
+use Rattle.qa_base.specs.declared.space.Space.{Space}
+use Rattle.qa_base.specs.values.Events.{acknowledges}
+use Rattle.qa_laws.specs.machine.Fates.{fate, fate_by, fate_next, is_uncovered}
+use Rattle.qa_base.specs.machine.Loss.{detection, is_owed, is_open}
+use Rattle.qa_laws.specs.machine.Oldest.{is_flying, NoneFlies}
+use Rattle.qa_base.specs.machine.Packets.{Packet, packets, is_of, is_covered, is_lost, is_gone}
+use Rattle.qa_base.specs.machine.Rules.{IsRun}
+use Rattle.qa_base.specs.values.Settings.{Settings}
+use Rattle.qa_laws.proofs.machine.Changes.{covered_after, lost_is_owed, found_unsettled}
+use Rattle.qa_laws.proofs.machine.Settled.{open_before}
+use Rattle.qa_laws.proofs.machine.Walks.{turned_has}
+use Rattle.qa_laws.proofs.machine.Pairs.{at_one, of_each}
+
+next_by : (ack cov los own cov' los' own' : Bool) → cov' ≡ (ack || cov) → los' ≡ (own || los) → (own' ≡ true → (not cov' && not los') ≡ true)
+    → fate_by cov' los' own' ≡ fate_next ack own' (fate_by cov los own)
+next_by true cov los own cov' los' own' is_cov is_los free = rw is_cov refl
+next_by false true los own cov' los' true is_cov is_los free = let no = rw is_cov at (free refl) in cc
+next_by false true los own cov' los' false is_cov is_los free = rw is_cov refl
+next_by false false true true cov' los' true is_cov is_los free = let no = rw (is_cov, is_los) at (free refl) in cc
+next_by false false true false cov' los' true is_cov is_los free = let no = rw (is_cov, is_los) at (free refl) in cc
+next_by false false true true cov' los' false is_cov is_los free = rw (is_cov, is_los) refl
+next_by false false true false cov' los' false is_cov is_los free = rw (is_cov, is_los) refl
+next_by false false false true cov' los' true is_cov is_los free = let no = rw (is_cov, is_los) at (free refl) in cc
+next_by false false false true cov' los' false is_cov is_los free = rw (is_cov, is_los) refl
+next_by false false false false cov' los' true is_cov is_los free = rw (is_cov, is_los) refl
+next_by false false false false cov' los' false is_cov is_los free = rw (is_cov, is_los) refl
+
+-- in a run a packet is covered by an acknowledgment that names it, owed where the event finds it lost, and declared lost where it was owed
+pub fate_after : (c : Settings) (e : Event) (h : List Event) → IsRun c (e ∷ h) → (p : Packet) → Contains (packets h) p
+    → fate c (e ∷ h) p ≡ fate_next (acknowledges p.space p.number e) (is_owed c (e ∷ h) p) (fate c h p)
+fate_after c e h run p has =
+    next_by (acknowledges p.space p.number e) (is_covered h p) (is_lost h p) (is_owed c h p) (is_covered (e ∷ h) p) (is_lost (e ∷ h) p) (is_owed c (e ∷ h) p)
+    (covered_after e h p has) (lost_is_owed c e h run p has) (λ found. found_unsettled c (e ∷ h) p (detection (e ∷ h)) found)
+
+open_by : (cov los own gone : Bool) → (not cov && not los && not own && not gone) ≡ (is_uncovered (fate_by cov los own) && not gone)
+open_by true los own gone = refl
+open_by false true own gone = refl
+open_by false false true gone = refl
+open_by false false false gone = refl
+
+-- a packet is open that is uncovered, unless its space is gone
+pub open_is_uncovered : (c : Settings) (h : List Event) (p : Packet) → is_open c h p ≡ (is_uncovered (fate c h p) && not (is_gone h p.space))
+open_is_uncovered c h p = open_by (is_covered h p) (is_lost h p) (is_owed c h p) (is_gone h p.space)
+
+-- ---- a front without a packet that is open and in flight
+
+flying_before : (c : Settings) (e : Event) (h : List Event) → IsRun c (e ∷ h) → (p : Packet) → Contains (packets h) p → is_flying c (e ∷ h) p ≡ true → is_flying c h p ≡ true
+flying_before c e h run p has is =
+    let parts = and_parts p.in_flight (is_open c (e ∷ h) p) is in
+    and_from p.in_flight (is_open c h p) parts.0 (open_before c e h run p has parts.1)
+
+none_flies_still : (c : Settings) (e : Event) (h : List Event) → IsRun c (e ∷ h) → (s : Space) (p : Packet) → Contains (packets h) p
+    → (is_of s p && is_flying c h p) ≡ false → (is_of s p && is_flying c (e ∷ h) p) ≡ false
+none_flies_still c e h run s p has none =
+    false_from_ne_true (is_of s p && is_flying c (e ∷ h) p) (λ is.
+    let parts = and_parts (is_of s p) (is_flying c (e ∷ h) p) is in
+    both_ways (is_of s p && is_flying c h p) none (and_from (is_of s p) (is_flying c h p) parts.0 (flying_before c e h run p has parts.1)))
+
+-- in a run there is none in it after one more event
+pub none_flies_stays : (c : Settings) (e : Event) (h : List Event) → IsRun c (e ∷ h) → (s : Space) (front rest : List Packet) → reverse (packets h) ≡ front ++ rest
+    → NoneFlies c h s front → NoneFlies c (e ∷ h) s front
+none_flies_stays c e h run s front rest parts none = of_each (λ p. (is_of s p && is_flying c (e ∷ h) p) ≡ false) front (λ p has.
+    none_flies_still c e h run s p (turned_has (packets h) p (subst (λ (ps : List Packet). Contains ps p) (sym parts) (Contains-append_left front rest p has)))
+    (at_one (λ q. (is_of s q && is_flying c h q) ≡ false) front p none has))

@@ -1,0 +1,44 @@
+-- Lateness falls with the number.
+use Rattle.std.proofs.Common.{◌≡◌, ◌≤◌, ◌-◌, ◌*◌, max, ℕ, List, true, ◌||◌, Option, Some, None, arith, Contains, inl, inr}
+use Rattle.std.proofs.lemmas.Bool.{and_parts, and_from, or_cases, or_left, or_right, ltb-true, lt-ltb, leb-true, le-leb}
+use Rattle.std.specs.Prelude.{nat_lt, nat_le}
+use Rattle.qa_base.specs.declared.event.Event.{Event}
+use Rattle.qa_base.specs.machine.Loss.{is_old, is_late}
+use Rattle.qa_base.specs.machine.Packets.{Packet, packets, is_of}
+use Rattle.qa_base.specs.machine.Rtt.{Estimate}
+use Rattle.qa_base.specs.machine.Rules.{IsRun}
+use Rattle.qa_base.specs.values.Settings.{Settings}
+use Rattle.qa_laws.proofs.machine.Courses.{lower_is_earlier}
+
+-- what was sent no later is no less old
+pub earlier_is_old : (r : Estimate) (now : ℕ) (p q : Packet) → q.time ≤ p.time → is_old r now p ≡ true → is_old r now q ≡ true
+earlier_is_old r now p q earlier old =
+    let m = max r.latest_rtt r.smoothed_rtt in
+    let both = and_parts (nat_le (9 * m) (8 * (now - p.time))) (nat_le 1000 (now - p.time)) old in
+    let fraction = leb-true (9 * m) (8 * (now - p.time)) both.0 in
+    let granularity = leb-true 1000 (now - p.time) both.1 in
+    and_from (nat_le (9 * m) (8 * (now - q.time))) (nat_le 1000 (now - q.time))
+    (le-leb (9 * m) (8 * (now - q.time)) (omega (arith, earlier, fraction)))
+    (le-leb 1000 (now - q.time) (omega (arith, earlier, granularity)))
+
+-- of two packets, if the one with the higher number, sent no earlier, is late, so is the other
+pub earlier_is_late : (r : Estimate) (now : ℕ) (largest : Option ℕ) (p q : Packet) → q.number ≤ p.number → q.time ≤ p.time
+    → is_late r now largest p ≡ true → is_late r now largest q ≡ true
+earlier_is_late r now None p q lower earlier late = cc
+earlier_is_late r now (Some largest) p q lower earlier late =
+    let both = and_parts (nat_lt p.number largest) (nat_le 3 (largest - p.number) || is_old r now p) late in
+    let below = ltb-true p.number largest both.0 in
+    and_from (nat_lt q.number largest) (nat_le 3 (largest - q.number) || is_old r now q)
+    (lt-ltb q.number largest (omega (arith, below, lower)))
+    (elim (or_cases (nat_le 3 (largest - p.number)) (is_old r now p) both.1) [
+      | inl far ↦ (let three = leb-true 3 (largest - p.number) far in
+          or_left (nat_le 3 (largest - q.number)) (is_old r now q) (le-leb 3 (largest - q.number) (omega (arith, three, lower))))
+      | inr old ↦ or_right (nat_le 3 (largest - q.number)) (is_old r now q) (earlier_is_old r now p q earlier old)
+    ])
+
+-- in a run, of two packets of one space, if the one with the higher number is late, so is the other
+pub lower_is_late : (c : Settings) (h : List Event) → IsRun c h → (r : Estimate) (now : ℕ) (largest : Option ℕ) (p q : Packet)
+    → Contains (packets h) p → Contains (packets h) q → is_of p.space q ≡ true → q.number ≤ p.number
+    → is_late r now largest p ≡ true → is_late r now largest q ≡ true
+lower_is_late c h run r now largest p q has_p has_q same lower late =
+    earlier_is_late r now largest p q lower (lower_is_earlier c h run p q has_p has_q same lower).0 late

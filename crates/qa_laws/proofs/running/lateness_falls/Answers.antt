@@ -1,0 +1,5 @@
+use Rattle.qa_laws.proofs.machine.Lateness as lemmas
+use Rattle.qa_laws.proofs.running.lateness_falls.Goals as goal
+
+pub returns : goal.returns
+returns c = lemmas.earlier_is_late

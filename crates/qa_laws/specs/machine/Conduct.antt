@@ -1,0 +1,104 @@
+-- What a sender does in a run, in the words of the RFC.
+use Rattle.std.specs.Prelude.{◌≡◌, ℕ, ◌+◌, ◌-◌, ◌*◌, ◌⊎◌, ◌<◌, ◌≤◌, Bool, true, false, List, ◌∷◌, ◌++◌, Some, sum_by, Contains, if◌then◌else◌}
+use Rattle.std.specs.List.{list_any}
+use Rattle.qa_base.specs.declared.event.Event.{Event}
+use Rattle.qa_base.specs.declared.event.Event.TheVariants.{Sent, Lost, Timer}
+use Rattle.qa_base.specs.declared.space.Kind.TheVariants.{Pto}
+use Rattle.qa_base.specs.declared.space.Leave.{Leave}
+use Rattle.qa_base.specs.declared.space.Leave.TheVariants.{Probe, Recovery}
+use Rattle.qa_base.specs.declared.space.Space.{Space}
+use Rattle.qa_base.specs.values.Constants.{packet_threshold, probe_datagrams}
+use Rattle.qa_base.specs.values.Events.{is_named, time_of}
+use Rattle.qa_base.specs.machine.Loss.{detection, owed, bytes_in_flight, is_persistent}
+use Rattle.qa_base.specs.machine.Packets.{Packet, packets, is_covered}
+use Rattle.qa_base.specs.machine.Reno.{reno, is_entry}
+use Rattle.qa_base.specs.machine.Rtt.{rtt}
+use Rattle.qa_base.specs.values.Settings.{Settings}
+use Rattle.qa_base.specs.machine.Timer.{loss_delay}
+
+-- ---- losses (RFC 9002, section 6.1)
+
+-- a packet of the space has this number that was in flight, and a packet of the space that was sent later is acknowledged, by
+-- a number that is higher by three at least, or the loss delay had passed when it was looked for
+pub record IsLostRightly (c : Settings) (h : List Event) (s : Space) (n : ℕ) : Type 0 where
+  pub packet : Packet
+  pub sent : Contains (packets h) packet
+  pub of_space : packet.space ≡ s
+  pub numbered : packet.number ≡ n
+  pub flying : packet.in_flight ≡ true
+  pub other : Packet
+  pub other_sent : Contains (packets h) other
+  pub other_of_space : other.space ≡ s
+  pub acknowledged : is_covered h other ≡ true
+  pub earlier : packet.place < other.place
+  pub lower : packet.number < other.number
+  pub now : ℕ
+  pub detected : detection h ≡ Some (s, now)
+  pub late : (packet.number + packet_threshold ≤ other.number) ⊎ (loss_delay (rtt c h) ≤ now - packet.time)
+
+-- ---- probes (RFC 9002, section 6.2.4)
+
+abbrev pub is_pto_event : Event → Bool
+is_pto_event (Timer time Pto space) = true
+is_pto_event _ = false
+
+-- an in-flight packet that is marked as a probe
+abbrev pub is_probe : Event → Bool
+is_probe (Sent time space number size eliciting in_flight Probe) = in_flight
+is_probe _ = false
+
+-- its bytes
+abbrev pub probe_bytes : Event → ℕ
+probe_bytes (Sent time space number size eliciting in_flight Probe) = if in_flight then size else 0
+probe_bytes _ = 0
+
+-- ---- recovery (RFC 9002, section 7.3.2)
+
+-- an in-flight packet that is marked for recovery
+abbrev pub is_recovery : Event → Bool
+is_recovery (Sent time space number size eliciting in_flight Recovery) = in_flight
+is_recovery _ = false
+
+-- some event among these, which come after the history, is the last of a moment that passes the test
+pub record IsAmong (test : List Event → Bool) (events h : List Event) : Type 0 where
+  pub later : List Event
+  pub event : Event
+  pub earlier : List Event
+  pub stands : events ≡ later ++ event ∷ earlier
+  pub passes : test (event ∷ earlier ++ h) ≡ true
+
+-- from the end of the history on, up to the last of these events, the window did not collapse
+abbrev pub NoCollapse : Settings → List Event → List Event → Type 0
+NoCollapse c events h = (later earlier : List Event) → events ≡ later ++ earlier → is_persistent c (earlier ++ h) ≡ false
+
+-- a packet that was found lost was sent after this time
+pub record IsSentAfter (time : ℕ) (lost : List Packet) : Type 0 where
+  pub packet : Packet
+  pub found : Contains lost packet
+  pub after : time < packet.time
+
+-- ---- the conduct of a run
+
+-- the leave of an in-flight packet of so many bytes: a probe, within two datagrams since the last probe timeout, which there
+-- was; or the one packet of an entry into recovery
+abbrev pub HasLeave : Settings → List Event → ℕ → Leave → Type 0
+HasLeave c h size leave =
+    ((leave ≡ Probe)
+    × (since : List Event) × (timeout : Event) × (before : List Event)
+    × (h ≡ since ++ timeout ∷ before) × (is_pto_event timeout ≡ true) × (list_any is_pto_event since ≡ false)
+    × (sum_by probe_bytes since + size ≤ probe_datagrams * c.max_datagram_size))
+    ⊎ ((leave ≡ Recovery)
+    × (since : List Event) × (entry : Event) × (before : List Event)
+    × (h ≡ since ++ entry ∷ before) × (is_entry c (entry ∷ before) ≡ true) × (list_any is_recovery since ≡ false))
+
+-- what is declared lost was lost; what is sent past the window has its leave; and of two entries into recovery with no collapse
+-- of the window between, the second has a loss that was sent after the first
+pub record IsConduct (c : Settings) (h : List Event) : Type 0 where
+  pub lost : (after before : List Event) (time : ℕ) (space : Space) (ranges : List (ℕ × ℕ)) → h ≡ after ++ Lost time space ranges ∷ before
+      → (n : ℕ) → is_named ranges n ≡ true → IsLostRightly c before space n
+  pub sent : (after before : List Event) (time : ℕ) (space : Space) (number size : ℕ) (eliciting : Bool) (leave : Leave)
+      → h ≡ after ++ Sent time space number size eliciting true leave ∷ before
+      → (reno c before).window < bytes_in_flight c before + size → HasLeave c before size leave
+  pub halved : (after between before : List Event) (second first : Event) → h ≡ after ++ (second ∷ between ++ first ∷ before)
+      → is_entry c (first ∷ before) ≡ true → is_entry c (second ∷ between ++ first ∷ before) ≡ true → NoCollapse c between (first ∷ before)
+      → IsSentAfter (time_of first) (owed c (second ∷ between ++ first ∷ before))

@@ -1,0 +1,36 @@
+-- What became of a packet, in one word.
+use Rattle.std.specs.Prelude.{Bool, true, false, List}
+use Rattle.qa_base.specs.declared.event.Event.{Event}
+use Rattle.qa_base.specs.machine.Loss.{is_owed}
+use Rattle.qa_base.specs.machine.Packets.{Packet, is_covered, is_lost}
+use Rattle.qa_base.specs.values.Settings.{Settings}
+
+pub data Fate : Type 0 where
+  Uncovered : Fate
+  Owed : Fate
+  DeclaredLost : Fate
+  Covered : Fate
+
+abbrev pub fate_by : (covered lost owed : Bool) → Fate
+fate_by true lost owed = Covered
+fate_by false true owed = DeclaredLost
+fate_by false false true = Owed
+fate_by false false false = Uncovered
+
+abbrev pub fate : Settings → List Event → Packet → Fate
+fate c h p = fate_by (is_covered h p) (is_lost h p) (is_owed c h p)
+
+-- what was owed is declared lost by the next event
+abbrev pub declared : Fate → Fate
+declared Owed = DeclaredLost
+declared f = f
+
+-- what one more event makes of it that acknowledges the packet, or finds it lost
+abbrev pub fate_next : (acknowledged found : Bool) → Fate → Fate
+fate_next true found f = Covered
+fate_next false true f = Owed
+fate_next false false f = declared f
+
+abbrev pub is_uncovered : Fate → Bool
+is_uncovered Uncovered = true
+is_uncovered f = false

@@ -1,0 +1,42 @@
+-- Sums over the packets that are open, and the packets that one more event closes.
+use Rattle.std.specs.Prelude.{ℕ, ◌&&◌, not, Bool, List, ◌∷◌, filter, sum_by, if◌then◌else◌}
+use Rattle.qa_base.specs.declared.event.Event.{Event}
+use Rattle.qa_base.specs.declared.space.Space.{Space}
+use Rattle.qa_base.specs.values.Events.{discards}
+use Rattle.qa_base.specs.machine.Loss.{is_open}
+use Rattle.qa_base.specs.machine.Packets.{Packet, packets, is_of}
+use Rattle.qa_base.specs.values.Settings.{Settings}
+
+-- what a packet adds that counts only where a test is true
+abbrev pub counted : (Packet → Bool) → (Packet → ℕ) → Packet → ℕ
+counted test weight p = if test p then weight p else 0
+
+-- the weights of the open packets
+abbrev pub open_sum : (Packet → ℕ) → Settings → List Event → ℕ
+open_sum weight c h = sum_by (counted (is_open c h) weight) (packets h)
+
+-- the packet was open before the event, and the event closes it
+abbrev pub is_closed_by : Settings → Event → List Event → Packet → Bool
+is_closed_by c e before p = is_open c before p && not (is_open c (e ∷ before) p)
+
+abbrev pub is_discarded_by : Settings → Event → List Event → Packet → Bool
+is_discarded_by c e before p = discards p.space e && is_open c before p
+
+-- the packets that the event closes
+abbrev pub closed_by : Settings → Event → List Event → List Packet
+closed_by c e before = filter (is_closed_by c e before) (packets before)
+
+-- the open packets whose space the event discards
+abbrev pub discarded : Settings → Event → List Event → List Packet
+discarded c e before = filter (is_discarded_by c e before) (packets before)
+
+-- the bytes of a packet that is in flight
+abbrev pub bytes : Packet → ℕ
+bytes p = if p.in_flight then p.size else 0
+
+abbrev pub bytes_of : Space → Packet → ℕ
+bytes_of s p = if is_of s p then bytes p else 0
+
+-- one for a packet of the space that asks for an acknowledgment
+abbrev pub asks_of : Space → Packet → ℕ
+asks_of s p = if is_of s p && p.eliciting then 1 else 0

@@ -1,0 +1,2 @@
+-- Words for laws of verdicts.
+pub mod Grounds
