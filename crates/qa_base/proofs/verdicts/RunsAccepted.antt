@@ -28,7 +28,7 @@ use Rattle.qa_base.proofs.verdicts.Stops.{header_in-snoc}
 -- ---- one line
 
 -- a line within the limits says what it is read as
-read_as_said : (reading : Reading) (n : ℕ) (l : List ℕ) → n < max_lines → length l ≤ line_limit → said reading n l ≡ reading l
+pub read_as_said : (reading : Reading) (n : ℕ) (l : List ℕ) → n < max_lines → length l ≤ line_limit → said reading n l ≡ reading l
 unfolding said
 read_as_said reading n l few short =
     rw (lt-leb 4294967295 n few) (rw (lt-leb 65537 (length l) (omega arith)) refl)
