@@ -8,6 +8,7 @@
 ghost use Rattle.std.specs.Prelude.{None};
 
 use qa_check::{Metered, Outcome, Sink, Source, audit};
+use qa_ledger::Whole;
 use std::io;
 use std::process::ExitCode;
 
@@ -46,7 +47,7 @@ fn main(rt: HostRuntime) -> ExitCode {
     let mut writer = OneByte {
         inner: Metered::new(rt.stdout()),
     };
-    match audit(rt.alloc(), &mut reader, &mut writer) {
+    match audit::<Whole, _, _>(rt.alloc(), &mut reader, &mut writer) {
         Ok(Outcome::Accepted) => ExitCode::from(0),
         Ok(Outcome::Refused) => ExitCode::from(1),
         Ok(Outcome::Unreadable) => ExitCode::from(2),

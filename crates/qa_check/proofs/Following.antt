@@ -4,7 +4,7 @@ use Rattle.std.specs.Prelude.{OnOk, is_some}
 use Rattle.std.proofs.lemmas.List.{append-nil}
 use Rattle.qa_base.specs.declared.verdict.Verdict.{Verdict}
 use Rattle.qa_base.specs.format.Lines.{has_lf, line_limit, cut, ended_lines, unended, ended, IsShortLine}
-use Rattle.qa_base.specs.format.Sends.{reading}
+use Rattle.qa_base.specs.format.Reading.{reading}
 use Rattle.qa_base.specs.verdicts.Verdict.{first_stop, verdict_of, AreGood, AreDecided, IsFixed}
 use Rattle.qa_base.proofs.verdicts.Cuts.{Cut, cut_without_lf, cut_ended, first_line, first_line_is_long, short_snoc, ended_snoc, lines_at_end, lines_at_lf, lf_inside, length-ended}
 use Rattle.qa_base.proofs.verdicts.Fixed.{fixed_by_line, fixed_by_length}

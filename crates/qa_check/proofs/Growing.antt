@@ -1,84 +1,80 @@
 -- What one more line does to the lines that a checker stands for.
-use Rattle.std.proofs.Common.{◌≡◌, ◌∙◌, ◌+◌, ℕ, List, [], ◌∷◌, ◌++◌, length, Bool, true, false, cond, Option, Some, None, Result, Ok, Err, refl, sym, ap, subst, length-append}
+use Rattle.std.proofs.Common.{◌≡◌, ◌∙◌, ◌+◌, ◌<◌, ◌≤◌, ℕ, List, [], ◌∷◌, ◌++◌, length, Bool, true, false, Option, Some, None, Ok, Err, refl, sym, ap, length-append, is_some, arith}
 use Rattle.std.proofs.lemmas.List.{append-nil}
 use Rattle.std.proofs.lemmas.List.Elements.{filter_map-append}
+use Rattle.std.proofs.lemmas.Bool.{le-leb, lt-leb, lt-ltb}
 use Rattle.std.specs.Option.{option_or}
-use Rattle.std.specs.Prelude.{filter_map, nat_le, nat_lt, IsSome, is_some}
+use Rattle.std.specs.Prelude.{filter_map, IsSome, if◌then◌else◌}
 use Rattle.qa_base.specs.declared.event.Event.{Event}
+use Rattle.qa_base.specs.declared.fault.Fault.{Fault}
+use Rattle.qa_base.specs.declared.fault.Fault.TheVariants.{HeaderPlace, LineTooLong, TooManyLines}
 use Rattle.qa_base.specs.declared.line.Line.{Line}
 use Rattle.qa_base.specs.declared.line.Line.TheVariants as line
-use Rattle.qa_base.specs.declared.fault.Fault.{Fault}
+use Rattle.qa_base.specs.declared.rule.Rule.TheVariants.{OwedAtEnd}
+use Rattle.qa_base.specs.declared.verdict.Totals.{Totals}
 use Rattle.qa_base.specs.declared.verdict.Verdict.{Verdict}
-use Rattle.qa_base.specs.values.Events.{is_sent_or_report}
-use Rattle.qa_base.specs.machine.Packets.{history_of}
-use Rattle.qa_base.specs.format.Sends.{reading}
+use Rattle.qa_base.specs.declared.verdict.Verdict.TheVariants.{Accepted, Refused, Unreadable}
+use Rattle.qa_base.specs.machine.Loss.{owed}
+use Rattle.qa_base.specs.machine.Packets.{history_of, is_some_packet}
+use Rattle.qa_base.specs.format.Reading.{reading}
 use Rattle.qa_base.specs.values.Settings.{Settings}
-use Rattle.qa_base.specs.verdicts.Verdict.{header_said, event_said, header_in, said, stop_at, stop_after, first_stop, end_at, last_event_line, verdict_of, AreGood, AreDecided}
-use Rattle.qa_base.proofs.format.SendsAlone.{sends_alone}
+use Rattle.qa_base.specs.machine.State.{totals}
+use Rattle.qa_base.specs.verdicts.Verdict.{header_said, event_said, header_in, events_in, said, stop_at, stop_after, first_stop, line_behind, last_event_line, verdict_of, unreadable, AreGood, AreDecided}
+use Rattle.qa_base.proofs.machine.Histories.{history_of-snoc}
 use Rattle.qa_base.proofs.verdicts.Stops.{or_none, first_stop-snoc, verdict_at_stop, verdict_stays, decided_stays, header_in-snoc, said_reading}
-use Rattle.qa_check.specs.Taking.{header_after, events_after, says_plain, TakesIn}
-use Rattle.qa_check.specs.Standing.{Open, Decided, StandsBy}
+use Rattle.qa_check.specs.Standing.{Held, Stands, HoldsRun, Open, StandsBy, StandsFor, TakesIn, StopsAt, header_after, history_after, last_after}
 
--- ---- what a line says
+-- ---- what one test says of a checker
 
-plain_of : (r : Result Line Fault) → ((e : Event) → r ≡ Ok (line.Event e) → is_sent_or_report e ≡ true) → says_plain r ≡ true
-plain_of (Err f) sent = refl
-plain_of (Ok line.Blank) sent = refl
-plain_of (Ok (line.Header c)) sent = refl
-plain_of (Ok (line.Event e)) sent = sent e refl
+-- a and b are one: a by the fields of a checker, b by what it holds
+pub count_of : {L : Type 0} (a b : Held L) → a ≡ b → a.lines ≡ b.lines
+count_of a b same = ap (λ held. held.lines) same
 
-plain_still : (many long : Bool) (e f : Fault) (r : Result Line Fault) → says_plain r ≡ true → says_plain (cond many (Err e) (cond long (Err f) r)) ≡ true
-plain_still true long e f r h = refl
-plain_still false true e f r h = refl
-plain_still false false e f r h = h
+pub undecided : {L : Type 0} (a b : Held L) → a ≡ b → (test : Bool) → test ≡ is_some a.verdict → test ≡ false → b.verdict ≡ None
+undecided a b same test is fails = sym (ap (λ held. held.verdict) same) ∙ none_of a.verdict (sym is ∙ fails)
+  where
+    none_of : (v : Option Verdict) → is_some v ≡ false → v ≡ None
+    none_of None h = refl
+    none_of (Some v) h = cc
 
--- the only events that lines say are sent packets and reports
-pub said_plain : (n : ℕ) (l : List ℕ) (s : Result Line Fault) → s ≡ said reading n l → says_plain s ≡ true
-unfolding said
-said_plain n l s h =
-    rw h (plain_still (nat_le 4294967295 n) (nat_lt 65536 (length l)) _ _ (reading l) (plain_of (reading l) (λ e is. (sends_alone l e is).0)))
+pub headed : {L : Type 0} (a b : Held L) → a ≡ b → (test : Bool) → test ≡ is_some a.ledger → test ≡ true → is_some b.ledger ≡ true
+headed a b same test is holds = ap (λ held. is_some held.ledger) (sym same) ∙ (sym is ∙ holds)
 
 -- ---- with and without a verdict
 
--- what the checker stands for where it has no verdict
-pub open_from : (v : Option Verdict) (header : Option Settings) (events : List Event) (count : ℕ) (ls : List (List ℕ))
-    → v ≡ None → StandsBy v header events count ls → Open header events count ls
-open_from v header events count ls e s = let P : Option Verdict → Type 0 = λ o. StandsBy o header events count ls in subst P e s
+pub open_from : {L : Type 0} (stands : Stands L) (v : Option Verdict) (ledger : Option L) (n last : ℕ) (ls : List (List ℕ))
+    → v ≡ None → StandsBy stands v ledger n last ls → Open stands ledger n last ls
+open_from stands None ledger n last ls none s = s
+open_from stands (Some v) ledger n last ls none s = cc
 
-pub stands_open : (v : Option Verdict) (header : Option Settings) (events : List Event) (count : ℕ) (ls : List (List ℕ))
-    → v ≡ None → Open header events count ls → StandsBy v header events count ls × AreGood reading ls
-stands_open v header events count ls e o = let P : Option Verdict → Type 0 = λ o. StandsBy o header events count ls in (subst P (sym e) o, o.good)
-
-pub stands_decided : (o : Option Verdict) (v : Verdict) (header : Option Settings) (events : List Event) (count : ℕ) (ls : List (List ℕ))
-    → o ≡ Some v → Decided v ls → StandsBy o header events count ls × AreDecided reading ls
-stands_decided o v header events count ls e d = let P : Option Verdict → Type 0 = λ o. StandsBy o header events count ls in (subst P (sym e) d, d.bad)
-
-pub no_verdict : (v : Option Verdict) (test : Bool) → test ≡ is_some v → test ≡ false → v ≡ None
-no_verdict None test h e = refl
-no_verdict (Some v) test h e = cc
+pub stands_open : {L : Type 0} (stands : Stands L) (v : Option Verdict) (ledger : Option L) (n last : ℕ) (ls : List (List ℕ))
+    → v ≡ None → Open stands ledger n last ls → StandsBy stands v ledger n last ls × AreGood reading ls
+stands_open stands None ledger n last ls none s = (s, s.0)
+stands_open stands (Some v) ledger n last ls none s = cc
 
 -- ---- a line that is not good
 
-stop_of : (header : Option Settings) (events : List Event) (count : ℕ) (ls : List (List ℕ)) (l : List ℕ) (o : Option Verdict) → Open header events count ls
-    → stop_at (count + 1) header (history_of events) (said reading count l) ≡ o → stop_after reading ls l ≡ o
+pub fixed_adds : {L : Type 0} (stands : Stands L) (v : Option Verdict) (ledger : Option L) (n last : ℕ) (l : List ℕ) → IsSome v
+    → (ls : List (List ℕ)) → StandsBy stands v ledger n last ls → StandsBy stands v ledger n last (ls ++ l ∷ []) × AreDecided reading (ls ++ l ∷ [])
+fixed_adds stands None ledger n last l some ls s = cc
+fixed_adds stands (Some v) ledger n last l some ls s =
+    let still : AreDecided reading (ls ++ l ∷ []) = decided_stays reading ls (l ∷ []) s.0 in
+    ((still, s.1 ∙ sym (verdict_stays reading ls (l ∷ []) s.0)), still)
+
+stop_there : {L : Type 0} (stands : Stands L) (ledger : Option L) (n last : ℕ) (ls : List (List ℕ)) (l : List ℕ) (o : Option Verdict)
+    → Open stands ledger n last ls → o ≡ stop_at (n + 1) (header_in reading ls) (history_of (events_in reading ls)) (said reading n l) → stop_after reading ls l ≡ o
 unfolding stop_after
-stop_of header events count ls l o open_lines h = rw (← open_lines.header_is, ← open_lines.events_are, ← open_lines.count_is) h
+stop_there stands ledger n last ls l o holds is = rw (← holds.2) (sym is)
 
-pub stop_adds : (header : Option Settings) (events : List Event) (count : ℕ) (l : List ℕ) (v : Verdict)
-    → stop_at (count + 1) header (history_of events) (said reading count l) ≡ Some v
-    → (ls : List (List ℕ)) → Open header events count ls → Decided v (ls ++ l ∷ [])
-stop_adds header events count l v h ls o =
-    let bad : first_stop reading [] (ls ++ l ∷ []) ≡ Some v =
-    first_stop-snoc reading [] ls l o.good ∙ stop_of header events count ls l (Some v) o h in
-    record { bad = rw bad refl; verdict_is = sym (verdict_at_stop reading (ls ++ l ∷ []) v bad) }
-
--- a line after a verdict
-pub decided_adds : (v : Option Verdict) (header : Option Settings) (events : List Event) (count : ℕ) (l : List ℕ) → IsSome v
-    → (ls : List (List ℕ)) → StandsBy v header events count ls → StandsBy v header events count (ls ++ l ∷ []) × AreDecided reading (ls ++ l ∷ [])
-decided_adds None header events count l h ls s = cc
-decided_adds (Some v) header events count l h ls s =
-    let still : AreDecided reading (ls ++ l ∷ []) = decided_stays reading ls (l ∷ []) s.bad in
-    (record { bad = still; verdict_is = s.verdict_is ∙ sym (verdict_stays reading ls (l ∷ []) s.bad) }, still)
+pub stop_adds : {L : Type 0} (stands : Stands L) (ledger ledger' : Option L) (n last n' last' : ℕ) (v : Option Verdict) (l : List ℕ)
+    → IsSome v → ((c : Option Settings) (h : List Event) → HoldsRun stands ledger c h → v ≡ stop_at (n + 1) c h (said reading n l))
+    → (ls : List (List ℕ)) → Open stands ledger n last ls → StandsBy stands v ledger' n' last' (ls ++ l ∷ []) × AreDecided reading (ls ++ l ∷ [])
+stop_adds stands ledger ledger' n last n' last' None l some is ls holds = cc
+stop_adds stands ledger ledger' n last n' last' (Some v) l some is ls holds =
+    let there = stop_there stands ledger n last ls l (Some v) holds (is (header_in reading ls) (history_of (events_in reading ls)) holds.1) in
+    let bad : first_stop reading [] (ls ++ l ∷ []) ≡ Some v = first_stop-snoc reading [] ls l holds.0 ∙ there in
+    let decided : AreDecided reading (ls ++ l ∷ []) = rw bad refl in
+    ((decided, sym (verdict_at_stop reading (ls ++ l ∷ []) v bad)), decided)
 
 -- ---- a good line
 
@@ -89,33 +85,123 @@ header_grows n None h (line.Header c) good = refl
 header_grows n (Some d) h (line.Header c) good = cc
 header_grows n header h (line.Event e) good = sym (or_none header)
 
-events_grow : (events : List Event) (x : Line) (l : List ℕ) → reading l ≡ Ok x
-    → events_after events x ≡ events ++ filter_map (λ m. event_said (reading m)) (l ∷ [])
-events_grow events line.Blank l h = rw h (sym (append-nil events))
-events_grow events (line.Header c) l h = rw h (sym (append-nil events))
-events_grow events (line.Event e) l h = rw h refl
+history_grows : (events : List Event) (x : Line) → history_after (history_of events) x ≡ history_of (events ++ filter_map event_said (Ok x ∷ []))
+history_grows events line.Blank = ap history_of (sym (append-nil events))
+history_grows events (line.Header c) = ap history_of (sym (append-nil events))
+history_grows events (line.Event e) = sym (history_of-snoc events e)
 
-pub good_adds : (header header' : Option Settings) (events events' : List Event) (count count' : ℕ) (l : List ℕ) (x : Line)
-    → TakesIn header header' events events' count count' x
-    → said reading count l ≡ Ok x → stop_at (count + 1) header (history_of events) (said reading count l) ≡ None
-    → (ls : List (List ℕ)) → Open header events count ls → Open header' events' count' (ls ++ l ∷ [])
-good_adds header header' events events' count count' l x taken says good ls o =
-    let reads : reading l ≡ Ok x = said_reading reading count l says in
-    record {
-      good = first_stop-snoc reading [] ls l o.good ∙ stop_of header events count ls l None o good;
-      header_is =
-          taken.header_is ∙ (header_grows (count + 1) header (history_of events) x (rw says at good)
-          ∙ (ap (λ p. option_or p (header_said (Ok x))) o.header_is
-          ∙ (ap (λ r. option_or (header_in reading ls) (header_said r)) (sym reads) ∙ sym (header_in-snoc reading ls l))));
-      events_are =
-          taken.events_are ∙ (events_grow events x l reads
-          ∙ (ap (λ es. es ++ filter_map (λ m. event_said (reading m)) (l ∷ [])) o.events_are
-          ∙ sym (filter_map-append (λ m. event_said (reading m)) ls (l ∷ []))));
-      count_is = taken.count_is ∙ (ap (λ n. n + 1) o.count_is ∙ sym (length-append ls (l ∷ [])));
-    }
+same_last : (ls : List (List ℕ)) (l : List ℕ) → is_some (event_said (reading l)) ≡ false → last_event_line reading (ls ++ l ∷ []) ≡ last_event_line reading ls
+same_last [] l none = rw none refl
+same_last (m ∷ ls) l none = ap (line_behind (is_some (event_said (reading m)))) (same_last ls l none)
 
--- the verdict at the end, where each line is good
-pub end_stands : (header : Option Settings) (events : List Event) (count : ℕ) (ls : List (List ℕ)) → Open header events count ls
-    → end_at (count + 1) (last_event_line reading ls) header (history_of events) ≡ verdict_of reading ls
+-- the number of a line counted from one line earlier is one more
+behind_more : (here : Bool) (n : ℕ) → 0 < n → line_behind here n ≡ n + 1
+behind_more here n some = rw (lt-ltb 0 n some) refl
+
+event_last : (ls : List (List ℕ)) (l : List ℕ) → is_some (event_said (reading l)) ≡ true → last_event_line reading (ls ++ l ∷ []) ≡ length ls + 1
+event_last [] l some = rw some refl
+event_last (m ∷ ls) l some =
+    let rest : last_event_line reading (ls ++ l ∷ []) ≡ length ls + 1 = event_last ls l some in
+    behind_more (is_some (event_said (reading m))) (last_event_line reading (ls ++ l ∷ [])) (omega (arith, rest)) ∙ (ap (λ n. n + 1) rest ∙ omega arith)
+
+last_grows : (ls : List (List ℕ)) (l : List ℕ) (x : Line) → reading l ≡ Ok x → last_event_line reading (ls ++ l ∷ []) ≡ last_after (length ls + 1) (last_event_line reading ls) x
+last_grows ls l line.Blank is = same_last ls l (rw is refl)
+last_grows ls l (line.Header c) is = same_last ls l (rw is refl)
+last_grows ls l (line.Event e) is = event_last ls l (rw is refl)
+
+pub good_adds : {L : Type 0} (stands : Stands L) (old new : Held L) (l : List ℕ) (x : Line) → TakesIn stands old new x → said reading old.lines l ≡ Ok x
+    → (ls : List (List ℕ)) → Open stands old.ledger old.lines old.last_event ls → StandsFor stands new (ls ++ l ∷ []) × AreGood reading (ls ++ l ∷ [])
+good_adds stands old new l x taken says ls holds =
+    let reads : reading l ≡ Ok x = said_reading reading old.lines l says in
+    let header = header_in reading ls in
+    let events = events_in reading ls in
+    let next = taken.runs header (history_of events) holds.1 in
+    let there = stop_there stands old.ledger old.lines old.last_event ls l None holds (sym (ap (stop_at (old.lines + 1) header (history_of events)) says ∙ next.0)) in
+    let good : AreGood reading (ls ++ l ∷ []) = first_stop-snoc reading [] ls l holds.0 ∙ there in
+    let header_is : header_after header x ≡ header_in reading (ls ++ l ∷ []) =
+    header_grows (old.lines + 1) header (history_of events) x next.0 ∙ (ap (λ r. option_or header (header_said r)) (sym reads) ∙ sym (header_in-snoc reading ls l)) in
+    let history_is : history_after (history_of events) x ≡ history_of (events_in reading (ls ++ l ∷ [])) =
+    history_grows events x ∙ (ap (λ r. history_of (events ++ filter_map event_said (r ∷ []))) (sym reads)
+    ∙ ap history_of (sym (filter_map-append (λ m. event_said (reading m)) ls (l ∷ [])))) in
+    let held : HoldsRun stands new.ledger (header_in reading (ls ++ l ∷ [])) (history_of (events_in reading (ls ++ l ∷ []))) =
+    rw (← header_is, ← history_is) next.1 in
+    stands_open stands new.verdict new.ledger new.lines new.last_event (ls ++ l ∷ []) taken.undecided (
+      good,
+      held,
+      taken.count ∙ (ap (λ k. k + 1) holds.2 ∙ sym (length-append ls (l ∷ []))),
+      taken.last ∙ (ap (λ k. last_after (k + 1) old.last_event x) holds.2 ∙ (ap (λ k. last_after (length ls + 1) k x) holds.3 ∙ sym (last_grows ls l x reads))),
+    )
+
+-- ---- the end
+
+pub end_without : {L : Type 0} (stands : Stands L) (ledger : Option L) (n last : ℕ) (ls : List (List ℕ)) → ledger ≡ None → Open stands ledger n last ls
+    → Unreadable (n + 1) HeaderPlace None ≡ verdict_of reading ls
 unfolding verdict_of
-end_stands header events count ls o = rw (o.header_is, o.events_are, o.count_is, o.good) refl
+end_without stands None n last ls none (good, held, count, last_is) = rw (good, held.0, count) refl
+end_without stands (Some l) n last ls none holds = cc
+
+ended : (owing : Bool) (last : ℕ) (c : Settings) (h : List Event) → owing ≡ is_some_packet (owed c h)
+    → (if owing then Refused last OwedAtEnd (totals c h) else Accepted (totals c h)) ≡ (if is_some_packet (owed c h) then Refused last OwedAtEnd (totals c h) else Accepted (totals c h))
+ended owing last c h is = rw is refl
+
+-- ---- lines out of place
+
+abbrev pub StopsUnread : {L : Type 0} → Stands L → Option L → ℕ → Option Verdict → Fault → Type 0
+StopsUnread stands ledger n v f = (c : Option Settings) (h : List Event) → HoldsRun stands ledger c h → v ≡ Some (unreadable (n + 1) c h f)
+
+header_of : {L : Type 0} (stands : Stands L) (ledger : Option L) (c : Option Settings) (h : List Event) → is_some ledger ≡ true → HoldsRun stands ledger c h
+    → (d : Settings) × (c ≡ Some d)
+header_of stands None c h some held = cc
+header_of stands (Some l) c h some held = (held.0, held.1)
+
+header_there : (n : ℕ) (c : Option Settings) (h : List Event) (x d : Settings) → c ≡ Some d → Some (unreadable n c h HeaderPlace) ≡ stop_at n c h (Ok (line.Header x))
+header_there n None h x d is = cc
+header_there n (Some e) h x d is = refl
+
+pub header_stops : {L : Type 0} (stands : Stands L) (old new : Held L) (x : Settings) → is_some old.ledger ≡ true → IsSome new.verdict
+    → StopsUnread stands old.ledger old.lines new.verdict HeaderPlace → StopsAt stands old new (line.Header x)
+header_stops stands old new x some decided unread = record {
+  decided = decided;
+  verdict = λ c h held. let d = header_of stands old.ledger c h some held in unread c h held ∙ header_there (old.lines + 1) c h x d.0 d.1;
+}
+
+event_there : (n : ℕ) (c : Option Settings) (h : List Event) (e : Event) → c ≡ None → Some (unreadable n c h HeaderPlace) ≡ stop_at n c h (Ok (line.Event e))
+event_there n None h e is = refl
+event_there n (Some d) h e is = cc
+
+unheader_of : {L : Type 0} (stands : Stands L) (ledger : Option L) (c : Option Settings) (h : List Event) → ledger ≡ None → HoldsRun stands ledger c h → c ≡ None
+unheader_of stands None c h none held = held.0
+unheader_of stands (Some l) c h none held = cc
+
+pub event_stops : {L : Type 0} (stands : Stands L) (old new : Held L) (e : Event) → old.ledger ≡ None → IsSome new.verdict
+    → StopsUnread stands old.ledger old.lines new.verdict HeaderPlace → StopsAt stands old new (line.Event e)
+event_stops stands old new e none decided unread = record {
+  decided = decided;
+  verdict = λ c h held. unread c h held ∙ event_there (old.lines + 1) c h e (unheader_of stands old.ledger c h none held);
+}
+
+-- ---- lines that cannot be read
+
+pub unread_adds : {L : Type 0} (stands : Stands L) (ledger ledger' : Option L) (n last n' last' : ℕ) (v : Option Verdict) (l : List ℕ) (f : Fault)
+    → IsSome v → StopsUnread stands ledger n v f → said reading n l ≡ Err f
+    → (ls : List (List ℕ)) → Open stands ledger n last ls → StandsBy stands v ledger' n' last' (ls ++ l ∷ []) × AreDecided reading (ls ++ l ∷ [])
+unread_adds stands ledger ledger' n last n' last' v l f some unread says =
+    stop_adds stands ledger ledger' n last n' last' v l some (λ c h held. unread c h held ∙ ap (stop_at (n + 1) c h) (sym says))
+
+pub too_many : (n : ℕ) (l : List ℕ) → 4294967295 ≤ n → said reading n l ≡ Err TooManyLines
+unfolding said
+too_many n l many = rw (le-leb 4294967295 n many) refl
+
+pub too_long : (n : ℕ) (l : List ℕ) → n < 4294967295 → 65536 < length l → said reading n l ≡ Err LineTooLong
+unfolding said
+too_long n l few long = rw (lt-leb 4294967295 n few, lt-ltb 65536 (length l) long) refl
+
+-- where a ledger is there, what it says is owed decides
+pub end_with : {L : Type 0} (stands : Stands L) (ledger : Option L) (l : L) (n last : ℕ) (owing : Bool) (t : Totals) (ls : List (List ℕ)) → ledger ≡ Some l
+    → ((c : Settings) (h : List Event) → stands l c h → owing ≡ is_some_packet (owed c h)) → ((c : Settings) (h : List Event) → stands l c h → t ≡ totals c h)
+    → Open stands ledger n last ls → (if owing then Refused last OwedAtEnd t else Accepted t) ≡ verdict_of reading ls
+unfolding verdict_of
+end_with stands ledger l n last owing t ls is owes holds_totals holds =
+    let held : HoldsRun stands (Some l) (header_in reading ls) (history_of (events_in reading ls)) = rw is at holds.1 in
+    let h = history_of (events_in reading ls) in
+    rw (holds.0, held.1, holds.3, sym (owes held.0 h held.2), holds_totals held.0 h held.2) refl

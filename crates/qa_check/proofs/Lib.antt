@@ -1,5 +1,4 @@
 pub mod Appends
-pub mod Judging
 pub mod Growing
 pub mod Following
 pub mod Reading

@@ -2,25 +2,24 @@
 use Rattle.std.specs.Prelude.{◌≡◌, ◌++◌, ℕ, false, List, None}
 use Rattle.std.specs.List.{AllByRecursion}
 use Rattle.qa_base.specs.format.Lines.{ended, IsShortLine}
-use Rattle.qa_base.specs.format.Sends.{reading}
+use Rattle.qa_base.specs.format.Reading.{reading}
 use Rattle.qa_base.specs.verdicts.Verdict.{verdict, verdict_of, AreGood}
 use Rattle.qa_split.specs.Stream.{Stream}
-use Rattle.qa_check.specs.declared.checker.Checker.{Checker}
-use Rattle.qa_check.specs.Standing.{StandsFor, has_failed}
+use Rattle.qa_check.specs.Standing.{Held, Stands, StandsFor}
 
 -- the lines that a checker stands for are those that an LF ends in the bytes, all good, and this rest is behind them
 abbrev pub FollowsBy : (List (List ℕ) → Type 0) → List ℕ → List ℕ → Type 0
-FollowsBy Stands rest bytes = (ls : List (List ℕ)) × Stands ls × AreGood reading ls × AllByRecursion IsShortLine ls × (bytes ≡ ended ls ++ rest)
+FollowsBy Stand rest bytes = (ls : List (List ℕ)) × Stand ls × AreGood reading ls × AllByRecursion IsShortLine ls × (bytes ≡ ended ls ++ rest)
 
-abbrev pub Follows : List ℕ → Checker → List ℕ → Type 0
-Follows rest c bytes = FollowsBy (StandsFor c) rest bytes
+abbrev pub Follows : {L : Type 0} → Stands L → List ℕ → Held L → List ℕ → Type 0
+Follows stands rest held bytes = FollowsBy (StandsFor stands held) rest bytes
 
 -- the checker stands for lines that have the verdict of the bytes
 abbrev pub AnswersBy : (List (List ℕ) → Type 0) → List ℕ → Type 0
-AnswersBy Stands bytes = (ls : List (List ℕ)) × Stands ls × (verdict_of reading ls ≡ verdict reading bytes)
+AnswersBy Stand bytes = (ls : List (List ℕ)) × Stand ls × (verdict_of reading ls ≡ verdict reading bytes)
 
-abbrev pub Answers : Checker → List ℕ → Type 0
-Answers c bytes = (has_failed c ≡ false) × AnswersBy (StandsFor c) bytes
+abbrev pub Answers : {L : Type 0} → Stands L → Held L → List ℕ → Type 0
+Answers stands held bytes = (held.failed ≡ false) × AnswersBy (StandsFor stands held) bytes
 
 -- the splitter takes the next piece
 abbrev pub IsReady : Stream → Type 0

@@ -1,18 +1,18 @@
 //! The audit: from a reader of bytes to a report on a writer.
 ghost use Rattle.std.specs.Prelude.{◌≡◌, ◌≢◌, ◌++◌, ℕ, List, true, false, Some, None, Ok, Err, OnOk, OnErr, IfOk, IfErr, IfSome, IfNone, take};
 ghost use Rattle.std.specs.Io.KnownBytes.{Appends};
-ghost use Rattle.qa_base.specs.format.Sends.{reading};
+ghost use Rattle.qa_base.specs.format.Reading.{reading};
 ghost use Rattle.qa_base.specs.verdicts.Verdict.{IsFixed, verdict};
 ghost use Rattle.qa_split.specs.Stream.{HasNoLine};
 ghost use Rattle.qa_check.specs.Audit.{outcome_of, Reads, ReadsEnough, JudgesRead, Reports, BeginsReport, is_read_fault, is_write_fault};
 ghost use Rattle.qa_check.specs.Failures.{failures_after};
 ghost use Rattle.qa_check.specs.Following.{Follows, Answers, IsReady};
-ghost use Rattle.qa_check.specs.Standing.{has_failed};
 
 use crate::checker::{Checker, Stop};
 use crate::streams::{Sink, Source};
 use crate::text::report;
 use qa_base::Verdict;
+use qa_ledger::Ledger;
 use qa_split::{SplitFault, Splitter};
 use std::alloc::Global;
 use thiserror::Error;
@@ -52,7 +52,7 @@ const PIECE: usize = 4096;
 /// It reads pieces of at most 4,096 bytes, and none once the verdict was fixed by those before. A
 /// failed read or write is an error, and is not tried again. It always terminates, also where a
 /// reader never ends: line 4294967296 is a fault.
-pub fn audit<R: Source, W: Sink>(
+pub fn audit<L: Ledger + Drop, R: Source, W: Sink>(
     alloc: Global,
     reader: &mut R,
     writer: &mut W,
@@ -81,7 +81,7 @@ pub fn audit<R: Source, W: Sink>(
     ensures read_failures { R.read_failures reader.new ≡ failures_after (is_read_fault result) (R.read_failures reader.old) }
     ensures write_failures { W.write_failures writer.new ≡ failures_after (is_write_fault result) (W.write_failures writer.old) }
 {
-    let verdict = judged(alloc, reader)?;
+    let verdict = judged::<L, R>(alloc, reader)?;
     let Ok(text) = report(alloc, &verdict) else {
         return Err(AuditFault::OutOfMemory);
     };
@@ -90,14 +90,14 @@ pub fn audit<R: Source, W: Sink>(
 }
 
 /// The verdict of what is read.
-fn judged<R: Source>(alloc: Global, reader: &mut R) -> Result<Verdict, AuditFault>
+fn judged<L: Ledger + Drop, R: Source>(alloc: Global, reader: &mut R) -> Result<Verdict, AuditFault>
     ensures verdict { IfOk result (JudgesRead (R.left reader.old) (R.left reader.new)) }
     ensures reads { Reads (R.left reader.old) (R.left reader.new) }
     ensures failures { R.read_failures reader.new ≡ failures_after (is_read_fault result) (R.read_failures reader.old) }
     ensures write { is_write_fault result ≡ false }
 {
     let mut splitter = Splitter::new(alloc);
-    let mut checker = Checker::new(alloc);
+    let mut checker = Checker::<L>::new(alloc);
     let mut piece = [0u8; PIECE];
     'pieces: for _i in 0..u64::MAX {
         let Ok(n) = reader.read_piece(&mut piece) else {
@@ -119,19 +119,19 @@ fn judged<R: Source>(alloc: Global, reader: &mut R) -> Result<Verdict, AuditFaul
 }
 
 /// Takes the next piece, and returns the verdict where nothing behind it counts.
-fn take_piece(
+fn take_piece<L: Ledger + Drop>(
     splitter: &mut Splitter,
-    checker: &mut Checker,
+    checker: &mut Checker<L>,
     piece: &[u8],
 ) -> Result<Option<Verdict>, AuditFault>
     requires ready { IsReady splitter.old }
-    requires whole { has_failed checker.old ≡ false }
+    requires whole { checker.old.failed ≡ false }
     ensures ready { IfOk result (λ found. IfNone found (IsReady splitter.new)) }
     ensures empty { IfOk result (λ found. IfNone found (HasNoLine splitter.new)) }
-    ensures whole { IfOk result (λ found. IfNone found (has_failed checker.new ≡ false)) }
-    ensures open { IfOk result (λ found. IfNone found ((bytes : List ℕ) → Follows splitter.old.bytes checker.old bytes
-        → Follows splitter.new.bytes checker.new (bytes ++ piece.now))) }
-    ensures decided { IfOk result (λ found. IfSome found (λ v. (bytes : List ℕ) → Follows splitter.old.bytes checker.old bytes
+    ensures whole { IfOk result (λ found. IfNone found (checker.new.failed ≡ false)) }
+    ensures open { IfOk result (λ found. IfNone found ((bytes : List ℕ) → Follows L.stands splitter.old.bytes checker.old bytes
+        → Follows L.stands splitter.new.bytes checker.new (bytes ++ piece.now))) }
+    ensures decided { IfOk result (λ found. IfSome found (λ v. (bytes : List ℕ) → Follows L.stands splitter.old.bytes checker.old bytes
         → IsFixed reading (bytes ++ piece.now) × (v ≡ verdict reading (bytes ++ piece.now)))) }
     ensures err { IfErr result (λ fault. fault ≡ AuditFault.OutOfMemory) }
 {
@@ -149,16 +149,16 @@ fn take_piece(
 }
 
 /// Hands the checker each line that stands ready.
-fn drain(splitter: &mut Splitter, checker: &mut Checker) -> Result<(), Stop>
+fn drain<L: Ledger + Drop>(splitter: &mut Splitter, checker: &mut Checker<L>) -> Result<(), Stop>
     requires ready { IsReady splitter.old }
-    requires whole { has_failed checker.old ≡ false }
+    requires whole { checker.old.failed ≡ false }
     ensures ready { OnOk result (IsReady splitter.new) }
     ensures empty { OnOk result (HasNoLine splitter.new) }
-    ensures whole { OnOk result (has_failed checker.new ≡ false) }
-    ensures good { OnOk result ((bytes : List ℕ) → Follows splitter.old.bytes checker.old bytes
-        → Follows splitter.new.bytes checker.new bytes) }
-    ensures decided { result ≡ Err Stop.Decided → (bytes : List ℕ) → Follows splitter.old.bytes checker.old bytes
-        → IsFixed reading bytes × Answers checker.new bytes }
+    ensures whole { OnOk result (checker.new.failed ≡ false) }
+    ensures good { OnOk result ((bytes : List ℕ) → Follows L.stands splitter.old.bytes checker.old bytes
+        → Follows L.stands splitter.new.bytes checker.new bytes) }
+    ensures decided { result ≡ Err Stop.Decided → (bytes : List ℕ) → Follows L.stands splitter.old.bytes checker.old bytes
+        → IsFixed reading bytes × Answers L.stands checker.new bytes }
 {
     'lines: loop {
         match splitter.next_line() {
@@ -171,11 +171,14 @@ fn drain(splitter: &mut Splitter, checker: &mut Checker) -> Result<(), Stop>
 }
 
 /// The verdict where nothing more comes.
-fn conclude(splitter: &mut Splitter, checker: &mut Checker) -> Result<Verdict, AuditFault>
+fn conclude<L: Ledger + Drop>(
+    splitter: &mut Splitter,
+    checker: &mut Checker<L>,
+) -> Result<Verdict, AuditFault>
     requires ready { IsReady splitter.old }
     requires empty { HasNoLine splitter.old }
-    requires whole { has_failed checker.old ≡ false }
-    ensures ok { IfOk result (λ v. (bytes : List ℕ) → Follows splitter.old.bytes checker.old bytes → v ≡ verdict reading bytes) }
+    requires whole { checker.old.failed ≡ false }
+    ensures ok { IfOk result (λ v. (bytes : List ℕ) → Follows L.stands splitter.old.bytes checker.old bytes → v ≡ verdict reading bytes) }
     ensures err { IfErr result (λ fault. fault ≡ AuditFault.OutOfMemory) }
 {
     match finish(splitter, checker) {
@@ -186,12 +189,12 @@ fn conclude(splitter: &mut Splitter, checker: &mut Checker) -> Result<Verdict, A
 }
 
 /// Hands the checker what stands after the last LF.
-fn finish(splitter: &mut Splitter, checker: &mut Checker) -> Result<(), Stop>
+fn finish<L: Ledger + Drop>(splitter: &mut Splitter, checker: &mut Checker<L>) -> Result<(), Stop>
     requires ready { IsReady splitter.old }
     requires empty { HasNoLine splitter.old }
-    requires whole { has_failed checker.old ≡ false }
-    ensures { result ≢ Err Stop.OutOfMemory → (bytes : List ℕ) → Follows splitter.old.bytes checker.old bytes
-        → Answers checker.new bytes }
+    requires whole { checker.old.failed ≡ false }
+    ensures { result ≢ Err Stop.OutOfMemory → (bytes : List ℕ) → Follows L.stands splitter.old.bytes checker.old bytes
+        → Answers L.stands checker.new bytes }
 {
     splitter.close();
     match splitter.next_line() {
@@ -203,8 +206,8 @@ fn finish(splitter: &mut Splitter, checker: &mut Checker) -> Result<(), Stop>
 }
 
 /// The verdict that a checker has come to.
-fn verdict_of(checker: &Checker) -> Result<Verdict, AuditFault>
-    ensures ok { IfOk result (λ v. (bytes : List ℕ) → Answers checker.now bytes → v ≡ verdict reading bytes) }
+fn verdict_of<L: Ledger + Drop>(checker: &Checker<L>) -> Result<Verdict, AuditFault>
+    ensures ok { IfOk result (λ v. (bytes : List ℕ) → Answers L.stands checker.now bytes → v ≡ verdict reading bytes) }
     ensures err { IfErr result (λ fault. fault ≡ AuditFault.OutOfMemory) }
 {
     checker.end().ok_or(AuditFault::OutOfMemory)

@@ -3,7 +3,6 @@
 
 mod auditing;
 mod checker;
-mod judge;
 mod streams;
 #[cfg(test)]
 mod tests;

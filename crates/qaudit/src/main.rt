@@ -9,6 +9,7 @@ mod tests;
 use crate::arguments::{Arguments, read_arguments};
 use crate::ending::{message, status};
 use qa_check::{Metered, audit};
+use qa_ledger::Whole;
 use std::process::ExitCode;
 
 fn main(rt: HostRuntime) -> ExitCode {
@@ -25,7 +26,7 @@ fn main(rt: HostRuntime) -> ExitCode {
     }
     let mut reader = Metered::new(rt.stdin());
     let mut writer = Metered::new(rt.stdout());
-    let ended = audit(rt.alloc(), &mut reader, &mut writer);
+    let ended = audit::<Whole, _, _>(rt.alloc(), &mut reader, &mut writer);
     if let Err(fault) = &ended {
         // A failure of standard error changes nothing.
         let _ = eprintln!(rt; "{}", message(*fault));

@@ -1,5 +1,5 @@
 use Rattle.std.proofs.Common.{◌≡◌, ◌∙◌, sym}
-use Rattle.qa_base.specs.format.Sends.{reading}
+use Rattle.qa_base.specs.format.Reading.{reading}
 use Rattle.qa_base.specs.verdicts.Verdict.{verdict}
 use Rattle.qa_check.proofs.Reading.{told_verdict}
 use Rattle.qa_check.proofs.auditing.audit.Goals as goal

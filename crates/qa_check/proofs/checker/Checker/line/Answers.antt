@@ -1,42 +1,55 @@
-use Rattle.std.proofs.Common.{◌∙◌, sym}
+use Rattle.std.proofs.Common.{◌∙◌, ◌+◌, sym, arith, ap}
 use Rattle.std.proofs.lemmas.Result.{on_ok_weaker}
-use Rattle.qa_base.specs.format.Sends.{reading}
-use Rattle.qa_base.proofs.verdicts.Stops.{said_few}
-use Rattle.qa_check.proofs.Growing.{said_plain, decided_adds, stop_adds, good_adds, open_from, stands_open, stands_decided, no_verdict}
+use Rattle.qa_base.specs.format.Reading.{reading}
+use Rattle.qa_base.specs.verdicts.Verdict.{stop_at}
+use Rattle.qa_base.proofs.verdicts.RunsAccepted.{read_as_said}
+use Rattle.qa_check.proofs.Growing.{count_of, undecided, open_from, fixed_adds, good_adds, stop_adds, unread_adds, too_many, too_long}
 use Rattle.qa_check.proofs.checker.Checker.line.Goals as goal
 
 pub returns-then-is_some-clause-decided : goal.returns-then-is_some-clause-decided
-returns-then-is_some-clause-decided c = λ is. (c.if-self.false, decided_adds _ _ _ _ _ (sym c.is_some.ensures ∙ c.if-is_some.true))
+returns-then-is_some-clause-decided g c = rw (← c.self.view_is) (λ is. (c.if-self.false, fixed_adds _ _ _ _ _ _ (sym c.is_some.ensures ∙ c.if-is_some.true)))
 
-pub stop_at-requires-clause-plain : goal.stop_at-requires-clause-plain
-stop_at-requires-clause-plain c = said_plain _ _ _ c.in-Ok.ensures.says
+pub returns-then-self-ge-MAX_LINES-clause-decided : goal.returns-then-self-ge-MAX_LINES-clause-decided
+returns-then-self-ge-MAX_LINES-clause-decided g c = λ is.
+    let count = count_of _ _ c.self.view_is in
+    let says = too_many _ _ (omega (arith, c.if-self-ge-MAX_LINES.true, count)) in
+    let none = undecided _ _ c.self.view_is _ c.is_some.ensures c.if-is_some.false in
+    (c.stop.ensures.whole, λ ls stands. unread_adds _ _ _ _ _ _ _ _ _ _ c.stop.ensures.decided c.stop.ensures.verdict says ls (open_from _ _ _ _ _ ls none stands))
 
-pub add-requires-clause-few : goal.add-requires-clause-few
-add-requires-clause-few c = said_few reading _ _ (sym c.in-Ok.ensures.says ∙ c.in-Ok-said.is)
+pub returns-then-bytes-gt-LINE_LIMIT-clause-decided : goal.returns-then-bytes-gt-LINE_LIMIT-clause-decided
+returns-then-bytes-gt-LINE_LIMIT-clause-decided g c = λ is.
+    let stop = c.stop-then-bytes-gt-LINE_LIMIT.ensures in
+    let count = count_of _ _ c.self.view_is in
+    let says = too_long _ _ (omega (arith, c.if-self-ge-MAX_LINES.false, count)) (omega (arith, c.if-bytes-gt-LINE_LIMIT.true)) in
+    let none = undecided _ _ c.self.view_is _ c.is_some.ensures c.if-is_some.false in
+    (stop.whole, λ ls stands. unread_adds _ _ _ _ _ _ _ _ _ _ stop.decided stop.verdict says ls (open_from _ _ _ _ _ ls none stands))
 
-pub add-requires-clause-plain : goal.add-requires-clause-plain
-add-requires-clause-plain c = said_plain _ _ _ (sym c.in-Ok-said.is ∙ c.in-Ok.ensures.says)
+pub returns-in-Ok-clause-good : goal.returns-in-Ok-clause-good
+returns-in-Ok-clause-good g c =
+    let count = count_of _ _ c.self.view_is in
+    let read = read_as_said reading c.args.self.now.lines c.args.bytes.now (omega (arith, c.if-self-ge-MAX_LINES.false, count)) (omega (arith, c.if-bytes-gt-LINE_LIMIT.false)) in
+    let none = undecided _ _ c.self.view_is _ c.is_some.ensures c.if-is_some.false in
+    on_ok_weaker c.take.result
+    (λ taken. (taken.0, λ ls stands. good_adds _ _ _ _ _ taken.1 (read ∙ c.in-Ok.ensures.read) ls (open_from _ _ _ _ _ ls none stands)))
+    c.take.ensures.ok
 
--- what was computed is what stops at the line
-pub returns-in-Some-clause-decided : goal.returns-in-Some-clause-decided
-returns-in-Some-clause-decided c = λ is. (
-  c.stop.ensures.failed ∙ c.if-self.false,
-  λ ls stands.
-      let none = no_verdict _ _ c.is_some.ensures c.if-is_some.false in
-      let stop = rw (c.as_slice.ensures.value, c.in-Ok.ensures.says) at c.stop_at.ensures.verdict in
-      stands_decided _ _ _ _ _ _ c.stop.ensures.verdict (stop_adds _ _ _ _ _ (sym stop ∙ c.in-Some.is) ls (open_from _ _ _ _ ls none stands)),
-)
+pub returns-in-Ok-clause-decided : goal.returns-in-Ok-clause-decided
+returns-in-Ok-clause-decided g c = λ is.
+    let count = count_of _ _ c.self.view_is in
+    let read = read_as_said reading c.args.self.now.lines c.args.bytes.now (omega (arith, c.if-self-ge-MAX_LINES.false, count)) (omega (arith, c.if-bytes-gt-LINE_LIMIT.false)) in
+    let says = read ∙ c.in-Ok.ensures.read in
+    let none = undecided _ _ c.self.view_is _ c.is_some.ensures c.if-is_some.false in
+    let stops = c.take.ensures.decided is in (
+      c.take.ensures.whole (λ memory. cc),
+      λ ls stands. stop_adds _ _ _ _ _ _ _ _ _ stops.decided (λ h k held. stops.verdict h k held ∙ ap (stop_at (c.args.self.now.lines + 1) h k) (sym says)) ls
+          (open_from _ _ _ _ _ ls none stands),
+    )
 
-pub returns-in-Ok-said-clause-good : goal.returns-in-Ok-said-clause-good
-returns-in-Ok-said-clause-good c =
-    on_ok_weaker c.add.result
-    (λ added. (
-      added.2 ∙ c.if-self.false,
-      λ ls stands.
-          let none = no_verdict _ _ c.is_some.ensures c.if-is_some.false in
-          let says = sym c.in-Ok.ensures.says ∙ c.in-Ok-said.is in
-          let stop = rw (c.as_slice.ensures.value, c.in-Ok.ensures.says) at c.stop_at.ensures.verdict in
-          stands_open _ _ _ _ _ (added.1 ∙ none)
-          (good_adds _ _ _ _ _ _ _ _ added.0 says (sym stop ∙ c.in-None.is) ls (open_from _ _ _ _ ls none stands)),
-    ))
-    c.add.ensures.ok
+pub returns-in-Err-Fault-clause-decided : goal.returns-in-Err-Fault-clause-decided
+returns-in-Err-Fault-clause-decided g c = λ is.
+    let stop = c.stop-in-Err-Fault.ensures in
+    let count = count_of _ _ c.self.view_is in
+    let read = read_as_said reading c.args.self.now.lines c.args.bytes.now (omega (arith, c.if-self-ge-MAX_LINES.false, count)) (omega (arith, c.if-bytes-gt-LINE_LIMIT.false)) in
+    let says = read ∙ (rw c.in-Err-Fault.field-0-is at c.in-Err-Fault.ensures.read) in
+    let none = undecided _ _ c.self.view_is _ c.is_some.ensures c.if-is_some.false in
+    (stop.whole, λ ls stands. unread_adds _ _ _ _ _ _ _ _ _ _ stop.decided stop.verdict says ls (open_from _ _ _ _ _ ls none stands))
