@@ -43,15 +43,11 @@ three : (d : ℕ) (r : Control) (xs ys zs : List Move) → fold (moved d) r ((xs
 three d r xs ys zs = fold-append (moved d) r (xs ++ ys) zs ∙ ap (λ (x : Control). fold (moved d) x zs) (fold-append (moved d) r xs ys)
 
 -- the moves of the last event, one kind after the other
-pub moves_are : (c : Settings) (e : Event) (h : List Event) (d : ℕ) (r r1 r2 r3 : Control) (last : Option ℕ) (now : ℕ) (persistent limited : Bool)
-    → now ≡ time_of e → last ≡ last_sending (owed c (e ∷ h)) → persistent ≡ is_persistent c (e ∷ h) → limited ≡ is_limited e
-    → r1 ≡ fold (moved d) r (hits_at now last) → r2 ≡ fold (moved d) r1 (collapses persistent)
-    → r3 ≡ fold (moved d) r2 (if limited then [] else grows (newly_acknowledged (e ∷ h)))
-    → r3 ≡ fold (moved d) r (moves_of_last c (e ∷ h))
-moves_are c e h d r r1 r2 r3 last now persistent limited is_now is_last is_there is_low one two grew =
-    let grown : List Move = if is_limited e then [] else grows (newly_acknowledged (e ∷ h)) in
-    let first : r1 ≡ fold (moved d) r (hits (time_of e) (owed c (e ∷ h))) = one ∙ (ap (λ (n : ℕ). fold (moved d) r (hits_at n last)) is_now ∙ (ap (λ (l : Option ℕ). fold (moved d) r (hits_at (time_of e) l)) is_last ∙ ap (fold (moved d) r) (sym (hits_is (time_of e) (owed c (e ∷ h)))))) in
-    let second : r2 ≡ fold (moved d) (fold (moved d) r (hits (time_of e) (owed c (e ∷ h)))) (collapses (is_persistent c (e ∷ h))) =
-    two ∙ (ap (λ (b : Bool). fold (moved d) r1 (collapses b)) is_there ∙ ap (λ (x : Control). fold (moved d) x (collapses (is_persistent c (e ∷ h)))) first) in
-    let third : r3 ≡ fold (moved d) r2 grown = grew ∙ ap (λ (b : Bool). fold (moved d) r2 (if b then [] else grows (newly_acknowledged (e ∷ h)))) is_low in
-    third ∙ (ap (λ (x : Control). fold (moved d) x grown) second ∙ sym (three d r (hits (time_of e) (owed c (e ∷ h))) (collapses (is_persistent c (e ∷ h))) grown))
+pub moves_are : (c : Settings) (e : Event) (h : List Event) (d : ℕ) (r : Control)
+    → fold (moved d) r (moves_of_last c (e ∷ h))
+    ≡ fold (moved d) (fold (moved d) (fold (moved d) r (hits_at (time_of e) (last_sending (owed c (e ∷ h))))) (collapses (is_persistent c (e ∷ h)))) (if is_limited e then [] else grows (newly_acknowledged (e ∷ h)))
+moves_are c e h d r =
+    let ys = collapses (is_persistent c (e ∷ h)) in
+    let zs : List Move = if is_limited e then [] else grows (newly_acknowledged (e ∷ h)) in
+    three d r (hits (time_of e) (owed c (e ∷ h))) ys zs
+    ∙ ap (λ (xs : List Move). fold (moved d) (fold (moved d) (fold (moved d) r xs) ys) zs) (hits_is (time_of e) (owed c (e ∷ h)))

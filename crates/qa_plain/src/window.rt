@@ -1,5 +1,5 @@
 //! The congestion window, move by move (RFC 9002, section 7, appendix B).
-ghost use Rattle.std.specs.Prelude.{◌≡◌, ◌∷◌, ◌≤◌, ◌<◌, ◌^◌, ◌*◌, ◌+◌, Some, unwrap_or, max, fold, length};
+ghost use Rattle.std.specs.Prelude.{if◌then◌else◌, [], ◌≡◌, ◌∷◌, ◌≤◌, ◌<◌, ◌^◌, ◌*◌, ◌+◌, Some, unwrap_or, max, fold, length};
 ghost use Rattle.std.specs.List.{All};
 ghost use Rattle.qa_base.specs.machine.Loss as loss;
 ghost use Rattle.qa_base.specs.machine.Packets.{history_of, newly_acknowledged};
@@ -46,10 +46,9 @@ pub fn last_owed(header: &Header, events: &[Event], look: Look) -> Option<Micros
 /// The window after a loss, of packets the last of which was sent then.
 fn hit_by(header: &Header, reno: Reno, last: Option<Micros>, now: Micros) -> Reno
     requires low { 2 * header.now.max_datagram_size ≤ reno.window }
-    requires high { reno.window ≤ 2 ^ 60 }
     ensures value { result ≡ fold (steps.moved header.now.max_datagram_size) reno (hits_at now last) }
     ensures low { 2 * header.now.max_datagram_size ≤ result.window }
-    ensures high { result.window ≤ 2 ^ 60 }
+    ensures high { result.window ≤ reno.window }
 {
     let mut more = reno;
     if let Some(last) = last {
@@ -61,10 +60,9 @@ fn hit_by(header: &Header, reno: Reno, last: Option<Micros>, now: Micros) -> Ren
 /// The window after persistent congestion, where there is any.
 fn collapsed(header: &Header, reno: Reno, persistent: bool) -> Reno
     requires low { 2 * header.now.max_datagram_size ≤ reno.window }
-    requires high { reno.window ≤ 2 ^ 60 }
     ensures value { result ≡ fold (steps.moved header.now.max_datagram_size) reno (steps.collapses persistent) }
     ensures low { 2 * header.now.max_datagram_size ≤ result.window }
-    ensures high { result.window ≤ 2 ^ 60 }
+    ensures high { result.window ≤ reno.window }
 {
     let mut more = reno;
     if persistent {
@@ -96,7 +94,8 @@ fn grown(header: &Header, before: &[Event], event: &Event, reno: Reno) -> Reno
     requires high { reno.window ≤ 2 ^ 60 }
     requires few { length before.now < 2 ^ 32 }
     requires fit { All Fits before.now }
-    ensures { result ≡ fold (steps.moved header.now.max_datagram_size) reno (steps.grows (newly_acknowledged (event.now ∷ history_of before.now))) }
+    ensures value { result ≡ fold (steps.moved header.now.max_datagram_size) reno (steps.grows (newly_acknowledged (event.now ∷ history_of before.now))) }
+    ensures low { 2 * header.now.max_datagram_size ≤ result.window }
 {
     let mut reno = reno;
     for (place, earlier) in before.iter().enumerate() {
@@ -119,7 +118,24 @@ fn is_limited(event: &Event) -> bool
     }
 }
 
-/// The window after the moves of an event.
+/// The window after the growth by an event, if the sender used the window that it had.
+fn grown_unless_limited(header: &Header, before: &[Event], event: &Event, reno: Reno) -> Reno
+    requires low { 2 * header.now.max_datagram_size ≤ reno.window }
+    requires high { reno.window ≤ 2 ^ 60 }
+    requires few { length before.now < 2 ^ 32 }
+    requires fit { All Fits before.now }
+    ensures low { 2 * header.now.max_datagram_size ≤ result.window }
+    ensures value { result ≡ fold (steps.moved header.now.max_datagram_size) reno (if steps.is_limited event.now then [] else steps.grows (newly_acknowledged (event.now ∷ history_of before.now))) }
+{
+    if is_limited(event) {
+        reno
+    } else {
+        grown(header, before, event, reno)
+    }
+}
+
+/// The window after the moves of an event: losses first, then growth.
+#[tactic(auto, using(crate::proofs::Moved::moves_are))]
 pub fn moved(
     header: &Header,
     before: &[Event],
@@ -138,11 +154,7 @@ pub fn moved(
 {
     let reno = hit_by(header, reno, last_owed(header, after, look), time_of(event));
     let reno = collapsed(header, reno, is_persistent(header, after, look));
-    if is_limited(event) {
-        reno
-    } else {
-        grown(header, before, event, reno)
-    }
+    grown_unless_limited(header, before, event, reno)
 }
 
 /// The congestion window, the slow start threshold and recovery after the events (RFC 9002, section
