@@ -14,10 +14,10 @@ ghost use Rattle.qa_base.specs.machine.Loss.{bytes_in_flight, owed};
 ghost use Rattle.qa_base.specs.machine.Packets.{history_of};
 ghost use Rattle.qa_base.specs.machine.Reno.{is_entry, reno};
 ghost use Rattle.qa_base.specs.machine.Rules.{IsRun};
-ghost use Rattle.qa_base.specs.values.Constants.{minimum_window, probe_datagrams};
+ghost use Rattle.qa_base.specs.values.Constants.{probe_datagrams};
 ghost use Rattle.qa_base.specs.values.Events.{is_named, time_of};
 ghost use Rattle.qa_base.specs.values.Proper.{IsProperEvent};
-ghost use Rattle.qa_base.specs.values.Settings.{AreInRange, Settings};
+ghost use Rattle.qa_base.specs.values.Settings.{Settings};
 ghost use Rattle.qa_base.specs.verdicts.Verdict.{sayings, trace_of, verdict};
 ghost use Rattle.qa_laws.specs.machine.Conduct.{IsAmong, IsConduct, IsLostRightly, IsSentAfter, NoCollapse, is_probe, is_pto_event, is_recovery, probe_bytes};
 
@@ -61,11 +61,9 @@ pub fn entries_need_later_losses()
         → is_entry c (e ∷ between ++ f ∷ h) ≡ true → NoCollapse c between (f ∷ h) → IsSentAfter (time_of f) (owed c (e ∷ between ++ f ∷ h)) }
 {}
 
-/// The window is never less than two datagrams (RFC 9002, section 7.2), and an event that lowers it
-/// found a loss.
+/// An event that lowers the window found a loss.
 pub fn windows_fall_by_losses()
-    ensures least { (c : Settings) (h : List Event) → AreInRange c → minimum_window c.max_datagram_size ≤ (reno c h).window }
-    ensures lower { (c : Settings) (e : Event) (h : List Event) → (reno c (e ∷ h)).window < (reno c h).window → owed c (e ∷ h) ≢ [] }
+    ensures { (c : Settings) (e : Event) (h : List Event) → (reno c (e ∷ h)).window < (reno c h).window → owed c (e ∷ h) ≢ [] }
 {}
 
 /// Where bytes are accepted, their lines say a header and events of which each packet that is declared

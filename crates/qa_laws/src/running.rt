@@ -11,11 +11,12 @@ ghost use Rattle.qa_base.specs.machine.Rules.{IsRun};
 ghost use Rattle.qa_base.specs.machine.Timer.{awaits_acknowledgment, is_below_largest, loss_due};
 ghost use Rattle.qa_base.specs.values.Events.{acknowledges};
 ghost use Rattle.qa_base.specs.values.Settings.{Settings};
-ghost use Rattle.qa_laws.specs.machine.Among.{AreClosed, counts_as_end, finds_apart};
+ghost use Rattle.qa_laws.specs.machine.Among.{counts_as_end, finds_apart};
 ghost use Rattle.qa_laws.specs.machine.Fates.{fate, fate_next, is_uncovered};
 ghost use Rattle.qa_laws.specs.machine.Oldest.{NoneFlies, due_of, is_asked, is_flying, is_passed};
 ghost use Rattle.qa_laws.specs.machine.Sequence.{EachTwo, WasSentBefore};
 ghost use Rattle.qa_laws.specs.machine.Sums.{asks_of, bytes_of, discarded, open_sum};
+ghost use Rattle.qa_laws.specs.machine.Parts.{AreClosed};
 
 /// In a run, of two packets of one space the one with the lower number was sent no later and stands
 /// no further on, and two with one number are one. All packets stand in the order of sending, the

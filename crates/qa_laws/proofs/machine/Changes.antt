@@ -16,7 +16,8 @@ use Rattle.qa_base.specs.machine.Rtt.{rtt}
 use Rattle.qa_base.specs.machine.Loss.{is_late}
 use Rattle.qa_base.specs.machine.Rules.{IsRun}
 use Rattle.qa_base.specs.values.Settings.{Settings}
-use Rattle.qa_laws.proofs.machine.Courses.{are_below, is_space_same, is_space_is, same_number}
+use Rattle.qa_laws.proofs.machine.Courses.{is_space_same, is_space_is, same_number}
+use Rattle.qa_base.proofs.machine.WindowBound.{placed}
 use Rattle.qa_laws.proofs.machine.Detection.{asked_was_flying}
 use Rattle.qa_laws.proofs.machine.Pairs.{at_one, has_first, has_later}
 use Rattle.qa_base.proofs.machine.Ranges.{has_all_names}
@@ -31,7 +32,7 @@ followed test e h p true is below = rw (is, below) refl
 followed test e h p false is below = rw is refl
 
 within : (h : List Event) (p : Packet) → Contains (packets h) p → nat_lt p.place (length h) ≡ true
-within h p has = lt-ltb p.place (length h) (at_one (λ q. q.place < length h) (packets h) p (are_below h) has)
+within h p has = lt-ltb p.place (length h) (at_one (λ q. q.place < length h) (packets h) p (placed h) has)
 
 -- it is covered where the event acknowledges its number, or it was before
 pub covered_after : (e : Event) (h : List Event) (p : Packet) → Contains (packets h) p → is_covered (e ∷ h) p ≡ (acknowledges p.space p.number e || is_covered h p)

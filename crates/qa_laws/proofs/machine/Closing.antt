@@ -13,7 +13,7 @@ use Rattle.qa_base.specs.machine.Loss.{is_found, is_found_at, found_at, detectio
 use Rattle.qa_base.specs.machine.Packets.{Packet, packets, packet_of, is_of, is_covered, is_lost, is_gone, is_newly_acknowledged, newly_acknowledged}
 use Rattle.qa_base.specs.machine.Rules.{IsRun}
 use Rattle.qa_base.specs.values.Settings.{Settings}
-use Rattle.qa_laws.specs.machine.Sums.{counted, open_sum, is_closed_by, is_discarded_by, closed_by, discarded, bytes}
+use Rattle.qa_laws.specs.machine.Sums.{counted, open_sum, is_discarded_by, discarded, bytes}
 use Rattle.qa_laws.proofs.machine.Pairs.{of_each, same_part, part_of_part, none_left}
 use Rattle.qa_base.proofs.machine.Quiet.{same_sum, not_followed}
 use Rattle.qa_base.proofs.machine.RunLaws.{all_hold}
@@ -21,6 +21,13 @@ use Rattle.qa_laws.proofs.machine.Settled.{opens_is, open_before, covered_settle
 use Rattle.qa_laws.proofs.machine.Changes.{covered_after, lost_after, open_not_named, owed_was_flying, newly_was_open, found_unsettled}
 
 -- ---- which packets an event closes
+
+-- the packet was open before the event, and the event closes it
+abbrev pub is_closed_by : Settings → Event → List Event → Packet → Bool
+is_closed_by c e before p = is_open c before p && not (is_open c (e ∷ before) p)
+
+abbrev closed_by : Settings → Event → List Event → List Packet
+closed_by c e before = filter (is_closed_by c e before) (packets before)
 
 by_tests : (ack dec found disc cov los gon cov' los' : Bool) → cov' ≡ (ack || cov) → los' ≡ (dec || los) → cov ≡ false → los ≡ false → gon ≡ false → dec ≡ false
     → not (not cov' && not los' && not found && not (disc || gon)) ≡ ((ack && not cov && not los) || found || (disc && true))

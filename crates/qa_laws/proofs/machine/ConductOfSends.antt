@@ -1,6 +1,6 @@
 -- What a run sends stays within the window, or has its leave.
 use Rattle.std.proofs.Common.{◌≡◌, ◌∙◌, ◌+◌, ◌*◌, ◌<◌, ◌≤◌, ℕ, List, [], ◌∷◌, ◌++◌, Bool, true, false, cond, ◌&&◌, ◌||◌, not, Some, None, refl, sym, ap, arith, inl, inr, sum_by, count_by}
-use Rattle.std.proofs.lemmas.Bool.{both_ways, ltb-false}
+use Rattle.std.proofs.lemmas.Bool.{both_ways, ltb-false, or_parts}
 use Rattle.std.proofs.lemmas.List.Sums.{sum_by-cons}
 use Rattle.std.specs.List.{list_any}
 use Rattle.std.specs.Prelude.{if◌then◌else◌}
@@ -166,14 +166,10 @@ probes_spent c (e ∷ h) run =
     rw (sum_since is_pto probe_size e h)
     (unless_pto (is_pto (e ∷ h)) (probe_size (e ∷ h) + sum_by probe_size (since is_pto h)) (2 * c.max_datagram_size) (probe_step c e h 0 run (probes_spent c h run.0)))
 
-either_false : (a b : Bool) → (a || b) ≡ false → (a ≡ false) × (b ≡ false)
-either_false true b is = cc
-either_false false b is = (refl, is)
-
 part_of_spent : (events h : List Event) → list_any is_pto_event events ≡ false → sum_by probe_bytes events ≤ sum_by probe_size (since is_pto (events ++ h))
 part_of_spent [] h none = omega arith
 part_of_spent (e ∷ events) h none =
-    let both = either_false (is_pto_event e) (list_any is_pto_event events) none in
+    let both = or_parts (is_pto_event e) (list_any is_pto_event events) none in
     let rest = part_of_spent events h both.1 in
     let no : is_pto (e ∷ events ++ h) ≡ false = pto_is e (events ++ h) ∙ both.0 in
     let sum : sum_by probe_size (since is_pto (e ∷ events ++ h)) ≡ probe_size (e ∷ events ++ h) + sum_by probe_size (since is_pto (events ++ h)) =
@@ -192,7 +188,7 @@ probes_between c between h run none =
 never_pto : (h : List Event) → list_any is_pto_event h ≡ false → list_any is_pto (moments h) ≡ false
 never_pto [] none = refl
 never_pto (e ∷ h) none =
-    let both = either_false (is_pto_event e) (list_any is_pto_event h) none in
+    let both = or_parts (is_pto_event e) (list_any is_pto_event h) none in
     rw (pto_is e h ∙ both.0) (never_pto h both.1)
 
 not_a_probe : (c : Settings) (e : Event) (h : List Event) → IsRun c (e ∷ h) → list_any is_pto (moments h) ≡ false → is_probe e ≡ false
@@ -209,7 +205,7 @@ not_a_probe c _ h run none = refl
 pub no_probe_before : (c : Settings) (h : List Event) → IsRun c h → list_any is_pto_event h ≡ false → list_any is_probe h ≡ false
 no_probe_before c [] run none = refl
 no_probe_before c (e ∷ h) run none =
-    let both = either_false (is_pto_event e) (list_any is_pto_event h) none in
+    let both = or_parts (is_pto_event e) (list_any is_pto_event h) none in
     rw (not_a_probe c e h run (never_pto h both.1)) (no_probe_before c h run.0 both.1)
 
 -- ---- between two entries into recovery, and before the first

@@ -10,7 +10,7 @@ use Rattle.qa_base.specs.declared.space.Space.{Space}
 use Rattle.qa_base.specs.declared.space.Space.TheVariants.{Initial, Handshake, App}
 use Rattle.qa_base.specs.machine.Breaches.{is_before}
 use Rattle.qa_base.specs.machine.Loss.{owed, is_found, is_late, is_old, is_open, is_unsettled}
-use Rattle.qa_laws.specs.machine.Oldest.{is_flying, oldest_flying, due_of}
+use Rattle.qa_laws.specs.machine.Oldest.{is_flying, due_of}
 use Rattle.qa_base.specs.machine.Packets.{Packet, packets_of, largest_acknowledged}
 use Rattle.qa_base.specs.machine.Rtt.{rtt}
 use Rattle.qa_base.specs.machine.Rules.{IsRun}
@@ -22,6 +22,7 @@ use Rattle.qa_laws.proofs.machine.Detection.{probes, loss_of, earlier_is, timer_
 use Rattle.qa_laws.proofs.machine.Pairs.{part_has}
 use Rattle.qa_base.proofs.machine.RunLaws.{all_hold, old_is_after_loss_delay}
 use Rattle.qa_laws.proofs.machine.Settled.{opens_is}
+use Rattle.qa_laws.proofs.machine.Deadline.{oldest_flying}
 
 -- a packet of the space is open and in flight, below the largest acknowledged number, and old when the loss timer goes off
 pub record Awaits (c : Settings) (h : List Event) (due : Due) : Type 0 where

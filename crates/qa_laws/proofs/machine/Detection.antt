@@ -13,7 +13,7 @@ use Rattle.qa_base.specs.declared.space.Space.TheVariants.{Initial, Handshake, A
 use Rattle.qa_base.specs.machine.Breaches.{is_kind, is_other}
 use Rattle.qa_base.specs.values.Events.{is_space}
 use Rattle.qa_base.specs.machine.Loss.{is_found, found_at, detection, owed, is_owed, is_open, is_late, is_unsettled}
-use Rattle.qa_laws.specs.machine.Oldest.{is_flying, oldest_flying, due_of, is_asked, asked}
+use Rattle.qa_laws.specs.machine.Oldest.{is_flying, due_of, is_asked, asked}
 use Rattle.qa_laws.specs.machine.Sequence.{EachTwo}
 use Rattle.qa_base.specs.machine.Packets.{Packet, packets, packets_of, is_of, is_some_packet, is_gone, acknowledges_new, largest_acknowledged}
 use Rattle.qa_base.specs.machine.Rtt.{Estimate, rtt, pto_base}
@@ -27,6 +27,7 @@ use Rattle.qa_laws.proofs.machine.Lateness.{earlier_is_late}
 use Rattle.qa_laws.proofs.machine.Pairs.{two_weaker, two_of_part, two_turned, part_turned, part_of_part, part_is, front}
 use Rattle.qa_base.proofs.machine.RunLaws.{all_hold}
 use Rattle.qa_laws.proofs.machine.Settled.{opens_is, opens_from, unsettled_before, owed_has, has_some}
+use Rattle.qa_laws.proofs.machine.Deadline.{oldest_flying}
 
 -- ---- what is owed is a front
 

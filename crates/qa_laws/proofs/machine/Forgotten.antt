@@ -10,9 +10,9 @@ use Rattle.std.specs.Option.{option_or}
 use Rattle.std.specs.Prelude.{nat_lt, if◌then◌else◌}
 use Rattle.qa_base.specs.declared.event.Event.{Event}
 use Rattle.qa_base.specs.declared.event.Event.TheVariants.{Sent}
-use Rattle.qa_laws.specs.machine.Among.{are_ends_among, is_persistent_among, AreClosed}
+use Rattle.qa_laws.specs.machine.Among.{are_ends_among, is_persistent_among}
 use Rattle.qa_base.specs.machine.Loss.{owed, is_owed, is_open, is_end, is_persistent, are_ends}
-use Rattle.qa_laws.specs.machine.Oldest.{first_sent, is_flying, oldest_flying}
+use Rattle.qa_laws.specs.machine.Oldest.{is_flying}
 use Rattle.qa_laws.specs.machine.Sequence.{EachTwo, WasSentBefore}
 use Rattle.qa_base.specs.machine.Packets.{Packet, packets, is_of, is_covered, is_newly_acknowledged, newly_acknowledged}
 use Rattle.qa_base.specs.machine.Rtt.{rtt, persistent_after}
@@ -24,7 +24,11 @@ use Rattle.qa_laws.proofs.machine.Settled.{closed_stays}
 use Rattle.qa_laws.proofs.machine.Closing.{owed_among}
 use Rattle.qa_laws.proofs.machine.Changes.{owed_was_flying, newly_was_open}
 use Rattle.qa_laws.proofs.machine.Courses.{in_order}
-use Rattle.qa_laws.proofs.machine.Pairs.{at_one, of_each, part_is, none_left, each_weaker, each_of_part, first_or_rest}
+use Rattle.qa_laws.proofs.machine.Pairs.{at_one, of_each, part_is, none_left, each_weaker, first_or_rest}
+use Rattle.qa_base.proofs.machine.WindowBound.{each_of_part}
+use Rattle.qa_laws.specs.machine.Parts.{AreClosed}
+use Rattle.qa_laws.proofs.machine.Deadline.{first_sent}
+use Rattle.qa_laws.proofs.machine.Deadline.{oldest_flying}
 
 -- ---- by parts of a list
 

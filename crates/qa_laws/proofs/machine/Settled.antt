@@ -14,7 +14,8 @@ use Rattle.qa_base.specs.machine.Packets.{Packet, packets, packets_of, is_of, is
 use Rattle.qa_base.specs.machine.Rules.{IsRun}
 use Rattle.qa_base.specs.values.Settings.{Settings}
 use Rattle.qa_base.specs.machine.Timer.{is_below_largest}
-use Rattle.qa_laws.proofs.machine.Courses.{are_below, is_space_same, is_space_is}
+use Rattle.qa_laws.proofs.machine.Courses.{is_space_same, is_space_is}
+use Rattle.qa_base.proofs.machine.WindowBound.{placed}
 use Rattle.qa_laws.proofs.machine.Pairs.{at_one, part_has, part_is, some_one, first_or_rest}
 use Rattle.qa_base.proofs.machine.RunLaws.{all_hold}
 
@@ -127,7 +128,7 @@ owed_is_named c h time space ranges run p has is =
 -- in a run, what is owed is declared lost by the event that comes next
 pub owed_then_lost : (c : Settings) (e : Event) (h : List Event) → IsRun c (e ∷ h) → (p : Packet) → Contains (packets h) p → is_owed c h p ≡ true → is_lost (e ∷ h) p ≡ true
 owed_then_lost c (Lost time space ranges) h run p has is =
-    let below : p.place < length h = at_one (λ q. q.place < length h) (packets h) p (are_below h) has in
+    let below : p.place < length h = at_one (λ q. q.place < length h) (packets h) p (placed h) has in
     or_left (declares_lost p.space p.number (Lost time space ranges) && nat_lt p.place (length h)) (is_lost h p)
     (and_from (declares_lost p.space p.number (Lost time space ranges)) (nat_lt p.place (length h))
     (owed_is_named c h time space ranges run p has is) (lt-ltb p.place (length h) below))

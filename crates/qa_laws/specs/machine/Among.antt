@@ -1,8 +1,8 @@
 -- Persistent congestion, asked of a part of the packets that were sent.
-use Rattle.std.specs.Prelude.{ℕ, ◌-◌, ◌&&◌, ◌||◌, ◌≡◌, not, nat_lt, Bool, false, List, [], ◌∷◌, filter, Option, Some, None, if◌then◌else◌}
-use Rattle.std.specs.List.{list_any, AllByRecursion}
+use Rattle.std.specs.Prelude.{ℕ, ◌-◌, ◌&&◌, ◌||◌, not, nat_lt, Bool, false, List, [], ◌∷◌, filter, Option, Some, None, if◌then◌else◌}
+use Rattle.std.specs.List.{list_any}
 use Rattle.qa_base.specs.declared.event.Event.{Event}
-use Rattle.qa_base.specs.machine.Loss.{is_open, is_owed, is_end}
+use Rattle.qa_base.specs.machine.Loss.{is_owed, is_end}
 use Rattle.qa_base.specs.machine.Packets.{Packet, is_covered}
 use Rattle.qa_base.specs.machine.Rtt.{rtt, persistent_after}
 use Rattle.qa_base.specs.values.Settings.{Settings}
@@ -20,10 +20,6 @@ are_ends_among c h ps p q =
 -- the last event establishes persistent congestion by two of these packets
 abbrev pub is_persistent_among : Settings → List Event → List Packet → Bool
 is_persistent_among c h ps = list_any (λ p. list_any (are_ends_among c h ps p) (filter (is_owed c h) ps)) (filter (is_owed c h) ps)
-
--- none of these is open
-abbrev pub AreClosed : Settings → List Event → List Packet → Type 0
-AreClosed c h ps = AllByRecursion (λ p. is_open c h p ≡ false) ps
 
 -- ---- in one walk in the order of sending
 
