@@ -19,7 +19,7 @@ ghost use Rattle.qa_base.specs.values.Events.{is_named, time_of};
 ghost use Rattle.qa_base.specs.values.Proper.{IsProperEvent};
 ghost use Rattle.qa_base.specs.values.Settings.{Settings};
 ghost use Rattle.qa_base.specs.verdicts.Verdict.{sayings, trace_of, verdict};
-ghost use Rattle.qa_laws.specs.machine.Conduct.{IsAmong, IsConduct, IsLostRightly, IsSentAfter, NoCollapse, is_probe, is_pto_event, is_recovery, probe_bytes};
+ghost use Rattle.qa_laws.specs.machine.Conduct.{HasMoment, IsAmong, IsConduct, IsLostRightly, IsSentAfter, NoCollapse, is_probe, is_pto_event, is_recovery, probe_bytes};
 
 /// In a run each number that a Lost line names is that of an in-flight packet of its space that was
 /// sent before an acknowledged one of the space, as many numbers behind it as the packet threshold or
@@ -48,8 +48,7 @@ pub fn sends_have_leave()
     ensures no_probe { (c : Settings) (h : List Event) → IsRun c h → list_any is_pto_event h ≡ false → list_any is_probe h ≡ false }
     ensures probes { (c : Settings) (between h : List Event) → IsRun c (between ++ h) → list_any is_pto_event between ≡ false
         → sum_by probe_bytes between ≤ probe_datagrams * c.max_datagram_size }
-    ensures entered { (c : Settings) (e : Event) (h : List Event) → IsRun c (e ∷ h) → is_recovery e ≡ true
-        → (later : List Event) × (entry : Event) × (before : List Event) × (h ≡ later ++ entry ∷ before) × (is_entry c (entry ∷ before) ≡ true) }
+    ensures entered { (c : Settings) (e : Event) (h : List Event) → IsRun c (e ∷ h) → is_recovery e ≡ true → HasMoment (is_entry c) h }
     ensures between { (c : Settings) (e f : Event) (between h : List Event) → IsRun c (e ∷ between ++ f ∷ h) → is_recovery e ≡ true → is_recovery f ≡ true
         → IsAmong (is_entry c) between (f ∷ h) }
 {}

@@ -1,5 +1,5 @@
 -- What a run sends stays within the window, or has its leave.
-use Rattle.std.proofs.Common.{◌≡◌, ◌∙◌, ◌+◌, ◌*◌, ◌<◌, ◌≤◌, ℕ, List, [], ◌∷◌, ◌++◌, Bool, true, false, cond, ◌&&◌, ◌||◌, not, Some, None, refl, sym, ap, arith, inl, inr, sum_by, count_by}
+use Rattle.std.proofs.Common.{◌≡◌, ◌∙◌, ◌+◌, ◌*◌, ◌<◌, ◌≤◌, ℕ, List, [], ◌∷◌, ◌++◌, Bool, true, false, cond, ◌&&◌, ◌||◌, not, Some, None, refl, sym, ap, arith, sum_by, count_by}
 use Rattle.std.proofs.lemmas.Bool.{both_ways, ltb-false, or_parts}
 use Rattle.std.proofs.lemmas.List.Sums.{sum_by-cons}
 use Rattle.std.specs.List.{list_any}
@@ -11,7 +11,7 @@ use Rattle.qa_base.specs.declared.space.Leave.{Leave}
 use Rattle.qa_base.specs.declared.space.Leave.TheVariants.{Window, Probe, Recovery}
 use Rattle.qa_base.specs.declared.space.Space.{Space}
 use Rattle.qa_base.specs.machine.Breaches.{is_over}
-use Rattle.qa_laws.specs.machine.Conduct.{is_pto_event, is_probe, probe_bytes, is_recovery, IsAmong, HasLeave}
+use Rattle.qa_laws.specs.machine.Conduct.{is_pto_event, is_probe, probe_bytes, is_recovery, HasMoment, IsAmong, HasLeave}
 use Rattle.qa_base.specs.machine.Leave.{probe_size, is_recovery_packet}
 use Rattle.qa_base.specs.machine.Loss.{owed, bytes_in_flight}
 use Rattle.qa_base.specs.machine.Moments.{moments, since}
@@ -105,7 +105,15 @@ probe_leave c h time space number size eliciting run =
     let holds = all_hold c h (Sent time space number size eliciting true Probe) run.1 in
     let spent = over_not (2 * c.max_datagram_size) size (list_any is_pto (moments h)) (sum_by probe_size (since is_pto h)) holds.1.1.1.1.1.1.1.0 in
     let found = since_last is_pto probe_size probe_bytes probe_is h spent.0 in
-    inl (refl, found.0, found.1, found.2, found.3, sym (pto_is found.1 found.2) ∙ found.4, no_pto found.0 (found.1 ∷ found.2) found.5, rw (← found.6) spent.1)
+    record {
+      since = found.0;
+      timeout = found.1;
+      before = found.2;
+      stands = found.3;
+      times_out = sym (pto_is found.1 found.2) ∙ found.4;
+      last = no_pto found.0 (found.1 ∷ found.2) found.5;
+      within = rw (← found.6) spent.1;
+    }
 
 -- ---- recovery
 
@@ -132,7 +140,14 @@ recovery_leave c h time space number size eliciting run =
     let holds = all_hold c h (Sent time space number size eliciting true Recovery) run.1 in
     let spent = over_not 1 1 (list_any (is_entry c) (moments h)) (count_by is_recovery_packet (since (is_entry c) h)) holds.1.1.1.1.1.1.1.1.0 in
     let found = since_last (is_entry c) (λ m. cond (is_recovery_packet m) 1 0) (λ e. cond (is_recovery e) 1 0) counted_is h spent.0 in
-    inr (refl, found.0, found.1, found.2, found.3, found.4, none_counted found.0 (omega (arith, spent.1, found.6)))
+    record {
+      since = found.0;
+      entry = found.1;
+      before = found.2;
+      stands = found.3;
+      enters = found.4;
+      unused = none_counted found.0 (omega (arith, spent.1, found.6));
+    }
 
 -- in a run an in-flight packet that takes the bytes in flight past the window has its leave
 pub past_window_by_leave : (c : Settings) (h : List Event) (time : ℕ) (space : Space) (number size : ℕ) (eliciting : Bool) (leave : Leave)
@@ -222,11 +237,10 @@ recovery_spent_none c (Sent time space number size eliciting in_flight Probe) h 
 recovery_spent_none c _ h run is = cc
 
 -- in a run each in-flight packet that is marked for recovery has an entry before it
-pub entry_before : (c : Settings) (e : Event) (h : List Event) → IsRun c (e ∷ h) → is_recovery e ≡ true
-    → (later : List Event) × (entry : Event) × (before : List Event) × (h ≡ later ++ entry ∷ before) × (is_entry c (entry ∷ before) ≡ true)
+pub entry_before : (c : Settings) (e : Event) (h : List Event) → IsRun c (e ∷ h) → is_recovery e ≡ true → HasMoment (is_entry c) h
 entry_before c e h run is =
     let found = since_last (is_entry c) (λ m. cond (is_recovery_packet m) 1 0) (λ e. cond (is_recovery e) 1 0) counted_is h (recovery_spent_none c e h run is).0 in
-    (found.0, found.1, found.2, found.3, found.4)
+    record { later = found.0; event = found.1; before = found.2; stands = found.3; passes = found.4 }
 
 no_entry : (c : Settings) (f : Event) (h : List Event) → is_recovery f ≡ true → is_entry c (f ∷ h) ≡ false
 no_entry c (Sent time space number size eliciting in_flight Recovery) h is =
