@@ -22,8 +22,8 @@ ghost use Rattle.qa_base.specs.verdicts.Verdict.{sayings, trace_of, verdict};
 ghost use Rattle.qa_laws.specs.machine.Conduct.{HasMoment, IsAmong, IsConduct, IsLostRightly, IsSentAfter, NoCollapse, is_probe, is_pto_event, is_recovery, probe_bytes};
 
 /// In a run each number that a Lost line names is that of an in-flight packet of its space that was
-/// sent before an acknowledged one of the space, as many numbers behind it as the packet threshold or
-/// as old as the loss delay when it was looked for (RFC 9002, section 6.1).
+/// sent before an acknowledged one of the space, and whose number is lower by the packet threshold at
+/// least, or which was at least as old as the loss delay when it was looked for (RFC 9002, section 6.1).
 pub fn losses_are_right()
     ensures { (c : Settings) (h : List Event) (time : ℕ) (space : Space) (ranges : List (ℕ × ℕ)) → IsRun c (events.Lost time space ranges ∷ h)
         → AllByRecursion IsProperEvent h → (n : ℕ) → is_named ranges n ≡ true → IsLostRightly c h space n }
@@ -60,7 +60,7 @@ pub fn entries_need_later_losses()
         → is_entry c (e ∷ between ++ f ∷ h) ≡ true → NoCollapse c between (f ∷ h) → IsSentAfter (time_of f) (owed c (e ∷ between ++ f ∷ h)) }
 {}
 
-/// An event that lowers the window found a loss.
+/// An event that lowers the window found a loss (RFC 9002, sections 7.3.2 and 7.6.2).
 pub fn windows_fall_by_losses()
     ensures { (c : Settings) (e : Event) (h : List Event) → (reno c (e ∷ h)).window < (reno c h).window → owed c (e ∷ h) ≢ [] }
 {}

@@ -29,12 +29,12 @@ is_closed_by c e before p = is_open c before p && not (is_open c (e ∷ before) 
 abbrev closed_by : Settings → Event → List Event → List Packet
 closed_by c e before = filter (is_closed_by c e before) (packets before)
 
-by_tests : (ack dec found disc cov los gon cov' los' : Bool) → cov' ≡ (ack || cov) → los' ≡ (dec || los) → cov ≡ false → los ≡ false → gon ≡ false → dec ≡ false
-    → not (not cov' && not los' && not found && not (disc || gon)) ≡ ((ack && not cov && not los) || found || (disc && true))
-by_tests true dec found disc cov los gon cov' los' covered lost is_cov is_los is_gon is_dec = rw (covered, is_cov, is_los) refl
-by_tests false dec true disc cov los gon cov' los' covered lost is_cov is_los is_gon is_dec = rw (covered, lost, is_cov, is_los, is_dec) refl
-by_tests false dec false true cov los gon cov' los' covered lost is_cov is_los is_gon is_dec = rw (covered, lost, is_cov, is_los, is_dec) refl
-by_tests false dec false false cov los gon cov' los' covered lost is_cov is_los is_gon is_dec = rw (covered, lost, is_cov, is_los, is_gon, is_dec) refl
+by_tests : (names declares found discards_it was_covered was_lost was_gone covered_now lost_now : Bool) → covered_now ≡ (names || was_covered) → lost_now ≡ (declares || was_lost) → was_covered ≡ false → was_lost ≡ false → was_gone ≡ false → declares ≡ false
+    → not (not covered_now && not lost_now && not found && not (discards_it || was_gone)) ≡ ((names && not was_covered && not was_lost) || found || (discards_it && true))
+by_tests true declares found discards_it was_covered was_lost was_gone covered_now lost_now covered_is lost_is not_covered not_lost not_gone not_declared = rw (covered_is, not_covered, not_lost) refl
+by_tests false declares true discards_it was_covered was_lost was_gone covered_now lost_now covered_is lost_is not_covered not_lost not_gone not_declared = rw (covered_is, lost_is, not_covered, not_lost, not_declared) refl
+by_tests false declares false true was_covered was_lost was_gone covered_now lost_now covered_is lost_is not_covered not_lost not_gone not_declared = rw (covered_is, lost_is, not_covered, not_lost, not_declared) refl
+by_tests false declares false false was_covered was_lost was_gone covered_now lost_now covered_is lost_is not_covered not_lost not_gone not_declared = rw (covered_is, lost_is, not_covered, not_lost, not_gone, not_declared) refl
 
 closes_if : (c : Settings) (e : Event) (h : List Event) → IsRun c (e ∷ h) → (p : Packet) → Contains (packets h) p → (was : Bool) → is_open c h p ≡ was
     → (was && not (is_open c (e ∷ h) p)) ≡ (is_newly_acknowledged e h p || is_owed c (e ∷ h) p || (discards p.space e && was))

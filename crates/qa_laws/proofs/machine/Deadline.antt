@@ -111,9 +111,9 @@ pub loss_due_is : (c : Settings) (h : List Event) → IsRun c h → (s : Space) 
 loss_due_is c h run s =
     let ps = packets_of h s in
     let largest = largest_acknowledged h s in
-    let mk : ℕ → Due = λ sent. record { kind = Loss; space = s; time = sent + loss_delay (rtt c h) } in
-    ap (λ qs. option_map mk (least_of (map (λ p. p.time) qs))) (same_part (awaits_loss c h) (λ p. is_flying c h p && is_below_largest p.number largest) ps (awaits_of c h s ps (are_of h s)))
-    ∙ (ap (option_map mk) (least_is (is_flying c h) largest ps (in_order_of c h s run)) ∙ due_if c h s (oldest_flying c h s))
+    let due_at : ℕ → Due = λ sent. record { kind = Loss; space = s; time = sent + loss_delay (rtt c h) } in
+    ap (λ qs. option_map due_at (least_of (map (λ p. p.time) qs))) (same_part (awaits_loss c h) (λ p. is_flying c h p && is_below_largest p.number largest) ps (awaits_of c h s ps (are_of h s)))
+    ∙ (ap (option_map due_at) (least_is (is_flying c h) largest ps (in_order_of c h s run)) ∙ due_if c h s (oldest_flying c h s))
 
 -- ---- the oldest in the order of sending
 

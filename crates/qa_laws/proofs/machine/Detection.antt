@@ -13,7 +13,7 @@ use Rattle.qa_base.specs.declared.space.Space.TheVariants.{Initial, Handshake, A
 use Rattle.qa_base.specs.machine.Breaches.{is_kind, is_other}
 use Rattle.qa_base.specs.values.Events.{is_space}
 use Rattle.qa_base.specs.machine.Loss.{is_found, found_at, detection, owed, is_owed, is_open, is_late, is_unsettled}
-use Rattle.qa_laws.specs.machine.Oldest.{is_flying, due_of, is_asked, asked}
+use Rattle.qa_laws.specs.machine.Oldest.{is_flying, due_of, is_asked}
 use Rattle.qa_laws.specs.machine.Sequence.{EachTwo}
 use Rattle.qa_base.specs.machine.Packets.{Packet, packets, packets_of, is_of, is_some_packet, is_gone, acknowledges_new, largest_acknowledged}
 use Rattle.qa_base.specs.machine.Rtt.{Estimate, rtt, pto_base}
@@ -30,6 +30,10 @@ use Rattle.qa_laws.proofs.machine.Settled.{opens_is, opens_from, unsettled_befor
 use Rattle.qa_laws.proofs.machine.Deadline.{oldest_flying}
 
 -- ---- what is owed is a front
+
+-- the packets asked of, in the order of sending
+abbrev pub asked : List Event → Space → List Packet
+asked h s = filter (is_asked h s) (reverse (packets h))
 
 found_of_asked : (c : Settings) (h : List Event) (now : ℕ) (s : Space)
     → filter (is_found c h now s) (packets_of h s) ≡ filter (is_late (rtt c h) now (largest_acknowledged h s)) (filter (is_asked h s) (packets h))

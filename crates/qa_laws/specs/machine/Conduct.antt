@@ -18,8 +18,9 @@ use Rattle.qa_base.specs.machine.Timer.{loss_delay}
 
 -- ---- losses (RFC 9002, section 6.1)
 
--- a packet of the space has this number that was in flight, and a packet of the space that was sent later is acknowledged, by
--- a number that is higher by three at least, or the loss delay had passed when it was looked for
+-- an in-flight packet of the space has this number, and a packet of the space that was sent later is acknowledged: its number
+-- is higher by the packet threshold at least (section 6.1.1), or the loss delay had passed since the first was sent when it was
+-- looked for (section 6.1.2)
 pub record IsLostRightly (c : Settings) (h : List Event) (s : Space) (n : ℕ) : Type 0 where
   pub packet : Packet
   pub sent : Contains (packets h) packet
@@ -38,6 +39,7 @@ pub record IsLostRightly (c : Settings) (h : List Event) (s : Space) (n : ℕ) :
 
 -- ---- probes (RFC 9002, section 6.2.4)
 
+-- the event is a probe timeout
 abbrev pub is_pto_event : Event → Bool
 is_pto_event (Timer time Pto space) = true
 is_pto_event _ = false
@@ -75,7 +77,8 @@ pub record IsAmong (test : List Event → Bool) (events h : List Event) : Type 0
   pub stands : events ≡ later ++ event ∷ earlier
   pub passes : test (event ∷ earlier ++ h) ≡ true
 
--- from the end of the history on, up to the last of these events, the window did not collapse
+-- neither the last event of the history nor any of these, which come after it, establishes persistent congestion
+-- (section 7.6.2)
 abbrev pub NoCollapse : Settings → List Event → List Event → Type 0
 NoCollapse c events h = (later earlier : List Event) → events ≡ later ++ earlier → is_persistent c (earlier ++ h) ≡ false
 
@@ -87,7 +90,7 @@ pub record IsSentAfter (time : ℕ) (lost : List Packet) : Type 0 where
 
 -- ---- leave (RFC 9002, sections 6.2.4 and 7.3.2)
 
--- there was a probe timeout, and with so many bytes more the probes since the last have two datagrams' bytes at most
+-- there was a probe timeout, and with so many bytes more the probes since the last have the bytes of two datagrams at most
 pub record HasProbeLeft (c : Settings) (h : List Event) (size : ℕ) : Type 0 where
   pub since : List Event
   pub timeout : Event

@@ -35,6 +35,6 @@ bytes p = if p.in_flight then p.size else 0
 abbrev pub bytes_of : Space → Packet → ℕ
 bytes_of s p = within_space s bytes p
 
--- one for a packet of the space that asks for an acknowledgment
+-- one for an ack-eliciting packet of the space
 abbrev pub asks_of : Space → Packet → ℕ
 asks_of s p = if is_of s p && p.eliciting then 1 else 0
