@@ -107,7 +107,7 @@ counted false false n bound most = omega arith
 pto_in_time : (c : Settings) (e : Event) (h : List Event) → first_broken c h e ≡ None → IsTimely e → is_pto (e ∷ h) ≡ true → backoff c h < 40
 pto_in_time c (Timer time Pto space) h allowed timely is =
     let holds = all_hold c h (Timer time Pto space) allowed in
-    by_due (backoff c h) time space (deadline c h) holds.1.1.1.1.1.1.1.1.1.1.0 holds.1.1.1.1.1.1.1.1.1.1.1.0 holds.1.1.1.1.1.1.1.1.1.1.1.1.0 (far_deadline c h) timely
+    by_due (backoff c h) time space (deadline c h) holds.timer_not_set holds.timer_other holds.timer_early (far_deadline c h) timely
 pto_in_time c (Timer time Loss space) h allowed timely is = cc
 pto_in_time c _ h allowed timely is = cc
 

@@ -164,7 +164,7 @@ sum_after weight c (Sent time space number size eliciting in_flight leave) h run
       leave = leave;
     } in
     let holds = all_hold c h e run.1 in
-    let open_now : is_open c (e ∷ h) p ≡ true = sent_is_open c h time space number size eliciting in_flight leave p refl refl holds.1.1.1.1.0 in
+    let open_now : is_open c (e ∷ h) p ≡ true = sent_is_open c h time space number size eliciting in_flight leave p refl refl holds.space_gone in
     let here : counted (is_open c (e ∷ h)) weight p ≡ weight p = ap (λ b. if b then weight p else 0) open_now in
     let alone : sum_by weight (p ∷ []) ≡ weight p = sum_by-cons weight p [] ∙ add-zero (weight p) in
     sum_by-cons (counted (is_open c (e ∷ h)) weight) p (packets h)

@@ -69,7 +69,7 @@ acknowledged_now : (c : Settings) (h : List Event) (time : ℕ) (space : Space) 
 acknowledged_now c h time space ranges delay limited run proper =
     let e = Ack time space ranges delay limited in
     let holds = all_hold c h e run.1 in
-    let all = not-false (has_all (numbers (packets_of h space)) ranges) holds.1.1.1.1.1.1.1.1.1.0 in
+    let all = not-false (has_all (numbers (packets_of h space)) ranges) holds.ack_unsent in
     let named = greatest_is_named ranges proper.fitting proper.numbers.0 in
     let one = one_of_numbers (packets_of h space) (greatest ranges) (has_all_names (numbers (packets_of h space)) ranges all (greatest ranges) named) in
     let q = one.0 in

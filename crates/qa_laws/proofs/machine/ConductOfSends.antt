@@ -37,8 +37,8 @@ pub within_window : (c : Settings) (h : List Event) (time : ℕ) (space : Space)
 within_window c h time space number size eliciting run =
     let e = Sent time space number size eliciting true Window in
     let holds = all_hold c h e run.1 in
-    let none = no_packet (owed c h) holds.1.0 in
-    let le = ltb-false (reno c h).window (bytes_in_flight c h + size) holds.1.1.1.1.1.1.0 in
+    let none = no_packet (owed c h) holds.loss_owed in
+    let le = ltb-false (reno c h).window (bytes_in_flight c h + size) holds.past_window in
     let bytes = bytes_in_flight-sent c h time space number size eliciting true Window none in
     let same : (reno c (e ∷ h)).window ≡ (reno c h).window = rw (moves-quiet c e h refl) refl in
     let within = fits_window (is_gone h space) (bytes_in_flight c h) size (reno c h).window le in
@@ -103,7 +103,7 @@ no_pto (e ∷ events) h none = rw (sym (pto_is e (events ++ h)) ∙ none.0) (no_
 probe_leave : (c : Settings) (h : List Event) (time : ℕ) (space : Space) (number size : ℕ) (eliciting : Bool) → IsRun c (Sent time space number size eliciting true Probe ∷ h) → HasLeave c h size Probe
 probe_leave c h time space number size eliciting run =
     let holds = all_hold c h (Sent time space number size eliciting true Probe) run.1 in
-    let spent = over_not (2 * c.max_datagram_size) size (list_any is_pto (moments h)) (sum_by probe_size (since is_pto h)) holds.1.1.1.1.1.1.1.0 in
+    let spent = over_not (2 * c.max_datagram_size) size (list_any is_pto (moments h)) (sum_by probe_size (since is_pto h)) holds.past_probe in
     let found = since_last is_pto probe_size probe_bytes probe_is h spent.0 in
     record {
       since = found.0;
@@ -138,7 +138,7 @@ none_counted (e ∷ events) none = none_if e events (is_recovery e) refl (sym (s
 recovery_leave : (c : Settings) (h : List Event) (time : ℕ) (space : Space) (number size : ℕ) (eliciting : Bool) → IsRun c (Sent time space number size eliciting true Recovery ∷ h) → HasLeave c h size Recovery
 recovery_leave c h time space number size eliciting run =
     let holds = all_hold c h (Sent time space number size eliciting true Recovery) run.1 in
-    let spent = over_not 1 1 (list_any (is_entry c) (moments h)) (count_by is_recovery_packet (since (is_entry c) h)) holds.1.1.1.1.1.1.1.1.0 in
+    let spent = over_not 1 1 (list_any (is_entry c) (moments h)) (count_by is_recovery_packet (since (is_entry c) h)) holds.past_recovery in
     let found = since_last (is_entry c) (λ m. cond (is_recovery_packet m) 1 0) (λ e. cond (is_recovery e) 1 0) counted_is h spent.0 in
     record {
       since = found.0;
@@ -153,7 +153,7 @@ recovery_leave c h time space number size eliciting run =
 pub past_window_by_leave : (c : Settings) (h : List Event) (time : ℕ) (space : Space) (number size : ℕ) (eliciting : Bool) (leave : Leave)
     → IsRun c (Sent time space number size eliciting true leave ∷ h) → (reno c h).window < bytes_in_flight c h + size → HasLeave c h size leave
 past_window_by_leave c h time space number size eliciting Window run past =
-    let le = ltb-false (reno c h).window (bytes_in_flight c h + size) (all_hold c h (Sent time space number size eliciting true Window) run.1).1.1.1.1.1.1.0 in
+    let le = ltb-false (reno c h).window (bytes_in_flight c h + size) (all_hold c h (Sent time space number size eliciting true Window) run.1).past_window in
     absurd (omega (arith, past, le))
 past_window_by_leave c h time space number size eliciting Probe run past = probe_leave c h time space number size eliciting run
 past_window_by_leave c h time space number size eliciting Recovery run past = recovery_leave c h time space number size eliciting run
@@ -164,7 +164,7 @@ probe_step : (c : Settings) (e : Event) (h : List Event) (n : ℕ) → IsRun c (
     → probe_size (e ∷ h) + sum_by probe_size (since is_pto h) ≤ 2 * c.max_datagram_size
 probe_step c (Sent time space number size eliciting true Probe) h n run before =
     let holds = all_hold c h (Sent time space number size eliciting true Probe) run.1 in
-    let spent = over_not (2 * c.max_datagram_size) size (list_any is_pto (moments h)) (sum_by probe_size (since is_pto h)) holds.1.1.1.1.1.1.1.0 in
+    let spent = over_not (2 * c.max_datagram_size) size (list_any is_pto (moments h)) (sum_by probe_size (since is_pto h)) holds.past_probe in
     omega (arith, spent.1)
 probe_step c (Sent time space number size eliciting false Probe) h n run before = omega (arith, before)
 probe_step c (Sent time space number size eliciting in_flight Window) h n run before = omega (arith, before)
@@ -209,7 +209,7 @@ never_pto (e ∷ h) none =
 not_a_probe : (c : Settings) (e : Event) (h : List Event) → IsRun c (e ∷ h) → list_any is_pto (moments h) ≡ false → is_probe e ≡ false
 not_a_probe c (Sent time space number size eliciting true Probe) h run none =
     let holds = all_hold c h (Sent time space number size eliciting true Probe) run.1 in
-    let spent = over_not (2 * c.max_datagram_size) size (list_any is_pto (moments h)) (sum_by probe_size (since is_pto h)) holds.1.1.1.1.1.1.1.0 in
+    let spent = over_not (2 * c.max_datagram_size) size (list_any is_pto (moments h)) (sum_by probe_size (since is_pto h)) holds.past_probe in
     absurd (both_ways (list_any is_pto (moments h)) none spent.0)
 not_a_probe c (Sent time space number size eliciting false Probe) h run none = refl
 not_a_probe c (Sent time space number size eliciting in_flight Window) h run none = refl
@@ -229,7 +229,7 @@ recovery_spent_none : (c : Settings) (e : Event) (h : List Event) → IsRun c (e
     → (list_any (is_entry c) (moments h) ≡ true) × (count_by is_recovery_packet (since (is_entry c) h) ≡ 0)
 recovery_spent_none c (Sent time space number size eliciting true Recovery) h run is =
     let holds = all_hold c h (Sent time space number size eliciting true Recovery) run.1 in
-    let spent = over_not 1 1 (list_any (is_entry c) (moments h)) (count_by is_recovery_packet (since (is_entry c) h)) holds.1.1.1.1.1.1.1.1.0 in
+    let spent = over_not 1 1 (list_any (is_entry c) (moments h)) (count_by is_recovery_packet (since (is_entry c) h)) holds.past_recovery in
     (spent.0, (omega (arith, spent.1)))
 recovery_spent_none c (Sent time space number size eliciting false Recovery) h run is = cc
 recovery_spent_none c (Sent time space number size eliciting in_flight Window) h run is = cc

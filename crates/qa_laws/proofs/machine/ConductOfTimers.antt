@@ -72,9 +72,9 @@ none_has (q ∷ ps) p has none = cc
 pub timer_owes : (c : Settings) (h : List Event) (time : ℕ) (space : Space) → IsRun c (Timer time Loss space ∷ h) → owed c (Timer time Loss space ∷ h) ≡ [] → ⊥
 timer_owes c h time space run none =
     let holds = all_hold c h (Timer time Loss space) run.1 in
-    let set = timer_is Loss space (deadline c h) holds.1.1.1.1.1.1.1.1.1.1.0 holds.1.1.1.1.1.1.1.1.1.1.1.0 in
+    let set = timer_is Loss space (deadline c h) holds.timer_not_set holds.timer_other in
     let due = set.0 in
-    let early : is_before time (Some due) ≡ false = rw set.1 at holds.1.1.1.1.1.1.1.1.1.1.1.1.0 in
+    let early : is_before time (Some due) ≡ false = rw set.1 at holds.timer_early in
     let loss = loss_of (earliest_loss c h) (option_or (earliest_pto c h) (anti_deadlock c h)) due (probes c h) set.1 set.2 in
     let awaits = earliest_awaits c h run.0 due loss in
     let p = awaits.packet in

@@ -125,9 +125,9 @@ begun_since first now recovery (p ∷ ps) false is late before = rw is before
 
 -- no event of a run is earlier than one before it
 times_rise : (c : Settings) (e f : Event) (between h : List Event) → IsRun c (e ∷ between ++ f ∷ h) → time_of f ≤ time_of e
-times_rise c e f [] h run = ltb-false (time_of e) (time_of f) (all_hold c (f ∷ h) e run.1).0
+times_rise c e f [] h run = ltb-false (time_of e) (time_of f) (all_hold c (f ∷ h) e run.1).time_back
 times_rise c e f (d ∷ between) h run =
-    let here = ltb-false (time_of e) (time_of d) (all_hold c (d ∷ between ++ f ∷ h) e run.1).0 in
+    let here = ltb-false (time_of e) (time_of d) (all_hold c (d ∷ between ++ f ∷ h) e run.1).time_back in
     let rest = times_rise c d f between h run.0 in
     omega (arith, here, rest)
 

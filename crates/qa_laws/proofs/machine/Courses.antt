@@ -41,7 +41,7 @@ pub are_by : (c : Settings) (e : Event) (h : List Event) → IsRun c (e ∷ h) �
 are_by c e [] run = tt
 are_by c e (last ∷ before) run =
     let holds = all_hold c (last ∷ before) e run.1 in
-    later (time_of last) (time_of e) (ltb-false (time_of e) (time_of last) holds.0) (packets (last ∷ before))
+    later (time_of last) (time_of e) (ltb-false (time_of e) (time_of last) holds.time_back) (packets (last ∷ before))
     (by_more before last (are_by c last before run.0))
 
 -- ---- all of it
