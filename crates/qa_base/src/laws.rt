@@ -109,7 +109,7 @@ pub fn pto_count_is_small()
 /// The window is at least two datagrams, and at most the initial window and the greatest size of a
 /// packet for each that was acknowledged.
 pub fn window_is_bounded()
-    ensures low { (c : Settings) (h : List Event) → AreInRange c → AllByRecursion Fits h → minimum_window c.max_datagram_size ≤ (reno c h).window }
+    ensures low { (c : Settings) (h : List Event) → AreInRange c → minimum_window c.max_datagram_size ≤ (reno c h).window }
     ensures high { (c : Settings) (h : List Event) → AreInRange c → AllByRecursion Fits h → (reno c h).window ≤ c.initial_window + max_packet_size * covered_count h }
 {}
 

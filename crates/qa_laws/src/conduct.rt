@@ -14,16 +14,16 @@ ghost use Rattle.qa_base.specs.machine.Loss.{bytes_in_flight, owed};
 ghost use Rattle.qa_base.specs.machine.Packets.{history_of};
 ghost use Rattle.qa_base.specs.machine.Reno.{is_entry, reno};
 ghost use Rattle.qa_base.specs.machine.Rules.{IsRun};
-ghost use Rattle.qa_base.specs.values.Constants.{minimum_window, probe_datagrams};
+ghost use Rattle.qa_base.specs.values.Constants.{probe_datagrams};
 ghost use Rattle.qa_base.specs.values.Events.{is_named, time_of};
 ghost use Rattle.qa_base.specs.values.Proper.{IsProperEvent};
-ghost use Rattle.qa_base.specs.values.Settings.{AreInRange, Settings};
+ghost use Rattle.qa_base.specs.values.Settings.{Settings};
 ghost use Rattle.qa_base.specs.verdicts.Verdict.{sayings, trace_of, verdict};
-ghost use Rattle.qa_laws.specs.machine.Conduct.{IsAmong, IsConduct, IsLostRightly, IsSentAfter, NoCollapse, is_probe, is_pto_event, is_recovery, probe_bytes};
+ghost use Rattle.qa_laws.specs.machine.Conduct.{HasMoment, IsAmong, IsConduct, IsLostRightly, IsSentAfter, NoCollapse, is_probe, is_pto_event, is_recovery, probe_bytes};
 
 /// In a run each number that a Lost line names is that of an in-flight packet of its space that was
-/// sent before an acknowledged one of the space, as many numbers behind it as the packet threshold or
-/// as old as the loss delay when it was looked for (RFC 9002, section 6.1).
+/// sent before an acknowledged one of the space, and whose number is lower by the packet threshold at
+/// least, or which was at least as old as the loss delay when it was looked for (RFC 9002, section 6.1).
 pub fn losses_are_right()
     ensures { (c : Settings) (h : List Event) (time : ℕ) (space : Space) (ranges : List (ℕ × ℕ)) → IsRun c (events.Lost time space ranges ∷ h)
         → AllByRecursion IsProperEvent h → (n : ℕ) → is_named ranges n ≡ true → IsLostRightly c h space n }
@@ -48,8 +48,7 @@ pub fn sends_have_leave()
     ensures no_probe { (c : Settings) (h : List Event) → IsRun c h → list_any is_pto_event h ≡ false → list_any is_probe h ≡ false }
     ensures probes { (c : Settings) (between h : List Event) → IsRun c (between ++ h) → list_any is_pto_event between ≡ false
         → sum_by probe_bytes between ≤ probe_datagrams * c.max_datagram_size }
-    ensures entered { (c : Settings) (e : Event) (h : List Event) → IsRun c (e ∷ h) → is_recovery e ≡ true
-        → (later : List Event) × (entry : Event) × (before : List Event) × (h ≡ later ++ entry ∷ before) × (is_entry c (entry ∷ before) ≡ true) }
+    ensures entered { (c : Settings) (e : Event) (h : List Event) → IsRun c (e ∷ h) → is_recovery e ≡ true → HasMoment (is_entry c) h }
     ensures between { (c : Settings) (e f : Event) (between h : List Event) → IsRun c (e ∷ between ++ f ∷ h) → is_recovery e ≡ true → is_recovery f ≡ true
         → IsAmong (is_entry c) between (f ∷ h) }
 {}
@@ -61,11 +60,9 @@ pub fn entries_need_later_losses()
         → is_entry c (e ∷ between ++ f ∷ h) ≡ true → NoCollapse c between (f ∷ h) → IsSentAfter (time_of f) (owed c (e ∷ between ++ f ∷ h)) }
 {}
 
-/// The window is never less than two datagrams (RFC 9002, section 7.2), and an event that lowers it
-/// found a loss.
+/// An event that lowers the window found a loss (RFC 9002, sections 7.3.2 and 7.6.2).
 pub fn windows_fall_by_losses()
-    ensures least { (c : Settings) (h : List Event) → AreInRange c → minimum_window c.max_datagram_size ≤ (reno c h).window }
-    ensures lower { (c : Settings) (e : Event) (h : List Event) → (reno c (e ∷ h)).window < (reno c h).window → owed c (e ∷ h) ≢ [] }
+    ensures { (c : Settings) (e : Event) (h : List Event) → (reno c (e ∷ h)).window < (reno c h).window → owed c (e ∷ h) ≢ [] }
 {}
 
 /// Where bytes are accepted, their lines say a header and events of which each packet that is declared

@@ -15,7 +15,7 @@ ghost use Rattle.qa_laws.specs.verdicts.Grounds.{BreaksAt, FailsAt, IsGround, Ow
 
 /// Bytes are refused at a line by a rule with some totals exactly where the lines before it are good,
 /// the line says an event, and the rule is the first that it breaks after theirs; or where all lines are
-/// good, the line says the last event, something is owed and the rule is the one of the end. They are
+/// good, the line says the last event, something is owed and the rule is V17. They are
 /// unreadable at a line with a fault exactly where the lines before it are good and the line has the
 /// fault; or where no line says anything, one line behind them. So each verdict has its one ground, and
 /// no other verdict of the bytes has one. All of it holds for any reading of lines.

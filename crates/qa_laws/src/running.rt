@@ -1,45 +1,61 @@
 //! What carries a ledger that keeps the open packets alone, in one pass over the events.
-ghost use Rattle.std.specs.Prelude.{◌≡◌, ◌≤◌, ◌++◌, ◌∷◌, ◌+◌, ◌&&◌, ◌||◌, List, ℕ, true, false, not, Contains, Option, Some, None, filter, find, length, nat_lt, reverse, sum_by, take_while};
+ghost use Rattle.std.specs.Prelude.{◌≡◌, ◌≤◌, ◌<◌, ◌==◌, ◌++◌, ◌∷◌, ◌+◌, ◌&&◌, ◌||◌, List, ℕ, Bool, true, false, not, Contains, Option, Some, None, filter, find, length, nat_lt, reverse, sum_by, take_while};
 ghost use Rattle.std.specs.List.{list_any};
 ghost use Rattle.qa_base.specs.declared.event.Event.{Event};
+ghost use Rattle.qa_base.specs.declared.event.Event.TheVariants as events;
+ghost use Rattle.qa_base.specs.declared.space.Kind.{Kind};
 ghost use Rattle.qa_base.specs.declared.space.Space.{Space};
 ghost use Rattle.qa_base.specs.declared.space.Space.TheVariants as spaces;
+ghost use Rattle.qa_base.specs.machine.Breaches.{has_at_or_above};
+ghost use Rattle.qa_base.specs.machine.Kept.{kept_count};
 ghost use Rattle.qa_base.specs.machine.Loss.{bytes_in_flight, detection, is_late, is_open, is_owed, is_persistent, owed};
-ghost use Rattle.qa_base.specs.machine.Packets.{Packet, packet_of, packets, is_covered, is_gone, is_lost, is_newly_acknowledged, is_of, largest_acknowledged, newly_acknowledged, packets_of};
+ghost use Rattle.qa_base.specs.machine.Packets.{Packet, packet_of, packets, greatest, is_covered, is_gone, is_lost, is_newly_acknowledged, is_of, largest_acknowledged, newly_acknowledged, packets_of};
+ghost use Rattle.qa_base.specs.machine.Reno.{latest_sent};
 ghost use Rattle.qa_base.specs.machine.Rtt.{Estimate, persistent_after, rtt};
 ghost use Rattle.qa_base.specs.machine.Rules.{IsRun};
 ghost use Rattle.qa_base.specs.machine.Timer.{awaits_acknowledgment, is_below_largest, loss_due};
-ghost use Rattle.qa_base.specs.values.Events.{acknowledges};
+ghost use Rattle.qa_base.specs.values.Events.{acknowledges, is_quiet, is_space};
 ghost use Rattle.qa_base.specs.values.Settings.{Settings};
-ghost use Rattle.qa_laws.specs.machine.Among.{AreClosed, counts_as_end, finds_apart};
+ghost use Rattle.qa_laws.specs.machine.Among.{counts_as_end, finds_apart, is_persistent_among};
 ghost use Rattle.qa_laws.specs.machine.Fates.{fate, fate_next, is_uncovered};
+ghost use Rattle.qa_laws.specs.machine.Latest.{first_if_numbered, is_first_at_or_above, time_of_first};
 ghost use Rattle.qa_laws.specs.machine.Oldest.{NoneFlies, due_of, is_asked, is_flying, is_passed};
+ghost use Rattle.qa_laws.specs.machine.Parts.{AreClosed, AreDropped, AreOf, BeginsKept};
 ghost use Rattle.qa_laws.specs.machine.Sequence.{EachTwo, WasSentBefore};
-ghost use Rattle.qa_laws.specs.machine.Sums.{asks_of, bytes_of, discarded, open_sum};
+ghost use Rattle.qa_laws.specs.machine.Sums.{asks_of, bytes, bytes_of, counted, discarded, is_discarded_by, open_sum, within_space};
 
 /// In a run, of two packets of one space the one with the lower number was sent no later and stands
 /// no further on, and two with one number are one. All packets stand in the order of sending, the
-/// latest first.
+/// latest first, and in that order the numbers of a space rise, also behind a front.
 pub fn lower_numbers_are_earlier()
     ensures order { (c : Settings) (h : List Event) → IsRun c h → (p q : Packet) → Contains (packets h) p → Contains (packets h) q
         → is_of p.space q ≡ true → q.number ≤ p.number → (q.time ≤ p.time) × (q.place ≤ p.place) }
     ensures one { (c : Settings) (h : List Event) → IsRun c h → (p q : Packet) → Contains (packets h) p → Contains (packets h) q
         → is_of p.space q ≡ true → q.number ≡ p.number → p ≡ q }
     ensures each_two { (c : Settings) (h : List Event) → IsRun c h → EachTwo WasSentBefore (packets h) }
+    ensures rise { (c : Settings) (h : List Event) → IsRun c h → (s : Space) (gone kept : List Packet) → reverse (packets h) ≡ gone ++ kept
+        → EachTwo (λ p q. p.number < q.number) (filter (is_of s) kept) }
 {}
 
-/// Lateness falls: where a packet is late, so is one with a lower number that was sent no later.
+/// Lateness falls: where a packet is late, so is one with a lower number that was sent no later. So it
+/// is in a run with each packet of its space that has a lower number (RFC 9002, section 6.1).
 pub fn lateness_falls()
-    ensures { (r : Estimate) (now : ℕ) (largest : Option ℕ) (p q : Packet) → q.number ≤ p.number → q.time ≤ p.time
+    ensures any { (r : Estimate) (now : ℕ) (largest : Option ℕ) (p q : Packet) → q.number ≤ p.number → q.time ≤ p.time
+        → is_late r now largest p ≡ true → is_late r now largest q ≡ true }
+    ensures in_run { (c : Settings) (h : List Event) → IsRun c h → (r : Estimate) (now : ℕ) (largest : Option ℕ) (p q : Packet)
+        → Contains (packets h) p → Contains (packets h) q → is_of p.space q ≡ true → q.number ≤ p.number
         → is_late r now largest p ≡ true → is_late r now largest q ≡ true }
 {}
 
 /// In a run a packet that is not open is not open after one more event, and the packets declared
-/// lost after it are those that were and those that were owed. What is below the largest
+/// lost after it are those that were and those that were owed. One that is open stays so unless the
+/// event newly acknowledges it, finds it lost or discards its space. What is below the largest
 /// acknowledged number stays below it.
 pub fn closed_stays_closed()
     ensures closed { (c : Settings) (e : Event) (h : List Event) → IsRun c (e ∷ h) → (p : Packet) → Contains (packets h) p
         → is_open c h p ≡ false → is_open c (e ∷ h) p ≡ false }
+    ensures stays { (c : Settings) (e : Event) (h : List Event) → IsRun c (e ∷ h) → (p : Packet) → Contains (packets h) p
+        → is_newly_acknowledged e h p ≡ false → is_owed c (e ∷ h) p ≡ false → is_discarded_by c e h p ≡ false → is_open c (e ∷ h) p ≡ is_open c h p }
     ensures covered { (e : Event) (h : List Event) (p : Packet) → Contains (packets h) p
         → is_covered (e ∷ h) p ≡ (acknowledges p.space p.number e || is_covered h p) }
     ensures lost { (c : Settings) (e : Event) (h : List Event) → IsRun c (e ∷ h) → (p : Packet) → Contains (packets h) p
@@ -53,6 +69,13 @@ pub fn closed_stays_closed()
 pub fn oldest_decides_loss_time()
     ensures { (c : Settings) (h : List Event) → IsRun c h → (s : Space) (front rest : List Packet) → reverse (packets h) ≡ front ++ rest → NoneFlies c h s front
         → loss_due c h s ≡ due_of c h s (find (λ p. is_of s p && is_flying c h p) rest) }
+{}
+
+/// In a run a front with no packet of a space that is open and in flight has none after one more event,
+/// so that the oldest only moves on.
+pub fn fronts_stay()
+    ensures { (c : Settings) (e : Event) (h : List Event) → IsRun c (e ∷ h) → (s : Space) (front rest : List Packet) → reverse (packets h) ≡ front ++ rest
+        → NoneFlies c h s front → NoneFlies c (e ∷ h) s front }
 {}
 
 /// In a run, where no packet of a front is of the space, open and in flight, a detection may begin
@@ -80,8 +103,9 @@ pub fn sums_after_an_event()
 {}
 
 /// In a run, packets before all others that are closed before an event are not newly acknowledged
-/// by it, nor found lost, and persistent congestion is what one walk finds over the packets behind
-/// them, in the order of sending.
+/// by it, nor found lost, and stay closed. Persistent congestion (RFC 9002, section 7.6) is what the
+/// packets behind them establish alone, and what one walk finds over those in the order of sending.
+/// Sums over the open packets are theirs. The packet that the event sends stands last.
 pub fn closed_are_forgotten()
     ensures newly { (c : Settings) (e : Event) (h : List Event) → IsRun c (e ∷ h) → (gone kept : List Packet) → reverse (packets h) ≡ gone ++ kept → AreClosed c h gone
         → reverse (newly_acknowledged (e ∷ h)) ≡ filter (is_newly_acknowledged e h) kept }
@@ -89,6 +113,21 @@ pub fn closed_are_forgotten()
         → reverse (owed c (e ∷ h)) ≡ filter (is_owed c (e ∷ h)) kept }
     ensures persistent { (c : Settings) (e : Event) (h : List Event) → IsRun c (e ∷ h) → (gone kept : List Packet) → reverse (packets h) ≡ gone ++ kept → AreClosed c h gone
         → is_persistent c (e ∷ h) ≡ finds_apart (is_covered (e ∷ h)) (counts_as_end c (e ∷ h)) (persistent_after (rtt c (e ∷ h)) c.max_ack_delay) None kept }
+    ensures among { (c : Settings) (e : Event) (h : List Event) → IsRun c (e ∷ h) → (kept gone : List Packet) → packets h ≡ kept ++ gone → AreClosed c h gone
+        → is_persistent c (e ∷ h) ≡ is_persistent_among c (e ∷ h) kept }
+    ensures sums { (weight : Packet → ℕ) (c : Settings) (h : List Event) (gone kept : List Packet) → reverse (packets h) ≡ gone ++ kept → AreClosed c h gone
+        → open_sum weight c h ≡ sum_by (counted (is_open c h) weight) kept }
+    ensures closed { (c : Settings) (e : Event) (h : List Event) → IsRun c (e ∷ h) → (gone kept : List Packet) → reverse (packets h) ≡ gone ++ kept → AreClosed c h gone
+        → AreClosed c (e ∷ h) gone }
+    ensures last { (e : Event) (h : List Event) (gone kept : List Packet) → reverse (packets h) ≡ gone ++ kept
+        → reverse (packets (e ∷ h)) ≡ gone ++ (kept ++ packet_of (length h) e) }
+{}
+
+/// Where a front of packets is neither open nor owed and the first behind it is, as many packets of a
+/// history are of use as stand behind the front.
+pub fn kept_are_counted()
+    ensures { (c : Settings) (h : List Event) (gone kept : List Packet) → reverse (packets h) ≡ gone ++ kept → AreDropped c h gone → BeginsKept c h kept
+        → kept_count c h ≡ length kept }
 {}
 
 /// In a run one more event covers a packet that it acknowledges, makes one owed that it finds lost,
@@ -100,9 +139,50 @@ pub fn fates_after_an_event()
 {}
 
 /// The bytes in flight are those of the three spaces, and some packet of a space awaits an
-/// acknowledgment exactly where their count is not 0.
+/// acknowledgment exactly where their count is not 0. Of a space that was discarded nothing is left.
 pub fn sums_by_space()
     ensures bytes { (c : Settings) (h : List Event)
         → bytes_in_flight c h ≡ open_sum (bytes_of spaces.Initial) c h + open_sum (bytes_of spaces.Handshake) c h + open_sum (bytes_of spaces.App) c h }
     ensures awaits { (c : Settings) (h : List Event) (s : Space) → list_any (awaits_acknowledgment c h) (packets_of h s) ≡ nat_lt 0 (open_sum (asks_of s) c h) }
+    ensures gone { (s : Space) (weight : Packet → ℕ) (c : Settings) (h : List Event) → is_gone h s ≡ true → open_sum (within_space s weight) c h ≡ 0 }
+{}
+
+/// What a detection finds is of its space and in flight, and what an acknowledgment newly acknowledges
+/// is of its space. Of packets of one space the bytes are those of that space, and no other has any.
+pub fn closed_are_of_one_space()
+    ensures owed { (c : Settings) (h : List Event) (s : Space) (now : ℕ) → detection h ≡ Some (s, now) → AreOf s (owed c h) }
+    ensures sizes { (c : Settings) (h : List Event) → sum_by bytes (owed c h) ≡ sum_by (λ p. p.size) (owed c h) }
+    ensures newly { (h : List Event) (time : ℕ) (space : Space) (ranges : List (ℕ × ℕ)) (delay : ℕ) (limited : Bool)
+        → AreOf space (newly_acknowledged (events.Ack time space ranges delay limited ∷ h)) }
+    ensures within { (s : Space) (ps : List Packet) → AreOf s ps → sum_by (bytes_of s) ps ≡ sum_by bytes ps }
+    ensures others { (s t : Space) (ps : List Packet) → is_space s t ≡ false → AreOf t ps → sum_by (bytes_of s) ps ≡ 0 }
+{}
+
+/// In a run an acknowledgment takes off the bytes in flight what it newly acknowledges and what it finds
+/// lost, a timer what it finds lost, and a discard what was open in its space (RFC 9002, B.5, B.6 and
+/// B.9). Any other event adds the packet that it sends, where it sends one (B.4).
+pub fn bytes_after_an_event()
+    ensures ack { (c : Settings) (h : List Event) (time : ℕ) (space : Space) (ranges : List (ℕ × ℕ)) (delay : ℕ) (limited : Bool)
+        → IsRun c (events.Ack time space ranges delay limited ∷ h)
+        → bytes_in_flight c (events.Ack time space ranges delay limited ∷ h)
+        + (sum_by bytes (newly_acknowledged (events.Ack time space ranges delay limited ∷ h)) + sum_by bytes (owed c (events.Ack time space ranges delay limited ∷ h)))
+        ≡ bytes_in_flight c h }
+    ensures timer { (c : Settings) (h : List Event) (time : ℕ) (kind : Kind) (space : Space) → IsRun c (events.Timer time kind space ∷ h)
+        → bytes_in_flight c (events.Timer time kind space ∷ h) + sum_by bytes (owed c (events.Timer time kind space ∷ h)) ≡ bytes_in_flight c h }
+    ensures discard { (c : Settings) (h : List Event) (time : ℕ) (space : Space) → IsRun c (events.Discard time space ∷ h)
+        → bytes_in_flight c (events.Discard time space ∷ h) + sum_by bytes (discarded c (events.Discard time space) h) ≡ bytes_in_flight c h }
+    ensures quiet { (c : Settings) (e : Event) (h : List Event) → IsRun c (e ∷ h) → is_quiet e ≡ true
+        → bytes_in_flight c (e ∷ h) ≡ bytes_in_flight c h + sum_by bytes (packet_of (length h) e) }
+{}
+
+/// In a run the latest packet decides: the packet with the largest number of an acknowledgment, where it
+/// is newly acknowledged, is the latest of those that are (RFC 9002, section 5.1); a number is at most
+/// that of some packet of a space exactly where it is at most that of the latest; and the last sending
+/// time of what is owed is that of the latest.
+pub fn latest_packets_decide()
+    ensures sampled { (c : Settings) (h : List Event) → IsRun c h → (time : ℕ) (space : Space) (ranges : List (ℕ × ℕ)) (delay : ℕ) (limited : Bool)
+        → find (λ p. p.number == greatest ranges) (newly_acknowledged (events.Ack time space ranges delay limited ∷ h))
+        ≡ first_if_numbered (greatest ranges) (newly_acknowledged (events.Ack time space ranges delay limited ∷ h)) }
+    ensures number { (c : Settings) (h : List Event) → IsRun c h → (s : Space) (n : ℕ) → has_at_or_above s n h ≡ is_first_at_or_above n (packets_of h s) }
+    ensures owed { (c : Settings) (h : List Event) → IsRun c h → latest_sent (owed c h) ≡ time_of_first (owed c h) }
 {}

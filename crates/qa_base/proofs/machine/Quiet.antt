@@ -21,7 +21,7 @@ use Rattle.qa_base.specs.machine.Timer.{is_pto, resets_count, backoff}
 
 -- ---- quiet events
 
-none_passes : (ps : List Packet) → filter (λ p. false) ps ≡ []
+pub none_passes : (ps : List Packet) → filter (λ p. false) ps ≡ []
 none_passes [] = refl
 none_passes (p ∷ ps) = none_passes ps
 

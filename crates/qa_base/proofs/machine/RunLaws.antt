@@ -9,6 +9,7 @@ use Rattle.qa_base.specs.declared.rule.Rule.{Rule}
 use Rattle.qa_base.specs.machine.Order.{IsLower, NumbersFall}
 use Rattle.qa_base.specs.machine.Packets.{Packet, packets, is_of, newly_acknowledged, is_newly_acknowledged}
 use Rattle.qa_base.specs.machine.Rules.{broken, first_of, first_broken, IsRun}
+use Rattle.qa_base.specs.machine.Breaches.{is_time_back, is_loss_owed, is_loss_not_owed, is_other_loss_set, is_space_gone, is_number_not_higher, is_past_window, is_past_probe, is_past_recovery, is_ack_unsent, is_timer_not_set, is_timer_other, is_timer_early, is_probe_owed, is_not_confirmed}
 use Rattle.qa_base.specs.machine.Loss.{is_old}
 use Rattle.qa_base.specs.machine.Rtt.{Estimate}
 use Rattle.qa_base.specs.machine.Timer.{loss_delay}
@@ -30,10 +31,46 @@ rules_hold [] h = tt
 rules_hold (test ∷ tests) h =
     let both = rule_holds test.0 test.1 (first_of tests) h in (both.0, rules_hold tests both.1)
 
+-- an event breaks no rule after a history: each field is named for its rule, and says that what it forbids is not so
+pub record KeepsRules (c : Settings) (h : List Event) (e : Event) : Type 0 where
+  pub time_back : is_time_back h e ≡ false
+  pub loss_owed : is_loss_owed c h e ≡ false
+  pub loss_not_owed : is_loss_not_owed c h e ≡ false
+  pub loss_set : is_other_loss_set c h e ≡ false
+  pub space_gone : is_space_gone h e ≡ false
+  pub number_not_higher : is_number_not_higher h e ≡ false
+  pub past_window : is_past_window c h e ≡ false
+  pub past_probe : is_past_probe c h e ≡ false
+  pub past_recovery : is_past_recovery c h e ≡ false
+  pub ack_unsent : is_ack_unsent h e ≡ false
+  pub timer_not_set : is_timer_not_set c h e ≡ false
+  pub timer_other : is_timer_other c h e ≡ false
+  pub timer_early : is_timer_early c h e ≡ false
+  pub probe_owed : is_probe_owed h e ≡ false
+  pub not_confirmed : is_not_confirmed h e ≡ false
+
 -- each rule holds of an event that is allowed
-pub all_hold : (c : Settings) (h : List Event) (e : Event) → first_broken c h e ≡ None → AllByRecursion (λ test. test.0 ≡ false) (broken c h e)
+pub all_hold : (c : Settings) (h : List Event) (e : Event) → first_broken c h e ≡ None → KeepsRules c h e
 unfolding first_broken
-all_hold c h e allowed = rules_hold (broken c h e) allowed
+all_hold c h e allowed =
+    let holds = rules_hold (broken c h e) allowed in
+    record {
+      time_back = holds.0;
+      loss_owed = holds.1.0;
+      loss_not_owed = holds.1.1.0;
+      loss_set = holds.1.1.1.0;
+      space_gone = holds.1.1.1.1.0;
+      number_not_higher = holds.1.1.1.1.1.0;
+      past_window = holds.1.1.1.1.1.1.0;
+      past_probe = holds.1.1.1.1.1.1.1.0;
+      past_recovery = holds.1.1.1.1.1.1.1.1.0;
+      ack_unsent = holds.1.1.1.1.1.1.1.1.1.0;
+      timer_not_set = holds.1.1.1.1.1.1.1.1.1.1.0;
+      timer_other = holds.1.1.1.1.1.1.1.1.1.1.1.0;
+      timer_early = holds.1.1.1.1.1.1.1.1.1.1.1.1.0;
+      probe_owed = holds.1.1.1.1.1.1.1.1.1.1.1.1.1.0;
+      not_confirmed = holds.1.1.1.1.1.1.1.1.1.1.1.1.1.1.0;
+    }
 
 -- ---- numbers rise as packets are sent
 
@@ -70,7 +107,7 @@ event_falls c (Sent time space number size eliciting in_flight leave) h allowed 
       in_flight = in_flight;
       leave = leave;
     } in
-    (all_lower p (packets h) holds.1.1.1.1.1.0, falls)
+    (all_lower p (packets h) holds.number_not_higher, falls)
 event_falls c _ h allowed falls = falls
 
 -- in a run each packet has a higher number than those sent before it in its space

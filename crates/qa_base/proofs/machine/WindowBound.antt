@@ -1,8 +1,8 @@
 -- The window of a history is never below two datagrams, and never above where it began and the most that each covered packet adds.
-use Rattle.std.proofs.Common.{◌≡◌, ◌∙◌, ◌≤◌, ◌<◌, ◌+◌, ◌*◌, ◌/◌, ◌^◌, ℕ, zero, suc, max, cond, List, [], ◌∷◌, ◌++◌, length, Bool, true, false, ◌&&◌, ◌||◌, not, Option, Some, None, unwrap_or, refl, ap, sym, arith, map, reverse, filter, fold, sum_by, count_by, take}
+use Rattle.std.proofs.Common.{◌≡◌, ◌∙◌, ◌≤◌, ◌<◌, ◌+◌, ◌*◌, ◌/◌, ◌^◌, ℕ, zero, suc, max, cond, List, [], ◌∷◌, ◌++◌, length, Bool, true, false, ◌&&◌, ◌||◌, not, Some, refl, ap, arith, map, reverse, filter, fold, sum_by, count_by, take}
 use Rattle.std.proofs.lemmas.List.{map-append, reverse-append}
-use Rattle.std.proofs.lemmas.List.Sums.{fold-append, sum_by-cons, sum_by-append, length-filter, count_by-le-length}
-use Rattle.std.proofs.lemmas.List.Elements.{All-from_recursion, recursion_from_All, All-take}
+use Rattle.std.proofs.lemmas.List.Sums.{sum_by-cons, sum_by-append, length-filter, count_by-le-length}
+use Rattle.std.proofs.lemmas.List.Elements.{recursion_from_All, All-take}
 use Rattle.std.proofs.lemmas.Bool.{and_parts, leb-true}
 use Rattle.std.proofs.Math.Nat.{div-le_of_le-mul, mul-le-mul_right}
 use Rattle.std.specs.List.{AllByRecursion, All}
@@ -10,13 +10,39 @@ use Rattle.std.specs.Prelude.{if◌then◌else◌, nat_lt, nat_le}
 use Rattle.qa_base.specs.declared.event.Event.{Event}
 use Rattle.qa_base.specs.declared.event.Event.TheVariants.{Sent}
 use Rattle.qa_base.specs.machine.Packets.{Packet, packets, packet_of, is_covered, is_lost, is_newly_acknowledged, newly_acknowledged, history_of}
-use Rattle.qa_base.specs.values.Events.{acknowledges, fits, time_of}
+use Rattle.qa_base.specs.values.Events.{acknowledges, time_of}
 use Rattle.qa_base.specs.machine.Loss.{owed, is_persistent, bytes_in_flight, flight_size, is_open}
-use Rattle.qa_base.specs.machine.Reno.{Move, Hit, Collapse, Grow, Control, start, moved, moves, moves_of_last, reno, hits, collapses, grows, is_limited, is_slow_start, is_outside_recovery, growth, hit, grow, collapse}
+use Rattle.qa_base.specs.machine.Reno.{Move, Hit, Collapse, Grow, Control, start, moved, moves, moves_of_last, reno, hits, collapses, grows, is_limited, is_slow_start, is_outside_recovery, growth}
 use Rattle.qa_base.specs.values.Settings.{Settings, AreInRange}
 use Rattle.qa_base.specs.machine.Widths.{Fits, covered_count}
 use Rattle.qa_base.proofs.machine.Histories.{length-history_of}
 use Rattle.qa_base.proofs.machine.Steps.{reno_after}
+
+-- ---- two datagrams at least
+
+hit_at_least : (d last_sent now : ℕ) (r : Control) (here : Bool) → 2 * d ≤ r.window
+    → 2 * d ≤ (if here then record { window = max (r.window / 2) (2 * d); ssthresh = Some (r.window / 2); recovery_start_time = Some now } else r).window
+hit_at_least d last_sent now r true least = omega arith
+hit_at_least d last_sent now r false least = least
+
+pub grow_at_least : (d size : ℕ) (r : Control) (here : Bool) → r.window
+    ≤ (if here then record { window = r.window + growth d size r; ssthresh = r.ssthresh; recovery_start_time = r.recovery_start_time } else r).window
+grow_at_least d size r true = omega arith
+grow_at_least d size r false = omega arith
+
+moved_at_least : (d : ℕ) (r : Control) (m : Move) → 2 * d ≤ r.window → 2 * d ≤ (moved d r m).window
+moved_at_least d r (Hit last_sent now) least = hit_at_least d last_sent now r (is_outside_recovery r.recovery_start_time last_sent) least
+moved_at_least d r Collapse least = omega arith
+moved_at_least d r (Grow size sent) least =
+    let more = grow_at_least d size r (is_outside_recovery r.recovery_start_time sent) in omega (arith, least, more)
+
+all_at_least : (d : ℕ) (r : Control) (ms : List Move) → 2 * d ≤ r.window → 2 * d ≤ (fold (moved d) r ms).window
+all_at_least d r [] least = least
+all_at_least d r (m ∷ ms) least = all_at_least d (moved d r m) ms (moved_at_least d r m least)
+
+-- the window is never less than two datagrams
+pub window_low : (c : Settings) (h : List Event) → AreInRange c → 2 * c.max_datagram_size ≤ (reno c h).window
+window_low c h range = all_at_least c.max_datagram_size (start c.initial_window) (moves c h) range.window_low
 
 -- ---- one move
 
@@ -81,7 +107,7 @@ grown_little d r size sent some low =
 abbrev IsSized : Packet → Type 0
 IsSized p = p.size ≤ 65527
 
-each_append : {X : Type 0} (P : X → Type 0) (xs ys : List X) → AllByRecursion P xs → AllByRecursion P ys → AllByRecursion P (xs ++ ys)
+pub each_append : {X : Type 0} (P : X → Type 0) (xs ys : List X) → AllByRecursion P xs → AllByRecursion P ys → AllByRecursion P (xs ++ ys)
 each_append P [] ys a b = b
 each_append P (x ∷ xs) ys a b = (a.0, each_append P xs ys a.1 b)
 
@@ -89,7 +115,7 @@ each_if : (P : Packet → Type 0) (p : Packet) (ps : List Packet) (keep : Bool) 
 each_if P p ps true here rest = (here, rest)
 each_if P p ps false here rest = rest
 
-each_of_part : (P : Packet → Type 0) (kept : Packet → Bool) (ps : List Packet) → AllByRecursion P ps → AllByRecursion P (filter kept ps)
+pub each_of_part : (P : Packet → Type 0) (kept : Packet → Bool) (ps : List Packet) → AllByRecursion P ps → AllByRecursion P (filter kept ps)
 each_of_part P kept [] all = tt
 each_of_part P kept (p ∷ ps) all = each_if P p (filter kept ps) (kept p) all.0 (each_of_part P kept ps all.1)
 
@@ -180,7 +206,7 @@ placed_one : (e : Event) (n : ℕ) → AllByRecursion (λ (p : Packet). p.place 
 placed_one (Sent time space number size eliciting in_flight leave) n = ((omega arith), tt)
 placed_one _ n = tt
 
-placed : (h : List Event) → AllByRecursion (λ (p : Packet). p.place < length h) (packets h)
+pub placed : (h : List Event) → AllByRecursion (λ (p : Packet). p.place < length h) (packets h)
 placed [] = tt
 placed (e ∷ h) = each_append (λ (p : Packet). p.place < suc (length h)) (packet_of (length h) e) (packets h) (placed_one e (length h)) (behind_more (length h) (packets h) (placed h))
 
@@ -220,10 +246,7 @@ between c (e ∷ h) range fit =
     let high = here.high in
     record { low = here.low; high = omega (arith, high, heavy, new, more, onto) }
 
--- the window is from two datagrams to where it began and a packet's greatest size for each that was acknowledged
-pub window_low : (c : Settings) (h : List Event) → AreInRange c → AllByRecursion Fits h → 2 * c.max_datagram_size ≤ (reno c h).window
-window_low c h range fit = (between c h range fit).low
-
+-- it is at most where it began and a packet's greatest size for each that was acknowledged
 pub window_high : (c : Settings) (h : List Event) → AreInRange c → AllByRecursion Fits h → (reno c h).window ≤ c.initial_window + 65527 * covered_count h
 window_high c h range fit = (between c h range fit).high
 

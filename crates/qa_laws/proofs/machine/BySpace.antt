@@ -16,10 +16,12 @@ use Rattle.qa_base.specs.values.Settings.{Settings}
 use Rattle.qa_laws.specs.machine.Sums.{counted, open_sum, bytes, bytes_of, asks_of}
 use Rattle.qa_base.specs.machine.Timer.{awaits_acknowledgment}
 use Rattle.qa_laws.proofs.machine.Closing.{bytes_in_flight_is}
-use Rattle.qa_laws.proofs.machine.Courses.{AreOf, is_space_is, is_space_same}
+use Rattle.qa_laws.proofs.machine.Courses.{is_space_is, is_space_same}
 use Rattle.qa_laws.proofs.machine.Pairs.{of_each, each_weaker, part_is}
 use Rattle.qa_base.proofs.machine.Quiet.{same_sum}
 use Rattle.qa_laws.proofs.machine.Settled.{opens_is, owed_is}
+use Rattle.qa_laws.specs.machine.Parts.{AreOf}
+use Rattle.qa_laws.specs.machine.Sums.{within_space}
 
 -- ---- is there a probe timeout
 
@@ -80,10 +82,6 @@ bytes_by_space c h =
     (λ p. by_space p.space (is_open c h p) (bytes p))
 
 -- ---- a space that is gone
-
--- a weight that packets of one space alone have
-abbrev pub within_space : Space → (Packet → ℕ) → Packet → ℕ
-within_space s weight p = if is_of s p then weight p else 0
 
 sum_of_none : (f : Packet → ℕ) (ps : List Packet) → AllByRecursion (λ p. f p ≡ 0) ps → sum_by f ps ≡ 0
 sum_of_none f [] none = refl

@@ -1,5 +1,5 @@
 -- What each kind of event makes of the bytes in flight.
-use Rattle.std.proofs.Common.{◌≡◌, ◌+◌, ℕ, List, [], ◌∷◌, length, Bool, true, false, refl, ap, arith, sum_by, filter}
+use Rattle.std.proofs.Common.{◌≡◌, ◌+◌, ℕ, List, [], ◌∷◌, length, Bool, true, false, ap, arith, sum_by, filter}
 use Rattle.qa_base.specs.declared.event.Event.{Event}
 use Rattle.qa_base.specs.declared.event.Event.TheVariants.{Ack, Timer, Discard}
 use Rattle.qa_base.specs.declared.space.Kind.{Kind}
@@ -11,14 +11,10 @@ use Rattle.qa_base.specs.machine.Rules.{IsRun}
 use Rattle.qa_base.specs.values.Settings.{Settings}
 use Rattle.qa_laws.specs.machine.Sums.{discarded, bytes}
 use Rattle.qa_laws.proofs.machine.Closing.{bytes_in_flight_is, open_sum_after}
-use Rattle.qa_laws.proofs.machine.Pairs.{none_left, of_each}
-use Rattle.qa_base.proofs.machine.Quiet.{newly-quiet, owed-quiet}
-
-no_packets : (ps : List Packet) → filter (λ p. false) ps ≡ []
-no_packets ps = none_left (λ p. false) ps (of_each (λ p. false ≡ false) ps (λ p has. refl))
+use Rattle.qa_base.proofs.machine.Quiet.{none_passes, newly-quiet, owed-quiet}
 
 pub none_weigh : (weight : Packet → ℕ) (ps : List Packet) → sum_by weight (filter (λ p. false) ps) ≡ 0
-none_weigh weight ps = ap (sum_by weight) (no_packets ps)
+none_weigh weight ps = ap (sum_by weight) (none_passes ps)
 
 -- an acknowledgment takes off what it newly acknowledges and what it finds lost
 pub bytes-ack : (c : Settings) (h : List Event) (time : ℕ) (space : Space) (ranges : List (ℕ × ℕ)) (delay : ℕ) (limited : Bool) → IsRun c (Ack time space ranges delay limited ∷ h)
@@ -59,7 +55,7 @@ discarded-quiet : (c : Settings) (e : Event) (h : List Event) → is_quiet e ≡
 discarded-quiet c (Ack time space ranges delay limited) h quiet = cc
 discarded-quiet c (Timer time kind space) h quiet = cc
 discarded-quiet c (Discard time space) h quiet = cc
-discarded-quiet c _ h quiet = no_packets (packets h)
+discarded-quiet c _ h quiet = none_passes (packets h)
 
 -- a quiet event adds the packet that it sends, where it sends one
 pub bytes-quiet : (c : Settings) (e : Event) (h : List Event) → IsRun c (e ∷ h) → is_quiet e ≡ true → bytes_in_flight c (e ∷ h) ≡ bytes_in_flight c h + sum_by bytes (packet_of (length h) e)

@@ -16,7 +16,8 @@ use Rattle.qa_base.specs.machine.Rtt.{rtt}
 use Rattle.qa_base.specs.machine.Loss.{is_late}
 use Rattle.qa_base.specs.machine.Rules.{IsRun}
 use Rattle.qa_base.specs.values.Settings.{Settings}
-use Rattle.qa_laws.proofs.machine.Courses.{are_below, is_space_same, is_space_is, same_number}
+use Rattle.qa_laws.proofs.machine.Courses.{is_space_same, is_space_is, same_number}
+use Rattle.qa_base.proofs.machine.WindowBound.{placed}
 use Rattle.qa_laws.proofs.machine.Detection.{asked_was_flying}
 use Rattle.qa_laws.proofs.machine.Pairs.{at_one, has_first, has_later}
 use Rattle.qa_base.proofs.machine.Ranges.{has_all_names}
@@ -31,7 +32,7 @@ followed test e h p true is below = rw (is, below) refl
 followed test e h p false is below = rw is refl
 
 within : (h : List Event) (p : Packet) → Contains (packets h) p → nat_lt p.place (length h) ≡ true
-within h p has = lt-ltb p.place (length h) (at_one (λ q. q.place < length h) (packets h) p (are_below h) has)
+within h p has = lt-ltb p.place (length h) (at_one (λ q. q.place < length h) (packets h) p (placed h) has)
 
 -- it is covered where the event acknowledges its number, or it was before
 pub covered_after : (e : Event) (h : List Event) (p : Packet) → Contains (packets h) p → is_covered (e ∷ h) p ≡ (acknowledges p.space p.number e || is_covered h p)
@@ -97,7 +98,7 @@ pub lost_is_owed : (c : Settings) (e : Event) (h : List Event) → IsRun c (e �
 lost_is_owed c (Lost time space ranges) h run p has =
     lost_after (Lost time space ranges) h p has ∙ or_same (declares_lost p.space p.number (Lost time space ranges)) (is_owed c h p) (is_lost h p) (names_owed c h time space ranges run p has)
 lost_is_owed c e h run p has =
-    lost_after e h p has ∙ or_same (declares_lost p.space p.number e) (is_owed c h p) (is_lost h p) (sym (not_owed_now c e h p has (all_hold c h e run.1).1.0))
+    lost_after e h p has ∙ or_same (declares_lost p.space p.number e) (is_owed c h p) (is_lost h p) (sym (not_owed_now c e h p has (all_hold c h e run.1).loss_owed))
 
 found_was_flying : (c : Settings) (e : Event) (h : List Event) → IsRun c (e ∷ h) → (p : Packet) → Contains (packets h) p
     → (d : Option (Space × ℕ)) → detection (e ∷ h) ≡ d → is_found_at c (e ∷ h) p d ≡ true → is_flying c h p ≡ true
@@ -120,8 +121,8 @@ newly_was_open c (Ack time space ranges delay limited) h run p has is =
     let of_space = (and_parts (is_space p.space space) (is_named ranges p.number) more.0).0 in
     opens_from c h p (record {
       unsettled = and_from (not (is_covered h p)) (not (is_lost h p)) more.1 parts.1;
-      free = false_from_ne_true (is_owed c h p) (λ owed_then. both_ways (is_some_packet (owed c h)) holds.1.0 (has_some (owed c h) p (owed_has c h p has owed_then)));
-      there = rw (is_space_is p.space space of_space) holds.1.1.1.1.0;
+      free = false_from_ne_true (is_owed c h p) (λ owed_then. both_ways (is_some_packet (owed c h)) holds.loss_owed (has_some (owed c h) p (owed_has c h p has owed_then)));
+      there = rw (is_space_is p.space space of_space) holds.space_gone;
     })
 newly_was_open c _ h run p has is = cc
 

@@ -13,7 +13,7 @@ use Rattle.qa_base.specs.machine.Loss.{is_found, is_found_at, found_at, detectio
 use Rattle.qa_base.specs.machine.Packets.{Packet, packets, packet_of, is_of, is_covered, is_lost, is_gone, is_newly_acknowledged, newly_acknowledged}
 use Rattle.qa_base.specs.machine.Rules.{IsRun}
 use Rattle.qa_base.specs.values.Settings.{Settings}
-use Rattle.qa_laws.specs.machine.Sums.{counted, open_sum, is_closed_by, is_discarded_by, closed_by, discarded, bytes}
+use Rattle.qa_laws.specs.machine.Sums.{counted, open_sum, is_discarded_by, discarded, bytes}
 use Rattle.qa_laws.proofs.machine.Pairs.{of_each, same_part, part_of_part, none_left}
 use Rattle.qa_base.proofs.machine.Quiet.{same_sum, not_followed}
 use Rattle.qa_base.proofs.machine.RunLaws.{all_hold}
@@ -22,12 +22,19 @@ use Rattle.qa_laws.proofs.machine.Changes.{covered_after, lost_after, open_not_n
 
 -- ---- which packets an event closes
 
-by_tests : (ack dec found disc cov los gon cov' los' : Bool) → cov' ≡ (ack || cov) → los' ≡ (dec || los) → cov ≡ false → los ≡ false → gon ≡ false → dec ≡ false
-    → not (not cov' && not los' && not found && not (disc || gon)) ≡ ((ack && not cov && not los) || found || (disc && true))
-by_tests true dec found disc cov los gon cov' los' covered lost is_cov is_los is_gon is_dec = rw (covered, is_cov, is_los) refl
-by_tests false dec true disc cov los gon cov' los' covered lost is_cov is_los is_gon is_dec = rw (covered, lost, is_cov, is_los, is_dec) refl
-by_tests false dec false true cov los gon cov' los' covered lost is_cov is_los is_gon is_dec = rw (covered, lost, is_cov, is_los, is_dec) refl
-by_tests false dec false false cov los gon cov' los' covered lost is_cov is_los is_gon is_dec = rw (covered, lost, is_cov, is_los, is_gon, is_dec) refl
+-- the packet was open before the event, and the event closes it
+abbrev pub is_closed_by : Settings → Event → List Event → Packet → Bool
+is_closed_by c e before p = is_open c before p && not (is_open c (e ∷ before) p)
+
+abbrev closed_by : Settings → Event → List Event → List Packet
+closed_by c e before = filter (is_closed_by c e before) (packets before)
+
+by_tests : (names declares found discards_it was_covered was_lost was_gone covered_now lost_now : Bool) → covered_now ≡ (names || was_covered) → lost_now ≡ (declares || was_lost) → was_covered ≡ false → was_lost ≡ false → was_gone ≡ false → declares ≡ false
+    → not (not covered_now && not lost_now && not found && not (discards_it || was_gone)) ≡ ((names && not was_covered && not was_lost) || found || (discards_it && true))
+by_tests true declares found discards_it was_covered was_lost was_gone covered_now lost_now covered_is lost_is not_covered not_lost not_gone not_declared = rw (covered_is, not_covered, not_lost) refl
+by_tests false declares true discards_it was_covered was_lost was_gone covered_now lost_now covered_is lost_is not_covered not_lost not_gone not_declared = rw (covered_is, lost_is, not_covered, not_lost, not_declared) refl
+by_tests false declares false true was_covered was_lost was_gone covered_now lost_now covered_is lost_is not_covered not_lost not_gone not_declared = rw (covered_is, lost_is, not_covered, not_lost, not_declared) refl
+by_tests false declares false false was_covered was_lost was_gone covered_now lost_now covered_is lost_is not_covered not_lost not_gone not_declared = rw (covered_is, lost_is, not_covered, not_lost, not_gone, not_declared) refl
 
 closes_if : (c : Settings) (e : Event) (h : List Event) → IsRun c (e ∷ h) → (p : Packet) → Contains (packets h) p → (was : Bool) → is_open c h p ≡ was
     → (was && not (is_open c (e ∷ h) p)) ≡ (is_newly_acknowledged e h p || is_owed c (e ∷ h) p || (discards p.space e && was))
@@ -157,7 +164,7 @@ sum_after weight c (Sent time space number size eliciting in_flight leave) h run
       leave = leave;
     } in
     let holds = all_hold c h e run.1 in
-    let open_now : is_open c (e ∷ h) p ≡ true = sent_is_open c h time space number size eliciting in_flight leave p refl refl holds.1.1.1.1.0 in
+    let open_now : is_open c (e ∷ h) p ≡ true = sent_is_open c h time space number size eliciting in_flight leave p refl refl holds.space_gone in
     let here : counted (is_open c (e ∷ h)) weight p ≡ weight p = ap (λ b. if b then weight p else 0) open_now in
     let alone : sum_by weight (p ∷ []) ≡ weight p = sum_by-cons weight p [] ∙ add-zero (weight p) in
     sum_by-cons (counted (is_open c (e ∷ h)) weight) p (packets h)

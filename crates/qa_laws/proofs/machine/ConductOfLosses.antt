@@ -18,7 +18,8 @@ use Rattle.qa_base.specs.machine.Rules.{IsRun}
 use Rattle.qa_base.specs.values.Settings.{Settings}
 use Rattle.qa_base.specs.machine.Timer.{loss_delay}
 use Rattle.qa_laws.proofs.machine.Changes.{one_of_numbers}
-use Rattle.qa_laws.proofs.machine.Courses.{are_below, in_order, is_space_same, is_space_is}
+use Rattle.qa_laws.proofs.machine.Courses.{in_order, is_space_same, is_space_is}
+use Rattle.qa_base.proofs.machine.WindowBound.{placed}
 use Rattle.qa_laws.proofs.machine.Pairs.{at_one, has_later, part_is, two_of}
 use Rattle.qa_base.proofs.machine.Ranges.{has_all_names}
 use Rattle.qa_base.proofs.machine.RunLaws.{all_hold, old_is_after_loss_delay}
@@ -68,13 +69,13 @@ acknowledged_now : (c : Settings) (h : List Event) (time : ℕ) (space : Space) 
 acknowledged_now c h time space ranges delay limited run proper =
     let e = Ack time space ranges delay limited in
     let holds = all_hold c h e run.1 in
-    let all = not-false (has_all (numbers (packets_of h space)) ranges) holds.1.1.1.1.1.1.1.1.1.0 in
+    let all = not-false (has_all (numbers (packets_of h space)) ranges) holds.ack_unsent in
     let named = greatest_is_named ranges proper.fitting proper.numbers.0 in
     let one = one_of_numbers (packets_of h space) (greatest ranges) (has_all_names (numbers (packets_of h space)) ranges all (greatest ranges) named) in
     let q = one.0 in
     let found = part_is (is_of space) (packets h) q one.1 in
     let of_space : q.space ≡ space = sym (is_space_is space q.space found.1) in
-    let below : q.place < length h = at_one (λ p. p.place < length h) (packets h) q (are_below h) found.0 in
+    let below : q.place < length h = at_one (λ p. p.place < length h) (packets h) q (placed h) found.0 in
     let acks : acknowledges q.space q.number e ≡ true = and_from (is_space q.space space) (is_named ranges q.number) (rw of_space (is_space_same space)) (rw one.2 named) in (
       q,
       found.0,

@@ -1,6 +1,6 @@
 -- What a run sends stays within the window, or has its leave.
-use Rattle.std.proofs.Common.{◌≡◌, ◌∙◌, ◌+◌, ◌*◌, ◌<◌, ◌≤◌, ℕ, List, [], ◌∷◌, ◌++◌, Bool, true, false, cond, ◌&&◌, ◌||◌, not, Some, None, refl, sym, ap, arith, inl, inr, sum_by, count_by}
-use Rattle.std.proofs.lemmas.Bool.{both_ways, ltb-false}
+use Rattle.std.proofs.Common.{◌≡◌, ◌∙◌, ◌+◌, ◌*◌, ◌<◌, ◌≤◌, ℕ, List, [], ◌∷◌, ◌++◌, Bool, true, false, cond, ◌&&◌, ◌||◌, not, Some, None, refl, sym, ap, arith, sum_by, count_by}
+use Rattle.std.proofs.lemmas.Bool.{both_ways, ltb-false, or_parts}
 use Rattle.std.proofs.lemmas.List.Sums.{sum_by-cons}
 use Rattle.std.specs.List.{list_any}
 use Rattle.std.specs.Prelude.{if◌then◌else◌}
@@ -11,7 +11,7 @@ use Rattle.qa_base.specs.declared.space.Leave.{Leave}
 use Rattle.qa_base.specs.declared.space.Leave.TheVariants.{Window, Probe, Recovery}
 use Rattle.qa_base.specs.declared.space.Space.{Space}
 use Rattle.qa_base.specs.machine.Breaches.{is_over}
-use Rattle.qa_laws.specs.machine.Conduct.{is_pto_event, is_probe, probe_bytes, is_recovery, IsAmong, HasLeave}
+use Rattle.qa_laws.specs.machine.Conduct.{is_pto_event, is_probe, probe_bytes, is_recovery, HasMoment, IsAmong, HasLeave}
 use Rattle.qa_base.specs.machine.Leave.{probe_size, is_recovery_packet}
 use Rattle.qa_base.specs.machine.Loss.{owed, bytes_in_flight}
 use Rattle.qa_base.specs.machine.Moments.{moments, since}
@@ -37,8 +37,8 @@ pub within_window : (c : Settings) (h : List Event) (time : ℕ) (space : Space)
 within_window c h time space number size eliciting run =
     let e = Sent time space number size eliciting true Window in
     let holds = all_hold c h e run.1 in
-    let none = no_packet (owed c h) holds.1.0 in
-    let le = ltb-false (reno c h).window (bytes_in_flight c h + size) holds.1.1.1.1.1.1.0 in
+    let none = no_packet (owed c h) holds.loss_owed in
+    let le = ltb-false (reno c h).window (bytes_in_flight c h + size) holds.past_window in
     let bytes = bytes_in_flight-sent c h time space number size eliciting true Window none in
     let same : (reno c (e ∷ h)).window ≡ (reno c h).window = rw (moves-quiet c e h refl) refl in
     let within = fits_window (is_gone h space) (bytes_in_flight c h) size (reno c h).window le in
@@ -103,9 +103,17 @@ no_pto (e ∷ events) h none = rw (sym (pto_is e (events ++ h)) ∙ none.0) (no_
 probe_leave : (c : Settings) (h : List Event) (time : ℕ) (space : Space) (number size : ℕ) (eliciting : Bool) → IsRun c (Sent time space number size eliciting true Probe ∷ h) → HasLeave c h size Probe
 probe_leave c h time space number size eliciting run =
     let holds = all_hold c h (Sent time space number size eliciting true Probe) run.1 in
-    let spent = over_not (2 * c.max_datagram_size) size (list_any is_pto (moments h)) (sum_by probe_size (since is_pto h)) holds.1.1.1.1.1.1.1.0 in
+    let spent = over_not (2 * c.max_datagram_size) size (list_any is_pto (moments h)) (sum_by probe_size (since is_pto h)) holds.past_probe in
     let found = since_last is_pto probe_size probe_bytes probe_is h spent.0 in
-    inl (refl, found.0, found.1, found.2, found.3, sym (pto_is found.1 found.2) ∙ found.4, no_pto found.0 (found.1 ∷ found.2) found.5, rw (← found.6) spent.1)
+    record {
+      since = found.0;
+      timeout = found.1;
+      before = found.2;
+      stands = found.3;
+      times_out = sym (pto_is found.1 found.2) ∙ found.4;
+      last = no_pto found.0 (found.1 ∷ found.2) found.5;
+      within = rw (← found.6) spent.1;
+    }
 
 -- ---- recovery
 
@@ -130,15 +138,22 @@ none_counted (e ∷ events) none = none_if e events (is_recovery e) refl (sym (s
 recovery_leave : (c : Settings) (h : List Event) (time : ℕ) (space : Space) (number size : ℕ) (eliciting : Bool) → IsRun c (Sent time space number size eliciting true Recovery ∷ h) → HasLeave c h size Recovery
 recovery_leave c h time space number size eliciting run =
     let holds = all_hold c h (Sent time space number size eliciting true Recovery) run.1 in
-    let spent = over_not 1 1 (list_any (is_entry c) (moments h)) (count_by is_recovery_packet (since (is_entry c) h)) holds.1.1.1.1.1.1.1.1.0 in
+    let spent = over_not 1 1 (list_any (is_entry c) (moments h)) (count_by is_recovery_packet (since (is_entry c) h)) holds.past_recovery in
     let found = since_last (is_entry c) (λ m. cond (is_recovery_packet m) 1 0) (λ e. cond (is_recovery e) 1 0) counted_is h spent.0 in
-    inr (refl, found.0, found.1, found.2, found.3, found.4, none_counted found.0 (omega (arith, spent.1, found.6)))
+    record {
+      since = found.0;
+      entry = found.1;
+      before = found.2;
+      stands = found.3;
+      enters = found.4;
+      unused = none_counted found.0 (omega (arith, spent.1, found.6));
+    }
 
 -- in a run an in-flight packet that takes the bytes in flight past the window has its leave
 pub past_window_by_leave : (c : Settings) (h : List Event) (time : ℕ) (space : Space) (number size : ℕ) (eliciting : Bool) (leave : Leave)
     → IsRun c (Sent time space number size eliciting true leave ∷ h) → (reno c h).window < bytes_in_flight c h + size → HasLeave c h size leave
 past_window_by_leave c h time space number size eliciting Window run past =
-    let le = ltb-false (reno c h).window (bytes_in_flight c h + size) (all_hold c h (Sent time space number size eliciting true Window) run.1).1.1.1.1.1.1.0 in
+    let le = ltb-false (reno c h).window (bytes_in_flight c h + size) (all_hold c h (Sent time space number size eliciting true Window) run.1).past_window in
     absurd (omega (arith, past, le))
 past_window_by_leave c h time space number size eliciting Probe run past = probe_leave c h time space number size eliciting run
 past_window_by_leave c h time space number size eliciting Recovery run past = recovery_leave c h time space number size eliciting run
@@ -149,7 +164,7 @@ probe_step : (c : Settings) (e : Event) (h : List Event) (n : ℕ) → IsRun c (
     → probe_size (e ∷ h) + sum_by probe_size (since is_pto h) ≤ 2 * c.max_datagram_size
 probe_step c (Sent time space number size eliciting true Probe) h n run before =
     let holds = all_hold c h (Sent time space number size eliciting true Probe) run.1 in
-    let spent = over_not (2 * c.max_datagram_size) size (list_any is_pto (moments h)) (sum_by probe_size (since is_pto h)) holds.1.1.1.1.1.1.1.0 in
+    let spent = over_not (2 * c.max_datagram_size) size (list_any is_pto (moments h)) (sum_by probe_size (since is_pto h)) holds.past_probe in
     omega (arith, spent.1)
 probe_step c (Sent time space number size eliciting false Probe) h n run before = omega (arith, before)
 probe_step c (Sent time space number size eliciting in_flight Window) h n run before = omega (arith, before)
@@ -166,14 +181,10 @@ probes_spent c (e ∷ h) run =
     rw (sum_since is_pto probe_size e h)
     (unless_pto (is_pto (e ∷ h)) (probe_size (e ∷ h) + sum_by probe_size (since is_pto h)) (2 * c.max_datagram_size) (probe_step c e h 0 run (probes_spent c h run.0)))
 
-either_false : (a b : Bool) → (a || b) ≡ false → (a ≡ false) × (b ≡ false)
-either_false true b is = cc
-either_false false b is = (refl, is)
-
 part_of_spent : (events h : List Event) → list_any is_pto_event events ≡ false → sum_by probe_bytes events ≤ sum_by probe_size (since is_pto (events ++ h))
 part_of_spent [] h none = omega arith
 part_of_spent (e ∷ events) h none =
-    let both = either_false (is_pto_event e) (list_any is_pto_event events) none in
+    let both = or_parts (is_pto_event e) (list_any is_pto_event events) none in
     let rest = part_of_spent events h both.1 in
     let no : is_pto (e ∷ events ++ h) ≡ false = pto_is e (events ++ h) ∙ both.0 in
     let sum : sum_by probe_size (since is_pto (e ∷ events ++ h)) ≡ probe_size (e ∷ events ++ h) + sum_by probe_size (since is_pto (events ++ h)) =
@@ -192,13 +203,13 @@ probes_between c between h run none =
 never_pto : (h : List Event) → list_any is_pto_event h ≡ false → list_any is_pto (moments h) ≡ false
 never_pto [] none = refl
 never_pto (e ∷ h) none =
-    let both = either_false (is_pto_event e) (list_any is_pto_event h) none in
+    let both = or_parts (is_pto_event e) (list_any is_pto_event h) none in
     rw (pto_is e h ∙ both.0) (never_pto h both.1)
 
 not_a_probe : (c : Settings) (e : Event) (h : List Event) → IsRun c (e ∷ h) → list_any is_pto (moments h) ≡ false → is_probe e ≡ false
 not_a_probe c (Sent time space number size eliciting true Probe) h run none =
     let holds = all_hold c h (Sent time space number size eliciting true Probe) run.1 in
-    let spent = over_not (2 * c.max_datagram_size) size (list_any is_pto (moments h)) (sum_by probe_size (since is_pto h)) holds.1.1.1.1.1.1.1.0 in
+    let spent = over_not (2 * c.max_datagram_size) size (list_any is_pto (moments h)) (sum_by probe_size (since is_pto h)) holds.past_probe in
     absurd (both_ways (list_any is_pto (moments h)) none spent.0)
 not_a_probe c (Sent time space number size eliciting false Probe) h run none = refl
 not_a_probe c (Sent time space number size eliciting in_flight Window) h run none = refl
@@ -209,7 +220,7 @@ not_a_probe c _ h run none = refl
 pub no_probe_before : (c : Settings) (h : List Event) → IsRun c h → list_any is_pto_event h ≡ false → list_any is_probe h ≡ false
 no_probe_before c [] run none = refl
 no_probe_before c (e ∷ h) run none =
-    let both = either_false (is_pto_event e) (list_any is_pto_event h) none in
+    let both = or_parts (is_pto_event e) (list_any is_pto_event h) none in
     rw (not_a_probe c e h run (never_pto h both.1)) (no_probe_before c h run.0 both.1)
 
 -- ---- between two entries into recovery, and before the first
@@ -218,7 +229,7 @@ recovery_spent_none : (c : Settings) (e : Event) (h : List Event) → IsRun c (e
     → (list_any (is_entry c) (moments h) ≡ true) × (count_by is_recovery_packet (since (is_entry c) h) ≡ 0)
 recovery_spent_none c (Sent time space number size eliciting true Recovery) h run is =
     let holds = all_hold c h (Sent time space number size eliciting true Recovery) run.1 in
-    let spent = over_not 1 1 (list_any (is_entry c) (moments h)) (count_by is_recovery_packet (since (is_entry c) h)) holds.1.1.1.1.1.1.1.1.0 in
+    let spent = over_not 1 1 (list_any (is_entry c) (moments h)) (count_by is_recovery_packet (since (is_entry c) h)) holds.past_recovery in
     (spent.0, (omega (arith, spent.1)))
 recovery_spent_none c (Sent time space number size eliciting false Recovery) h run is = cc
 recovery_spent_none c (Sent time space number size eliciting in_flight Window) h run is = cc
@@ -226,11 +237,10 @@ recovery_spent_none c (Sent time space number size eliciting in_flight Probe) h 
 recovery_spent_none c _ h run is = cc
 
 -- in a run each in-flight packet that is marked for recovery has an entry before it
-pub entry_before : (c : Settings) (e : Event) (h : List Event) → IsRun c (e ∷ h) → is_recovery e ≡ true
-    → (later : List Event) × (entry : Event) × (before : List Event) × (h ≡ later ++ entry ∷ before) × (is_entry c (entry ∷ before) ≡ true)
+pub entry_before : (c : Settings) (e : Event) (h : List Event) → IsRun c (e ∷ h) → is_recovery e ≡ true → HasMoment (is_entry c) h
 entry_before c e h run is =
     let found = since_last (is_entry c) (λ m. cond (is_recovery_packet m) 1 0) (λ e. cond (is_recovery e) 1 0) counted_is h (recovery_spent_none c e h run is).0 in
-    (found.0, found.1, found.2, found.3, found.4)
+    record { later = found.0; event = found.1; before = found.2; stands = found.3; passes = found.4 }
 
 no_entry : (c : Settings) (f : Event) (h : List Event) → is_recovery f ≡ true → is_entry c (f ∷ h) ≡ false
 no_entry c (Sent time space number size eliciting in_flight Recovery) h is =

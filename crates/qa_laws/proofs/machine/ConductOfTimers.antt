@@ -10,7 +10,7 @@ use Rattle.qa_base.specs.declared.space.Space.{Space}
 use Rattle.qa_base.specs.declared.space.Space.TheVariants.{Initial, Handshake, App}
 use Rattle.qa_base.specs.machine.Breaches.{is_before}
 use Rattle.qa_base.specs.machine.Loss.{owed, is_found, is_late, is_old, is_open, is_unsettled}
-use Rattle.qa_laws.specs.machine.Oldest.{is_flying, oldest_flying, due_of}
+use Rattle.qa_laws.specs.machine.Oldest.{is_flying, due_of}
 use Rattle.qa_base.specs.machine.Packets.{Packet, packets_of, largest_acknowledged}
 use Rattle.qa_base.specs.machine.Rtt.{rtt}
 use Rattle.qa_base.specs.machine.Rules.{IsRun}
@@ -22,6 +22,7 @@ use Rattle.qa_laws.proofs.machine.Detection.{probes, loss_of, earlier_is, timer_
 use Rattle.qa_laws.proofs.machine.Pairs.{part_has}
 use Rattle.qa_base.proofs.machine.RunLaws.{all_hold, old_is_after_loss_delay}
 use Rattle.qa_laws.proofs.machine.Settled.{opens_is}
+use Rattle.qa_laws.proofs.machine.Deadline.{oldest_flying}
 
 -- a packet of the space is open and in flight, below the largest acknowledged number, and old when the loss timer goes off
 pub record Awaits (c : Settings) (h : List Event) (due : Due) : Type 0 where
@@ -71,9 +72,9 @@ none_has (q ∷ ps) p has none = cc
 pub timer_owes : (c : Settings) (h : List Event) (time : ℕ) (space : Space) → IsRun c (Timer time Loss space ∷ h) → owed c (Timer time Loss space ∷ h) ≡ [] → ⊥
 timer_owes c h time space run none =
     let holds = all_hold c h (Timer time Loss space) run.1 in
-    let set = timer_is Loss space (deadline c h) holds.1.1.1.1.1.1.1.1.1.1.0 holds.1.1.1.1.1.1.1.1.1.1.1.0 in
+    let set = timer_is Loss space (deadline c h) holds.timer_not_set holds.timer_other in
     let due = set.0 in
-    let early : is_before time (Some due) ≡ false = rw set.1 at holds.1.1.1.1.1.1.1.1.1.1.1.1.0 in
+    let early : is_before time (Some due) ≡ false = rw set.1 at holds.timer_early in
     let loss = loss_of (earliest_loss c h) (option_or (earliest_pto c h) (anti_deadlock c h)) due (probes c h) set.1 set.2 in
     let awaits = earliest_awaits c h run.0 due loss in
     let p = awaits.packet in

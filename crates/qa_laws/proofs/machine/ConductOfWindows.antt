@@ -1,5 +1,5 @@
--- What a run does with its window: it stays above two datagrams, falls only by losses, and is halved once for the losses of one flight.
-use Rattle.std.proofs.Common.{◌≡◌, ◌∙◌, ◌+◌, ◌*◌, ◌/◌, ◌<◌, ◌≤◌, ℕ, max, List, [], ◌∷◌, ◌++◌, map, fold, filter, reverse, Bool, true, false, Option, Some, refl, ap, arith}
+-- What a run does with its window: it falls only by losses, and is halved once for the losses of one flight.
+use Rattle.std.proofs.Common.{◌≡◌, ◌∙◌, ◌+◌, ◌<◌, ◌≤◌, ℕ, List, [], ◌∷◌, ◌++◌, map, fold, filter, reverse, Bool, true, false, Option, Some, refl, ap, arith}
 use Rattle.std.proofs.lemmas.Bool.{both_ways, ltb-true, ltb-false}
 use Rattle.std.specs.Prelude.{nat_lt, if◌then◌else◌}
 use Rattle.qa_base.specs.declared.event.Event.{Event}
@@ -7,38 +7,13 @@ use Rattle.qa_laws.specs.machine.Conduct.{NoCollapse, IsSentAfter}
 use Rattle.qa_base.specs.values.Events.{time_of}
 use Rattle.qa_base.specs.machine.Loss.{owed, is_persistent}
 use Rattle.qa_base.specs.machine.Packets.{Packet, newly_acknowledged}
-use Rattle.qa_base.specs.machine.Reno.{Control, start, is_outside_recovery, hit, growth, Move, Hit, Collapse, Grow, latest_sent, hits, collapses, grows, is_limited, moves_of_last, moves, moved, reno, enters, is_entry}
+use Rattle.qa_base.specs.machine.Reno.{Control, is_outside_recovery, hit, growth, Move, Grow, latest_sent, hits, collapses, grows, is_limited, moves_of_last, moved, reno, enters, is_entry}
 use Rattle.qa_base.specs.machine.Rules.{IsRun}
-use Rattle.qa_base.specs.values.Settings.{Settings, AreInRange}
+use Rattle.qa_base.specs.values.Settings.{Settings}
 use Rattle.qa_laws.proofs.machine.Pairs.{has_first, has_later}
 use Rattle.qa_base.proofs.machine.RunLaws.{all_hold}
 use Rattle.qa_base.proofs.machine.Steps.{reno_after}
-
--- ---- two datagrams at least
-
-hit_at_least : (d last_sent now : ℕ) (r : Control) (here : Bool) → 2 * d ≤ r.window
-    → 2 * d ≤ (if here then record { window = max (r.window / 2) (2 * d); ssthresh = Some (r.window / 2); recovery_start_time = Some now } else r).window
-hit_at_least d last_sent now r true least = omega arith
-hit_at_least d last_sent now r false least = least
-
-grow_at_least : (d size : ℕ) (r : Control) (here : Bool) → r.window
-    ≤ (if here then record { window = r.window + growth d size r; ssthresh = r.ssthresh; recovery_start_time = r.recovery_start_time } else r).window
-grow_at_least d size r true = omega arith
-grow_at_least d size r false = omega arith
-
-moved_at_least : (d : ℕ) (r : Control) (m : Move) → 2 * d ≤ r.window → 2 * d ≤ (moved d r m).window
-moved_at_least d r (Hit last_sent now) least = hit_at_least d last_sent now r (is_outside_recovery r.recovery_start_time last_sent) least
-moved_at_least d r Collapse least = omega arith
-moved_at_least d r (Grow size sent) least =
-    let more = grow_at_least d size r (is_outside_recovery r.recovery_start_time sent) in omega (arith, least, more)
-
-all_at_least : (d : ℕ) (r : Control) (ms : List Move) → 2 * d ≤ r.window → 2 * d ≤ (fold (moved d) r ms).window
-all_at_least d r [] least = least
-all_at_least d r (m ∷ ms) least = all_at_least d (moved d r m) ms (moved_at_least d r m least)
-
--- the window is never less than two datagrams
-pub window_at_least : (c : Settings) (h : List Event) → AreInRange c → 2 * c.max_datagram_size ≤ (reno c h).window
-window_at_least c h proper = all_at_least c.max_datagram_size (start c.initial_window) (moves c h) proper.window_low
+use Rattle.qa_base.proofs.machine.WindowBound.{grow_at_least}
 
 -- ---- it falls by losses alone
 
@@ -150,9 +125,9 @@ begun_since first now recovery (p ∷ ps) false is late before = rw is before
 
 -- no event of a run is earlier than one before it
 times_rise : (c : Settings) (e f : Event) (between h : List Event) → IsRun c (e ∷ between ++ f ∷ h) → time_of f ≤ time_of e
-times_rise c e f [] h run = ltb-false (time_of e) (time_of f) (all_hold c (f ∷ h) e run.1).0
+times_rise c e f [] h run = ltb-false (time_of e) (time_of f) (all_hold c (f ∷ h) e run.1).time_back
 times_rise c e f (d ∷ between) h run =
-    let here = ltb-false (time_of e) (time_of d) (all_hold c (d ∷ between ++ f ∷ h) e run.1).0 in
+    let here = ltb-false (time_of e) (time_of d) (all_hold c (d ∷ between ++ f ∷ h) e run.1).time_back in
     let rest = times_rise c d f between h run.0 in
     omega (arith, here, rest)
 

@@ -14,21 +14,14 @@ use Rattle.qa_base.specs.machine.Rules.{IsRun}
 use Rattle.qa_base.specs.values.Settings.{Settings}
 use Rattle.qa_laws.proofs.machine.Pairs.{of_each, each_weaker, two_of, two_of_part, part_is}
 use Rattle.qa_base.proofs.machine.RunLaws.{all_hold, numbers_fall}
+use Rattle.qa_base.proofs.machine.WindowBound.{placed}
+use Rattle.qa_laws.specs.machine.Parts.{AreOf}
 
 -- ---- places
 
 -- each packet stands below the end of its history
-abbrev pub AreBelow : ℕ → List Packet → Type 0
+abbrev AreBelow : ℕ → List Packet → Type 0
 AreBelow n ps = AllByRecursion (λ q. q.place < n) ps
-
-below_more : (h : List Event) (e : Event) → AreBelow (length h) (packets h) → AreBelow (length (e ∷ h)) (packets (e ∷ h))
-below_more h (Sent time space number size eliciting in_flight leave) below =
-    ((omega arith), each_weaker (λ q. q.place < length h) (λ q. q.place < length (Sent time space number size eliciting in_flight leave ∷ h)) (λ q l. omega arith) (packets h) below)
-below_more h e below = each_weaker (λ q. q.place < length h) (λ q. q.place < length (e ∷ h)) (λ q l. omega arith) (packets h) below
-
-pub are_below : (h : List Event) → AreBelow (length h) (packets h)
-are_below [] = tt
-are_below (e ∷ h) = below_more h e (are_below h)
 
 -- ---- times
 
@@ -48,7 +41,7 @@ pub are_by : (c : Settings) (e : Event) (h : List Event) → IsRun c (e ∷ h) �
 are_by c e [] run = tt
 are_by c e (last ∷ before) run =
     let holds = all_hold c (last ∷ before) e run.1 in
-    later (time_of last) (time_of e) (ltb-false (time_of e) (time_of last) holds.0) (packets (last ∷ before))
+    later (time_of last) (time_of e) (ltb-false (time_of e) (time_of last) holds.time_back) (packets (last ∷ before))
     (by_more before last (are_by c last before run.0))
 
 -- ---- all of it
@@ -72,7 +65,7 @@ order_more c h (Sent time space number size eliciting in_flight leave) run two =
       in_flight = in_flight;
       leave = leave;
     } in
-    (joined p (packets h) (are_below h) (are_by c e h run) falls.0, two)
+    (joined p (packets h) (placed h) (are_by c e h run) falls.0, two)
 order_more c h _ run two = two
 
 -- of each two packets of a run the one that stands behind was sent before the other
@@ -126,9 +119,6 @@ pub record IsEarlier (p q : Packet) : Type 0 where
   pub place : q.place < p.place
   pub time : q.time ≤ p.time
   pub number : q.number < p.number
-
-abbrev pub AreOf : Space → List Packet → Type 0
-AreOf s ps = AllByRecursion (λ p. is_of s p ≡ true) ps
 
 pub are_of : (h : List Event) (s : Space) → AreOf s (packets_of h s)
 are_of h s = of_each (λ p. is_of s p ≡ true) (packets_of h s) (λ p has. (part_is (is_of s) (packets h) p has).1)

@@ -9,17 +9,27 @@ use Rattle.std.specs.Prelude.{if◌then◌else◌}
 use Rattle.qa_base.specs.declared.event.Event.{Event}
 use Rattle.qa_base.specs.declared.space.Kind.TheVariants.{Loss}
 use Rattle.qa_base.specs.declared.space.Space.{Space}
-use Rattle.qa_laws.specs.machine.Oldest.{first_sent, is_flying, oldest_flying, due_of, NoneFlies}
+use Rattle.qa_laws.specs.machine.Oldest.{is_flying, due_of, NoneFlies}
 use Rattle.qa_laws.specs.machine.Sequence.{EachTwo}
 use Rattle.qa_base.specs.machine.Packets.{Packet, packets, packets_of, is_of, largest_acknowledged}
 use Rattle.qa_base.specs.machine.Rtt.{rtt}
 use Rattle.qa_base.specs.machine.Rules.{IsRun}
 use Rattle.qa_base.specs.values.Settings.{Settings}
 use Rattle.qa_base.specs.machine.Timer.{Due, loss_due, loss_delay, least_of, awaits_loss, is_below_largest}
-use Rattle.qa_laws.proofs.machine.Courses.{IsEarlier, AreOf, are_of, in_order_of, is_space_is}
+use Rattle.qa_laws.proofs.machine.Courses.{IsEarlier, are_of, in_order_of, is_space_is}
 use Rattle.qa_laws.proofs.machine.Pairs.{at_one, same_part, part_turned, has_first, has_later}
+use Rattle.qa_laws.specs.machine.Parts.{AreOf}
 
 -- ---- the first that was sent
+
+-- the first that was sent of those that pass the test; the list has the latest first
+abbrev pub first_sent : (Packet → Bool) → List Packet → Option Packet
+first_sent test [] = None
+first_sent test (p ∷ ps) = option_or (first_sent test ps) (if test p then Some p else None)
+
+-- of the packets of a space that are open and in flight
+abbrev pub oldest_flying : Settings → List Event → Space → Option Packet
+oldest_flying c h s = first_sent (is_flying c h) (packets_of h s)
 
 -- it is the first that is found where the list is turned
 pub first_sent_is : (test : Packet → Bool) (ps : List Packet) → first_sent test ps ≡ find test (reverse ps)
@@ -101,9 +111,9 @@ pub loss_due_is : (c : Settings) (h : List Event) → IsRun c h → (s : Space) 
 loss_due_is c h run s =
     let ps = packets_of h s in
     let largest = largest_acknowledged h s in
-    let mk : ℕ → Due = λ sent. record { kind = Loss; space = s; time = sent + loss_delay (rtt c h) } in
-    ap (λ qs. option_map mk (least_of (map (λ p. p.time) qs))) (same_part (awaits_loss c h) (λ p. is_flying c h p && is_below_largest p.number largest) ps (awaits_of c h s ps (are_of h s)))
-    ∙ (ap (option_map mk) (least_is (is_flying c h) largest ps (in_order_of c h s run)) ∙ due_if c h s (oldest_flying c h s))
+    let due_at : ℕ → Due = λ sent. record { kind = Loss; space = s; time = sent + loss_delay (rtt c h) } in
+    ap (λ qs. option_map due_at (least_of (map (λ p. p.time) qs))) (same_part (awaits_loss c h) (λ p. is_flying c h p && is_below_largest p.number largest) ps (awaits_of c h s ps (are_of h s)))
+    ∙ (ap (option_map due_at) (least_is (is_flying c h) largest ps (in_order_of c h s run)) ∙ due_if c h s (oldest_flying c h s))
 
 -- ---- the oldest in the order of sending
 

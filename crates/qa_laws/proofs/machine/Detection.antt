@@ -13,7 +13,7 @@ use Rattle.qa_base.specs.declared.space.Space.TheVariants.{Initial, Handshake, A
 use Rattle.qa_base.specs.machine.Breaches.{is_kind, is_other}
 use Rattle.qa_base.specs.values.Events.{is_space}
 use Rattle.qa_base.specs.machine.Loss.{is_found, found_at, detection, owed, is_owed, is_open, is_late, is_unsettled}
-use Rattle.qa_laws.specs.machine.Oldest.{is_flying, oldest_flying, due_of, is_asked, asked}
+use Rattle.qa_laws.specs.machine.Oldest.{is_flying, due_of, is_asked}
 use Rattle.qa_laws.specs.machine.Sequence.{EachTwo}
 use Rattle.qa_base.specs.machine.Packets.{Packet, packets, packets_of, is_of, is_some_packet, is_gone, acknowledges_new, largest_acknowledged}
 use Rattle.qa_base.specs.machine.Rtt.{Estimate, rtt, pto_base}
@@ -27,8 +27,13 @@ use Rattle.qa_laws.proofs.machine.Lateness.{earlier_is_late}
 use Rattle.qa_laws.proofs.machine.Pairs.{two_weaker, two_of_part, two_turned, part_turned, part_of_part, part_is, front}
 use Rattle.qa_base.proofs.machine.RunLaws.{all_hold}
 use Rattle.qa_laws.proofs.machine.Settled.{opens_is, opens_from, unsettled_before, owed_has, has_some}
+use Rattle.qa_laws.proofs.machine.Deadline.{oldest_flying}
 
 -- ---- what is owed is a front
+
+-- the packets asked of, in the order of sending
+abbrev pub asked : List Event → Space → List Packet
+asked h s = filter (is_asked h s) (reverse (packets h))
 
 found_of_asked : (c : Settings) (h : List Event) (now : ℕ) (s : Space)
     → filter (is_found c h now s) (packets_of h s) ≡ filter (is_late (rtt c h) now (largest_acknowledged h s)) (filter (is_asked h s) (packets h))
@@ -157,7 +162,7 @@ timer_is kind space (Some due) some same =
 pub timer_there : (c : Settings) (h : List Event) (time : ℕ) (s : Space) → IsRun c (Timer time Loss s ∷ h) → is_gone h s ≡ false
 timer_there c h time s run =
     let holds = all_hold c h (Timer time Loss s) run.1 in
-    let set = timer_is Loss s (deadline c h) holds.1.1.1.1.1.1.1.1.1.1.0 holds.1.1.1.1.1.1.1.1.1.1.1.0 in
+    let set = timer_is Loss s (deadline c h) holds.timer_not_set holds.timer_other in
     let loss = loss_of (earliest_loss c h) (option_or (earliest_pto c h) (anti_deadlock c h)) set.0 (probes c h) set.1 set.2 in
     rw (is_space_is s set.0.space set.3) (earliest_there c h run.0 set.0 loss)
 
@@ -173,7 +178,7 @@ acknowledged_space false h space s time now at there = cc
 pub space_of_detection : (c : Settings) (e : Event) (h : List Event) → IsRun c (e ∷ h) → (s : Space) (now : ℕ) → detection (e ∷ h) ≡ Some (s, now) → is_gone h s ≡ false
 space_of_detection c (Ack time space ranges delay limited) h run s now at =
     let holds = all_hold c h (Ack time space ranges delay limited) run.1 in
-    acknowledged_space (acknowledges_new (Ack time space ranges delay limited ∷ h)) h space s time now at holds.1.1.1.1.0
+    acknowledged_space (acknowledges_new (Ack time space ranges delay limited ∷ h)) h space s time now at holds.space_gone
 space_of_detection c (Timer time Loss space) h run s now at =
     let there = timer_there c h time space run in
     rw (same_space space s time now at) at there
@@ -181,8 +186,8 @@ space_of_detection c (Timer time Pto space) h run s now at = cc
 space_of_detection c _ h run s now at = cc
 
 nothing_owed : (c : Settings) (e : Event) (h : List Event) → IsRun c (e ∷ h) → (s : Space) (now : ℕ) → detection (e ∷ h) ≡ Some (s, now) → is_some_packet (owed c h) ≡ false
-nothing_owed c (Ack time space ranges delay limited) h run s now at = (all_hold c h (Ack time space ranges delay limited) run.1).1.0
-nothing_owed c (Timer time kind space) h run s now at = (all_hold c h (Timer time kind space) run.1).1.0
+nothing_owed c (Ack time space ranges delay limited) h run s now at = (all_hold c h (Ack time space ranges delay limited) run.1).loss_owed
+nothing_owed c (Timer time kind space) h run s now at = (all_hold c h (Timer time kind space) run.1).loss_owed
 nothing_owed c _ h run s now at = cc
 
 -- in a run each packet of which a detection asks was open and in flight before the event

@@ -16,19 +16,19 @@ use Rattle.qa_laws.proofs.machine.Settled.{open_before}
 use Rattle.qa_laws.proofs.machine.Walks.{turned_has}
 use Rattle.qa_laws.proofs.machine.Pairs.{at_one, of_each}
 
-next_by : (ack cov los own cov' los' own' : Bool) → cov' ≡ (ack || cov) → los' ≡ (own || los) → (own' ≡ true → (not cov' && not los') ≡ true)
-    → fate_by cov' los' own' ≡ fate_next ack own' (fate_by cov los own)
-next_by true cov los own cov' los' own' is_cov is_los free = rw is_cov refl
-next_by false true los own cov' los' true is_cov is_los free = let no = rw is_cov at (free refl) in cc
-next_by false true los own cov' los' false is_cov is_los free = rw is_cov refl
-next_by false false true true cov' los' true is_cov is_los free = let no = rw (is_cov, is_los) at (free refl) in cc
-next_by false false true false cov' los' true is_cov is_los free = let no = rw (is_cov, is_los) at (free refl) in cc
-next_by false false true true cov' los' false is_cov is_los free = rw (is_cov, is_los) refl
-next_by false false true false cov' los' false is_cov is_los free = rw (is_cov, is_los) refl
-next_by false false false true cov' los' true is_cov is_los free = let no = rw (is_cov, is_los) at (free refl) in cc
-next_by false false false true cov' los' false is_cov is_los free = rw (is_cov, is_los) refl
-next_by false false false false cov' los' true is_cov is_los free = rw (is_cov, is_los) refl
-next_by false false false false cov' los' false is_cov is_los free = rw (is_cov, is_los) refl
+next_by : (names was_covered was_lost was_owed covered_now lost_now owed_now : Bool) → covered_now ≡ (names || was_covered) → lost_now ≡ (was_owed || was_lost) → (owed_now ≡ true → (not covered_now && not lost_now) ≡ true)
+    → fate_by covered_now lost_now owed_now ≡ fate_next names owed_now (fate_by was_covered was_lost was_owed)
+next_by true was_covered was_lost was_owed covered_now lost_now owed_now covered_is lost_is free = rw covered_is refl
+next_by false true was_lost was_owed covered_now lost_now true covered_is lost_is free = let no = rw covered_is at (free refl) in cc
+next_by false true was_lost was_owed covered_now lost_now false covered_is lost_is free = rw covered_is refl
+next_by false false true true covered_now lost_now true covered_is lost_is free = let no = rw (covered_is, lost_is) at (free refl) in cc
+next_by false false true false covered_now lost_now true covered_is lost_is free = let no = rw (covered_is, lost_is) at (free refl) in cc
+next_by false false true true covered_now lost_now false covered_is lost_is free = rw (covered_is, lost_is) refl
+next_by false false true false covered_now lost_now false covered_is lost_is free = rw (covered_is, lost_is) refl
+next_by false false false true covered_now lost_now true covered_is lost_is free = let no = rw (covered_is, lost_is) at (free refl) in cc
+next_by false false false true covered_now lost_now false covered_is lost_is free = rw (covered_is, lost_is) refl
+next_by false false false false covered_now lost_now true covered_is lost_is free = rw (covered_is, lost_is) refl
+next_by false false false false covered_now lost_now false covered_is lost_is free = rw (covered_is, lost_is) refl
 
 -- in a run a packet is covered by an acknowledgment that names it, owed where the event finds it lost, and declared lost where it was owed
 pub fate_after : (c : Settings) (e : Event) (h : List Event) → IsRun c (e ∷ h) → (p : Packet) → Contains (packets h) p
@@ -37,9 +37,9 @@ fate_after c e h run p has =
     next_by (acknowledges p.space p.number e) (is_covered h p) (is_lost h p) (is_owed c h p) (is_covered (e ∷ h) p) (is_lost (e ∷ h) p) (is_owed c (e ∷ h) p)
     (covered_after e h p has) (lost_is_owed c e h run p has) (λ found. found_unsettled c (e ∷ h) p (detection (e ∷ h)) found)
 
-open_by : (cov los own gone : Bool) → (not cov && not los && not own && not gone) ≡ (is_uncovered (fate_by cov los own) && not gone)
-open_by true los own gone = refl
-open_by false true own gone = refl
+open_by : (covered lost is_due gone : Bool) → (not covered && not lost && not is_due && not gone) ≡ (is_uncovered (fate_by covered lost is_due) && not gone)
+open_by true lost is_due gone = refl
+open_by false true is_due gone = refl
 open_by false false true gone = refl
 open_by false false false gone = refl
 

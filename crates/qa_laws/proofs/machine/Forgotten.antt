@@ -1,30 +1,27 @@
 -- Closed packets before the oldest open one may be forgotten.
-use Rattle.std.proofs.Common.{◌≡◌, ◌∙◌, ◌<◌, ◌+◌, ◌-◌, ℕ, List, [], ◌∷◌, ◌++◌, Bool, true, false, ◌&&◌, ◌||◌, not, Some, None, add-zero, zero-add, refl, sym, ap, arith, subst, Contains, inl, inr, filter, sum_by}
-use Rattle.std.proofs.lemmas.Bool.{and_parts, and_right, both_ways, false_from_ne_true, le-ltb}
+use Rattle.std.proofs.Common.{◌≡◌, ◌∙◌, ◌<◌, ◌+◌, ◌-◌, ℕ, List, [], ◌∷◌, ◌++◌, Bool, true, false, ◌&&◌, ◌||◌, not, add-zero, zero-add, refl, sym, ap, arith, subst, Contains, inl, inr, filter, sum_by}
+use Rattle.std.proofs.lemmas.Bool.{and_parts, both_ways, false_from_ne_true, le-ltb}
 use Rattle.std.proofs.lemmas.List.{append-nil}
 use Rattle.std.proofs.lemmas.List.Elements.{filter-append, Contains-append_right}
 use Rattle.std.proofs.lemmas.List.Sums.{sum_by-cons, sum_by-append}
 use Rattle.std.proofs.lemmas.List.Folds.{list_any-append}
 use Rattle.std.specs.List.{AllByRecursion, list_any}
-use Rattle.std.specs.Option.{option_or}
 use Rattle.std.specs.Prelude.{nat_lt, if◌then◌else◌}
 use Rattle.qa_base.specs.declared.event.Event.{Event}
 use Rattle.qa_base.specs.declared.event.Event.TheVariants.{Sent}
-use Rattle.qa_laws.specs.machine.Among.{are_ends_among, is_persistent_among, AreClosed}
+use Rattle.qa_laws.specs.machine.Among.{are_ends_among, is_persistent_among}
 use Rattle.qa_base.specs.machine.Loss.{owed, is_owed, is_open, is_end, is_persistent, are_ends}
-use Rattle.qa_laws.specs.machine.Oldest.{first_sent, is_flying, oldest_flying}
 use Rattle.qa_laws.specs.machine.Sequence.{EachTwo, WasSentBefore}
-use Rattle.qa_base.specs.machine.Packets.{Packet, packets, is_of, is_covered, is_newly_acknowledged, newly_acknowledged}
+use Rattle.qa_base.specs.machine.Packets.{Packet, packets, is_covered, is_newly_acknowledged, newly_acknowledged}
 use Rattle.qa_base.specs.machine.Rtt.{rtt, persistent_after}
 use Rattle.qa_base.specs.machine.Rules.{IsRun}
 use Rattle.qa_base.specs.values.Settings.{Settings}
 use Rattle.qa_laws.specs.machine.Sums.{counted, open_sum}
-use Rattle.qa_base.specs.declared.space.Space.{Space}
-use Rattle.qa_laws.proofs.machine.Settled.{closed_stays}
 use Rattle.qa_laws.proofs.machine.Closing.{owed_among}
 use Rattle.qa_laws.proofs.machine.Changes.{owed_was_flying, newly_was_open}
 use Rattle.qa_laws.proofs.machine.Courses.{in_order}
-use Rattle.qa_laws.proofs.machine.Pairs.{at_one, of_each, part_is, none_left, each_weaker, each_of_part, first_or_rest}
+use Rattle.qa_laws.proofs.machine.Pairs.{at_one, of_each, part_is, none_left, each_weaker, first_or_rest}
+use Rattle.qa_laws.specs.machine.Parts.{AreClosed}
 
 -- ---- by parts of a list
 
@@ -131,14 +128,6 @@ nothing_counted test weight [] none = refl
 nothing_counted test weight (p ∷ ps) none =
     sum_by-cons (counted test weight) p ps ∙ (ap (λ b. (if b then weight p else 0) + sum_by (counted test weight) ps) none.0 ∙ (zero-add _ ∙ nothing_counted test weight ps none.1))
 
-first_of_none : (test : Packet → Bool) (ps : List Packet) → AllByRecursion (λ p. test p ≡ false) ps → first_sent test ps ≡ None
-first_of_none test [] none = refl
-first_of_none test (p ∷ ps) none = rw (none.0, first_of_none test ps none.1) refl
-
-first_of_front : (test : Packet → Bool) (ps qs : List Packet) → AllByRecursion (λ p. test p ≡ false) qs → first_sent test (ps ++ qs) ≡ first_sent test ps
-first_of_front test [] qs none = first_of_none test qs none
-first_of_front test (p ∷ ps) qs none = ap (λ o. option_or o (if test p then Some p else None)) (first_of_front test ps qs none)
-
 -- a sum over the open packets needs none of them
 pub open_sum_of_kept : (weight : Packet → ℕ) (c : Settings) (h : List Event) → (kept gone : List Packet) → packets h ≡ kept ++ gone → AreClosed c h gone
     → open_sum weight c h ≡ sum_by (counted (is_open c h) weight) kept
@@ -146,18 +135,3 @@ open_sum_of_kept weight c h kept gone parts closed =
     ap (sum_by (counted (is_open c h) weight)) parts
     ∙ (sum_by-append (counted (is_open c h) weight) kept gone
     ∙ (ap (λ n. sum_by (counted (is_open c h) weight) kept + n) (nothing_counted (is_open c h) weight gone closed) ∙ add-zero _))
-
--- nor does the oldest open and in flight
-pub oldest_of_kept : (c : Settings) (h : List Event) (s : Space) → (kept gone : List Packet) → packets h ≡ kept ++ gone → AreClosed c h gone
-    → oldest_flying c h s ≡ first_sent (is_flying c h) (filter (is_of s) kept)
-oldest_of_kept c h s kept gone parts closed =
-    ap (λ ps. first_sent (is_flying c h) (filter (is_of s) ps)) parts
-    ∙ (ap (first_sent (is_flying c h)) (filter-append (is_of s) kept gone)
-    ∙ first_of_front (is_flying c h) (filter (is_of s) kept) (filter (is_of s) gone) (each_of_part (λ p. is_flying c h p ≡ false) (is_of s) gone
-    (each_weaker (λ p. is_open c h p ≡ false) (λ p. is_flying c h p ≡ false) (λ p shut. and_right p.in_flight (is_open c h p) shut) gone closed)))
-
--- they stay closed
-pub stay_closed : (c : Settings) (e : Event) (h : List Event) → IsRun c (e ∷ h) → (kept gone : List Packet) → packets h ≡ kept ++ gone → AreClosed c h gone → AreClosed c (e ∷ h) gone
-stay_closed c e h run kept gone parts closed = of_each (λ p. is_open c (e ∷ h) p ≡ false) gone (λ p has.
-    let inside : Contains (packets h) p = subst (λ (ps : List Packet). Contains ps p) (sym parts) (Contains-append_right kept gone p has) in
-    closed_stays c e h run p inside (at_one (λ q. is_open c h q ≡ false) gone p closed has))

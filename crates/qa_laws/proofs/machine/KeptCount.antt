@@ -8,17 +8,19 @@ use Rattle.std.specs.Option.{option_or}
 use Rattle.std.specs.Prelude.{nat_le, if◌then◌else◌}
 use Rattle.qa_base.specs.declared.event.Event.{Event}
 use Rattle.qa_base.specs.declared.event.Event.TheVariants.{Sent}
-use Rattle.qa_laws.specs.machine.Oldest.{first_sent}
 use Rattle.qa_laws.specs.machine.Sequence.{EachTwo}
 use Rattle.qa_base.specs.machine.Packets.{Packet, packets}
 use Rattle.qa_base.specs.values.Settings.{Settings}
 use Rattle.qa_base.specs.machine.Kept.{is_kept, oldest_kept, count_from, kept_count}
 use Rattle.qa_base.specs.machine.Timer.{least_of}
-use Rattle.qa_laws.proofs.machine.Courses.{are_below}
+use Rattle.qa_base.proofs.machine.WindowBound.{placed}
 use Rattle.qa_laws.proofs.machine.Deadline.{first_sent_is, first_passes, find_none}
 use Rattle.qa_laws.proofs.machine.Forgotten.{all_behind}
 use Rattle.qa_laws.proofs.machine.Pairs.{at_one, of_each, each_weaker, two_turned, has_first}
 use Rattle.qa_laws.proofs.machine.Sending.{sum_turned}
+use Rattle.qa_laws.proofs.machine.Pairs.{two_of_rest}
+use Rattle.qa_laws.specs.machine.Parts.{AreDropped, BeginsKept}
+use Rattle.qa_laws.proofs.machine.Deadline.{first_sent}
 
 -- ---- places
 
@@ -26,7 +28,7 @@ abbrev StandsBefore : Packet → Packet → Type 0
 StandsBefore p q = q.place < p.place
 
 places_more : (h : List Event) (e : Event) → EachTwo StandsBefore (packets h) → EachTwo StandsBefore (packets (e ∷ h))
-places_more h (Sent time space number size eliciting in_flight leave) two = (are_below h, two)
+places_more h (Sent time space number size eliciting in_flight leave) two = (placed h, two)
 places_more h _ two = two
 
 -- of each two packets of a history the one that stands behind stands at a lower place
@@ -77,16 +79,7 @@ none_each test (p ∷ ps) none =
     let sum = sum_by-cons (λ q. cond (test q) 1 0) p ps in
     omega (arith, here, rest, sum)
 
--- the oldest of these is open or owed, where there is one
-abbrev pub BeginsKept : Settings → List Event → List Packet → Type 0
-BeginsKept c h [] = Unit {0}
-BeginsKept c h (p ∷ ps) = is_kept c h p ≡ true
-
-two_of_second : (R : Packet → Packet → Type 0) (ps qs : List Packet) → EachTwo R (ps ++ qs) → EachTwo R qs
-two_of_second R [] qs two = two
-two_of_second R (p ∷ ps) qs two = two_of_second R ps qs two.1
-
-oldest_is : (c : Settings) (h : List Event) (gone kept : List Packet) → reverse (packets h) ≡ gone ++ kept → AllByRecursion (λ p. is_kept c h p ≡ false) gone
+oldest_is : (c : Settings) (h : List Event) (gone kept : List Packet) → reverse (packets h) ≡ gone ++ kept → AreDropped c h gone
     → oldest_kept c h ≡ option_map (λ p. p.place) (find (is_kept c h) kept)
 oldest_is c h gone kept parts dropped =
     least_place (is_kept c h) (packets h) (places_fall h)
@@ -99,26 +92,26 @@ count_turned test ps gone kept parts =
     let weight : Packet → ℕ = λ p. cond (test p) 1 0 in
     sym (sum_turned weight ps) ∙ (ap (sum_by weight) parts ∙ sum_by-append weight gone kept)
 
-span_if : (c : Settings) (h : List Event) (gone kept : List Packet) → reverse (packets h) ≡ gone ++ kept
-    → AllByRecursion (λ p. is_kept c h p ≡ false) gone → BeginsKept c h kept → EachTwo (λ p q. StandsBefore q p) (gone ++ kept)
+kept_if : (c : Settings) (h : List Event) (gone kept : List Packet) → reverse (packets h) ≡ gone ++ kept
+    → AreDropped c h gone → BeginsKept c h kept → EachTwo (λ p q. StandsBefore q p) (gone ++ kept)
     → oldest_kept c h ≡ option_map (λ p. p.place) (find (is_kept c h) kept) → kept_count c h ≡ length kept
-span_if c h gone [] parts dropped begins two oldest = ap (λ o. count_from o (packets h)) oldest
-span_if c h gone (k ∷ ks) parts dropped begins two oldest =
+kept_if c h gone [] parts dropped begins two oldest = ap (λ o. count_from o (packets h)) oldest
+kept_if c h gone (k ∷ ks) parts dropped begins two oldest =
     let R : Packet → Packet → Type 0 = λ p q. StandsBefore q p in
     let here : find (is_kept c h) (k ∷ ks) ≡ Some k = rw begins refl in
     let behind : AllByRecursion (λ p. nat_le k.place p.place ≡ false) gone = of_each (λ p. nat_le k.place p.place ≡ false) gone (λ p has.
     lt-leb k.place p.place (at_one (R p) (k ∷ ks) k (all_behind R gone (k ∷ ks) two p has) (has_first k ks))) in
     let from : AllByRecursion (λ p. nat_le k.place p.place ≡ true) (k ∷ ks) =
-    (le-leb k.place k.place (omega arith), each_weaker (R k) (λ p. nat_le k.place p.place ≡ true) (λ p less. le-leb k.place p.place (omega (arith, less))) ks (two_of_second R gone (k ∷ ks) two).0) in
+    (le-leb k.place k.place (omega arith), each_weaker (R k) (λ p. nat_le k.place p.place ≡ true) (λ p less. le-leb k.place p.place (omega (arith, less))) ks (two_of_rest R gone (k ∷ ks) two).0) in
     let counted = count_turned (λ p. nat_le k.place p.place) (packets h) gone (k ∷ ks) parts in
     let none = none_each (λ p. nat_le k.place p.place) gone behind in
     let all = one_each (λ p. nat_le k.place p.place) (k ∷ ks) from in
     ap (λ o. count_from o (packets h)) (oldest ∙ ap (option_map (λ (p : Packet). p.place)) here)
     ∙ (counted ∙ (ap (λ n. n + count_by (λ (p : Packet). nat_le k.place p.place) (k ∷ ks)) none ∙ (zero-add _ ∙ all)))
 
--- the span is the number of packets behind those that are dropped, none of which is open or owed
-pub span_is : (c : Settings) (h : List Event) (gone kept : List Packet) → reverse (packets h) ≡ gone ++ kept
-    → AllByRecursion (λ p. is_kept c h p ≡ false) gone → BeginsKept c h kept → kept_count c h ≡ length kept
-span_is c h gone kept parts dropped begins =
+-- the packets that are of use are those behind a front of which none is open or owed, where they begin with one that is
+pub kept_count_is : (c : Settings) (h : List Event) (gone kept : List Packet) → reverse (packets h) ≡ gone ++ kept
+    → AreDropped c h gone → BeginsKept c h kept → kept_count c h ≡ length kept
+kept_count_is c h gone kept parts dropped begins =
     let two : EachTwo (λ p q. StandsBefore q p) (gone ++ kept) = subst (λ (ps : List Packet). EachTwo (λ p q. StandsBefore q p) ps) parts (two_turned StandsBefore (packets h) (places_fall h)) in
-    span_if c h gone kept parts dropped begins two (oldest_is c h gone kept parts dropped)
+    kept_if c h gone kept parts dropped begins two (oldest_is c h gone kept parts dropped)

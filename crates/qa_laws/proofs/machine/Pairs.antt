@@ -9,6 +9,7 @@ use Rattle.std.specs.List.{AllByRecursion, list_any}
 use Rattle.std.specs.Prelude.{if◌then◌else◌}
 use Rattle.qa_laws.specs.machine.Sequence.{EachTwo}
 use Rattle.qa_base.specs.machine.Packets.{Packet}
+use Rattle.qa_base.proofs.machine.WindowBound.{each_of_part}
 
 -- ---- each packet
 
@@ -27,14 +28,6 @@ each_weaker P Q f (p ∷ ps) all = (f p all.0, each_weaker P Q f ps all.1)
 pub first_or_rest : (p q : Packet) (ps : List Packet) → Contains (p ∷ ps) q → (p ≡ q) ⊎ Contains ps q
 first_or_rest p q ps (zero, within, is) = inl is
 first_or_rest p q ps (suc k, within, is) = inr (k, (omega arith), is)
-
-each_if : (P : Packet → Type 0) (p : Packet) (ps : List Packet) (keep : Bool) → P p → AllByRecursion P ps → AllByRecursion P (if keep then p ∷ ps else ps)
-each_if P p ps true here rest = (here, rest)
-each_if P p ps false here rest = rest
-
-pub each_of_part : (P : Packet → Type 0) (kept : Packet → Bool) (ps : List Packet) → AllByRecursion P ps → AllByRecursion P (filter kept ps)
-each_of_part P kept [] all = tt
-each_of_part P kept (p ∷ ps) all = each_if P p (filter kept ps) (kept p) all.0 (each_of_part P kept ps all.1)
 
 -- ---- a part
 
@@ -168,3 +161,8 @@ front_if test p ps false is two rest =
 pub front : (test : Packet → Bool) (ps : List Packet) → EachTwo (λ p q. test q ≡ true → test p ≡ true) ps → filter test ps ≡ take_while test ps
 front test [] two = refl
 front test (p ∷ ps) two = front_if test p ps (test p) refl two.0 (front test ps two.1) ∙ sym (take_while-cons test p ps)
+
+-- each two of the second part of a list stand so
+pub two_of_rest : (R : Packet → Packet → Type 0) (ps qs : List Packet) → EachTwo R (ps ++ qs) → EachTwo R qs
+two_of_rest R [] qs two = two
+two_of_rest R (p ∷ ps) qs two = two_of_rest R ps qs two.1

@@ -1,8 +1,8 @@
 -- The walk of a detection: it passes packets until the first that is asked of and not late.
-use Rattle.std.proofs.Common.{◌≡◌, ◌∙◌, ℕ, List, [], ◌∷◌, ◌++◌, Bool, true, false, ◌&&◌, ◌||◌, not, Some, refl, sym, ap, subst, Contains, filter, reverse, drop, take_while, append_assoc, take-append-drop}
+use Rattle.std.proofs.Common.{◌≡◌, ◌∙◌, ℕ, List, [], ◌∷◌, ◌++◌, Bool, true, false, ◌&&◌, ◌||◌, not, Some, refl, sym, ap, subst, Contains, filter, reverse, take_while}
 use Rattle.std.proofs.lemmas.Bool.{or_from, both_ways}
 use Rattle.std.proofs.lemmas.List.Sums.{take_while-cons}
-use Rattle.std.specs.List.{AllByRecursion, prefix_len}
+use Rattle.std.specs.List.{AllByRecursion}
 use Rattle.std.specs.Prelude.{if◌then◌else◌}
 use Rattle.qa_base.specs.declared.event.Event.{Event}
 use Rattle.qa_base.specs.declared.space.Space.{Space}
@@ -18,6 +18,7 @@ use Rattle.qa_laws.proofs.machine.FateLaws.{none_flies_stays}
 use Rattle.qa_laws.proofs.machine.Pairs.{at_one, of_each}
 use Rattle.qa_laws.proofs.machine.Settled.{open_before}
 use Rattle.qa_laws.proofs.machine.Walks.{owed_of_rest, flies_after}
+use Rattle.qa_base.proofs.machine.WindowBound.{each_append}
 
 -- ---- one walk in the place of two
 
@@ -54,10 +55,6 @@ all_pass test [] = tt
 all_pass test (p ∷ ps) =
     subst (λ (qs : List Packet). AllByRecursion (λ q. test q ≡ true) qs) (sym (take_while-cons test p ps)) (each_front test p ps (test p) refl (all_pass test ps))
 
-each_append : (P : Packet → Type 0) (ps qs : List Packet) → AllByRecursion P ps → AllByRecursion P qs → AllByRecursion P (ps ++ qs)
-each_append P [] qs first second = second
-each_append P (p ∷ ps) qs first second = (first.0, each_append P ps qs first.1 second)
-
 passed_by : (asks late : Bool) → (not asks || late) ≡ true → (asks && not late) ≡ false
 passed_by true true is = refl
 passed_by true false is = cc
@@ -79,16 +76,6 @@ none_flies_passed c e h run s now at front rest parts none =
     (none_flies_stays c e h run s front rest parts none)
     (of_each (λ p. (is_of s p && is_flying c (e ∷ h) p) ≡ false) (take_while test rest) (λ p has.
     flies_not c e h run s now at p (is_of s p) refl (at_one (λ q. test q ≡ true) (take_while test rest) p (all_pass test rest) has)))
-
--- ---- where it stops
-
--- what stands behind the packets that are passed
-abbrev pub behind : (Packet → Bool) → List Packet → List Packet
-behind test ps = drop (prefix_len test ps) ps
-
-pub passed_and_behind : (test : Packet → Bool) (front rest : List Packet) → (front ++ take_while test rest) ++ behind test rest ≡ front ++ rest
-passed_and_behind test front rest =
-    append_assoc front (take_while test rest) (behind test rest) ∙ ap (λ ps. front ++ ps) (take-append-drop (prefix_len test rest) rest)
 
 -- ---- events that close nothing
 

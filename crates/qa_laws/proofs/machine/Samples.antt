@@ -20,6 +20,8 @@ use Rattle.qa_laws.proofs.machine.Courses.{IsEarlier, each_earlier, in_order, in
 use Rattle.qa_laws.proofs.machine.Deadline.{find_none}
 use Rattle.qa_laws.proofs.machine.Forgotten.{none_of}
 use Rattle.qa_laws.proofs.machine.Pairs.{of_each, each_weaker, part_is, part_turned, two_of_part, two_turned, two_weaker}
+use Rattle.qa_laws.proofs.machine.Pairs.{two_of_rest}
+use Rattle.qa_laws.specs.machine.Latest.{first_if_numbered, is_first_at_or_above, time_of_first}
 
 -- ---- a named number is at most the greatest
 
@@ -32,24 +34,19 @@ named_at_most (range ∷ ranges) n is = elim (or_cases (nat_le range.0 n && nat_
 
 -- ---- the packet that is sampled
 
--- the first of the list, where it has this number
-abbrev pub first_if : ℕ → List Packet → Option Packet
-first_if n [] = None
-first_if n (p ∷ ps) = if p.number == n then Some p else None
-
 first_step : (n : ℕ) (p : Packet) (ps : List Packet) (here : Bool) → (p.number == n) ≡ here → AllByRecursion (IsEarlier p) ps → p.number ≤ n
     → (if here then Some p else find (λ (q : Packet). q.number == n) ps) ≡ (if here then Some p else None)
 first_step n p ps true is earlier most = refl
 first_step n p ps false is earlier most =
     find_none (λ q. q.number == n) ps (each_weaker (IsEarlier p) (λ q. (q.number == n) ≡ false) (λ q before. ne_eqb q.number n (λ same. omega (arith, same, before.number, most))) ps earlier)
 
-highest_first : (n : ℕ) (ps : List Packet) → EachTwo IsEarlier ps → AllByRecursion (λ p. p.number ≤ n) ps → find (λ p. p.number == n) ps ≡ first_if n ps
+highest_first : (n : ℕ) (ps : List Packet) → EachTwo IsEarlier ps → AllByRecursion (λ p. p.number ≤ n) ps → find (λ p. p.number == n) ps ≡ first_if_numbered n ps
 highest_first n [] two most = refl
 highest_first n (p ∷ ps) two most = first_step n p ps (p.number == n) refl two.0 most.0
 
 -- in a run the packet with the largest number of an acknowledgment, where it is newly acknowledged, is the first of those
 pub sampled_is_first : (c : Settings) (h : List Event) → IsRun c h → (time : ℕ) (space : Space) (ranges : List (ℕ × ℕ)) (delay : ℕ) (limited : Bool)
-    → find (λ p. p.number == greatest ranges) (newly_acknowledged (Ack time space ranges delay limited ∷ h)) ≡ first_if (greatest ranges) (newly_acknowledged (Ack time space ranges delay limited ∷ h))
+    → find (λ p. p.number == greatest ranges) (newly_acknowledged (Ack time space ranges delay limited ∷ h)) ≡ first_if_numbered (greatest ranges) (newly_acknowledged (Ack time space ranges delay limited ∷ h))
 sampled_is_first c h run time space ranges delay limited =
     let e = Ack time space ranges delay limited in
     let new = newly_acknowledged (e ∷ h) in
@@ -63,10 +60,6 @@ sampled_is_first c h run time space ranges delay limited =
 
 -- ---- the greatest number that was sent
 
-abbrev pub first_at_or_above : ℕ → List Packet → Bool
-first_at_or_above n [] = false
-first_at_or_above n (p ∷ ps) = nat_le n p.number
-
 above_step : (n : ℕ) (p : Packet) (ps : List Packet) (here : Bool) → nat_le n p.number ≡ here → AllByRecursion (IsEarlier p) ps
     → (here || list_any (λ (q : Packet). nat_le n q.number) ps) ≡ here
 above_step n p ps true is earlier = refl
@@ -74,19 +67,15 @@ above_step n p ps false is earlier =
     let above = leb-false n p.number is in
     none_of (λ q. nat_le n q.number) ps (each_weaker (IsEarlier p) (λ q. nat_le n q.number ≡ false) (λ q before. lt-leb n q.number (omega (arith, above, before.number))) ps earlier)
 
-above_first : (n : ℕ) (ps : List Packet) → EachTwo IsEarlier ps → list_any (λ (q : Packet). nat_le n q.number) ps ≡ first_at_or_above n ps
+above_first : (n : ℕ) (ps : List Packet) → EachTwo IsEarlier ps → list_any (λ (q : Packet). nat_le n q.number) ps ≡ is_first_at_or_above n ps
 above_first n [] two = refl
 above_first n (p ∷ ps) two = above_step n p ps (nat_le n p.number) refl two.0
 
 -- in a run a number is at most that of some packet of the space where it is at most that of the latest
-pub above_is_latest : (c : Settings) (h : List Event) → IsRun c h → (s : Space) (n : ℕ) → has_at_or_above s n h ≡ first_at_or_above n (packets_of h s)
+pub above_is_latest : (c : Settings) (h : List Event) → IsRun c h → (s : Space) (n : ℕ) → has_at_or_above s n h ≡ is_first_at_or_above n (packets_of h s)
 above_is_latest c h run s n = above_first n (packets_of h s) (in_order_of c h s run)
 
 -- ---- the last that was sent of some
-
-abbrev pub time_of_first : List Packet → ℕ
-time_of_first [] = 0
-time_of_first (p ∷ ps) = p.time
 
 sent_by : (t : ℕ) (ps : List Packet) → AllByRecursion (λ q. q.time ≤ t) ps → latest_sent ps ≤ t
 sent_by t [] all = omega arith
@@ -108,10 +97,6 @@ latest_owed c h run = latest_first (owed c h) (found_in_order c h run (detection
 
 -- ---- numbers rise in the order of sending
 
-second_part : (R : Packet → Packet → Type 0) (ps qs : List Packet) → EachTwo R (ps ++ qs) → EachTwo R qs
-second_part R [] qs two = two
-second_part R (p ∷ ps) qs two = second_part R ps qs two.1
-
 -- in a run the packets of a space that are kept have rising numbers in the order of sending
 pub kept_rise : (c : Settings) (h : List Event) → IsRun c h → (s : Space) (gone kept : List Packet) → reverse (packets h) ≡ gone ++ kept → EachTwo (λ p q. p.number < q.number) (filter (is_of s) kept)
 kept_rise c h run s gone kept parts =
@@ -120,4 +105,4 @@ kept_rise c h run s gone kept parts =
     let same : reverse (packets_of h s) ≡ filter (is_of s) gone ++ filter (is_of s) kept =
     sym (part_turned (is_of s) (packets h)) ∙ (ap (filter (is_of s)) parts ∙ filter-append (is_of s) gone kept) in
     two_weaker Later (λ p q. p.number < q.number) (λ p q before. before.number) (filter (is_of s) kept)
-    (second_part Later (filter (is_of s) gone) (filter (is_of s) kept) (subst (λ (ps : List Packet). EachTwo Later ps) same all))
+    (two_of_rest Later (filter (is_of s) gone) (filter (is_of s) kept) (subst (λ (ps : List Packet). EachTwo Later ps) same all))

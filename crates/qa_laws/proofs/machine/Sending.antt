@@ -6,7 +6,7 @@ use Rattle.std.proofs.lemmas.List.Elements.{Contains-append_left}
 use Rattle.std.specs.List.{AllByRecursion}
 use Rattle.qa_base.specs.declared.event.Event.{Event}
 use Rattle.qa_base.specs.declared.event.Event.TheVariants.{Sent}
-use Rattle.qa_laws.specs.machine.Among.{finds_apart, counts_as_end, AreClosed}
+use Rattle.qa_laws.specs.machine.Among.{finds_apart, counts_as_end}
 use Rattle.qa_base.specs.machine.Loss.{owed, is_owed, is_open, is_end, is_persistent}
 use Rattle.qa_base.specs.machine.Packets.{Packet, packets, packet_of, is_covered, is_newly_acknowledged, newly_acknowledged}
 use Rattle.qa_base.specs.machine.Rtt.{rtt, persistent_after}
@@ -20,6 +20,7 @@ use Rattle.qa_laws.proofs.machine.Pairs.{at_one, of_each, each_turned, part_turn
 use Rattle.std.proofs.lemmas.List.Sums.{sum_by-cons, sum_by_push}
 use Rattle.qa_laws.proofs.machine.Settled.{closed_stays}
 use Rattle.qa_laws.proofs.machine.Walks.{turned_has}
+use Rattle.qa_laws.specs.machine.Parts.{AreClosed}
 
 -- ---- the parts of a list that is turned
 

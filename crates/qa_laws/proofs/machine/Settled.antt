@@ -14,7 +14,8 @@ use Rattle.qa_base.specs.machine.Packets.{Packet, packets, packets_of, is_of, is
 use Rattle.qa_base.specs.machine.Rules.{IsRun}
 use Rattle.qa_base.specs.values.Settings.{Settings}
 use Rattle.qa_base.specs.machine.Timer.{is_below_largest}
-use Rattle.qa_laws.proofs.machine.Courses.{are_below, is_space_same, is_space_is}
+use Rattle.qa_laws.proofs.machine.Courses.{is_space_same, is_space_is}
+use Rattle.qa_base.proofs.machine.WindowBound.{placed}
 use Rattle.qa_laws.proofs.machine.Pairs.{at_one, part_has, part_is, some_one, first_or_rest}
 use Rattle.qa_base.proofs.machine.RunLaws.{all_hold}
 
@@ -109,12 +110,12 @@ pub owed_space : (c : Settings) (h : List Event) (time : ℕ) (space : Space) (r
     → (p : Packet) → is_owed c h p ≡ true → p.space ≡ space
 owed_space c h time space ranges run p is =
     let holds = all_hold c h (Lost time space ranges) run.1 in
-    let one = some_one (is_of space) (owed c h) (not-false (list_any (is_of space) (owed c h)) holds.1.1.0) in
+    let one = some_one (is_of space) (owed c h) (not-false (list_any (is_of space) (owed c h)) holds.loss_not_owed) in
     owed_of_one c h p one.0 is (owed_is c h one.0 one.1).1 ∙ sym (is_space_is space one.0.space one.2)
 
 pub names_all : (c : Settings) (h : List Event) (time : ℕ) (space : Space) (ranges : List (ℕ × ℕ)) → IsRun c (Lost time space ranges ∷ h)
     → names_exactly ranges (numbers (owed c h)) ≡ true
-names_all c h time space ranges run = not-false (names_exactly ranges (numbers (owed c h))) (all_hold c h (Lost time space ranges) run.1).1.1.1.0
+names_all c h time space ranges run = not-false (names_exactly ranges (numbers (owed c h))) (all_hold c h (Lost time space ranges) run.1).loss_set
 
 -- a Lost line of a run declares each packet lost that is owed
 pub owed_is_named : (c : Settings) (h : List Event) (time : ℕ) (space : Space) (ranges : List (ℕ × ℕ)) → IsRun c (Lost time space ranges ∷ h)
@@ -127,11 +128,11 @@ owed_is_named c h time space ranges run p has is =
 -- in a run, what is owed is declared lost by the event that comes next
 pub owed_then_lost : (c : Settings) (e : Event) (h : List Event) → IsRun c (e ∷ h) → (p : Packet) → Contains (packets h) p → is_owed c h p ≡ true → is_lost (e ∷ h) p ≡ true
 owed_then_lost c (Lost time space ranges) h run p has is =
-    let below : p.place < length h = at_one (λ q. q.place < length h) (packets h) p (are_below h) has in
+    let below : p.place < length h = at_one (λ q. q.place < length h) (packets h) p (placed h) has in
     or_left (declares_lost p.space p.number (Lost time space ranges) && nat_lt p.place (length h)) (is_lost h p)
     (and_from (declares_lost p.space p.number (Lost time space ranges)) (nat_lt p.place (length h))
     (owed_is_named c h time space ranges run p has is) (lt-ltb p.place (length h) below))
-owed_then_lost c e h run p has is = not_while_owed c h p (is_lost (e ∷ h) p ≡ true) has is (all_hold c h e run.1).1.0
+owed_then_lost c e h run p has is = not_while_owed c h p (is_lost (e ∷ h) p ≡ true) has is (all_hold c h e run.1).loss_owed
 
 -- ---- open
 

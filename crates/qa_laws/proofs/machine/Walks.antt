@@ -8,13 +8,13 @@ use Rattle.qa_base.specs.declared.event.Event.TheVariants.{Sent, Discard}
 use Rattle.qa_base.specs.declared.space.Space.{Space}
 use Rattle.qa_base.specs.values.Events.{discards}
 use Rattle.qa_base.specs.machine.Loss.{is_found, is_found_at, detection, owed, is_owed, is_late, is_unsettled}
-use Rattle.qa_laws.specs.machine.Oldest.{is_flying, is_asked, asked, NoneFlies}
+use Rattle.qa_laws.specs.machine.Oldest.{is_flying, is_asked, NoneFlies}
 use Rattle.qa_base.specs.machine.Packets.{Packet, packets, is_of, is_gone, largest_acknowledged}
 use Rattle.qa_base.specs.machine.Rtt.{rtt}
 use Rattle.qa_base.specs.machine.Rules.{IsRun}
 use Rattle.qa_base.specs.values.Settings.{Settings}
 use Rattle.qa_laws.proofs.machine.Courses.{is_space_is}
-use Rattle.qa_laws.proofs.machine.Detection.{owed_is_front, asked_was_flying, space_of_detection}
+use Rattle.qa_laws.proofs.machine.Detection.{asked, owed_is_front, asked_was_flying, space_of_detection}
 use Rattle.qa_laws.proofs.machine.Pairs.{at_one, of_each, none_left, each_turned}
 
 -- ---- the list turned has the same packets

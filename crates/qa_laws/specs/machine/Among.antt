@@ -1,8 +1,8 @@
--- Persistent congestion, asked of a part of the packets that were sent.
-use Rattle.std.specs.Prelude.{ℕ, ◌-◌, ◌&&◌, ◌||◌, ◌≡◌, not, nat_lt, Bool, false, List, [], ◌∷◌, filter, Option, Some, None, if◌then◌else◌}
-use Rattle.std.specs.List.{list_any, AllByRecursion}
+-- Persistent congestion (RFC 9002, section 7.6), asked of a part of the packets that were sent.
+use Rattle.std.specs.Prelude.{ℕ, ◌-◌, ◌&&◌, ◌||◌, not, nat_lt, Bool, false, List, [], ◌∷◌, filter, Option, Some, None, if◌then◌else◌}
+use Rattle.std.specs.List.{list_any}
 use Rattle.qa_base.specs.declared.event.Event.{Event}
-use Rattle.qa_base.specs.machine.Loss.{is_open, is_owed, is_end}
+use Rattle.qa_base.specs.machine.Loss.{is_owed, is_end}
 use Rattle.qa_base.specs.machine.Packets.{Packet, is_covered}
 use Rattle.qa_base.specs.machine.Rtt.{rtt, persistent_after}
 use Rattle.qa_base.specs.values.Settings.{Settings}
@@ -11,6 +11,7 @@ use Rattle.qa_base.specs.values.Settings.{Settings}
 abbrev pub is_acknowledged_among : List Event → List Packet → Packet → Packet → Bool
 is_acknowledged_among h ps p q = list_any (λ m. nat_lt p.place m.place && nat_lt m.place q.place && is_covered h m) ps
 
+-- the two lie too far apart (section 7.6.1), and none of these packets between them was acknowledged
 abbrev pub are_ends_among : Settings → List Event → List Packet → Packet → Packet → Bool
 are_ends_among c h ps p q =
     is_end c h p && is_end c h q
@@ -21,13 +22,9 @@ are_ends_among c h ps p q =
 abbrev pub is_persistent_among : Settings → List Event → List Packet → Bool
 is_persistent_among c h ps = list_any (λ p. list_any (are_ends_among c h ps p) (filter (is_owed c h) ps)) (filter (is_owed c h) ps)
 
--- none of these is open
-abbrev pub AreClosed : Settings → List Event → List Packet → Type 0
-AreClosed c h ps = AllByRecursion (λ p. is_open c h p ≡ false) ps
-
 -- ---- in one walk in the order of sending
 
--- a packet that the last event found lost, which may be an end
+-- the last event found the packet lost, and it may be an end (section 7.6.2)
 abbrev pub counts_as_end : Settings → List Event → Packet → Bool
 counts_as_end c h p = is_owed c h p && is_end c h p
 
@@ -36,11 +33,13 @@ abbrev pub is_far_from : ℕ → Option ℕ → ℕ → Bool
 is_far_from limit None t = false
 is_far_from limit (Some began) t = nat_lt limit (t - began)
 
+-- the earlier time at hand, where there is one
 abbrev pub earliest : Option ℕ → ℕ → ℕ
 earliest None t = t
 earliest (Some began) t = began
 
--- at hand is when the first was sent that counts of those since the last covered packet
+-- two packets that count lie more than the limit apart with no covered packet between; at hand is when the first was sent that
+-- counts since the last covered packet
 abbrev pub finds_apart : (Packet → Bool) → (Packet → Bool) → ℕ → Option ℕ → List Packet → Bool
 finds_apart covered counts limit began [] = false
 finds_apart covered counts limit began (p ∷ ps) =

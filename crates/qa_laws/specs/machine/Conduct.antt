@@ -5,7 +5,7 @@ use Rattle.qa_base.specs.declared.event.Event.{Event}
 use Rattle.qa_base.specs.declared.event.Event.TheVariants.{Sent, Lost, Timer}
 use Rattle.qa_base.specs.declared.space.Kind.TheVariants.{Pto}
 use Rattle.qa_base.specs.declared.space.Leave.{Leave}
-use Rattle.qa_base.specs.declared.space.Leave.TheVariants.{Probe, Recovery}
+use Rattle.qa_base.specs.declared.space.Leave.TheVariants.{Window, Probe, Recovery}
 use Rattle.qa_base.specs.declared.space.Space.{Space}
 use Rattle.qa_base.specs.values.Constants.{packet_threshold, probe_datagrams}
 use Rattle.qa_base.specs.values.Events.{is_named, time_of}
@@ -18,8 +18,9 @@ use Rattle.qa_base.specs.machine.Timer.{loss_delay}
 
 -- ---- losses (RFC 9002, section 6.1)
 
--- a packet of the space has this number that was in flight, and a packet of the space that was sent later is acknowledged, by
--- a number that is higher by three at least, or the loss delay had passed when it was looked for
+-- an in-flight packet of the space has this number, and a packet of the space that was sent later is acknowledged: its number
+-- is higher by the packet threshold at least (section 6.1.1), or the loss delay had passed since the first was sent when it was
+-- looked for (section 6.1.2)
 pub record IsLostRightly (c : Settings) (h : List Event) (s : Space) (n : ℕ) : Type 0 where
   pub packet : Packet
   pub sent : Contains (packets h) packet
@@ -38,6 +39,7 @@ pub record IsLostRightly (c : Settings) (h : List Event) (s : Space) (n : ℕ) :
 
 -- ---- probes (RFC 9002, section 6.2.4)
 
+-- the event is a probe timeout
 abbrev pub is_pto_event : Event → Bool
 is_pto_event (Timer time Pto space) = true
 is_pto_event _ = false
@@ -59,7 +61,15 @@ abbrev pub is_recovery : Event → Bool
 is_recovery (Sent time space number size eliciting in_flight Recovery) = in_flight
 is_recovery _ = false
 
--- some event among these, which come after the history, is the last of a moment that passes the test
+-- some event of the history is the last of a moment that passes the test
+pub record HasMoment (test : List Event → Bool) (h : List Event) : Type 0 where
+  pub later : List Event
+  pub event : Event
+  pub before : List Event
+  pub stands : h ≡ later ++ event ∷ before
+  pub passes : test (event ∷ before) ≡ true
+
+-- and so is some event among these, which come after the history
 pub record IsAmong (test : List Event → Bool) (events h : List Event) : Type 0 where
   pub later : List Event
   pub event : Event
@@ -67,7 +77,8 @@ pub record IsAmong (test : List Event → Bool) (events h : List Event) : Type 0
   pub stands : events ≡ later ++ event ∷ earlier
   pub passes : test (event ∷ earlier ++ h) ≡ true
 
--- from the end of the history on, up to the last of these events, the window did not collapse
+-- neither the last event of the history nor any of these, which come after it, establishes persistent congestion
+-- (section 7.6.2)
 abbrev pub NoCollapse : Settings → List Event → List Event → Type 0
 NoCollapse c events h = (later earlier : List Event) → events ≡ later ++ earlier → is_persistent c (earlier ++ h) ≡ false
 
@@ -77,19 +88,34 @@ pub record IsSentAfter (time : ℕ) (lost : List Packet) : Type 0 where
   pub found : Contains lost packet
   pub after : time < packet.time
 
--- ---- the conduct of a run
+-- ---- leave (RFC 9002, sections 6.2.4 and 7.3.2)
 
--- the leave of an in-flight packet of so many bytes: a probe, within two datagrams since the last probe timeout, which there
--- was; or the one packet of an entry into recovery
+-- there was a probe timeout, and with so many bytes more the probes since the last have the bytes of two datagrams at most
+pub record HasProbeLeft (c : Settings) (h : List Event) (size : ℕ) : Type 0 where
+  pub since : List Event
+  pub timeout : Event
+  pub before : List Event
+  pub stands : h ≡ since ++ timeout ∷ before
+  pub times_out : is_pto_event timeout ≡ true
+  pub last : list_any is_pto_event since ≡ false
+  pub within : sum_by probe_bytes since + size ≤ probe_datagrams * c.max_datagram_size
+
+-- there was an entry into recovery, and no packet was sent for it since
+pub record HasEntryLeft (c : Settings) (h : List Event) : Type 0 where
+  pub since : List Event
+  pub entry : Event
+  pub before : List Event
+  pub stands : h ≡ since ++ entry ∷ before
+  pub enters : is_entry c (entry ∷ before) ≡ true
+  pub unused : list_any is_recovery since ≡ false
+
+-- the leave of an in-flight packet of so many bytes that the window has no room for
 abbrev pub HasLeave : Settings → List Event → ℕ → Leave → Type 0
-HasLeave c h size leave =
-    ((leave ≡ Probe)
-    × (since : List Event) × (timeout : Event) × (before : List Event)
-    × (h ≡ since ++ timeout ∷ before) × (is_pto_event timeout ≡ true) × (list_any is_pto_event since ≡ false)
-    × (sum_by probe_bytes since + size ≤ probe_datagrams * c.max_datagram_size))
-    ⊎ ((leave ≡ Recovery)
-    × (since : List Event) × (entry : Event) × (before : List Event)
-    × (h ≡ since ++ entry ∷ before) × (is_entry c (entry ∷ before) ≡ true) × (list_any is_recovery since ≡ false))
+HasLeave c h size Window = ⊥
+HasLeave c h size Probe = HasProbeLeft c h size
+HasLeave c h size Recovery = HasEntryLeft c h
+
+-- ---- the conduct of a run
 
 -- what is declared lost was lost; what is sent past the window has its leave; and of two entries into recovery with no collapse
 -- of the window between, the second has a loss that was sent after the first

@@ -5,18 +5,21 @@ use Rattle.qa_base.specs.machine.Loss.{is_owed}
 use Rattle.qa_base.specs.machine.Packets.{Packet, is_covered, is_lost}
 use Rattle.qa_base.specs.values.Settings.{Settings}
 
+-- neither acknowledged nor found lost; found lost by the last event; declared lost; acknowledged, also where it was lost before
 pub data Fate : Type 0 where
   Uncovered : Fate
   Owed : Fate
   DeclaredLost : Fate
   Covered : Fate
 
+-- by whether it was acknowledged, declared lost and found lost
 abbrev pub fate_by : (covered lost owed : Bool) → Fate
 fate_by true lost owed = Covered
 fate_by false true owed = DeclaredLost
 fate_by false false true = Owed
 fate_by false false false = Uncovered
 
+-- what became of the packet
 abbrev pub fate : Settings → List Event → Packet → Fate
 fate c h p = fate_by (is_covered h p) (is_lost h p) (is_owed c h p)
 
@@ -31,6 +34,7 @@ fate_next true found f = Covered
 fate_next false true f = Owed
 fate_next false false f = declared f
 
+-- neither acknowledged nor found lost
 abbrev pub is_uncovered : Fate → Bool
 is_uncovered Uncovered = true
 is_uncovered f = false

@@ -1,28 +1,21 @@
--- The packets of a space that are open and in flight: the oldest of them, and those of which a detection asks whether they are late.
+-- The packets of a space that are open and in flight, and those of which a detection asks whether they are late (RFC 9002,
+-- section 6.1).
 use Rattle.std.specs.List.{AllByRecursion}
-use Rattle.std.specs.Prelude.{◌≡◌, false, ◌+◌, ◌&&◌, ◌||◌, not, Bool, List, [], ◌∷◌, filter, reverse, Option, Some, None, if◌then◌else◌}
-use Rattle.std.specs.Option.{option_or}
+use Rattle.std.specs.Prelude.{◌≡◌, false, ◌+◌, ◌&&◌, ◌||◌, not, Bool, List, Option, Some, None, if◌then◌else◌}
 use Rattle.qa_base.specs.declared.event.Event.{Event}
 use Rattle.qa_base.specs.declared.space.Kind.TheVariants.{Loss}
 use Rattle.qa_base.specs.declared.space.Space.{Space}
 use Rattle.qa_base.specs.machine.Loss.{is_open, is_unsettled}
-use Rattle.qa_base.specs.machine.Packets.{Packet, packets, packets_of, is_of, largest_acknowledged}
+use Rattle.qa_base.specs.machine.Packets.{Packet, is_of, largest_acknowledged}
 use Rattle.qa_base.specs.machine.Rtt.{rtt}
 use Rattle.qa_base.specs.values.Settings.{Settings}
 use Rattle.qa_base.specs.machine.Timer.{Due, loss_delay, is_below_largest}
 
--- the first that was sent of those that pass the test; the list has the latest first
-abbrev pub first_sent : (Packet → Bool) → List Packet → Option Packet
-first_sent test [] = None
-first_sent test (p ∷ ps) = option_or (first_sent test ps) (if test p then Some p else None)
-
+-- open and in flight
 abbrev pub is_flying : Settings → List Event → Packet → Bool
 is_flying c h p = p.in_flight && is_open c h p
 
-abbrev pub oldest_flying : Settings → List Event → Space → Option Packet
-oldest_flying c h s = first_sent (is_flying c h) (packets_of h s)
-
--- when that packet is old, where it is below the largest acknowledged number
+-- when such a packet of the space is old, where it is below the largest acknowledged number (RFC 9002, section 6.1.2)
 abbrev pub due_of : Settings → List Event → Space → Option Packet → Option Due
 due_of c h s None = None
 due_of c h s (Some p) =
@@ -30,13 +23,9 @@ due_of c h s (Some p) =
     then Some (record { kind = Loss; space = s; time = p.time + loss_delay (rtt c h) })
     else None
 
--- a packet of the space of which a detection asks whether it is late
+-- a detection in the space asks of the packet whether it is late
 abbrev pub is_asked : List Event → Space → Packet → Bool
 is_asked h s p = is_of s p && (p.in_flight && is_unsettled h p)
-
--- those packets in the order of sending
-abbrev pub asked : List Event → Space → List Packet
-asked h s = filter (is_asked h s) (reverse (packets h))
 
 -- none of these is of the space, open and in flight
 abbrev pub NoneFlies : Settings → List Event → Space → List Packet → Type 0

@@ -1,5 +1,5 @@
--- Sums over the packets that are open, and the packets that one more event closes.
-use Rattle.std.specs.Prelude.{ℕ, ◌&&◌, not, Bool, List, ◌∷◌, filter, sum_by, if◌then◌else◌}
+-- Sums over the packets that are open.
+use Rattle.std.specs.Prelude.{ℕ, ◌&&◌, Bool, List, filter, sum_by, if◌then◌else◌}
 use Rattle.qa_base.specs.declared.event.Event.{Event}
 use Rattle.qa_base.specs.declared.space.Space.{Space}
 use Rattle.qa_base.specs.values.Events.{discards}
@@ -15,28 +15,26 @@ counted test weight p = if test p then weight p else 0
 abbrev pub open_sum : (Packet → ℕ) → Settings → List Event → ℕ
 open_sum weight c h = sum_by (counted (is_open c h) weight) (packets h)
 
--- the packet was open before the event, and the event closes it
-abbrev pub is_closed_by : Settings → Event → List Event → Packet → Bool
-is_closed_by c e before p = is_open c before p && not (is_open c (e ∷ before) p)
-
+-- the packet was open before the event, which discards its space
 abbrev pub is_discarded_by : Settings → Event → List Event → Packet → Bool
 is_discarded_by c e before p = discards p.space e && is_open c before p
-
--- the packets that the event closes
-abbrev pub closed_by : Settings → Event → List Event → List Packet
-closed_by c e before = filter (is_closed_by c e before) (packets before)
 
 -- the open packets whose space the event discards
 abbrev pub discarded : Settings → Event → List Event → List Packet
 discarded c e before = filter (is_discarded_by c e before) (packets before)
 
--- the bytes of a packet that is in flight
+-- a weight that packets of one space alone have
+abbrev pub within_space : Space → (Packet → ℕ) → Packet → ℕ
+within_space s weight p = if is_of s p then weight p else 0
+
+-- the bytes of a packet that is in flight (RFC 9002, B.4)
 abbrev pub bytes : Packet → ℕ
 bytes p = if p.in_flight then p.size else 0
 
+-- those of a packet of the space
 abbrev pub bytes_of : Space → Packet → ℕ
-bytes_of s p = if is_of s p then bytes p else 0
+bytes_of s p = within_space s bytes p
 
--- one for a packet of the space that asks for an acknowledgment
+-- one for an ack-eliciting packet of the space
 abbrev pub asks_of : Space → Packet → ℕ
 asks_of s p = if is_of s p && p.eliciting then 1 else 0

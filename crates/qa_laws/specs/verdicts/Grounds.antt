@@ -14,7 +14,7 @@ use Rattle.qa_base.specs.declared.verdict.Verdict.TheVariants.{Accepted, Refused
 use Rattle.qa_base.specs.format.Lines.{line_limit, max_lines}
 use Rattle.qa_base.specs.machine.Loss.{owed}
 use Rattle.qa_base.specs.machine.Packets.{history_of}
-use Rattle.qa_base.specs.machine.Rules.{first_broken, IsRun}
+use Rattle.qa_base.specs.machine.Rules.{first_broken}
 use Rattle.qa_base.specs.values.Settings.{Settings}
 use Rattle.qa_base.specs.machine.State.{totals}
 use Rattle.qa_base.specs.verdicts.Verdict.{Reading, IsWithinLimit, IsTraceOfRun, IsRunBy, events_in, event_line, opening, sayings}

@@ -2,4 +2,4 @@ use Rattle.qa_laws.proofs.machine.ConductOfWindows as lemmas
 use Rattle.qa_laws.proofs.conduct.windows_fall_by_losses.Goals as goal
 
 pub returns : goal.returns
-returns c = record { least = lemmas.window_at_least; lower = lemmas.lower_by_loss }
+returns c = lemmas.lower_by_loss
