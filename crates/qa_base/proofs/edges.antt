@@ -3,6 +3,7 @@ pub mod Deadlines
 pub mod anti_deadlock
 pub mod between
 pub mod declared
+pub mod handshake
 pub mod leave
 pub mod loss
 pub mod persistent
