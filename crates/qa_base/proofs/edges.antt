@@ -6,6 +6,7 @@ pub mod declared
 pub mod handshake
 pub mod leave
 pub mod loss
+pub mod metrics
 pub mod persistent
 pub mod recovery_mark
 pub mod rtt
