@@ -7,9 +7,11 @@ pub mod handshake
 pub mod leave
 pub mod loss
 pub mod metrics
+pub mod order
 pub mod persistent
 pub mod recovery_mark
 pub mod rtt
+pub mod rules
 pub mod spaces
 pub mod timer
 pub mod window
