@@ -4,6 +4,7 @@ pub mod anti_deadlock
 pub mod between
 pub mod declared
 pub mod handshake
+pub mod kept
 pub mod leave
 pub mod loss
 pub mod metrics
