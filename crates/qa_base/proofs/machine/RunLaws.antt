@@ -6,6 +6,7 @@ use Rattle.std.specs.Prelude.{nat_le, if◌then◌else◌}
 use Rattle.qa_base.specs.declared.event.Event.{Event}
 use Rattle.qa_base.specs.declared.event.Event.TheVariants.{Sent}
 use Rattle.qa_base.specs.declared.rule.Rule.{Rule}
+use Rattle.qa_base.specs.machine.Breaches.{is_number_not_higher}
 use Rattle.qa_base.specs.machine.Order.{IsLower, NumbersFall}
 use Rattle.qa_base.specs.machine.Packets.{Packet, packets, is_of, newly_acknowledged, is_newly_acknowledged}
 use Rattle.qa_base.specs.machine.Rules.{broken, first_of, first_broken, IsRun}
@@ -60,6 +61,7 @@ all_lower p (q ∷ ps) none =
 event_falls : (c : Settings) (e : Event) (h : List Event) → first_broken c h e ≡ None → NumbersFall (packets h) → NumbersFall (packets (e ∷ h))
 event_falls c (Sent time space number size eliciting in_flight leave) h allowed falls =
     let holds = all_hold c h (Sent time space number size eliciting in_flight leave) allowed in
+    let higher : is_number_not_higher h (Sent time space number size eliciting in_flight leave) ≡ false = assumption holds in
     let p : Packet = record {
       place = length h;
       time = time;
@@ -70,7 +72,7 @@ event_falls c (Sent time space number size eliciting in_flight leave) h allowed 
       in_flight = in_flight;
       leave = leave;
     } in
-    (all_lower p (packets h) holds.1.1.1.1.1.0, falls)
+    (all_lower p (packets h) higher, falls)
 event_falls c _ h allowed falls = falls
 
 -- in a run each packet has a higher number than those sent before it in its space
