@@ -3,11 +3,16 @@ pub mod Deadlines
 pub mod anti_deadlock
 pub mod between
 pub mod declared
+pub mod handshake
+pub mod kept
 pub mod leave
 pub mod loss
+pub mod metrics
+pub mod order
 pub mod persistent
 pub mod recovery_mark
 pub mod rtt
+pub mod rules
 pub mod spaces
 pub mod timer
 pub mod window

@@ -187,3 +187,10 @@ pub probe_is_due_in_the_space_of_the_last_timeout :
     × IsRun s (pto_fires Initial 4995000 ∷ sent Handshake 1 2498000 1200 ∷ due_of_the_last)
 unfolding first_broken
 probe_is_due_in_the_space_of_the_last_timeout = (((((((tt, refl), refl), refl), refl), refl), refl), refl, (((((((tt, refl), refl), refl), refl), refl), refl), refl))
+
+-- A packet that is not in flight spends nothing of it, also where it is marked as a probe: 1200 are left after 1200 of them.
+pub packet_not_in_flight_spends_no_allowance :
+    IsRun s (probe App 3 1024000 1200 ∷ bare_probe App 2 1024000 1200 ∷ half_spent)
+    × (first_broken s (bare_probe App 2 1024000 1200 ∷ half_spent) (probe App 3 1024000 1201) ≡ Some rule.PastProbe)
+unfolding first_broken
+packet_not_in_flight_spends_no_allowance = (((((((tt, refl), refl), refl), refl), refl), refl), refl)

@@ -1,5 +1,5 @@
 -- Edges of loss detection (RFC 9002, section 6.1).
-use Rattle.std.specs.Prelude.{◌≡◌, List, [], ◌∷◌, Some, None, refl}
+use Rattle.std.specs.Prelude.{◌≡◌, ℕ, List, [], ◌∷◌, Some, None, refl}
 use Rattle.qa_base.specs.declared.event.Event.{Event}
 use Rattle.qa_base.specs.declared.event.Event.TheVariants.{Confirmed}
 use Rattle.qa_base.specs.declared.rule.Rule.TheVariants as rule
@@ -212,3 +212,50 @@ pub detection_is_by_smoothed_where_it_is_above_latest :
     IsRun s faster_detection × (owed s faster_detection ≡ []) × (deadline s faster_detection ≡ loss_at App 165782)
 unfolding first_broken
 detection_is_by_smoothed_where_it_is_above_latest = ((((((tt, refl), refl), refl), refl), refl), refl, refl)
+
+-- ---- where losses are looked for, and below which number
+
+abbrev lower_acknowledged : ℕ → List Event
+lower_acknowledged time =
+    ack App ((0, 0) ∷ []) time ∷
+    ack App ((2, 2) ∷ []) 100000 ∷
+    sent App 2 0 1200 ∷
+    sent App 1 0 1200 ∷
+    padded App 0 0 1200 ∷ []
+
+-- Packet 2 stays the largest acknowledged when packet 0, which is padded and gives no sample, is acknowledged after it: packet 1
+-- awaits its time, 112500, and an acknowledgment of 0 that comes then finds it lost.
+pub largest_acknowledged_is_of_all_acknowledgments :
+    IsRun s (lower_acknowledged 100001) × (deadline s (lower_acknowledged 100001) ≡ loss_at App 112500)
+    × IsRun s (lost App ((1, 1) ∷ []) 112500 ∷ lower_acknowledged 112500)
+unfolding first_broken
+largest_acknowledged_is_of_all_acknowledgments = ((((((tt, refl), refl), refl), refl), refl), refl, ((((((tt, refl), refl), refl), refl), refl), refl))
+
+abbrev two_below : List Event
+two_below =
+    ack App ((2, 2) ∷ []) 105000 ∷
+    sent App 2 5000 1200 ∷
+    sent App 1 5000 1200 ∷
+    sent App 0 0 1200 ∷ []
+
+-- Two packets await their time, 0 + 112500 and 5000 + 112500: the timer is set for the first, and finds it alone.
+pub loss_timer_is_of_the_first_packet :
+    IsRun s two_below × (deadline s two_below ≡ loss_at App 112500)
+    × IsRun s (lost App ((0, 0) ∷ []) 112500 ∷ loss_fires App 112500 ∷ two_below)
+unfolding first_broken
+loss_timer_is_of_the_first_packet = (((((tt, refl), refl), refl), refl), refl, ((((((tt, refl), refl), refl), refl), refl), refl))
+
+-- The second acknowledgment is new for packet 1 alone, and not for its largest. It gives no sample, but looks for losses: packet 0
+-- is 112500 old.
+pub detection_where_the_largest_is_not_new :
+    IsRun s (lost App ((0, 0) ∷ []) 112500 ∷ ack App ((1, 2) ∷ []) 112500 ∷ ack App ((2, 2) ∷ []) 100000
+    ∷ sent App 2 0 1200 ∷ sent App 1 0 1200 ∷ sent App 0 0 1200 ∷ [])
+unfolding first_broken
+detection_where_the_largest_is_not_new = ((((((tt, refl), refl), refl), refl), refl), refl)
+
+-- The same where packet 1 is not in flight.
+pub detection_by_a_packet_that_is_not_in_flight :
+    IsRun s (lost App ((0, 0) ∷ []) 112500 ∷ ack App ((1, 1) ∷ []) 112500 ∷ ack App ((2, 2) ∷ []) 100000
+    ∷ sent App 2 0 1200 ∷ bare App 1 0 100 ∷ sent App 0 0 1200 ∷ [])
+unfolding first_broken
+detection_by_a_packet_that_is_not_in_flight = ((((((tt, refl), refl), refl), refl), refl), refl)

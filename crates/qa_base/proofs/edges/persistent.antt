@@ -3,7 +3,7 @@
 -- In each history packet 0 gives a sample of 100000 and grows the window from 12000 to 13200. With rttvar 50000 the duration is
 -- 3 * (100000 + 200000 + 25000) = 975000. Losses halve the window to 6600; a collapse sets it to 2400, and the packet that
 -- was acknowledged grows it by 1200 to 3600. Without a collapse that packet is in recovery, and the window stays 6600.
-use Rattle.std.specs.Prelude.{◌≡◌, List, [], ◌∷◌, Some, None, refl}
+use Rattle.std.specs.Prelude.{◌≡◌, ℕ, List, [], ◌∷◌, Some, None, refl}
 use Rattle.qa_base.specs.declared.event.Event.{Event}
 use Rattle.qa_base.specs.declared.space.Space.TheVariants.{App}
 use Rattle.qa_base.specs.machine.Reno.{reno}
@@ -219,3 +219,23 @@ pub packets_found_by_two_detections_are_no_pair :
     IsRun s found_one_by_one × ((reno s found_one_by_one).window ≡ 6600)
 unfolding first_broken
 packets_found_by_two_detections_are_no_pair = ((((((((((tt, refl), refl), refl), refl), refl), refl), refl), refl), refl), refl)
+
+-- ---- the granularity in the duration
+
+abbrev steady_until : ℕ → List Event
+steady_until second =
+    lost App ((1, 2) ∷ []) 178600 ∷
+    ack App ((5, 5) ∷ []) 178600 ∷
+    padded App 5 78501 1200 ∷
+    sent App 2 second 1200 ∷
+    sent App 1 200 1200 ∷
+    ack App ((0, 0) ∷ []) 100 ∷
+    sent App 0 0 1200 ∷ []
+
+-- After a sample of 100, four times the variation of 50 is less than 1000: the duration is 3 * (100 + 1000 + 25000) = 78300, where
+-- 200 would make it 75900. Packets 78300 apart do not collapse the window, 78301 apart they do.
+pub granularity_in_the_duration :
+    IsRun s (steady_until 78500) × ((reno s (steady_until 78500)).window ≡ 6600)
+    × IsRun s (steady_until 78501) × ((reno s (steady_until 78501)).window ≡ 3600)
+unfolding first_broken
+granularity_in_the_duration = ((((((((tt, refl), refl), refl), refl), refl), refl), refl), refl, (((((((tt, refl), refl), refl), refl), refl), refl), refl), refl)

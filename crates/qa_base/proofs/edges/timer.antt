@@ -10,7 +10,7 @@ use Rattle.qa_base.specs.machine.Handshake.{is_validated}
 use Rattle.qa_base.specs.machine.Rules.{first_broken, IsRun}
 use Rattle.qa_base.specs.values.Settings.{Settings}
 use Rattle.qa_base.specs.machine.Timer.{backoff, deadline}
-use Rattle.qa_base.proofs.Shorthand.{client, server, sent, probe, ack, lost, loss_fires, pto_fires}
+use Rattle.qa_base.proofs.Shorthand.{client, server, sent, bare, probe, ack, lost, loss_fires, pto_fires}
 use Rattle.qa_base.proofs.edges.Deadlines.{loss_at, pto_at}
 
 abbrev c : Settings
@@ -158,3 +158,34 @@ pub loss_time_before_an_earlier_probe_timeout :
     × (first_broken s late_loss (pto_fires Initial 512500) ≡ Some rule.TimerOther)
 unfolding first_broken
 loss_time_before_an_earlier_probe_timeout = (((((tt, refl), refl), refl), refl), refl, refl)
+
+abbrev timeout_of_initial : List Event
+timeout_of_initial =
+    sent Initial 1 999000 1200 ∷
+    pto_fires Initial 999000 ∷
+    sent Handshake 0 500000 1200 ∷
+    sent Initial 0 0 1200 ∷ []
+
+-- The count is one for all spaces: the timeout of Initial doubles that of Handshake, 500000 + 1998000, and that of Initial is
+-- 999000 + 1998000.
+pub count_is_of_all_spaces :
+    IsRun s timeout_of_initial × (deadline s timeout_of_initial ≡ pto_at Handshake 2498000)
+    × (first_broken s timeout_of_initial (pto_fires Handshake 2497999) ≡ Some rule.TimerEarly)
+    × IsRun s (pto_fires Handshake 2498000 ∷ timeout_of_initial)
+unfolding first_broken
+count_is_of_all_spaces = (((((tt, refl), refl), refl), refl), refl, refl, (((((tt, refl), refl), refl), refl), refl))
+
+abbrev timeout_with_a_bare_packet : List Event
+timeout_with_a_bare_packet =
+    pto_fires Initial 999000 ∷
+    sent Initial 1 0 1200 ∷
+    bare Initial 0 0 100 ∷ []
+
+-- The acknowledgment of a packet that was not in flight gives no sample, but sets the count to 0: packet 1 is due at 0 + 999000 again.
+pub acknowledgment_of_a_bare_packet_resets_the_count :
+    IsRun s (ack Initial ((0, 0) ∷ []) 1000000 ∷ timeout_with_a_bare_packet)
+    × (backoff s timeout_with_a_bare_packet ≡ 1)
+    × (backoff s (ack Initial ((0, 0) ∷ []) 1000000 ∷ timeout_with_a_bare_packet) ≡ 0)
+    × (deadline s (ack Initial ((0, 0) ∷ []) 1000000 ∷ timeout_with_a_bare_packet) ≡ pto_at Initial 999000)
+unfolding first_broken
+acknowledgment_of_a_bare_packet_resets_the_count = (((((tt, refl), refl), refl), refl), refl, refl, refl)

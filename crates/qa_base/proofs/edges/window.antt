@@ -141,3 +141,33 @@ pub limited_sender_is_hit :
     IsRun s limited_and_lost × ((reno s limited_and_lost).window ≡ 6000)
 unfolding first_broken
 limited_sender_is_hit = (((((((tt, refl), refl), refl), refl), refl), refl), refl)
+
+-- ---- packets of other sizes than a datagram
+
+abbrev sizes_acknowledged : List Event
+sizes_acknowledged =
+    ack App ((0, 1) ∷ []) 100000 ∷
+    sent App 1 0 1500 ∷
+    sent App 0 0 500 ∷ []
+
+-- In slow start each packet adds its size, below a datagram and above it: 12000 + 500 + 1500. By datagrams it would be 14400, and
+-- by no more than a datagram each 13700.
+pub slow_start_is_by_the_sizes :
+    IsRun s sizes_acknowledged × ((reno s sizes_acknowledged).window ≡ 14000)
+unfolding first_broken
+slow_start_is_by_the_sizes = ((((tt, refl), refl), refl), refl)
+
+abbrev sizes_past_recovery : List Event
+sizes_past_recovery =
+    lost App ((1, 2) ∷ []) 200001 ∷
+    ack App ((4, 5) ∷ []) 200001 ∷
+    sent App 5 100001 1500 ∷
+    sent App 4 100001 700 ∷
+    in_recovery
+
+-- From the threshold of 6000 on packet 4 adds 1200 * 700 / 6000 = 140, and packet 5 then 1200 * 1500 / 6140 = 293. A whole datagram
+-- for each would be 240 and 230.
+pub avoidance_is_by_the_sizes :
+    IsRun s sizes_past_recovery × ((reno s sizes_past_recovery).window ≡ 6433)
+unfolding first_broken
+avoidance_is_by_the_sizes = (((((((((((tt, refl), refl), refl), refl), refl), refl), refl), refl), refl), refl), refl)
