@@ -5,5 +5,4 @@ pub mod ProperReadings
 pub mod KeysWritten
 pub mod OneLine
 pub mod LinesWritten
-pub mod SendsAlone
 pub mod Compact

@@ -1,7 +1,6 @@
 -- Lemmas about histories and the machine.
 pub mod Histories
 pub mod Quiet
-pub mod SendsAndReports
 pub mod RunLaws
 pub mod Ranges
 pub mod Steps

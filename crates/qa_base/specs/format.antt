@@ -3,5 +3,4 @@ pub mod Lines
 pub mod Keys
 pub mod Tables
 pub mod Reading
-pub mod Sends
 pub mod Written

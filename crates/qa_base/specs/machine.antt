@@ -12,7 +12,6 @@ pub mod State
 pub mod Metrics
 pub mod Breaches
 pub mod Rules
-pub mod Plain
 pub mod Order
 pub mod Kept
 pub mod Widths

@@ -8,7 +8,7 @@ ghost use Rattle.qa_base.specs.declared.space.Leave.{Leave};
 ghost use Rattle.qa_base.specs.declared.space.Space.{Space};
 ghost use Rattle.qa_base.specs.declared.verdict.Totals.{Totals};
 ghost use Rattle.qa_base.specs.declared.verdict.Verdict.TheVariants as verdicts;
-ghost use Rattle.qa_base.specs.values.Events.{fits, is_quiet, is_sent_or_report};
+ghost use Rattle.qa_base.specs.values.Events.{fits, is_quiet};
 ghost use Rattle.qa_base.specs.format.Lines.{has_lf, lines};
 ghost use Rattle.qa_base.specs.machine.Loss.{bytes_in_flight, is_old, owed};
 ghost use Rattle.qa_base.specs.machine.Numbers.{AreRanges, Names, NamesOnly, has_all, names_exactly};
@@ -19,7 +19,6 @@ ghost use Rattle.qa_base.specs.format.Reading.{reading};
 ghost use Rattle.qa_base.specs.machine.Reno.{moves, reno};
 ghost use Rattle.qa_base.specs.machine.Rtt.{Estimate, rtt};
 ghost use Rattle.qa_base.specs.machine.Rules.{IsRun};
-ghost use Rattle.qa_base.specs.format.Sends.{reading as sends};
 ghost use Rattle.qa_base.specs.values.Constants.{minimum_window};
 ghost use Rattle.qa_base.specs.values.Limits.{max_packet_size};
 ghost use Rattle.qa_base.specs.values.Settings.{Settings, AreInRange};
@@ -32,11 +31,6 @@ ghost use Rattle.std.specs.List.{AllByRecursion};
 /// No byte that follows changes a verdict that is fixed, whatever the reading of lines.
 pub fn fixed_stays()
     ensures { (reading : Reading) (f g : List ℕ) → IsFixed reading f → verdict reading (f ++ g) ≡ verdict reading f }
-{}
-
-/// The reading of headers, sent packets and reports returns no other event, and those that it returns fit.
-pub fn sends_alone()
-    ensures { (l : List ℕ) (e : Event) → sends l ≡ Ok (line.Event e) → (is_sent_or_report e ≡ true) × (fits e ≡ true) }
 {}
 
 /// What a line is read as is in the ranges of its format: a header's values are, and so are an

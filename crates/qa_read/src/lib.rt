@@ -6,9 +6,7 @@ mod fields;
 mod json;
 mod ranges;
 mod reader;
-mod sends;
 mod tables;
 
 pub use fault::LineFault;
 pub use reader::read_line;
-pub use sends::read_sends;

@@ -41,12 +41,12 @@ time_high d t h = required_high 0 max_time key.Time d t h
 -- ---- packets
 
 -- a packet was sent, where its flags agree
-pub flags_agree : (eliciting in_flight : Bool) (s e : Event) → cond (eliciting && not in_flight) (Err FlagsClash) (Ok s) ≡ Ok e → ((not eliciting || in_flight) ≡ true) × (s ≡ e)
+flags_agree : (eliciting in_flight : Bool) (s e : Event) → cond (eliciting && not in_flight) (Err FlagsClash) (Ok s) ≡ Ok e → ((not eliciting || in_flight) ≡ true) × (s ≡ e)
 flags_agree true true s e h = (refl, cc)
 flags_agree true false s e h = cc
 flags_agree false in_flight s e h = (refl, cc)
 
-pub sent_is_proper : (d : Data) (e : Event) → sent_of d ≡ Ok e → IsProperEvent e
+sent_is_proper : (d : Data) (e : Event) → sent_of d ≡ Ok e → IsProperEvent e
 unfolding sent_of
 sent_is_proper d e h =
     let read = bind_ok (sent_fields d) _ e h in
@@ -148,7 +148,7 @@ values_are_words d values sized h =
       present_is_word (key.Metric Rttvar) d _ sized estimates.1,
     )
 
-pub metrics_is_proper : (d : Data) (e : Event) → IsSized d → metrics_of d ≡ Ok e → IsProperEvent e
+metrics_is_proper : (d : Data) (e : Event) → IsSized d → metrics_of d ≡ Ok e → IsProperEvent e
 unfolding metrics_of
 metrics_is_proper d e sized h =
     let read = bind_ok (both (time d) (metric_values d)) _ e h in
@@ -214,7 +214,7 @@ header_is_proper d s h =
 -- ---- a line
 
 -- what stands behind the line of an event that was read so
-pub event_line_is : (event_of : Data → Result Event Fault) (d : Data) (x : Line) → event_line event_of d ≡ Ok x → (e : Event) × (event_of d ≡ Ok e) × (line.Event e ≡ x)
+event_line_is : (event_of : Data → Result Event Fault) (d : Data) (x : Line) → event_line event_of d ≡ Ok x → (e : Event) × (event_of d ≡ Ok e) × (line.Event e ≡ x)
 event_line_is event_of d x h = let read = bind_ok (event_of d) (λ e. Ok (line.Event e)) x h in (read.0, read.1, ok_is (line.Event read.0) x read.2)
 
 proper_event : (event_of : Data → Result Event Fault) (d : Data) (x : Line) → ((e : Event) → event_of d ≡ Ok e → IsProperEvent e) → event_line event_of d ≡ Ok x → IsProperLine x
@@ -276,7 +276,7 @@ said_at true r x h = inl (ok_is line.Blank x h)
 said_at false r x h = inr h
 
 -- a line that was read is blank, or an object of integers of 64 bits that one of the readers read
-pub line_said : (readers : List ℕ → Option Reader) (l : List ℕ) (x : Line) → reading_by readers l ≡ Ok x → (line.Blank ≡ x) ⊎ ((d : Data) × IsSized d × SaidBy readers d x)
+line_said : (readers : List ℕ → Option Reader) (l : List ℕ) (x : Line) → reading_by readers l ≡ Ok x → (line.Blank ≡ x) ⊎ ((d : Data) × IsSized d × SaidBy readers d x)
 unfolding reading_by
 line_said readers l x h = elim (said_at (list_all is_blank l) (json_of l >>= object_says readers) x h) [
   | inl blank ↦ inl blank

@@ -7,7 +7,6 @@ use Rattle.std.specs.List.{filter, sum_by, count_by, AllByRecursion}
 use Rattle.std.specs.Prelude.{nat_lt, if◌then◌else◌}
 use Rattle.qa_base.specs.declared.event.Event.{Event}
 use Rattle.qa_base.specs.declared.event.Event.TheVariants.{Sent, Ack, Lost, Timer, Discard, Confirmed, Keys, Metrics}
-use Rattle.qa_base.specs.declared.event.MetricValues.{MetricValues}
 use Rattle.qa_base.specs.declared.space.Space.{Space}
 use Rattle.qa_base.specs.declared.space.Leave.{Leave}
 use Rattle.qa_base.specs.values.Events.{is_quiet}
@@ -144,10 +143,6 @@ sent_leaves : (c : Settings) (h : List Event) (time : ℕ) (space : Space) (numb
     → is_owed c h p ≡ false → flight_size c (Sent time space number size eliciting in_flight leave ∷ h) p ≡ flight_size c h p
 sent_leaves c h time space number size eliciting in_flight leave p free = rw free refl
 
-metrics_leaves : (c : Settings) (h : List Event) (time : ℕ) (values : MetricValues) (p : Packet)
-    → is_owed c h p ≡ false → flight_size c (Metrics time values ∷ h) p ≡ flight_size c h p
-metrics_leaves c h time values p free = rw free refl
-
 -- the packet that was just sent is open, unless its space was discarded
 just_sent : (c : Settings) (h : List Event) (time : ℕ) (space : Space) (number size : ℕ) (eliciting in_flight : Bool) (leave : Leave) (p : Packet)
     → p.place ≡ length h → p.space ≡ space → p.size ≡ size → p.in_flight ≡ in_flight
@@ -178,9 +173,3 @@ bytes_in_flight-sent c h time space number size eliciting in_flight leave none =
     let rest = same_sum (flight_size c (e ∷ h)) (flight_size c h) (packets h) (still_open c h e (packets h) (not_owed c h none) (sent_leaves c h time space number size eliciting in_flight leave)) in
     let new = just_sent c h time space number size eliciting in_flight leave p refl refl refl refl in
     all ∙ (ap (λ n. n + sum_by (flight_size c (e ∷ h)) (packets h)) new ∙ (ap (λ n. (if in_flight && not (is_gone h space) then size else 0) + n) rest ∙ add_comm _ _))
-
-pub bytes_in_flight-metrics : (c : Settings) (h : List Event) (time : ℕ) (values : MetricValues) → owed c h ≡ []
-    → bytes_in_flight c (Metrics time values ∷ h) ≡ bytes_in_flight c h
-bytes_in_flight-metrics c h time values none =
-    same_sum (flight_size c (Metrics time values ∷ h)) (flight_size c h) (packets h)
-    (still_open c h (Metrics time values) (packets h) (not_owed c h none) (metrics_leaves c h time values))

@@ -72,9 +72,3 @@ is_quiet (Ack time space ranges delay limited) = false
 is_quiet (Timer time kind space) = false
 is_quiet (Discard time space) = false
 is_quiet _ = true
-
--- a packet was sent, or the sender reports its state
-abbrev pub is_sent_or_report : Event → Bool
-is_sent_or_report (Sent time space number size eliciting in_flight leave) = true
-is_sent_or_report (Metrics time values) = true
-is_sent_or_report _ = false
