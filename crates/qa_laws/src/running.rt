@@ -26,7 +26,8 @@ ghost use Rattle.qa_laws.specs.machine.Sums.{asks_of, bytes, bytes_of, counted, 
 
 /// In a run, of two packets of one space the one with the lower number was sent no later and stands
 /// no further on, and two with one number are one. All packets stand in the order of sending, the
-/// latest first, and in that order the numbers of a space rise, also behind a front.
+/// latest first, and in that order the numbers of a space rise, also behind a front (RFC 9002,
+/// section 4.2).
 pub fn lower_numbers_are_earlier()
     ensures order { (c : Settings) (h : List Event) → IsRun c h → (p q : Packet) → Contains (packets h) p → Contains (packets h) q
         → is_of p.space q ≡ true → q.number ≤ p.number → (q.time ≤ p.time) × (q.place ≤ p.place) }
@@ -65,7 +66,7 @@ pub fn closed_stays_closed()
 {}
 
 /// In a run the loss time of a space is that of its oldest packet that is open and in flight: the
-/// first, in the order of sending, behind packets none of which is.
+/// first, in the order of sending, behind packets none of which is (RFC 9002, section 6.1.2 and A.8).
 pub fn oldest_decides_loss_time()
     ensures { (c : Settings) (h : List Event) → IsRun c h → (s : Space) (front rest : List Packet) → reverse (packets h) ≡ front ++ rest → NoneFlies c h s front
         → loss_due c h s ≡ due_of c h s (find (λ p. is_of s p && is_flying c h p) rest) }
@@ -81,7 +82,8 @@ pub fn fronts_stay()
 /// In a run, where no packet of a front is of the space, open and in flight, a detection may begin
 /// behind it: what it finds are the late ones, up to the first that is not, of the packets of the
 /// space that are in flight and unsettled. So one walk finds them that passes packets until the
-/// first that is asked of and not late, and none of those that it passes is open and in flight after.
+/// first that is asked of and not late, and none of those that it passes is open and in flight after
+/// (RFC 9002, A.10).
 pub fn losses_are_a_front()
     ensures late { (c : Settings) (e : Event) (h : List Event) → IsRun c (e ∷ h) → (s : Space) (now : ℕ) → detection (e ∷ h) ≡ Some (s, now)
         → (front rest : List Packet) → reverse (packets h) ≡ front ++ rest → NoneFlies c h s front
