@@ -1,11 +1,13 @@
-//! Traces and their reports, worked out by hand, and readers and writers that fail.
-mod audits;
+//! What no trace of the corpus can show: checkers line by line, the texts of verdicts, and ledgers,
+//! readers and writers that fail.
 mod checkers;
+mod ledgers;
 mod reports;
 mod streams;
 
 use crate::auditing::{AuditFault, Outcome, audit};
 use crate::streams::Metered;
+use qa_ledger::Whole;
 use std::alloc::{AllocError, Global};
 
 /// A header whose window is 12,000 bytes and whose RTT is 333,000 microseconds at the start.
@@ -39,6 +41,6 @@ fn report_of(alloc: Global, first: &str, events: u64, bytes: u64) -> Result<Stri
 fn audited(alloc: Global, trace: &[u8]) -> (Result<Outcome, AuditFault>, Vec<u8>) {
     let mut reader = Metered::new(trace);
     let mut writer = Metered::new(Vec::new(alloc));
-    let ended = audit(alloc, &mut reader, &mut writer);
+    let ended = audit::<Whole, _, _>(alloc, &mut reader, &mut writer);
     (ended, writer.into_inner())
 }

@@ -2,6 +2,7 @@
 use super::{HEADER, sent};
 use crate::checker::{Checker, Stop};
 use qa_base::{Fault, Rule, Totals, Verdict};
+use qa_ledger::Whole;
 use std::test::Fail;
 
 /// What the machine holds after this many packets of 1,200 bytes under the header of the tests.
@@ -23,7 +24,7 @@ fn totals_of(events: u64, bytes_in_flight: u64) -> Totals {
 #[test]
 fn stays_decided(rt: HostRuntime) -> Result<(), Fail> {
     let packet = sent(rt.alloc(), 0)?;
-    let mut checker = Checker::new(rt.alloc());
+    let mut checker = Checker::<Whole>::new(rt.alloc());
     let none = Verdict::Unreadable(1, Fault::HeaderPlace, None);
     assert_eq!(rt; checker.end(), Some(none));
     for line in [HEADER, "\r", packet.as_str()] {
@@ -48,7 +49,7 @@ fn stays_decided(rt: HostRuntime) -> Result<(), Fail> {
 
 #[test]
 fn long_lines(rt: HostRuntime) {
-    let mut checker = Checker::new(rt.alloc());
+    let mut checker = Checker::<Whole>::new(rt.alloc());
     assert_eq!(rt; checker.too_long(), Stop::Decided);
     let first = Verdict::Unreadable(1, Fault::LineTooLong, None);
     assert_eq!(rt; checker.end(), Some(first));
@@ -56,7 +57,7 @@ fn long_lines(rt: HostRuntime) {
     assert_eq!(rt; checker.too_long(), Stop::Decided);
     assert_eq!(rt; checker.end(), Some(first));
 
-    let mut checker = Checker::new(rt.alloc());
+    let mut checker = Checker::<Whole>::new(rt.alloc());
     assert_eq!(rt; checker.line(HEADER.as_bytes()), Ok(()));
     assert_eq!(rt; checker.too_long(), Stop::Decided);
     let second = Verdict::Unreadable(2, Fault::LineTooLong, Some(totals_of(0, 0)));

@@ -4,6 +4,7 @@ ghost use Rattle.std.specs.Prelude.{◌≡◌, None};
 use super::{audited, report_of, sent, trace_of};
 use crate::auditing::{AuditFault, Outcome, audit};
 use crate::streams::{Metered, Sink, Source};
+use qa_ledger::Whole;
 use std::io;
 use std::io::{ErrorKind, Read, Write};
 use std::test::Fail;
@@ -94,7 +95,7 @@ fn a_write_fails(rt: HostRuntime) -> Result<(), Fail> {
     for k in 0..140usize {
         let mut reader = Metered::new(trace.as_bytes());
         let mut writer = Faulty::new(Vec::new(rt.alloc()), 1, k as u64);
-        let ended = audit(rt.alloc(), &mut reader, &mut writer);
+        let ended = audit::<Whole, _, _>(rt.alloc(), &mut reader, &mut writer);
         let (wanted, failures) = match k {
             139 => (Ok(Outcome::Accepted), 0),
             _ => (Err(AuditFault::Write), 1),
@@ -113,7 +114,7 @@ fn a_writer_takes_no_more(rt: HostRuntime) -> Result<(), Fail> {
     let mut room = [0u8; 100];
     let mut reader = Metered::new(trace.as_bytes());
     let mut writer = Metered::new(room.as_mut_slice());
-    let ended = audit(rt.alloc(), &mut reader, &mut writer);
+    let ended = audit::<Whole, _, _>(rt.alloc(), &mut reader, &mut writer);
     assert_eq!(rt; ended, Err(AuditFault::Write));
     assert!(rt; writer.into_inner().is_empty());
     assert!(rt; report.as_bytes().starts_with(&room));
@@ -126,7 +127,7 @@ fn a_read_fails(rt: HostRuntime) -> Result<(), Fail> {
     for (most, fails_at) in [(4096, 0), (4096, 1), (1, 0), (1, 30), (1, 72)] {
         let mut reader = Faulty::new(trace.as_bytes(), most, fails_at);
         let mut writer = Metered::new(Vec::new(rt.alloc()));
-        let ended = audit(rt.alloc(), &mut reader, &mut writer);
+        let ended = audit::<Whole, _, _>(rt.alloc(), &mut reader, &mut writer);
         assert_eq!(rt; ended, Err(AuditFault::Read), "at {fails_at}");
         assert!(rt; writer.into_inner().is_empty(), "at {fails_at}");
         assert_eq!(rt; reader.calls, fails_at + 1);
@@ -156,7 +157,7 @@ fn no_read_after_the_verdict(rt: HostRuntime) -> Result<(), Fail> {
         }
         let mut reader = Faulty::new(trace.as_bytes(), 4096, reads);
         let mut writer = Metered::new(Vec::new(rt.alloc()));
-        let ended = audit(rt.alloc(), &mut reader, &mut writer);
+        let ended = audit::<Whole, _, _>(rt.alloc(), &mut reader, &mut writer);
         let report = report_of(rt.alloc(), first, events, bytes)?;
         assert_eq!(rt; ended, Ok(outcome), "at {first}");
         assert_eq!(rt;
@@ -178,7 +179,7 @@ fn however_cut(rt: HostRuntime) -> Result<(), Fail> {
         for most in [1, 7, 72, 4096] {
             let mut reader = Faulty::new(trace.as_bytes(), most, NEVER);
             let mut writer = Faulty::new(Vec::new(rt.alloc()), most, NEVER);
-            let ended = audit(rt.alloc(), &mut reader, &mut writer);
+            let ended = audit::<Whole, _, _>(rt.alloc(), &mut reader, &mut writer);
             assert_eq!(rt; ended, whole, "{packets} packets, by {most}");
             assert_eq!(rt;
                 writer.inner.as_slice(),
