@@ -11,7 +11,7 @@ use Rattle.qa_base.specs.machine.Leave.{is_probe_due}
 use Rattle.qa_base.specs.machine.Rules.{first_broken, IsRun}
 use Rattle.qa_base.specs.values.Settings.{Settings}
 use Rattle.qa_base.specs.machine.Timer.{deadline}
-use Rattle.qa_base.proofs.Shorthand.{client, server, sent, padded, bare, probe, bare_probe, ack, lost, pto_fires}
+use Rattle.qa_base.proofs.Shorthand.{client, server, sent, padded, bare, probe, bare_probe, ack, lost, pto_fires, metrics}
 use Rattle.qa_base.proofs.edges.Deadlines.{pto_at}
 
 abbrev c : Settings
@@ -117,6 +117,14 @@ pub keys_and_confirmed_do_not :
     × (first_broken s (Confirmed 1000000 ∷ due_of_handshake) (pto_fires Handshake 1998000) ≡ Some rule.ProbeOwed)
 unfolding first_broken
 keys_and_confirmed_do_not = (refl, refl)
+
+-- Nor does a report.
+pub report_does_not :
+    IsRun s (metrics 1000000 (Some 12000) None None None None None None ∷ due_of_handshake)
+    × (first_broken s (metrics 1000000 (Some 12000) None None None None None None ∷ due_of_handshake) (pto_fires Handshake 1998000)
+    ≡ Some rule.ProbeOwed)
+unfolding first_broken
+report_does_not = (((((tt, refl), refl), refl), refl), refl)
 
 -- ---- what a timeout allows
 

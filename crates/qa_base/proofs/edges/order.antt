@@ -1,4 +1,7 @@
 -- Edges of the order of the rules: where one event breaks two of them, the lesser is named.
+--
+-- Each pair of rules that one event of a run can break is here. Two pairs are not, as no event of a run breaks both: a probe is not
+-- due where a loss is owed, since what finds a loss has answered the probe; and Handshake is discarded only once it is confirmed.
 use Rattle.std.specs.Prelude.{◌≡◌, List, [], ◌∷◌, Some, None, refl}
 use Rattle.qa_base.specs.declared.event.Event.{Event}
 use Rattle.qa_base.specs.declared.event.Event.TheVariants.{Discard, Confirmed, Keys}

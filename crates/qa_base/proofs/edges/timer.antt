@@ -1,7 +1,7 @@
 -- Edges of the PTO count and of probe timeouts (RFC 9002, section 6.2.1).
 --
 -- Before any sample a probe timeout is 333000 + 4 * 166500 = 999000.
-use Rattle.std.specs.Prelude.{◌≡◌, false, List, [], ◌∷◌, Some, refl}
+use Rattle.std.specs.Prelude.{◌≡◌, false, List, [], ◌∷◌, Some, None, refl}
 use Rattle.qa_base.specs.declared.event.Event.{Event}
 use Rattle.qa_base.specs.declared.event.Event.TheVariants.{Discard, Confirmed, Keys}
 use Rattle.qa_base.specs.declared.rule.Rule.TheVariants as rule
@@ -10,7 +10,7 @@ use Rattle.qa_base.specs.machine.Handshake.{is_validated}
 use Rattle.qa_base.specs.machine.Rules.{first_broken, IsRun}
 use Rattle.qa_base.specs.values.Settings.{Settings}
 use Rattle.qa_base.specs.machine.Timer.{backoff, deadline}
-use Rattle.qa_base.proofs.Shorthand.{client, server, sent, bare, probe, ack, lost, loss_fires, pto_fires}
+use Rattle.qa_base.proofs.Shorthand.{client, server, sent, bare, probe, ack, lost, loss_fires, pto_fires, metrics}
 use Rattle.qa_base.proofs.edges.Deadlines.{loss_at, pto_at}
 
 abbrev c : Settings
@@ -60,6 +60,23 @@ pub acknowledgment_after_confirmed_resets_the_count :
     × (backoff c (ack Initial ((0, 0) ∷ []) 1000001 ∷ Confirmed 1000001 ∷ ack Initial ((0, 0) ∷ []) 1000000 ∷ one_timeout) ≡ 1)
 unfolding first_broken
 acknowledgment_after_confirmed_resets_the_count = ((((((tt, refl), refl), refl), refl), refl), refl, ((((((tt, refl), refl), refl), refl), refl), refl), refl)
+
+abbrev both_lost : List Event
+both_lost =
+    lost Initial ((1, 1) ∷ []) 1000125 ∷
+    loss_fires Initial 1000125 ∷
+    lost Initial ((0, 0) ∷ []) 1000000 ∷
+    ack Initial ((2, 2) ∷ []) 1000000 ∷
+    sent Initial 2 999000 1200 ∷
+    one_timeout
+
+-- Nor does a packet, a report, a Lost line or a loss timer, of a client that is not validated. The sample of packet 2 is 1000: packet
+-- 0 is lost at once, and packet 1 at 999000 + 1125.
+pub other_events_leave_the_count :
+    IsRun c both_lost × (backoff c both_lost ≡ 1) × (backoff c one_timeout ≡ 1)
+    × (backoff c (metrics 1000000 (Some 12000) None None None None None None ∷ one_timeout) ≡ 1)
+unfolding first_broken
+other_events_leave_the_count = (((((((((tt, refl), refl), refl), refl), refl), refl), refl), refl), refl, refl, refl)
 
 abbrev after_a_loss_timer : List Event
 after_a_loss_timer =
