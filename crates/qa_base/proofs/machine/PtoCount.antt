@@ -1,5 +1,5 @@
 -- The PTO count of a run is at most 40.
-use Rattle.std.proofs.Common.{◌≡◌, ◌∙◌, ◌+◌, ◌*◌, ◌^◌, ◌≤◌, ◌<◌, ℕ, max, List, [], ◌∷◌, Bool, true, false, not, ◌&&◌, Option, Some, None, option_map, is_none, refl, sym, ap, arith, inl, inr, ◌⊎◌}
+use Rattle.std.proofs.Common.{◌≡◌, ◌+◌, ◌*◌, ◌^◌, ◌≤◌, ◌<◌, ℕ, List, [], ◌∷◌, Bool, true, false, Option, Some, None, option_map, is_none, refl, arith, inl, inr, ◌⊎◌}
 use Rattle.std.proofs.Math.Nat.{mul-le-mul_right}
 use Rattle.std.proofs.Math.Pow.{pow_mono}
 use Rattle.std.proofs.lemmas.Bool.{and_parts, ltb-false, ltb-true, cases_Bool, not-false}
@@ -12,8 +12,8 @@ use Rattle.qa_base.specs.declared.space.Kind.TheVariants.{Loss, Pto}
 use Rattle.qa_base.specs.declared.space.Space.{Space}
 use Rattle.qa_base.specs.declared.space.Space.TheVariants.{Initial, Handshake, App}
 use Rattle.qa_base.specs.machine.Breaches.{is_kind, is_other, is_before}
-use Rattle.qa_base.specs.values.Events.{is_space, time_of}
-use Rattle.qa_base.specs.machine.Handshake.{is_confirmed, is_validated, has_keys}
+use Rattle.qa_base.specs.values.Events.{is_space}
+use Rattle.qa_base.specs.machine.Handshake.{is_confirmed, is_validated}
 use Rattle.qa_base.specs.values.Limits.{max_time}
 use Rattle.qa_base.specs.machine.Rtt.{Estimate, rtt, pto_base}
 use Rattle.qa_base.specs.machine.Rules.{IsRun, first_broken}

@@ -1,8 +1,8 @@
 -- The window of a history is never below two datagrams, and never above where it began and the most that each covered packet adds.
-use Rattle.std.proofs.Common.{◌≡◌, ◌∙◌, ◌≤◌, ◌<◌, ◌+◌, ◌*◌, ◌/◌, ◌^◌, ℕ, zero, suc, max, cond, List, [], ◌∷◌, ◌++◌, length, Bool, true, false, ◌&&◌, ◌||◌, not, Option, Some, None, unwrap_or, refl, ap, sym, arith, map, reverse, filter, fold, sum_by, count_by, take}
+use Rattle.std.proofs.Common.{◌≡◌, ◌∙◌, ◌≤◌, ◌<◌, ◌+◌, ◌*◌, ◌/◌, ◌^◌, ℕ, zero, suc, max, cond, List, [], ◌∷◌, ◌++◌, length, Bool, true, false, ◌&&◌, ◌||◌, not, Some, refl, ap, arith, map, reverse, filter, fold, sum_by, count_by, take}
 use Rattle.std.proofs.lemmas.List.{map-append, reverse-append}
-use Rattle.std.proofs.lemmas.List.Sums.{fold-append, sum_by-cons, sum_by-append, length-filter, count_by-le-length}
-use Rattle.std.proofs.lemmas.List.Elements.{All-from_recursion, recursion_from_All, All-take}
+use Rattle.std.proofs.lemmas.List.Sums.{sum_by-cons, sum_by-append, length-filter, count_by-le-length}
+use Rattle.std.proofs.lemmas.List.Elements.{recursion_from_All, All-take}
 use Rattle.std.proofs.lemmas.Bool.{and_parts, leb-true}
 use Rattle.std.proofs.Math.Nat.{div-le_of_le-mul, mul-le-mul_right}
 use Rattle.std.specs.List.{AllByRecursion, All}
@@ -10,9 +10,9 @@ use Rattle.std.specs.Prelude.{if◌then◌else◌, nat_lt, nat_le}
 use Rattle.qa_base.specs.declared.event.Event.{Event}
 use Rattle.qa_base.specs.declared.event.Event.TheVariants.{Sent}
 use Rattle.qa_base.specs.machine.Packets.{Packet, packets, packet_of, is_covered, is_lost, is_newly_acknowledged, newly_acknowledged, history_of}
-use Rattle.qa_base.specs.values.Events.{acknowledges, fits, time_of}
+use Rattle.qa_base.specs.values.Events.{acknowledges, time_of}
 use Rattle.qa_base.specs.machine.Loss.{owed, is_persistent, bytes_in_flight, flight_size, is_open}
-use Rattle.qa_base.specs.machine.Reno.{Move, Hit, Collapse, Grow, Control, start, moved, moves, moves_of_last, reno, hits, collapses, grows, is_limited, is_slow_start, is_outside_recovery, growth, hit, grow, collapse}
+use Rattle.qa_base.specs.machine.Reno.{Move, Hit, Collapse, Grow, Control, moved, moves_of_last, reno, hits, collapses, grows, is_limited, is_slow_start, is_outside_recovery, growth}
 use Rattle.qa_base.specs.values.Settings.{Settings, AreInRange}
 use Rattle.qa_base.specs.machine.Widths.{Fits, covered_count}
 use Rattle.qa_base.proofs.machine.Histories.{length-history_of}
