@@ -1,5 +1,5 @@
 -- The moves of one event.
-use Rattle.std.proofs.Common.{◌≡◌, ◌∙◌, ℕ, max, List, [], ◌∷◌, ◌++◌, Bool, true, false, Option, unwrap_or, refl, ap, sym, map, reverse, filter, fold}
+use Rattle.std.proofs.Common.{◌≡◌, ◌∙◌, ℕ, max, List, [], ◌∷◌, ◌++◌, Bool, true, false, unwrap_or, refl, ap, map, reverse, filter, fold}
 use Rattle.std.proofs.lemmas.List.{map-append, reverse-append}
 use Rattle.std.proofs.lemmas.List.Sums.{fold-append}
 use Rattle.std.specs.Prelude.{if◌then◌else◌}
