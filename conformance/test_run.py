@@ -46,6 +46,16 @@ for line in sys.stdin.buffer:
 sys.stderr.write("{write}")
 sys.exit({status})
 """
+# Writes each file that it is given with a line of its name before, and the number of the error where it cannot.
+WRITES_FILES = """
+import os, sys
+for name in sys.argv[1:]:
+    try:
+        with open(name, "rb") as file:
+            os.write(1, os.fsencode(name) + b"\\n" + file.read())
+    except OSError as error:
+        sys.stderr.write(f"{error.errno}\\n")
+"""
 USAGE_CASE = {
     "name": "no-arguments", "arguments": [], "input": {"file": ""}, "status": 64, "stdout": "", "stderr": "usage\n"
 }
@@ -185,6 +195,62 @@ class AuditorTest(RunnerCase):
     def test_wrong_output_of_a_case(self):
         self.write_cases([{**USAGE_CASE, "stdout": "usage\n"}])
         self.assert_fails("streams/no-arguments")
+
+    def assert_case_passes(self, program, case):
+        """One case passes with this program; the trace of the corpus need not."""
+        self.write_program(program)
+        self.write_cases([{**USAGE_CASE, "status": 0, "stdout": "", "stderr": "", **case}])
+        self.write_trace("one", TRACE, REPORT)
+        *failures, last = self.lines(1)
+        self.assertFalse([line for line in failures if line.startswith("FAILED streams/")], failures)
+        self.assertTrue(last.startswith("1 passed"), last)
+
+    def test_wanted_output_in_parts(self):
+        text = f"first\n{REPORT.decode()}last\n"
+        self.assert_case_passes(f"print({text!r}, end='')", {"stdout": ["first\n", {"report": "one"}, "last\n"]})
+
+    def test_wrong_output_in_parts(self):
+        self.write_program(self.honest())
+        self.write_cases([{**USAGE_CASE, "arguments": ["check"], "status": 2, "stdout": [{"report": "one"}], "stderr": ""}])
+        self.assert_fails("streams/no-arguments")
+
+    def test_files_reach_the_program(self):
+        self.assert_case_passes(WRITES_FILES, {
+            "arguments": ["a", "b", "c", "\udcff", "d", "e"],
+            "files": {
+                "a": {"file": "text of a\n\udcfe\n"}, "b": {"trace": "one"}, "c": {"link": "a"}, "\udcff": {"file": ""},
+                "d": "directory",
+            },
+            "stdout": f"a\ntext of a\n\udcfe\nb\n{TRACE.decode()}c\ntext of a\n\udcfe\n\udcff\n",
+            "stderr": "21\n2\n",
+        })
+
+    def test_files_of_another_case_are_gone(self):
+        self.write_program("import os, sys\nif sys.argv[1:] == ['check']: os.write(1, b'accepted\\n')\nelse: print(os.listdir())")
+        case = {**USAGE_CASE, "status": 0, "stderr": ""}
+        self.write_trace("one", TRACE, b"accepted\n")
+        self.write_cases([
+            {**case, "name": "file", "files": {"a": {"file": ""}}, "stdout": "['a']\n"},
+            {**case, "name": "none", "stdout": "[]\n"},
+        ])
+        self.assert_passes(4)
+
+    def test_file_without_a_right_to_read_it(self):
+        case = {"arguments": ["a"], "files": {"a": "no right to read"}, "stderr": "13\n"}
+        self.write_cases([{**USAGE_CASE, "status": 0, "stdout": "", **case}])
+        self.write_program(WRITES_FILES)
+        self.write_trace("one", TRACE, b"accepted\n")
+        *lines, _last = self.lines(1)
+        of_the_case = [line for line in lines if "streams/" in line]
+        self.assertIn(of_the_case, [[], ["SKIPPED streams/no-arguments: this user reads every file, and may not give that up"]])
+
+    def test_program_that_reads_without_a_right(self):
+        self.write_program("import os\nos.chmod('a', 0o600)\n" + WRITES_FILES)
+        self.write_cases([{
+            **USAGE_CASE, "arguments": ["a"], "files": {"a": "no right to read"}, "status": 0, "stdout": "", "stderr": "13\n",
+        }])
+        *lines, _last = self.lines(1)
+        self.assertEqual(len([line for line in lines if "streams/" in line]), 1, lines)
 
     def test_failing_streams_reach_the_program(self):
         write = "import os\ntry:\n os.write({}, b'x')\nexcept OSError as error:\n os._exit(error.errno)\n"

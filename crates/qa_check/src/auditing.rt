@@ -213,8 +213,8 @@ fn verdict_of<L: Ledger + Drop>(checker: &Checker<L>) -> Result<Verdict, AuditFa
     checker.end().ok_or(AuditFault::OutOfMemory)
 }
 
-/// Writes all of the bytes, in as many pieces as the writer takes.
-fn write_whole<W: Sink>(writer: &mut W, bytes: &[u8]) -> Result<(), AuditFault>
+/// Writes all of the bytes, in as many pieces as the writer takes. A failed write is not tried again.
+pub fn write_whole<W: Sink>(writer: &mut W, bytes: &[u8]) -> Result<(), AuditFault>
     ensures ok { OnOk result (Appends (W.held writer.old) (W.held writer.new) bytes.now) }
     ensures err { OnErr result ((n : ℕ) × Appends (W.held writer.old) (W.held writer.new) (take n bytes.now)) }
     ensures failures { W.write_failures writer.new ≡ failures_after (is_write_fault result) (W.write_failures writer.old) }

@@ -8,7 +8,7 @@ mod streams;
 mod tests;
 mod text;
 
-pub use auditing::{AuditFault, Outcome, audit};
+pub use auditing::{AuditFault, Outcome, audit, write_whole};
 pub use checker::{Checker, Stop};
 pub use qa_base::{Fault, Line, Totals, Verdict};
 pub use streams::{Metered, Sink, Source};

@@ -1,19 +1,32 @@
 -- How the program ends.
-use Rattle.std.specs.Prelude.{ℕ, List, codes, Result, Ok, Err}
+use Rattle.std.specs.Prelude.{ℕ, List, ◌++◌, codes, Result, Ok, Err}
 use Rattle.qa_check.specs.declared.auditing.Outcome.{Outcome}
 use Rattle.qa_check.specs.declared.auditing.Outcome.TheVariants.{Accepted, Refused, Unreadable}
-use Rattle.qa_check.specs.declared.auditing.AuditFault.{AuditFault}
-use Rattle.qa_check.specs.declared.auditing.AuditFault.TheVariants.{Read, Write, OutOfMemory}
+use Rattle.qaudit.specs.declared.ending.Failure.{Failure}
+use Rattle.qaudit.specs.declared.ending.Failure.TheVariants.{Arguments, Open, Read, Write, OutOfMemory}
+use Rattle.qaudit.specs.declared.ending.Origin.{Origin}
+use Rattle.qaudit.specs.declared.ending.Origin.TheVariants.{StandardInput, File}
 
--- the exit status
-abbrev pub status_of : Result Outcome AuditFault → ℕ
+-- the exit status of one audit
+abbrev pub status_of : Result Outcome Failure → ℕ
 status_of (Ok Accepted) = 0
 status_of (Ok Refused) = 1
 status_of (Ok Unreadable) = 2
-status_of (Err e) = 3
+status_of (Err Arguments) = 64
+status_of (Err (Open name)) = 3
+status_of (Err (Read origin)) = 3
+status_of (Err Write) = 3
+status_of (Err OutOfMemory) = 3
 
--- the line on standard error
-abbrev pub message_of : AuditFault → List ℕ
-message_of Read = codes "qaudit: read fault: standard input"
+-- what a trace is read from, as a message names it
+abbrev pub origin_text : Origin → List ℕ
+origin_text StandardInput = codes "standard input"
+origin_text (File name) = name.now
+
+-- the line on standard error, without its LF
+abbrev pub message_of : Failure → List ℕ
+message_of Arguments = codes "usage: qaudit check [FILE...]"
+message_of (Open name) = codes "qaudit: cannot open " ++ name.now
+message_of (Read origin) = codes "qaudit: read fault: " ++ origin_text origin
 message_of Write = codes "qaudit: write fault"
 message_of OutOfMemory = codes "qaudit: out of memory"

@@ -1,35 +1,36 @@
-//! The program `qaudit check`: audits the trace on standard input, and writes the report to standard output.
+//! The program `qaudit`: audits traces, and writes their reports to standard output.
 #![tactic(auto)]
 
 mod arguments;
+mod checking;
 mod ending;
 #[cfg(test)]
 mod tests;
 
-use crate::arguments::{Arguments, read_arguments};
-use crate::ending::{message, status};
-use qa_check::{Metered, audit};
-use qa_ledger::Whole;
+use crate::arguments::{Subcommand, parse, read_arguments};
+use crate::checking::{check, end};
+use qa_check::{Metered, Sink, Source};
 use std::process::ExitCode;
+use std::rt::{Env, Files};
 
 fn main(rt: HostRuntime) -> ExitCode {
-    match read_arguments(&rt) {
-        Arguments::Check => {}
-        Arguments::Refused => {
-            let _ = eprintln!(rt; "usage: qaudit check");
-            return ExitCode::from(64);
-        }
-        Arguments::OutOfMemory => {
-            let _ = eprintln!(rt; "qaudit: out of memory");
-            return ExitCode::from(3);
-        }
+    let mut input = Metered::new(rt.stdin());
+    let mut output = Metered::new(rt.stdout());
+    ExitCode::from(command(&rt, &mut input, &mut output))
+}
+
+/// Does what the arguments ask for, and returns the exit status.
+fn command<R: Env + Files + Eprint + AllocGlobal, I: Source, O: Sink>(
+    rt: &R,
+    input: &mut I,
+    output: &mut O,
+) -> u8 {
+    let arguments = match read_arguments(rt) {
+        Ok(arguments) => arguments,
+        Err(failure) => return end(rt, &Err(failure)),
+    };
+    match parse(rt.alloc(), arguments.as_slice()) {
+        Ok(Subcommand::Check(files)) => check(rt, files.as_slice(), input, output),
+        Err(failure) => end(rt, &Err(failure)),
     }
-    let mut reader = Metered::new(rt.stdin());
-    let mut writer = Metered::new(rt.stdout());
-    let ended = audit::<Whole, _, _>(rt.alloc(), &mut reader, &mut writer);
-    if let Err(fault) = &ended {
-        // A failure of standard error changes nothing.
-        let _ = eprintln!(rt; "{}", message(*fault));
-    }
-    ExitCode::from(status(&ended))
 }

@@ -1,6 +1,6 @@
 //! Exit statuses and messages, as docs/format.md has them.
-use crate::ending::{message, status};
-use qa_check::{AuditFault, Outcome};
+use crate::ending::{Failure, Origin, status};
+use qa_check::Outcome;
 
 #[test]
 fn statuses(rt: HostRuntime) {
@@ -8,9 +8,12 @@ fn statuses(rt: HostRuntime) {
         (Ok(Outcome::Accepted), 0),
         (Ok(Outcome::Refused), 1),
         (Ok(Outcome::Unreadable), 2),
-        (Err(AuditFault::Read), 3),
-        (Err(AuditFault::Write), 3),
-        (Err(AuditFault::OutOfMemory), 3),
+        (Err(Failure::Open("a")), 3),
+        (Err(Failure::Read(Origin::StandardInput)), 3),
+        (Err(Failure::Read(Origin::File("a"))), 3),
+        (Err(Failure::Write), 3),
+        (Err(Failure::OutOfMemory), 3),
+        (Err(Failure::Arguments), 64),
     ] {
         assert_eq!(rt; status(&ended), wanted, "at {ended:?}");
     }
@@ -18,11 +21,18 @@ fn statuses(rt: HostRuntime) {
 
 #[test]
 fn messages(rt: HostRuntime) {
-    for (fault, wanted) in [
-        (AuditFault::Read, "qaudit: read fault: standard input"),
-        (AuditFault::Write, "qaudit: write fault"),
-        (AuditFault::OutOfMemory, "qaudit: out of memory"),
+    for (failure, wanted) in [
+        (Failure::Open("a"), "qaudit: cannot open a"),
+        (
+            Failure::Read(Origin::StandardInput),
+            "qaudit: read fault: standard input",
+        ),
+        (Failure::Read(Origin::File("a")), "qaudit: read fault: a"),
+        (Failure::Write, "qaudit: write fault"),
+        (Failure::OutOfMemory, "qaudit: out of memory"),
+        (Failure::Arguments, "usage: qaudit check [FILE...]"),
     ] {
-        assert_eq!(rt; message(fault), wanted);
+        let message = failure.to_string(rt.alloc()).expect(&rt, "memory");
+        assert_eq!(rt; message.as_str(), wanted);
     }
 }
