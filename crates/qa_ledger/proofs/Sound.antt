@@ -1,13 +1,13 @@
 -- One more event that breaks no rule.
-use Rattle.std.proofs.Common.{◌≡◌, List, [], ◌∷◌, ◌++◌, ◌<◌, arith, None, sym, subst, ap, length, ◌∙◌}
+use Rattle.std.proofs.Common.{◌≡◌, List, [], ◌∷◌, ◌++◌, ◌<◌, arith, None, sym, subst, length}
 use Rattle.std.proofs.lemmas.List.{length-append}
 use Rattle.std.proofs.lemmas.List.Elements.{All-from_recursion, recursion_from_All}
-use Rattle.std.specs.List.{All, AllByRecursion}
+use Rattle.std.specs.List.{AllByRecursion}
 use Rattle.qa_base.specs.declared.event.Event.{Event}
 use Rattle.qa_base.specs.machine.Packets.{history_of}
 use Rattle.qa_base.specs.machine.Rules.{IsRun, first_broken}
 use Rattle.qa_base.specs.values.Settings.{Settings}
-use Rattle.qa_base.proofs.machine.Histories.{history_of-snoc, length-history_of}
+use Rattle.qa_base.proofs.machine.Histories.{history_of-snoc}
 use Rattle.qa_ledger.specs.Holding.{IsSound}
 use Rattle.qa_base.specs.machine.Widths.{Fits, IsTimely}
 
