@@ -6,12 +6,12 @@ DESTDIR ?=
 
 program := crates/qaudit/out/qaudit
 # The same audit by a reader and a writer that move one byte a call, a test of it.
-one_byte := crates/one_byte/out/one_byte
+program_by_one_byte := crates/one_byte/out/one_byte
 # The reader of lines by itself, a test of it.
-lines := crates/lines/out/lines
+program_of_lines := crates/lines/out/lines
 example := examples/ten-packets.trace
 
-.PHONY: help build run test install clean
+.PHONY: help build one_byte lines run test install clean
 
 help:
 	@echo 'make build     proves the program and builds $(program)'
@@ -24,6 +24,12 @@ help:
 build:
 	@cd crates/qaudit && rt run -- check < ../../$(example) > /dev/null
 
+one_byte:
+	@cd crates/one_byte && rt run < stdin > /dev/null
+
+lines:
+	@cd crates/lines && rt run < stdin > /dev/null
+
 run: build
 	@$(program) check < $(example)
 
@@ -31,12 +37,10 @@ test:
 	rt ci
 	python3 conformance/test_run.py
 	python3 conformance/lines/make.py --check
-	$(MAKE) --no-print-directory build
+	$(MAKE) --no-print-directory --jobs=3 build one_byte lines
 	conformance/run $(program)
-	@cd crates/one_byte && rt run < stdin > /dev/null
-	conformance/run --traces $(one_byte)
-	@cd crates/lines && rt run < stdin > /dev/null
-	conformance/run --lines $(lines)
+	conformance/run --traces $(program_by_one_byte)
+	conformance/run --lines $(program_of_lines)
 
 install: build
 	install -d '$(DESTDIR)$(PREFIX)/bin'
