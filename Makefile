@@ -17,7 +17,7 @@ help:
 	@echo 'make build     proves the program and builds $(program)'
 	@echo 'make run       builds it and audits $(example)'
 	@echo 'make test      runs the merge gate, and then the program over conformance/'
-	@echo 'make install   builds it and installs it in $$(DESTDIR)$$(PREFIX)/bin; PREFIX is $(PREFIX)'
+	@echo 'make install   builds it and installs it in $$(DESTDIR)$$(PREFIX)/bin, and its man page; PREFIX is $(PREFIX)'
 	@echo 'make clean     removes what was built'
 
 # `rt run` proves, builds and then runs the program; with no change since, it only runs it.
@@ -45,6 +45,8 @@ test:
 install: build
 	install -d '$(DESTDIR)$(PREFIX)/bin'
 	install -m 755 $(program) '$(DESTDIR)$(PREFIX)/bin/qaudit'
+	install -d '$(DESTDIR)$(PREFIX)/share/man/man1'
+	install -m 644 docs/qaudit.1 '$(DESTDIR)$(PREFIX)/share/man/man1/qaudit.1'
 
 clean:
 	rm -rf crates/*/out

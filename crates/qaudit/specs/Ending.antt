@@ -2,10 +2,18 @@
 use Rattle.std.specs.Prelude.{ℕ, List, ◌++◌, codes, Result, Ok, Err}
 use Rattle.qa_check.specs.declared.auditing.Outcome.{Outcome}
 use Rattle.qa_check.specs.declared.auditing.Outcome.TheVariants.{Accepted, Refused, Unreadable}
+use Rattle.qa_check.specs.declared.auditing.AuditFault.{AuditFault}
+use Rattle.qa_check.specs.declared.auditing.AuditFault.TheVariants as faults
 use Rattle.qaudit.specs.declared.ending.Failure.{Failure}
 use Rattle.qaudit.specs.declared.ending.Failure.TheVariants.{Arguments, Open, Read, Write, OutOfMemory}
 use Rattle.qaudit.specs.declared.ending.Origin.{Origin}
 use Rattle.qaudit.specs.declared.ending.Origin.TheVariants.{StandardInput, File}
+
+-- the failure of an audit that read from this origin
+abbrev pub failure_of : Origin → AuditFault → Failure
+failure_of origin faults.Read = Read origin
+failure_of origin faults.Write = Write
+failure_of origin faults.OutOfMemory = OutOfMemory
 
 -- the exit status of one audit
 abbrev pub status_of : Result Outcome Failure → ℕ

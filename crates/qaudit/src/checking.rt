@@ -1,8 +1,15 @@
 //! The subcommand `check`.
+ghost use Rattle.std.specs.Prelude.{◌≡◌, ◌⊎◌, ℕ, List, [], Result, Some, IfOk, OnOk, IfErr, OnErr, nat_lt, length, take, string_bytes};
+ghost use Rattle.std.specs.Io.KnownBytes.{Appends};
+ghost use Rattle.qa_check.specs.Audit.{Reports};
+ghost use Rattle.qaudit.specs.Checking as checking;
+ghost use Rattle.qaudit.specs.Checking.{Audited, Checks, ChecksAll, heading};
+ghost use Rattle.qaudit.specs.Ending.{status_of};
+
 use crate::ending::{Failure, Origin, status};
 use qa_check::{Metered, Outcome, Sink, Source, audit, write_whole};
 use qa_ledger::Whole;
-use std::alloc::Global;
+use std::alloc::{AllocError, Global};
 use std::fs;
 use std::rt::Files;
 
@@ -16,27 +23,23 @@ pub fn check<R: Files + Eprint + AllocGlobal, I: Source, O: Sink>(
     files: &[&str],
     input: &mut I,
     output: &mut O,
-) -> u8 {
+) -> u8
+    ensures files { files.now ≡ [] ⊎ ChecksAll (nat_lt 1 (length files.now)) files.now (O.held output.old) (O.held output.new) result }
+    ensures input { files.now ≡ [] → (ended : Result Outcome Failure)
+        × Audited Origin.StandardInput ended (O.held output.old) (O.held output.new) × (result ≡ status_of ended) }
+{
     if files.is_empty() {
-        return end(
-            rt,
-            &audited(rt.alloc(), Origin::StandardInput, input, output),
-        );
+        let ended = audited(rt.alloc(), Origin::StandardInput, input, output);
+        end(rt, &ended)
+    } else {
+        check_files(rt, files, output)
     }
-    let is_headed = files.len() > 1;
-    let mut greatest = 0;
-    for name in files {
-        let ended = check_file(rt, name, is_headed, output);
-        greatest = end(rt, &ended).max(greatest);
-        if ended == Err(Failure::Write) {
-            break;
-        }
-    }
-    greatest
 }
 
 /// Tells a failure on standard error, and returns the exit status.
-pub fn end(rt: &impl Eprint, ended: &Result<Outcome, Failure<'_>>) -> u8 {
+pub fn end(rt: &impl Eprint, ended: &Result<Outcome, Failure<'_>>) -> u8
+    ensures { result ≡ status_of ended.now }
+{
     if let Err(failure) = ended {
         // A failure of standard error changes nothing.
         let _ = eprintln!(rt; "{failure}");
@@ -44,17 +47,46 @@ pub fn end(rt: &impl Eprint, ended: &Result<Outcome, Failure<'_>>) -> u8 {
     status(ended)
 }
 
-/// Audits one file.
-fn check_file<'a, O: Sink>(
-    rt: &(impl Files + AllocGlobal),
-    name: &'a str,
-    is_headed: bool,
+/// Audits each file, up to a failed write.
+fn check_files<R: Files + Eprint + AllocGlobal, O: Sink>(
+    rt: &R,
+    files: &[&str],
     output: &mut O,
-) -> Result<Outcome, Failure<'a>> {
+) -> u8
+    ensures { ChecksAll (nat_lt 1 (length files.now)) files.now (O.held output.old) (O.held output.new) result }
+{
+    let several = files.len() > 1;
+    let mut greatest = 0;
+    for name in files {
+        let ended = check_file(rt, name, several, output);
+        greatest = end(rt, &ended).max(greatest);
+        if stops(&ended) {
+            return greatest;
+        }
+    }
+    greatest
+}
+
+/// Whether no file behind is audited.
+fn stops(ended: &Result<Outcome, Failure<'_>>) -> bool
+    ensures { result ≡ checking.stops ended.now }
+{
+    matches!(ended, Err(Failure::Write))
+}
+
+/// Audits one file, which is one of several or not.
+fn check_file<'a, R: Files + AllocGlobal, O: Sink>(
+    rt: &R,
+    name: &'a str,
+    several: bool,
+    output: &mut O,
+) -> Result<Outcome, Failure<'a>>
+    ensures { Checks several name.entry result (O.held output.old) (O.held output.new) }
+{
     let Ok(file) = fs::open(rt, name) else {
         return Err(Failure::Open(name));
     };
-    if is_headed {
+    if several {
         write_heading(rt.alloc(), name, output)?;
     }
     audited(
@@ -66,13 +98,25 @@ fn check_file<'a, O: Sink>(
 }
 
 /// Writes the line that stands before the report of one of several files.
-fn write_heading<'a, O: Sink>(
-    alloc: Global,
-    name: &'a str,
-    output: &mut O,
-) -> Result<(), Failure<'a>> {
-    let heading = format!(in alloc; "file {name}\n")?;
-    write_whole(output, heading.as_bytes()).map_err(|_fault| Failure::Write)
+fn write_heading<'a, O: Sink>(alloc: Global, name: &str, output: &mut O) -> Result<(), Failure<'a>>
+    ensures ok { OnOk result (Appends (O.held output.old) (O.held output.new) (heading name.now)) }
+    ensures err { IfErr result (λ failure.
+        (failure ≡ Failure.Write × ((n : ℕ) × Appends (O.held output.old) (O.held output.new) (take n (heading name.now))))
+        ⊎ (failure ≡ Failure.OutOfMemory × (O.held output.new ≡ O.held output.old))) }
+{
+    let Ok(line) = heading_line(alloc, name) else {
+        return Err(Failure::OutOfMemory);
+    };
+    match write_whole(output, line.as_bytes()) {
+        Ok(()) => Ok(()),
+        Err(_) => Err(Failure::Write),
+    }
+}
+
+fn heading_line(alloc: Global, name: &str) -> Result<String, AllocError>
+    ensures { IfOk result (λ line. string_bytes line ≡ heading name.now) }
+{
+    format!(in alloc; "file {name}\n")
 }
 
 /// Audits one trace.
@@ -81,6 +125,13 @@ fn audited<'a, I: Source, O: Sink>(
     origin: Origin<'a>,
     input: &mut I,
     output: &mut O,
-) -> Result<Outcome, Failure<'a>> {
-    audit::<Whole, _, _>(alloc, input, output).map_err(|fault| Failure::of_audit(fault, origin))
+) -> Result<Outcome, Failure<'a>>
+    ensures wrote { Audited origin.entry result (O.held output.old) (O.held output.new) }
+    ensures told { (bytes : List ℕ) → I.left input.old ≡ Some bytes
+        → IfOk result (λ outcome. Reports (O.held output.old) (O.held output.new) outcome bytes) }
+{
+    match audit::<Whole, I, O>(alloc, input, output) {
+        Ok(outcome) => Ok(outcome),
+        Err(fault) => Err(Failure::of_audit(fault, origin)),
+    }
 }

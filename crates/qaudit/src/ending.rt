@@ -1,6 +1,6 @@
 //! How the program ends.
 ghost use Rattle.std.specs.Prelude.{◌≡◌};
-ghost use Rattle.qaudit.specs.Ending.{status_of};
+ghost use Rattle.qaudit.specs.Ending.{failure_of, status_of};
 
 use qa_check::{AuditFault, Outcome};
 use std::alloc::AllocError;
@@ -32,7 +32,9 @@ pub enum Failure<'a> {
 
 impl<'a> Failure<'a> {
     /// The failure of an audit that read from this origin.
-    pub fn of_audit(fault: AuditFault, origin: Origin<'a>) -> Failure<'a> {
+    pub fn of_audit(fault: AuditFault, origin: Origin<'a>) -> Failure<'a>
+        ensures { result ≡ failure_of origin.entry fault }
+    {
         match fault {
             AuditFault::Read => Failure::Read(origin),
             AuditFault::Write => Failure::Write,

@@ -1,0 +1,66 @@
+-- What `check` writes, and the exit status that it returns.
+use Rattle.std.specs.Prelude.{◌≡◌, ◌⊎◌, ◌++◌, ℕ, Bool, true, false, List, [], ◌∷◌, take, max, codes, Option, Result, Ok, Err}
+use Rattle.std.specs.Borrow.{Bor}
+use Rattle.std.specs.Io.KnownBytes.{Appends}
+use Rattle.qa_check.specs.Audit.{Reports, BeginsReport}
+use Rattle.qa_check.specs.declared.auditing.Outcome.{Outcome}
+use Rattle.qaudit.specs.Ending.{status_of}
+use Rattle.qaudit.specs.declared.ending.Failure.{Failure}
+use Rattle.qaudit.specs.declared.ending.Failure.TheVariants.{Arguments, Open, Read, Write, OutOfMemory}
+use Rattle.qaudit.specs.declared.ending.Origin.{Origin}
+use Rattle.qaudit.specs.declared.ending.Origin.TheVariants as origins
+
+-- the line that stands before the report of one of several files
+abbrev pub heading : List ℕ → List ℕ
+heading name = codes "file " ++ name ++ codes "\n"
+
+-- this line was written, where there are several files
+abbrev pub Headed : Bool → List ℕ → Option (List ℕ) → Option (List ℕ) → Type 0
+Headed true name old new = Appends old new (heading name)
+Headed false name old new = new ≡ old
+
+-- what an audit of this origin wrote that ended so: the report of some bytes, its beginning, or nothing
+abbrev pub Audited : Origin → Result Outcome Failure → Option (List ℕ) → Option (List ℕ) → Type 0
+Audited origin (Ok outcome) old new = (bytes : List ℕ) × Reports old new outcome bytes
+Audited origin (Err Arguments) old new = ⊥
+Audited origin (Err (Open name)) old new = ⊥
+Audited origin (Err (Read failed)) old new = (failed ≡ origin) × (new ≡ old)
+Audited origin (Err Write) old new = (bytes : List ℕ) × BeginsReport old new bytes
+Audited origin (Err OutOfMemory) old new = new ≡ old
+
+-- what was written where no audit of a file began
+abbrev pub Unaudited : Bor (List ℕ) → Result Outcome Failure → Option (List ℕ) → Option (List ℕ) → Type 0
+Unaudited name (Ok outcome) old new = ⊥
+Unaudited name (Err Arguments) old new = ⊥
+Unaudited name (Err (Open unopened)) old new = (unopened ≡ name) × (new ≡ old)
+Unaudited name (Err (Read origin)) old new = ⊥
+Unaudited name (Err Write) old new = (n : ℕ) × Appends old new (take n (heading name.now))
+Unaudited name (Err OutOfMemory) old new = new ≡ old
+
+-- what was written for one file, one of several or not, which ended so
+abbrev pub Checks : Bool → Bor (List ℕ) → Result Outcome Failure → Option (List ℕ) → Option (List ℕ) → Type 0
+Checks several name ended old new =
+    Unaudited name ended old new ⊎ ((middle : Option (List ℕ)) × Headed several name.now old middle × Audited (origins.File name) ended middle new)
+
+-- whether no file behind is audited: a failed write ends the program
+abbrev pub stops : Result Outcome Failure → Bool
+stops (Ok outcome) = false
+stops (Err Arguments) = false
+stops (Err (Open name)) = false
+stops (Err (Read origin)) = false
+stops (Err Write) = true
+stops (Err OutOfMemory) = false
+
+-- the first of two where it stops, and else the second
+abbrev pub Then : Bool → Type 0 → Type 0 → Type 0
+Then true stopped goes_on = stopped
+Then false stopped goes_on = goes_on
+
+-- what was written for these files, in order, and the greatest of their statuses
+abbrev pub ChecksAll : Bool → List (Bor (List ℕ)) → Option (List ℕ) → Option (List ℕ) → ℕ → Type 0
+ChecksAll several [] old new status = (new ≡ old) × (status ≡ 0)
+ChecksAll several (name ∷ names) old new status =
+    (ended : Result Outcome Failure) × (middle : Option (List ℕ)) × (later : ℕ)
+    × Checks several name ended old middle
+    × Then (stops ended) ((new ≡ middle) × (later ≡ 0)) (ChecksAll several names middle new later)
+    × (status ≡ max (status_of ended) later)
