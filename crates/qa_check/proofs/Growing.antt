@@ -140,9 +140,15 @@ unfolding verdict_of
 end_without stands None n last ls none (good, held, count, last_is) = rw (good, held.0, count) refl
 end_without stands (Some l) n last ls none holds = cc
 
-ended : (owing : Bool) (last : ℕ) (c : Settings) (h : List Event) → owing ≡ is_some_packet (owed c h)
-    → (if owing then Refused last OwedAtEnd (totals c h) else Accepted (totals c h)) ≡ (if is_some_packet (owed c h) then Refused last OwedAtEnd (totals c h) else Accepted (totals c h))
-ended owing last c h is = rw is refl
+-- where a ledger is there, what it says is owed decides
+pub end_with : {L : Type 0} (stands : Stands L) (ledger : Option L) (l : L) (n last : ℕ) (owing : Bool) (t : Totals) (ls : List (List ℕ)) → ledger ≡ Some l
+    → ((c : Settings) (h : List Event) → stands l c h → owing ≡ is_some_packet (owed c h)) → ((c : Settings) (h : List Event) → stands l c h → t ≡ totals c h)
+    → Open stands ledger n last ls → (if owing then Refused last OwedAtEnd t else Accepted t) ≡ verdict_of reading ls
+unfolding verdict_of
+end_with stands ledger l n last owing t ls is owes holds_totals holds =
+    let held : HoldsRun stands (Some l) (header_in reading ls) (history_of (events_in reading ls)) = rw is at holds.1 in
+    let h = history_of (events_in reading ls) in
+    rw (holds.0, held.1, holds.3, sym (owes held.0 h held.2), holds_totals held.0 h held.2) refl
 
 -- ---- lines out of place
 
@@ -195,13 +201,3 @@ too_many n l many = rw (le-leb 4294967295 n many) refl
 pub too_long : (n : ℕ) (l : List ℕ) → n < 4294967295 → 65536 < length l → said reading n l ≡ Err LineTooLong
 unfolding said
 too_long n l few long = rw (lt-leb 4294967295 n few, lt-ltb 65536 (length l) long) refl
-
--- where a ledger is there, what it says is owed decides
-pub end_with : {L : Type 0} (stands : Stands L) (ledger : Option L) (l : L) (n last : ℕ) (owing : Bool) (t : Totals) (ls : List (List ℕ)) → ledger ≡ Some l
-    → ((c : Settings) (h : List Event) → stands l c h → owing ≡ is_some_packet (owed c h)) → ((c : Settings) (h : List Event) → stands l c h → t ≡ totals c h)
-    → Open stands ledger n last ls → (if owing then Refused last OwedAtEnd t else Accepted t) ≡ verdict_of reading ls
-unfolding verdict_of
-end_with stands ledger l n last owing t ls is owes holds_totals holds =
-    let held : HoldsRun stands (Some l) (header_in reading ls) (history_of (events_in reading ls)) = rw is at holds.1 in
-    let h = history_of (events_in reading ls) in
-    rw (holds.0, held.1, holds.3, sym (owes held.0 h held.2), holds_totals held.0 h held.2) refl

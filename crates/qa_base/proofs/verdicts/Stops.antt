@@ -94,11 +94,6 @@ said_parts true long e f r x h = cc
 said_parts false true e f r x h = cc
 said_parts false false e f r x h = (refl, refl, h)
 
-pub said_few : (reading : Reading) (n : ℕ) (l : List ℕ) {x : Line} → said reading n l ≡ Ok x → n < max_lines
-unfolding said
-said_few reading n l h =
-    let few = (said_parts (nat_le 4294967295 n) (nat_lt 65536 (length l)) _ _ _ _ h).0 in omega (arith, leb-false 4294967295 n few)
-
 pub said_reading : (reading : Reading) (n : ℕ) (l : List ℕ) {x : Line} → said reading n l ≡ Ok x → reading l ≡ Ok x
 unfolding said
 said_reading reading n l h = (said_parts (nat_le 4294967295 n) (nat_lt 65536 (length l)) _ _ _ _ h).2
