@@ -21,11 +21,11 @@ abbrev pub Taken : List ℕ → List ℕ → List ℕ → Bool → Type 0
 Taken bytes line rest closed = IsFirstLine bytes line rest ⊎ ((closed ≡ true) × IsLastLine bytes line rest)
 
 -- what it took off before it was closed, an LF ended
-taken_open : (bytes line rest : List ℕ) (closed : Bool) → Taken bytes line rest closed → closed ≡ false → IsFirstLine bytes line rest
+pub taken_open : (bytes line rest : List ℕ) (closed : Bool) → Taken bytes line rest closed → closed ≡ false → IsFirstLine bytes line rest
 taken_open bytes line rest closed taken h = elim taken [ inl e ↦ e | inr e ↦ cc ]
 
 -- what it took off bytes without LF is all of them
-taken_last : (bytes line rest : List ℕ) (closed : Bool) → Taken bytes line rest closed → has_lf bytes ≡ false → IsLastLine bytes line rest
+pub taken_last : (bytes line rest : List ℕ) (closed : Bool) → Taken bytes line rest closed → has_lf bytes ≡ false → IsLastLine bytes line rest
 taken_last bytes line rest closed taken h =
     elim taken [ inl e ↦ absurd (lf_inside line rest (ap has_lf (sym e) ∙ h)) | inr e ↦ e.1 ]
 

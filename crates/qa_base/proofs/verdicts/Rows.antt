@@ -9,7 +9,7 @@ use Rattle.qa_base.specs.verdicts.Report.{report}
 use Rattle.qa_base.specs.verdicts.Verdict.{Reading, stop_after, first_stop, verdict, AreGood, AreDecided, IsFixed}
 use Rattle.qa_base.proofs.verdicts.Cuts.{lines_append, last_line_at, first_line, first_line_is_long, first_line_stands}
 use Rattle.qa_base.proofs.verdicts.Fixed.{IsFixedBy, fixed_stays, long_stops}
-use Rattle.qa_base.proofs.verdicts.Stops.{first_stop-snoc, no_stop_or_stop}
+use Rattle.qa_base.proofs.verdicts.Stops.{first_stop-snoc, no_stop_or_stop, decided_stays}
 
 -- ---- lines behind others
 
@@ -43,13 +43,28 @@ pub rows_stay : (reading : Reading) (ls ms : List (List ℕ)) → AreDecided rea
 unfolding rows_of
 rows_stay reading ls ms bad = rows_after_stay reading [] ls ms bad
 
+-- lines are good that begin good ones
+good_front : (reading : Reading) (ls ms : List (List ℕ)) → AreGood reading (ls ++ ms) → AreGood reading ls
+good_front reading ls ms good = elim (no_stop_or_stop (first_stop reading [] ls)) [
+  | inl front ↦ front
+  | inr bad ↦ let some : is_some (first_stop reading [] (ls ++ ms)) ≡ true = decided_stays reading ls ms bad in absurd (not_both (first_stop reading [] (ls ++ ms)) good some)
+]
+  where
+    not_both : (o : Option Verdict) → o ≡ None → is_some o ≡ true → ⊥
+    not_both None none some = cc
+    not_both (Some v) none some = cc
+
 -- one more good line
-pub rows_of-snoc : (reading : Reading) (ls : List (List ℕ)) (l : List ℕ) → AreGood reading ls → AreGood reading (ls ++ l ∷ [])
+rows_of-good : (reading : Reading) (ls : List (List ℕ)) (l : List ℕ) → AreGood reading ls → AreGood reading (ls ++ l ∷ [])
     → rows_of reading (ls ++ l ∷ []) ≡ rows_of reading ls ++ row_after reading ls l
 unfolding rows_of
-rows_of-snoc reading ls l good more =
+rows_of-good reading ls l good more =
     let none : stop_after reading ls l ≡ None = sym (first_stop-snoc reading [] ls l good) ∙ more in
     rows_after-append reading [] ls (l ∷ []) good ∙ ap (λ k. rows_after reading [] ls ++ k) (rw none (append-nil (row_after reading ls l)))
+
+pub rows_of-snoc : (reading : Reading) (ls : List (List ℕ)) (l : List ℕ) → AreGood reading (ls ++ l ∷ [])
+    → rows_of reading (ls ++ l ∷ []) ≡ rows_of reading ls ++ row_after reading ls l
+rows_of-snoc reading ls l good = rows_of-good reading ls l (good_front reading ls (l ∷ []) good) good
 
 -- a line that is not good behind good ones, whatever follows
 pub rows_at_stop : (reading : Reading) (ls ms : List (List ℕ)) (l : List ℕ) → AreGood reading ls → is_some (stop_after reading ls l) ≡ true
@@ -59,11 +74,12 @@ rows_at_stop reading ls ms l good bad =
     rows_after-append reading [] ls (l ∷ ms) good ∙ (ap (λ k. rows_after reading [] ls ++ k) (rw bad refl) ∙ append-nil (rows_after reading [] ls))
 
 -- one more line that is not good
-pub rows_same : (reading : Reading) (ls : List (List ℕ)) (l : List ℕ) → AreGood reading ls → AreDecided reading (ls ++ l ∷ [])
+pub rows_same : (reading : Reading) (ls : List (List ℕ)) (l : List ℕ) → AreDecided reading (ls ++ l ∷ [])
     → rows_of reading (ls ++ l ∷ []) ≡ rows_of reading ls
-rows_same reading ls l good bad =
-    let stop : is_some (stop_after reading ls l) ≡ true = ap is_some (sym (first_stop-snoc reading [] ls l good)) ∙ bad in
-    rows_at_stop reading ls [] l good stop
+rows_same reading ls l bad = elim (no_stop_or_stop (first_stop reading [] ls)) [
+  | inl good ↦ let stop : is_some (stop_after reading ls l) ≡ true = ap is_some (sym (first_stop-snoc reading [] ls l good)) ∙ bad in rows_at_stop reading ls [] l good stop
+  | inr before ↦ rows_stay reading ls (l ∷ []) before
+]
 
 -- the rows of lines begin those of more lines
 pub rows_begin : (reading : Reading) (ls ms : List (List ℕ)) → (rest : List ℕ) × (rows_of reading (ls ++ ms) ≡ rows_of reading ls ++ rest)
