@@ -4,3 +4,4 @@ pub mod Stops
 pub mod Fixed
 pub mod Accepted
 pub mod RunsAccepted
+pub mod Rows

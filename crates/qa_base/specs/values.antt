@@ -4,4 +4,5 @@ pub mod Constants
 pub mod Names
 pub mod Settings
 pub mod Events
+pub mod Kinds
 pub mod Proper

@@ -1,8 +1,10 @@
 //! What a sender did, one event a line.
 ghost use Rattle.std.specs.Prelude.{◌≡◌, IfOk};
 ghost use Rattle.qa_base.specs.values.Events.{fits as fits_of};
+ghost use Rattle.qa_base.specs.values.Kinds.{event_kind};
 
 use crate::limits::MAX_PACKET_SIZE;
+use crate::line::LineKind;
 use crate::number::{Micros, PacketNumber, Spans};
 use crate::space::{Kind, Leave, Space};
 use std::alloc::{AllocError, Global};
@@ -95,6 +97,22 @@ impl Event {
             | Event::Confirmed { .. }
             | Event::Keys { .. }
             | Event::Metrics { .. } => true,
+        }
+    }
+
+    /// The kind of a line that says the event.
+    pub fn kind(&self) -> LineKind
+        ensures { result ≡ event_kind self.now }
+    {
+        match self {
+            Event::Sent { .. } => LineKind::Sent,
+            Event::Ack { .. } => LineKind::Ack,
+            Event::Lost { .. } => LineKind::Lost,
+            Event::Timer { .. } => LineKind::Timer,
+            Event::Discard { .. } => LineKind::Discard,
+            Event::Confirmed { .. } => LineKind::Confirmed,
+            Event::Keys { .. } => LineKind::Keys,
+            Event::Metrics { .. } => LineKind::Metrics,
         }
     }
 

@@ -1,5 +1,6 @@
 //! What a line of a trace says.
 ghost use Rattle.std.specs.Prelude.{◌≡◌};
+ghost use Rattle.qa_base.specs.values.Kinds.{line_kind};
 ghost use Rattle.qa_base.specs.values.Names.{line_kind_name, line_kind_named};
 
 use crate::event::Event;
@@ -14,6 +15,19 @@ pub enum Line {
     Header(Header),
     /// Something that the sender did.
     Event(Event),
+}
+
+impl Line {
+    /// The kind of the line; None for a blank one.
+    pub fn kind(&self) -> Option<LineKind>
+        ensures { result ≡ line_kind self.now }
+    {
+        match self {
+            Line::Blank => None,
+            Line::Header(_) => Some(LineKind::Header),
+            Line::Event(event) => Some(event.kind()),
+        }
+    }
 }
 
 /// The kinds of lines, by what stands at the key `event`.

@@ -3,12 +3,14 @@ use Rattle.std.proofs.Common.{◌≡◌, ◌∙◌, ◌+◌, ◌<◌, ◌≤◌,
 use Rattle.std.specs.Prelude.{OnOk, is_some}
 use Rattle.std.proofs.lemmas.List.{append-nil}
 use Rattle.qa_base.specs.declared.verdict.Verdict.{Verdict}
-use Rattle.qa_base.specs.format.Lines.{has_lf, line_limit, cut, ended_lines, unended, ended, IsShortLine}
+use Rattle.qa_base.specs.format.Lines.{has_lf, line_limit, cut, ended_lines, unended, lines, ended, IsShortLine}
 use Rattle.qa_base.specs.format.Reading.{reading}
 use Rattle.qa_base.specs.verdicts.Verdict.{first_stop, verdict_of, AreGood, AreDecided, IsFixed}
 use Rattle.qa_base.proofs.verdicts.Cuts.{Cut, cut_without_lf, cut_ended, first_line, first_line_is_long, short_snoc, ended_snoc, lines_at_end, lines_at_lf, lf_inside, length-ended}
 use Rattle.qa_base.proofs.verdicts.Fixed.{fixed_by_line, fixed_by_length}
+use Rattle.qa_base.proofs.verdicts.Rows.{rows_by}
 use Rattle.qa_base.proofs.verdicts.Stops.{good_are_few}
+use Rattle.qa_base.specs.verdicts.Explain.{rows_of}
 use Rattle.qa_split.specs.Stream.{IsFirstLine, IsLastLine, BeginsTooLong}
 use Rattle.qa_check.specs.declared.checker.Stop.{Stop}
 use Rattle.qa_check.specs.declared.checker.Stop.TheVariants.{Decided, OutOfMemory}
@@ -19,11 +21,11 @@ abbrev pub Taken : List ℕ → List ℕ → List ℕ → Bool → Type 0
 Taken bytes line rest closed = IsFirstLine bytes line rest ⊎ ((closed ≡ true) × IsLastLine bytes line rest)
 
 -- what it took off before it was closed, an LF ended
-taken_open : (bytes line rest : List ℕ) (closed : Bool) → Taken bytes line rest closed → closed ≡ false → IsFirstLine bytes line rest
+pub taken_open : (bytes line rest : List ℕ) (closed : Bool) → Taken bytes line rest closed → closed ≡ false → IsFirstLine bytes line rest
 taken_open bytes line rest closed taken h = elim taken [ inl e ↦ e | inr e ↦ cc ]
 
 -- what it took off bytes without LF is all of them
-taken_last : (bytes line rest : List ℕ) (closed : Bool) → Taken bytes line rest closed → has_lf bytes ≡ false → IsLastLine bytes line rest
+pub taken_last : (bytes line rest : List ℕ) (closed : Bool) → Taken bytes line rest closed → has_lf bytes ≡ false → IsLastLine bytes line rest
 taken_last bytes line rest closed taken h =
     elim taken [ inl e ↦ absurd (lf_inside line rest (ap has_lf (sym e) ∙ h)) | inr e ↦ e.1 ]
 
@@ -48,7 +50,7 @@ decide_line P Q rest rest' l l' closed is_line t h same adds bytes f =
     let taken = taken_open rest l rest' closed t h in
     let q : Q (f.0 ++ l ∷ []) × AreDecided reading (f.0 ++ l ∷ []) = rw same at (adds f.0 f.1) in
     let fixed = fixed_by_line reading (f.0 ++ l ∷ []) rest' bytes (short_snoc f.0 l f.3 is_line) q.1 (ended_snoc f.0 l rest' bytes (f.4 ∙ ap (λ k. ended f.0 ++ k) taken)) in
-    (fixed.0, (f.0 ++ l ∷ [], q.0, fixed.1))
+    (fixed.0, (f.0 ++ l ∷ [], q.0, fixed.1, rows_by reading (f.0 ++ l ∷ []) bytes q.1 fixed))
 
 -- a line that is too long
 pub decide_long : (P Q : List (List ℕ) → Type 0) (rest : List ℕ) → BeginsTooLong rest
@@ -58,7 +60,7 @@ decide_long P Q rest b adds bytes f =
     let l = first_line b.0 (cut b.1) in
     let q = adds l (first_line_is_long b.0 (cut b.1) b.3) f.0 f.1 in
     let fixed = fixed_by_length reading f.0 b.0 b.1 rest bytes f.3 f.4 b.4 b.2 b.3 q.1 in
-    (fixed.0, (f.0 ++ l ∷ [], q.0, fixed.1))
+    (fixed.0, (f.0 ++ l ∷ [], q.0, fixed.1, rows_by reading (f.0 ++ l ∷ []) bytes q.1 fixed))
 
 -- ---- the end
 
@@ -69,15 +71,15 @@ pub answer_line : (P Q : List (List ℕ) → Type 0) (rest rest' l l' : List ℕ
     → (bytes : List ℕ) → FollowsBy P rest bytes → AnswersBy Q bytes
 answer_line P Q rest rest' l l' closed is_line t h same adds bytes f =
     let last = taken_last rest l rest' closed t h in
-    let q : Q (f.0 ++ l ∷ []) = rw same at (adds f.0 f.1) in (
-      f.0 ++ l ∷ [],
-      q,
-      ap (verdict_of reading) (sym (lines_at_end f.0 l bytes f.3 (f.4 ∙ ap (λ k. ended f.0 ++ k) last.1) is_line.0 last.0)),
-    )
+    let q : Q (f.0 ++ l ∷ []) = rw same at (adds f.0 f.1) in
+    let all : lines bytes ≡ f.0 ++ l ∷ [] = lines_at_end f.0 l bytes f.3 (f.4 ∙ ap (λ k. ended f.0 ++ k) last.1) is_line.0 last.0 in
+    (f.0 ++ l ∷ [], q, ap (verdict_of reading) (sym all), ap (rows_of reading) (sym all))
 
 -- nothing stands behind the last LF
 pub answer_none : (P : List (List ℕ) → Type 0) (rest : List ℕ) → rest ≡ [] → (bytes : List ℕ) → FollowsBy P rest bytes → AnswersBy P bytes
-answer_none P rest h bytes f = (f.0, f.1, ap (verdict_of reading) (sym (lines_at_lf f.0 rest bytes f.3 f.4 h)))
+answer_none P rest h bytes f =
+    let all : lines bytes ≡ f.0 = lines_at_lf f.0 rest bytes f.3 f.4 h in
+    (f.0, f.1, ap (verdict_of reading) (sym all), ap (rows_of reading) (sym all))
 
 -- a line was taken, good or not
 pub either : {G B X : Type 0} (r : Result (Unit {0}) Stop) → (r ≡ Err OutOfMemory → ⊥) → OnOk r G → (r ≡ Err Decided → B) → (G → X) → (B → X) → X

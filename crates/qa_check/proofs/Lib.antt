@@ -2,3 +2,4 @@ pub mod Appends
 pub mod Growing
 pub mod Following
 pub mod Reading
+pub mod Writing

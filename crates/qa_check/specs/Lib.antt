@@ -2,3 +2,4 @@ pub mod Failures
 pub mod Standing
 pub mod Following
 pub mod Audit
+pub mod Writing

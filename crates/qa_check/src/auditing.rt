@@ -40,7 +40,7 @@ pub enum AuditFault {
 }
 
 /// The most bytes that one read asks for.
-const PIECE: usize = 4096;
+pub const PIECE: usize = 4096;
 
 /// Reads a trace and writes its report: for every sequence of bytes that a reader returns, however
 /// its reads are cut.
@@ -206,7 +206,7 @@ fn finish<L: Ledger + Drop>(splitter: &mut Splitter, checker: &mut Checker<L>) -
 }
 
 /// The verdict that a checker has come to.
-fn verdict_of<L: Ledger + Drop>(checker: &Checker<L>) -> Result<Verdict, AuditFault>
+pub fn verdict_of<L: Ledger + Drop>(checker: &Checker<L>) -> Result<Verdict, AuditFault>
     ensures ok { IfOk result (λ v. (bytes : List ℕ) → Answers L.stands checker.now bytes → v ≡ verdict reading bytes) }
     ensures err { IfErr result (λ fault. fault ≡ AuditFault.OutOfMemory) }
 {
@@ -233,7 +233,7 @@ pub fn write_whole<W: Sink>(writer: &mut W, bytes: &[u8]) -> Result<(), AuditFau
     Ok(())
 }
 
-fn told(verdict: &Verdict) -> Outcome
+pub fn told(verdict: &Verdict) -> Outcome
     ensures { result ≡ outcome_of verdict.now }
 {
     match verdict {

@@ -1,15 +1,17 @@
 //! The verdict of lines that come one after another.
-ghost use Rattle.std.specs.Prelude.{◌≡◌, ◌≢◌, ◌≤◌, ◌<◌, ◌+◌, ◌++◌, [], ◌∷◌, length, List, ℕ, true, false, Some, None, Option, Ok, Err, OnOk, not, is_some, IsSome};
+ghost use Rattle.std.specs.Prelude.{◌≡◌, ◌≢◌, ◌≤◌, ◌<◌, ◌+◌, ◌++◌, [], ◌∷◌, length, List, ℕ, true, false, Some, None, Option, Ok, Err, OnOk, IfOk, not, is_some, IsSome, option_map};
 ghost use Rattle.qa_base.specs.declared.event.Event.{Event as AnEvent};
 ghost use Rattle.qa_base.specs.format.Lines.{line_limit};
 ghost use Rattle.qa_base.specs.format.Reading.{reading};
 ghost use Rattle.qa_base.specs.format.Written.{line_fits};
 ghost use Rattle.qa_base.specs.values.Events.{fits};
 ghost use Rattle.qa_base.specs.values.Settings.{Settings};
+ghost use Rattle.qa_base.specs.machine.State as state;
+ghost use Rattle.qa_base.specs.verdicts.Explain.{kind_said};
 ghost use Rattle.qa_base.specs.verdicts.Verdict as verdicts;
 ghost use Rattle.qa_check.specs.Standing.{StandsFor, HoldsRun, AddsGood, AddsBad, TakesIn, StopsAt};
 
-use qa_base::{Event, Fault, Header, Line, Rule, Verdict};
+use qa_base::{Event, Fault, Header, Line, LineKind, Rule, Totals, Verdict};
 use qa_ledger::{Ledger, LedgerFault};
 use qa_read::{LineFault, read_line};
 use qa_split::LINE_LIMIT;
@@ -83,6 +85,20 @@ impl<L: Ledger + Drop> Checker<L> {
         ensures good { OnOk result (AddsGood L.stands self.old self.new bytes.now) }
         ensures decided { (result ≡ Err Stop.Decided) → AddsBad L.stands self.old self.new bytes.now }
     {
+        match self.kind_of_line(bytes) {
+            Ok(_) => Ok(()),
+            Err(stop) => Err(stop),
+        }
+    }
+
+    /// Takes the next line as `line` does, and returns its kind: None for a blank one.
+    pub fn kind_of_line(&mut self, bytes: &[u8]) -> Result<Option<LineKind>, Stop>
+        ensures kind { IfOk result (λ kind. kind ≡ kind_said (reading bytes.now)) }
+        ensures failed { self.old.failed ≡ true → result ≡ Err Stop.OutOfMemory }
+        ensures fails { (result ≡ Err Stop.OutOfMemory) → self.new.failed ≡ true }
+        ensures good { OnOk result (AddsGood L.stands self.old self.new bytes.now) }
+        ensures decided { (result ≡ Err Stop.Decided) → AddsBad L.stands self.old self.new bytes.now }
+    {
         if self.failed {
             return Err(Stop::OutOfMemory);
         }
@@ -96,7 +112,13 @@ impl<L: Ledger + Drop> Checker<L> {
             return Err(self.stop(Fault::LineTooLong));
         }
         match read_line(self.alloc, bytes) {
-            Ok(line) => self.take(line),
+            Ok(line) => {
+                let kind = line.kind();
+                match self.take(line) {
+                    Ok(()) => Ok(kind),
+                    Err(stop) => Err(stop),
+                }
+            }
             Err(LineFault::Fault(fault)) => Err(self.stop(fault)),
             Err(LineFault::OutOfMemory) => {
                 self.failed = true;
@@ -147,6 +169,24 @@ impl<L: Ledger + Drop> Checker<L> {
                     Some(Verdict::Accepted(ledger.totals()))
                 }
             }
+        }
+    }
+
+    /// How many lines were good.
+    pub fn lines(&self) -> u64
+        ensures { result ≡ self.now.lines }
+    {
+        self.lines
+    }
+
+    /// The state of the machine after the good lines; None before a header. Takes no memory.
+    pub fn totals(&self) -> Option<Totals>
+        ensures { (header : Option Settings) (h : List AnEvent) → HoldsRun L.stands self.now.ledger header h
+            → result ≡ option_map (λ c. state.totals c h) header }
+    {
+        match &self.ledger {
+            None => None,
+            Some(ledger) => Some(ledger.totals()),
         }
     }
 
@@ -231,10 +271,7 @@ impl<L: Ledger + Drop> Checker<L> {
         ensures verdict { (header : Option Settings) (h : List AnEvent) → HoldsRun L.stands self.old.ledger header h
             → self.new.verdict ≡ Some (verdicts.unreadable (self.old.lines + 1) header h fault) }
     {
-        let totals = match &self.ledger {
-            None => None,
-            Some(ledger) => Some(ledger.totals()),
-        };
+        let totals = self.totals();
         self.verdict = Some(Verdict::Unreadable(self.lines + 1, fault, totals));
         Stop::Decided
     }

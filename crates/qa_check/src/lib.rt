@@ -1,8 +1,9 @@
-//! The audit of a trace: from a reader of bytes to a report on a writer.
+//! The audit of a trace, and its explanation: from a reader of bytes to a report on a writer.
 #![tactic(auto)]
 
 mod auditing;
 mod checker;
+mod explaining;
 mod streams;
 #[cfg(test)]
 mod tests;
@@ -10,6 +11,7 @@ mod text;
 
 pub use auditing::{AuditFault, Outcome, audit, write_whole};
 pub use checker::{Checker, Stop};
+pub use explaining::explain;
 pub use qa_base::{Fault, Line, Totals, Verdict};
 pub use streams::{Metered, Sink, Source};
 pub use text::report;

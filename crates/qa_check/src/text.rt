@@ -1,9 +1,10 @@
-//! The text of a report.
+//! The texts of reports and of rows.
 ghost use Rattle.std.specs.Prelude.{◌≡◌, ◌++◌, IfOk, OnOk, string_bytes, decimal};
+ghost use Rattle.qa_base.specs.verdicts.Explain as explanation;
 ghost use Rattle.qa_base.specs.verdicts.Report as text;
 
 use itoa::Buffer;
-use qa_base::{Fault, Field, Key, Rule, Totals, Verdict};
+use qa_base::{Fault, Field, Key, LineKind, Rule, Totals, Verdict};
 use std::alloc::{AllocError, Global};
 
 fn push_number(out: &mut String, number: u64) -> Result<(), AllocError>
@@ -155,5 +156,46 @@ pub fn report(alloc: Global, verdict: &Verdict) -> Result<String, AllocError>
         Verdict::Unreadable(_, _, Some(totals)) => push_totals(&mut out, totals)?,
         Verdict::Unreadable(_, _, None) => {}
     }
+    Ok(out)
+}
+
+// ---- rows
+
+#[tactic(auto, unfolding(qa_base::specs::verdicts::Explain::number_text))]
+fn push_number_text(out: &mut String, name: &str, number: u64) -> Result<(), AllocError>
+    ensures { OnOk result (string_bytes out.new ≡ string_bytes out.old ++ explanation.number_text name.now number) }
+{
+    out.push_str(" ")?;
+    out.push_str(name)?;
+    out.push_str(" ")?;
+    push_number(out, number)
+}
+
+#[tactic(auto, unfolding(qa_base::specs::verdicts::Explain::state_text))]
+fn push_state(out: &mut String, totals: &Totals) -> Result<(), AllocError>
+    ensures { OnOk result (string_bytes out.new ≡ string_bytes out.old ++ explanation.state_text totals.now) }
+{
+    push_number_text(out, "window", totals.window)?;
+    push_number_text(out, "bytes_in_flight", totals.bytes_in_flight)?;
+    push_number_text(out, "smoothed_rtt", totals.smoothed_rtt)?;
+    push_number_text(out, "rttvar", totals.rttvar)?;
+    push_number_text(out, "pto_count", totals.pto_count)?;
+    push_number_text(out, "owed", totals.owed)
+}
+
+/// The row of the line of this number and kind, with the state after it.
+///
+/// `AllocError` comes only where it is out of memory.
+#[tactic(auto, unfolding(qa_base::specs::verdicts::Explain::row))]
+pub fn row(alloc: Global, line: u64, kind: LineKind, totals: &Totals) -> Result<String, AllocError>
+    ensures { IfOk result (λ s. string_bytes s ≡ explanation.row line kind totals.now) }
+{
+    let mut out = String::new(alloc);
+    out.push_str("line ")?;
+    push_number(&mut out, line)?;
+    out.push_str(" ")?;
+    out.push_str(kind.name())?;
+    push_state(&mut out, totals)?;
+    out.push_str("\n")?;
     Ok(out)
 }

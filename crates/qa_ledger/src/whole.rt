@@ -15,8 +15,8 @@ use std::marker::Model;
 
 /// A ledger that keeps all events, and judges each by the definitions over those before it.
 ///
-/// It keeps a copy of each event. The time grows about as the fourth power of their number: 300
-/// events take a fraction of a second, and 1,000 about ten seconds.
+/// It keeps a copy of each event. The time grows about as the cube of their number: 300 events take
+/// a fraction of a second, and 2,400 about half a minute.
 #[derive(Drop)]
 pub struct Whole {
     alloc: Global,

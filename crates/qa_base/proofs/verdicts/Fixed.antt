@@ -14,23 +14,30 @@ use Rattle.qa_base.specs.verdicts.Verdict.{Reading, header_in, events_in, said, 
 use Rattle.qa_base.proofs.verdicts.Cuts.{Cut, prepend, cut_front, cut_ended, lines_ended, lines_append, last_line_at, first_line, first_line_is_long, first_line_stands}
 use Rattle.qa_base.proofs.verdicts.Stops.{first_stop-snoc, first_stop-append, no_stop_or_stop, verdict_at_stop, verdict_stays, decided_stays}
 
+-- the verdict of the bytes is fixed, and these lines, which are their first, have it
+abbrev pub IsFixedBy : Reading → List (List ℕ) → List ℕ → Type 0
+IsFixedBy reading ls bytes =
+    IsFixed reading bytes × (verdict_of reading ls ≡ verdict reading bytes) × (more : List (List ℕ)) × (lines bytes ≡ ls ++ more)
+
 -- ---- fixed by a line that is not good
 
 -- a line that an LF ends is not good
 pub fixed_by_line : (reading : Reading) (ls : List (List ℕ)) (rest bytes : List ℕ) → AllByRecursion IsShortLine ls → AreDecided reading ls
-    → bytes ≡ ended ls ++ rest → IsFixed reading bytes × (verdict_of reading ls ≡ verdict reading bytes)
+    → bytes ≡ ended ls ++ rest → IsFixedBy reading ls bytes
 fixed_by_line reading ls rest bytes short h e =
     let lines_are : lines bytes ≡ ls ++ lines rest = ap lines e ∙ lines_ended ls rest short in
     let ended_are : ended_lines bytes ≡ ls ++ ended_lines rest = ap ended_lines e ∙ ap (λ (p : Cut). p.0) (cut_ended ls rest short) in (
       inl (rw ended_are (decided_stays reading ls (ended_lines rest) h)),
       sym (ap (verdict_of reading) lines_are ∙ verdict_stays reading ls (lines rest) h),
+      lines rest,
+      lines_are,
     )
 
 -- ---- fixed by too many bytes without LF
 
 fixed_by_cut : (reading : Reading) (ls : List (List ℕ)) (front bytes : List ℕ) (p : Cut) → line_limit < length front
     → cut bytes ≡ (ls ++ (prepend front p).0, (prepend front p).1) → AreDecided reading (ls ++ first_line front p ∷ [])
-    → IsFixed reading bytes × (verdict_of reading (ls ++ first_line front p ∷ []) ≡ verdict reading bytes)
+    → IsFixedBy reading (ls ++ first_line front p ∷ []) bytes
 unfolding first_line
 fixed_by_cut reading ls front bytes ([], rest) h e d =
     let long : line_limit < length (front ++ rest) = simp length-append (omega arith) in
@@ -38,7 +45,7 @@ fixed_by_cut reading ls front bytes ([], rest) h e d =
     let lines_are : lines bytes ≡ ls ++ (front ++ rest) ∷ [] =
     ap (λ (p : Cut). p.0 ++ last_line p.1) e ∙ (ap (λ k. k ++ last_line (front ++ rest)) (append-nil ls)
     ∙ ap (λ k. ls ++ k) (last_line_at (front ++ rest) (omega arith))) in
-    (inr (rw unended_is long), ap (verdict_of reading) (sym lines_are))
+    (inr (rw unended_is long), ap (verdict_of reading) (sym lines_are), [], lines_are ∙ sym (append-nil (ls ++ (front ++ rest) ∷ [])))
 fixed_by_cut reading ls front bytes (m ∷ ms, rest) h e d =
     let ended_are : ended_lines bytes ≡ (ls ++ (front ++ m) ∷ []) ++ ms = ap (λ (p : Cut). p.0) e ∙ sym (append_assoc ls ((front ++ m) ∷ []) ms) in
     let lines_are : lines bytes ≡ (ls ++ (front ++ m) ∷ []) ++ (ms ++ last_line rest) =
@@ -46,12 +53,14 @@ fixed_by_cut reading ls front bytes (m ∷ ms, rest) h e d =
     ∙ sym (append_assoc ls ((front ++ m) ∷ []) (ms ++ last_line rest))) in (
       inl (rw ended_are (decided_stays reading (ls ++ (front ++ m) ∷ []) ms d)),
       sym (ap (verdict_of reading) lines_are ∙ verdict_stays reading (ls ++ (front ++ m) ∷ []) (ms ++ last_line rest) d),
+      ms ++ last_line rest,
+      lines_are,
     )
 
 pub fixed_by_length : (reading : Reading) (ls : List (List ℕ)) (front more rest bytes : List ℕ) → AllByRecursion IsShortLine ls
     → bytes ≡ ended ls ++ rest → rest ≡ front ++ more → has_lf front ≡ false → line_limit < length front
     → AreDecided reading (ls ++ first_line front (cut more) ∷ [])
-    → IsFixed reading bytes × (verdict_of reading (ls ++ first_line front (cut more) ∷ []) ≡ verdict reading bytes)
+    → IsFixedBy reading (ls ++ first_line front (cut more) ∷ []) bytes
 fixed_by_length reading ls front more rest bytes short e f one h d =
     fixed_by_cut reading ls front bytes (cut more) h
     (ap cut e ∙ (cut_ended ls rest short ∙ ap (λ (p : Cut). (ls ++ p.0, p.1)) (ap cut f ∙ cut_front front more one)))
@@ -83,7 +92,7 @@ long_fault reading n l h =
     let long : nat_lt 65536 (length l) ≡ true = lt-ltb 65536 (length l) h in
     rw long (err_either (nat_le 4294967295 n) (Err TooManyLines) (Err LineTooLong) TooManyLines LineTooLong refl refl)
 
-long_stops : (reading : Reading) (ls : List (List ℕ)) (l : List ℕ) → line_limit < length l → (v : Verdict) × (stop_after reading ls l ≡ Some v)
+pub long_stops : (reading : Reading) (ls : List (List ℕ)) (l : List ℕ) → line_limit < length l → (v : Verdict) × (stop_after reading ls l ≡ Some v)
 unfolding stop_after
 long_stops reading ls l h = let fault = long_fault reading (length ls) l h in (
   unreadable (length ls + 1) (header_in reading ls) (history_of (events_in reading ls)) fault.0,

@@ -1,0 +1,306 @@
+-- What lines and pieces do to the rows that were written.
+use Rattle.std.proofs.Common.{◌≡◌, ◌∙◌, ◌+◌, ℕ, List, [], ◌∷◌, ◌++◌, length, take, drop, Bool, false, ◌⊎◌, inl, inr, Option, Some, None, Result, Ok, Err, OnOk, OnErr, is_err, length-append, append_assoc, take-append-drop, refl, sym, ap}
+use Rattle.std.specs.Prelude.{option_map, IsSome}
+use Rattle.std.proofs.lemmas.List.{append-nil}
+use Rattle.std.proofs.KnownBytes.{Appends-nil, Appends-trans}
+use Rattle.std.specs.Io.KnownBytes.{Appends, Consumes, IsAtEnd}
+use Rattle.std.specs.List.{AllByRecursion}
+use Rattle.qa_base.specs.declared.event.Event.{Event}
+use Rattle.qa_base.specs.declared.line.LineKind.{LineKind}
+use Rattle.qa_base.specs.declared.verdict.Totals.{Totals}
+use Rattle.qa_base.specs.declared.verdict.Verdict.{Verdict}
+use Rattle.qa_base.specs.format.Lines.{has_lf, ended_lines, unended, last_line, lines, ended, IsShortLine}
+use Rattle.qa_base.specs.format.Reading.{reading}
+use Rattle.qa_base.specs.machine.Packets.{history_of}
+use Rattle.qa_base.specs.machine.State.{totals}
+use Rattle.qa_base.specs.values.Settings.{Settings}
+use Rattle.qa_base.specs.verdicts.Explain.{row, row_of, kind_said, row_after, rows_of, rows, explain}
+use Rattle.qa_base.specs.verdicts.Report.{report}
+use Rattle.qa_base.specs.verdicts.Verdict.{verdict, first_stop, header_in, events_in, AreGood, AreDecided, IsFixed}
+use Rattle.qa_base.proofs.verdicts.Cuts.{Cut, cut_ended, cut_without_lf, ended_snoc, short_snoc, lines_at_end}
+use Rattle.qa_base.proofs.verdicts.Rows.{rows_begin, rows_of_fixed, rows_of-snoc, rows_same, explanation_begins, explanation_stays}
+use Rattle.qa_check.specs.declared.auditing.AuditFault.{AuditFault}
+use Rattle.qa_check.specs.declared.auditing.AuditFault.TheVariants as faults
+use Rattle.qa_check.specs.declared.checker.Stop.{Stop}
+use Rattle.qa_check.specs.declared.checker.Stop.TheVariants.{Decided, OutOfMemory}
+use Rattle.qa_check.specs.declared.explaining.Progress.{Progress}
+use Rattle.qa_check.specs.declared.explaining.Progress.TheVariants.{Open as IsOpen, Fixed}
+use Rattle.qa_check.specs.declared.auditing.Outcome.{Outcome}
+use Rattle.qa_check.specs.Audit.{is_read_fault, outcome_of}
+use Rattle.qa_check.proofs.Reading.{told_verdict}
+use Rattle.qa_check.specs.Writing.{Begins, BeginsRead, Explains, JudgesShown, Shows, Shown, ended_rows}
+use Rattle.qa_check.specs.Following.{FollowsBy, AnswersBy, Answers}
+use Rattle.qa_check.proofs.Following.{Taken, taken_open, taken_last}
+use Rattle.qa_check.specs.Standing.{Held, Stands, HoldsRun, Open, StandsBy, StandsFor, AddsGood, AddsBad}
+
+-- ---- beginnings of texts
+
+pub begins_all : (a b : Option (List ℕ)) (text : List ℕ) → Appends a b text → Begins a b text
+begins_all a b text written = (text, [], sym (append-nil text), written)
+
+pub begins_none : (a : Option (List ℕ)) (text : List ℕ) → Begins a a text
+begins_none a text = ([], text, refl, Appends-nil a)
+
+-- a number of bytes was written
+pub begins_taken : (a b : Option (List ℕ)) (text : List ℕ) → (n : ℕ) × Appends a b (take n text) → Begins a b text
+begins_taken a b text (n, written) = (take n text, drop n text, sym (take-append-drop n text), written)
+
+-- behind a text that was written
+pub begins_behind : (a b c : Option (List ℕ)) (front text : List ℕ) → Appends a b front → Begins b c text → Begins a c (front ++ text)
+begins_behind a b c front text before (begun, rest, parts, written) =
+    (front ++ begun, rest, ap (λ k. front ++ k) parts ∙ sym (append_assoc front begun rest), Appends-trans a b c front begun before written)
+
+-- of a text that goes on
+pub begins_longer : (a b : Option (List ℕ)) (text longer more : List ℕ) → longer ≡ text ++ more → Begins a b text → Begins a b longer
+begins_longer a b text longer more is (begun, rest, parts, written) =
+    (begun, rest ++ more, is ∙ (ap (λ k. k ++ more) parts ∙ append_assoc begun rest more), written)
+
+-- ---- a row
+
+-- without a header there is no row
+pub no_row : {L : Type 0} (stands : Stands L) (ledger : Option L) (a : Option (List ℕ)) (n : ℕ) (kind : LineKind) (o : Option Totals)
+    → ((header : Option Settings) (h : List Event) → HoldsRun stands ledger header h → o ≡ option_map (λ c. totals c h) header) → o ≡ None
+    → (header : Option Settings) (h : List Event) → HoldsRun stands ledger header h → Appends a a (row_of n (Some kind) header h)
+no_row stands ledger a n kind o says none None h held = Appends-nil a
+no_row stands ledger a n kind o says none (Some c) h held = let is = says (Some c) h held in cc
+
+-- with one, it is the row of the state that the ledger tells
+one_row : {L : Type 0} (stands : Stands L) (ledger : Option L) (n : ℕ) (kind : LineKind) (o : Option Totals) (t : Totals) (text : List ℕ)
+    → ((header : Option Settings) (h : List Event) → HoldsRun stands ledger header h → o ≡ option_map (λ c. totals c h) header) → o ≡ Some t
+    → text ≡ row n kind t
+    → (header : Option Settings) (h : List Event) → HoldsRun stands ledger header h → row_of n (Some kind) header h ≡ text
+one_row stands ledger n kind o t text says some is None h held = let none = says None h held in cc
+one_row stands ledger n kind o t text says some is (Some c) h held =
+    let same : t ≡ totals c h = some_of (sym some ∙ says (Some c) h held) in
+    sym (is ∙ ap (row n kind) same)
+  where
+    some_of : {x y : Totals} → Some x ≡ Some y → x ≡ y
+    some_of e = cc
+
+-- it was begun
+pub row_begins : {L : Type 0} (stands : Stands L) (ledger : Option L) (n : ℕ) (kind : LineKind) (o : Option Totals) (t : Totals) (text : List ℕ) (a b : Option (List ℕ))
+    → ((header : Option Settings) (h : List Event) → HoldsRun stands ledger header h → o ≡ option_map (λ c. totals c h) header) → o ≡ Some t
+    → text ≡ row n kind t → (m : ℕ) × Appends a b (take m text)
+    → (header : Option Settings) (h : List Event) → HoldsRun stands ledger header h → Begins a b (row_of n (Some kind) header h)
+row_begins stands ledger n kind o t text a b says some is taken header h held =
+    rw (one_row stands ledger n kind o t text says some is header h held) (begins_taken a b text taken)
+
+-- ---- a line
+
+-- a checker whose lines are good holds their run
+open_good : {L : Type 0} (stands : Stands L) (v : Option Verdict) (ledger : Option L) (n last : ℕ) (ls : List (List ℕ))
+    → StandsBy stands v ledger n last ls → AreGood reading ls → Open stands ledger n last ls
+open_good stands None ledger n last ls s good = s
+open_good stands (Some v) ledger n last ls s good = absurd (not_both (first_stop reading [] ls) good s.0)
+  where
+    not_both : (o : Option Verdict) → o ≡ None → IsSome o → ⊥
+    not_both None none some = cc
+    not_both (Some w) none some = cc
+
+-- the row of a good line that the checker took last
+row_is : {L : Type 0} (stands : Stands L) (new : Held L) (l : List ℕ) (kind : Option LineKind) (ls : List (List ℕ))
+    → kind ≡ kind_said (reading l) → StandsFor stands new (ls ++ l ∷ []) → AreGood reading (ls ++ l ∷ [])
+    → HoldsRun stands new.ledger (header_in reading (ls ++ l ∷ [])) (history_of (events_in reading (ls ++ l ∷ [])))
+    × (row_of new.lines kind (header_in reading (ls ++ l ∷ [])) (history_of (events_in reading (ls ++ l ∷ []))) ≡ row_after reading ls l)
+row_is stands new l kind ls said s good =
+    let holds = open_good stands new.verdict new.ledger new.lines new.last_event (ls ++ l ∷ []) s good in
+    let count : new.lines ≡ length ls + 1 = holds.2 ∙ length-append ls (l ∷ []) in
+    (holds.1, rw (count, said) refl)
+
+-- a good line and its row
+pub show_good : {L : Type 0} (stands : Stands L) (old new : Held L) (start a b : Option (List ℕ)) (l : List ℕ) (kind : Option LineKind)
+    → AddsGood stands old new l → kind ≡ kind_said (reading l)
+    → ((header : Option Settings) (h : List Event) → HoldsRun stands new.ledger header h → Appends a b (row_of new.lines kind header h))
+    → (ls : List (List ℕ)) → Shows stands old start a ls → Shows stands new start b (ls ++ l ∷ []) × AreGood reading (ls ++ l ∷ [])
+show_good stands old new start a b l kind adds said writes ls shows =
+    let added = adds.1 ls shows.0 in
+    let is = row_is stands new l kind ls said added.0 added.1 in
+    let wrote : Appends a b (row_after reading ls l) = rw is.1 at (writes _ _ is.0) in
+    let all : Appends start b (rows_of reading (ls ++ l ∷ [])) = rw (rows_of-snoc reading ls l added.1) (Appends-trans start a b _ _ shows.1 wrote) in
+    ((added.0, all), added.1)
+
+-- a good line and a beginning of its row
+pub show_begun : {L : Type 0} (stands : Stands L) (old new : Held L) (start a b : Option (List ℕ)) (l : List ℕ) (kind : Option LineKind)
+    → AddsGood stands old new l → kind ≡ kind_said (reading l)
+    → ((header : Option Settings) (h : List Event) → HoldsRun stands new.ledger header h → Begins a b (row_of new.lines kind header h))
+    → (ls : List (List ℕ)) → Shows stands old start a ls → Begins start b (rows_of reading (ls ++ l ∷ []))
+show_begun stands old new start a b l kind adds said writes ls shows =
+    let added = adds.1 ls shows.0 in
+    let is = row_is stands new l kind ls said added.0 added.1 in
+    let wrote : Begins a b (row_after reading ls l) = rw is.1 at (writes _ _ is.0) in
+    rw (rows_of-snoc reading ls l added.1) (begins_behind start a b _ _ shows.1 wrote)
+
+-- a line that is not good has no row
+pub show_bad : {L : Type 0} (stands : Stands L) (old new : Held L) (start a : Option (List ℕ)) (l : List ℕ) → AddsBad stands old new l
+    → (ls : List (List ℕ)) → Shows stands old start a ls → Shows stands new start a (ls ++ l ∷ []) × AreDecided reading (ls ++ l ∷ [])
+show_bad stands old new start a l adds ls shows =
+    let added = adds.1 ls shows.0 in
+    ((added.0, rw (rows_same reading ls l added.1) shows.1), added.1)
+
+-- the checker took no line, and no row was written
+pub show_none : {L : Type 0} (stands : Stands L) (old : Held L) (start a : Option (List ℕ)) (l : List ℕ)
+    → (ls : List (List ℕ)) → Shows stands old start a ls → Begins start a (rows_of reading (ls ++ l ∷ []))
+show_none stands old start a l ls shows =
+    let more = rows_begin reading ls (l ∷ []) in
+    begins_longer start a _ _ more.0 more.1 (begins_all start a _ shows.1)
+
+-- ---- the lines of bytes
+
+-- a checker that stands for no lines, before a row was written
+pub nothing_shown : {L : Type 0} (stands : Stands L) (held : Held L) (start : Option (List ℕ)) → StandsFor stands held [] → Shown stands [] held start start []
+unfolding rows_of
+nothing_shown stands held start stands_for = ([], (stands_for, Appends-nil start), refl, tt, refl)
+
+-- the lines that an LF ends, of a rest too
+ended_are : (ls : List (List ℕ)) (rest bytes : List ℕ) → bytes ≡ ended ls ++ rest → AllByRecursion IsShortLine ls → ended_lines bytes ≡ ls ++ ended_lines rest
+ended_are ls rest bytes parts short = ap ended_lines parts ∙ ap (λ (p : Cut). p.0) (cut_ended ls rest short)
+
+rows_begin_at : (start now : Option (List ℕ)) (ls more all : List (List ℕ)) → all ≡ ls ++ more → Begins start now (rows_of reading ls) → Begins start now (rows_of reading all)
+rows_begin_at start now ls more all is begun =
+    let longer = rows_begin reading ls more in
+    begins_longer start now _ _ longer.0 (ap (rows_of reading) is ∙ longer.1) begun
+
+-- the rows of good lines begin those of the lines that an LF ends
+pub begin_follows : {L : Type 0} (stands : Stands L) (held : Held L) (start now : Option (List ℕ)) (rest bytes : List ℕ)
+    → Shown stands rest held start now bytes → Begins start now (ended_rows bytes)
+begin_follows stands held start now rest bytes f =
+    rows_begin_at start now f.0 (ended_lines rest) _ (ended_are f.0 rest bytes f.4 f.3) (begins_all start now _ f.1.1)
+
+-- and those of all lines
+pub begin_all_lines : {L : Type 0} (stands : Stands L) (held : Held L) (start now : Option (List ℕ)) (rest bytes : List ℕ)
+    → Shown stands rest held start now bytes → Begins start now (rows reading bytes)
+begin_all_lines stands held start now rest bytes f =
+    rows_begin_at start now (ended_lines bytes) (last_line (unended bytes)) _ refl (begin_follows stands held start now rest bytes f)
+
+-- where no line stands in the rest they are all rows of the lines that an LF ends
+pub show_follows : {L : Type 0} (stands : Stands L) (held : Held L) (start now : Option (List ℕ)) (rest bytes : List ℕ) → IsShortLine rest
+    → Shown stands rest held start now bytes → Appends start now (ended_rows bytes)
+show_follows stands held start now rest bytes short f =
+    let none : ended_lines rest ≡ [] = ap (λ (p : Cut). p.0) (cut_without_lf rest short.0) in
+    let same : ended_lines bytes ≡ f.0 = ended_are f.0 rest bytes f.4 f.3 ∙ (ap (λ k. f.0 ++ k) none ∙ append-nil f.0) in
+    rw same f.1.1
+
+-- the rows of one more line, which an LF ends, were begun
+pub begin_line : (P : List (List ℕ) → Type 0) (start now : Option (List ℕ)) (rest rest' l l' : List ℕ) (closed : Bool)
+    → IsShortLine l → Taken rest l rest' closed → closed ≡ false
+    → l' ≡ l → ((ls : List (List ℕ)) → P ls → Begins start now (rows_of reading (ls ++ l' ∷ [])))
+    → (bytes : List ℕ) → FollowsBy P rest bytes → Begins start now (ended_rows bytes)
+begin_line P start now rest rest' l l' closed is_line t h same begins bytes f =
+    let taken = taken_open rest l rest' closed t h in
+    let begun : Begins start now (rows_of reading (f.0 ++ l ∷ [])) = rw same at (begins f.0 f.1) in
+    let parts : bytes ≡ ended (f.0 ++ l ∷ []) ++ rest' = ended_snoc f.0 l rest' bytes (f.4 ∙ ap (λ k. ended f.0 ++ k) taken) in
+    rows_begin_at start now (f.0 ++ l ∷ []) (ended_lines rest') _ (ended_are (f.0 ++ l ∷ []) rest' bytes parts (short_snoc f.0 l f.3 is_line)) begun
+
+-- the rows of the last line were begun, which no LF ends
+pub begin_last : (P : List (List ℕ) → Type 0) (start now : Option (List ℕ)) (rest rest' l l' : List ℕ) (closed : Bool)
+    → IsShortLine l → Taken rest l rest' closed → has_lf rest ≡ false
+    → l' ≡ l → ((ls : List (List ℕ)) → P ls → Begins start now (rows_of reading (ls ++ l' ∷ [])))
+    → (bytes : List ℕ) → FollowsBy P rest bytes → Begins start now (rows reading bytes)
+begin_last P start now rest rest' l l' closed is_line t h same begins bytes f =
+    let last = taken_last rest l rest' closed t h in
+    let begun : Begins start now (rows_of reading (f.0 ++ l ∷ [])) = rw same at (begins f.0 f.1) in
+    let all : lines bytes ≡ f.0 ++ l ∷ [] = lines_at_end f.0 l bytes f.3 (f.4 ∙ ap (λ k. ended f.0 ++ k) last.1) is_line.0 last.0 in
+    rw all begun
+
+-- all rows were written of the bytes whose lines the checker stands for
+pub answer_rows : {L : Type 0} (stands : Stands L) (held : Held L) (start now : Option (List ℕ)) (bytes : List ℕ)
+    → AnswersBy (Shows stands held start now) bytes → Appends start now (rows reading bytes)
+answer_rows stands held start now bytes answers = rw (← answers.3) answers.1.1
+
+pub answer_verdict : {L : Type 0} (stands : Stands L) (held : Held L) (start now : Option (List ℕ)) (bytes : List ℕ)
+    → held.failed ≡ false → AnswersBy (Shows stands held start now) bytes → Answers stands held bytes
+answer_verdict stands held start now bytes whole answers = (whole, (answers.0, answers.1.0, answers.2, answers.3))
+
+-- ---- what was read
+
+-- the rows of fixed bytes are those of the lines that an LF ends
+pub rows_fixed : (bytes : List ℕ) (start now : Option (List ℕ)) → IsFixed reading bytes → Appends start now (rows reading bytes) → Begins start now (ended_rows bytes)
+rows_fixed bytes start now fixed written = begins_all start now _ (rw (rows_of_fixed reading bytes fixed) at written)
+
+-- what explains what was read explains all the bytes that a reader tells
+pub told_explanation : (old new : Option (List ℕ)) (read bytes : List ℕ) → old ≡ Some bytes → Consumes old new read → IsAtEnd new ⊎ IsFixed reading read
+    → explain reading bytes ≡ explain reading read
+told_explanation (Some xs) (Some ys) read bytes tells consumes enough =
+    let all : bytes ≡ read ++ ys = cc in
+    elim enough [
+      | inl end ↦ ap (explain reading) (all ∙ (ap (λ k. read ++ k) end ∙ append-nil read))
+      | inr fixed ↦ ap (explain reading) all ∙ explanation_stays reading read ys fixed
+    ]
+told_explanation (Some xs) None read bytes tells consumes enough = elim consumes [ ]
+told_explanation None new read bytes tells consumes enough = cc
+
+told_rows : (old new : Option (List ℕ)) (read bytes : List ℕ) → old ≡ Some bytes → Consumes old new read
+    → (rest : List ℕ) × (explain reading bytes ≡ ended_rows read ++ rest)
+told_rows (Some xs) (Some ys) read bytes tells consumes =
+    let all : bytes ≡ read ++ ys = cc in
+    rw all (explanation_begins reading read ys)
+told_rows (Some xs) None read bytes tells consumes = elim consumes [ ]
+told_rows None new read bytes tells consumes = cc
+
+-- what was begun of what was read is a beginning of what explains all the bytes that a reader tells
+pub told_begins : (old new held held' : Option (List ℕ)) (bytes : List ℕ) → old ≡ Some bytes → BeginsRead old new held held' (explain reading)
+    → Begins held held' (explain reading bytes)
+told_begins old new held held' bytes tells (read, consumes, further, begun) = elim begun [
+  | inl ended ↦ let more = told_rows old new read bytes tells consumes in begins_longer held held' _ _ more.0 more.1 ended
+  | inr all ↦ rw (told_explanation old new read bytes tells consumes all.0) all.1
+]
+
+-- the rows begin what explains the bytes
+pub rows_explain : (old new held held' : Option (List ℕ)) → BeginsRead old new held held' (rows reading) → BeginsRead old new held held' (explain reading)
+rows_explain old new held held' (read, consumes, further, begun) = (
+  read,
+  consumes,
+  further,
+  elim begun [
+    | inl ended ↦ inl ended
+    | inr all ↦ inr (all.0, begins_longer held held' _ _ (report (verdict reading read)) refl all.1)
+  ],
+)
+
+-- ---- results
+
+pub on_err_of : {T E P : Type 0} (r : Result T E) → P → OnErr r P
+on_err_of (Ok x) p = tt
+on_err_of (Err e) p = p
+
+pub on_ok_at : {T E P : Type 0} (r : Result T E) → is_err r ≡ false → OnOk r P → P
+on_ok_at (Ok x) good p = p
+on_ok_at (Err e) good p = cc
+
+-- each way that lines were taken
+pub on_progress : {Q : Type 0} (r : Result Progress AuditFault) → (r ≡ Ok IsOpen → Q) → (r ≡ Ok Fixed → Q) → OnOk r Q
+on_progress (Ok IsOpen) f k = f refl
+on_progress (Ok Fixed) f k = k refl
+on_progress (Err e) f k = tt
+
+-- where a stop fixes the verdict it did not come of memory
+pub stopped_decided : (stop : Stop) (r : Result Progress AuditFault) → (stop ≡ OutOfMemory → r ≡ Err faults.OutOfMemory) → r ≡ Ok Fixed → stop ≡ Decided
+stopped_decided Decided r memory fixed = refl
+stopped_decided OutOfMemory r memory fixed = let e = memory refl in cc
+
+-- a fault that is not the reader's
+pub not_read : (A B : Type 0) (f g : AuditFault) → ◌≡◌ {A = Result A AuditFault} (Err f) (Err g) → is_read_fault {A = B} (Err g) ≡ false → is_read_fault {A = B} (Err f) ≡ false
+not_read A B f g same no_fault = let e : f ≡ g = cc in rw e no_fault
+
+-- ---- the rows and the report
+
+-- the report was written behind the rows
+pub explained : (old new held mid held' : Option (List ℕ)) (v : Verdict) (o : Outcome) (bytes : List ℕ) → old ≡ Some bytes
+    → JudgesShown old new held mid v → Appends mid held' (report v) → o ≡ outcome_of v → Explains held held' o bytes
+explained old new held mid held' v o bytes tells (read, enough, is, written) report_written told =
+    let all : Appends held held' (rows reading read ++ report v) = Appends-trans held mid held' _ _ written report_written in
+    let known : Appends held held' (explain reading read) = rw is at all in
+    let kind : verdict reading bytes ≡ v = told_verdict old new read bytes tells enough ∙ sym is in
+    (rw (told_explanation old new read bytes tells enough.0 enough.1) known, rw kind told)
+
+-- it was begun
+pub report_begun : (old new held mid held' : Option (List ℕ)) (v : Verdict) → JudgesShown old new held mid v → (n : ℕ) × Appends mid held' (take n (report v))
+    → BeginsRead old new held held' (explain reading)
+report_begun old new held mid held' v (read, enough, is, written) begun =
+    let text : Begins held held' (rows reading read ++ report v) = begins_behind held mid held' _ _ written (begins_taken mid held' (report v) begun) in
+    let known : Begins held held' (explain reading read) = rw is at text in
+    (read, enough.0, enough.2, inr (enough.1, known))
+
+-- it was not
+pub rows_written : (old new held held' : Option (List ℕ)) (v : Verdict) → JudgesShown old new held held' v → BeginsRead old new held held' (rows reading)
+rows_written old new held held' v (read, enough, is, written) = (read, enough.0, enough.2, inr (enough.1, begins_all held held' _ written))
