@@ -33,7 +33,7 @@ origin_text (File name) = name.now
 
 -- the line on standard error, without its LF
 abbrev pub message_of : Failure → List ℕ
-message_of Arguments = codes "usage: qaudit check [FILE...]"
+message_of Arguments = codes "usage: qaudit check [FILE...] or qaudit explain [FILE]"
 message_of (Open name) = codes "qaudit: cannot open " ++ name.now
 message_of (Read origin) = codes "qaudit: read fault: " ++ origin_text origin
 message_of Write = codes "qaudit: write fault"

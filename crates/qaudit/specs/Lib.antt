@@ -1,2 +1,3 @@
 pub mod Checking
 pub mod Ending
+pub mod Explaining

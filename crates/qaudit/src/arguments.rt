@@ -9,6 +9,8 @@ use std::{env, io};
 /// The subcommands and their arguments, by the names that the parser has for them.
 const CHECK: &str = "check";
 
+const EXPLAIN: &str = "explain";
+
 const FILE: &str = "FILE";
 
 /// What the arguments ask for.
@@ -16,6 +18,8 @@ const FILE: &str = "FILE";
 pub enum Subcommand<'a> {
     /// Audit each of these files, or standard input where there is none.
     Check(Vec<&'a str>),
+    /// Explain this file, or standard input where there is none.
+    Explain(Option<&'a str>),
 }
 
 /// Reads the arguments that the program was started with, its own name first.
@@ -32,6 +36,7 @@ pub fn parse<'a>(alloc: Global, arguments: &'a [String]) -> Result<Subcommand<'a
     let matches = parser(alloc)?.try_get_matches_from(arguments)?;
     match matches.subcommand() {
         Some((CHECK, found)) => Ok(Subcommand::Check(files(alloc, found)?)),
+        Some((EXPLAIN, found)) => Ok(Subcommand::Explain(found.get_str(FILE))),
         _ => Err(Failure::Arguments),
     }
 }
@@ -44,11 +49,16 @@ fn parser<'a>(alloc: Global) -> Result<Command<'a>, AllocError> {
     let check = Command::new(alloc, CHECK)
         .disable_help_flag(true)
         .arg(files)?;
+    let file = Arg::new(alloc, FILE).action(ArgAction::Set);
+    let explain = Command::new(alloc, EXPLAIN)
+        .disable_help_flag(true)
+        .arg(file)?;
     Command::new(alloc, "qaudit")
         .disable_help_flag(true)
         .disable_help_subcommand(true)
         .subcommand_required(true)
-        .subcommand(check)
+        .subcommand(check)?
+        .subcommand(explain)
 }
 
 /// The names of files that a subcommand was given.

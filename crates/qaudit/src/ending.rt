@@ -79,7 +79,10 @@ impl fmt::Display for Failure<'_> {
 
     fn fmt<W: fmt::Write>(&self, f: &mut fmt::Formatter<W>) -> fmt::Result {
         match self {
-            Failure::Arguments => write!(f, "usage: qaudit check [FILE...]"),
+            Failure::Arguments => write!(
+                f,
+                "usage: qaudit check [FILE...] or qaudit explain [FILE]"
+            ),
             Failure::Open(name) => write!(f, "qaudit: cannot open {name}"),
             Failure::Read(origin) => write!(f, "qaudit: read fault: {origin}"),
             Failure::Write => write!(f, "qaudit: write fault"),

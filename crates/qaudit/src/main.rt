@@ -1,14 +1,17 @@
-//! The program `qaudit`: audits traces, and writes their reports to standard output.
+//! The program `qaudit`: audits traces, and writes their reports, or what explains them, to standard
+//! output.
 #![tactic(auto)]
 
 mod arguments;
 mod checking;
 mod ending;
+mod explaining;
 #[cfg(test)]
 mod tests;
 
 use crate::arguments::{Subcommand, parse, read_arguments};
 use crate::checking::{check, end};
+use crate::explaining::explain;
 use qa_check::{Metered, Sink, Source};
 use std::process::ExitCode;
 use std::rt::{Env, Files};
@@ -31,6 +34,7 @@ fn command<R: Env + Files + Eprint + AllocGlobal, I: Source, O: Sink>(
     };
     match parse(rt.alloc(), arguments.as_slice()) {
         Ok(Subcommand::Check(files)) => check(rt, files.as_slice(), input, output),
+        Ok(Subcommand::Explain(file)) => explain(rt, file, input, output),
         Err(failure) => end(rt, &Err(failure)),
     }
 }

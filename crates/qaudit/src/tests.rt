@@ -30,7 +30,10 @@ fn messages(rt: HostRuntime) {
         (Failure::Read(Origin::File("a")), "qaudit: read fault: a"),
         (Failure::Write, "qaudit: write fault"),
         (Failure::OutOfMemory, "qaudit: out of memory"),
-        (Failure::Arguments, "usage: qaudit check [FILE...]"),
+        (
+            Failure::Arguments,
+            "usage: qaudit check [FILE...] or qaudit explain [FILE]",
+        ),
     ] {
         let message = failure.to_string(rt.alloc()).expect(&rt, "memory");
         assert_eq!(rt; message.as_str(), wanted);
