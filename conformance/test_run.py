@@ -15,11 +15,12 @@ from pathlib import Path
 RUNNER = Path(__file__).resolve().parent / "run"
 TRACE = b"a line\nanother line\n"
 REPORT = b"accepted\nevents 0\n"
+EXPLANATION = b"line 1 header\n" + REPORT
 
 # Reads to the end of its input, and writes the report if all of it came.
 HONEST = """
 import os, sys
-if sys.argv[1:] != ["check"]:
+if sys.argv[1:] not in (["check"], ["explain"]):
     sys.stderr.write("usage\\n")
     sys.exit(64)
 read = b""
@@ -28,7 +29,8 @@ while True:
     if not piece:
         break
     read += piece
-os.write(1, {report!r} if read == {trace!r} else b"unreadable line 1 F1 not-json\\n")
+right = {report!r} if sys.argv[1] == "check" else {explanation!r}
+os.write(1, right if read == {trace!r} else b"unreadable line 1 F1 not-json\\n")
 sys.exit({status})
 """
 # Takes the first piece for the whole input.
@@ -108,11 +110,11 @@ class AuditorTest(RunnerCase):
         self.write_trace("one", TRACE, REPORT)
         self.write_cases([USAGE_CASE])
 
-    def honest(self, report=REPORT, status=0):
-        return HONEST.format(trace=TRACE, report=report, status=status)
+    def honest(self, report=REPORT, explanation=EXPLANATION, status=0):
+        return HONEST.format(trace=TRACE, report=report, explanation=explanation, status=status)
 
-    def write_trace(self, name, trace, report):
-        self.write_files("traces", name, {"trace": trace, "report": report})
+    def write_trace(self, name, trace, report, explanation=None):
+        self.write_files("traces", name, {"trace": trace, "report": report, "explain": explanation})
 
     def write_cases(self, cases):
         (self.corpus / "streams.json").write_text(json.dumps({"cases": cases}))
@@ -157,6 +159,19 @@ class AuditorTest(RunnerCase):
     def test_report_without_trace(self):
         self.write_trace("two", None, REPORT)
         self.assert_fails("traces/two")
+
+    def test_right_explanation(self):
+        self.write_trace("one", TRACE, REPORT, EXPLANATION)
+        self.assert_passes(5)
+
+    def test_wrong_explanation(self):
+        self.write_trace("one", TRACE, REPORT, EXPLANATION)
+        self.write_program(self.honest(explanation=REPORT))
+        self.assert_fails("traces/one explained", "traces/one explained byte by byte")
+
+    def test_explanation_without_trace(self):
+        self.write_trace("two", None, None, EXPLANATION)
+        self.assert_fails("traces/two explained")
 
     def test_report_without_verdict(self):
         self.write_trace("one", TRACE, b"")

@@ -1,6 +1,7 @@
 //! What no trace of the corpus can show: checkers line by line, the texts of verdicts, and ledgers,
 //! readers and writers that fail.
 mod checkers;
+mod explanations;
 mod ledgers;
 mod reports;
 mod streams;

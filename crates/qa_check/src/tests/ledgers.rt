@@ -10,7 +10,7 @@ use std::test::Fail;
 
 /// A ledger that is out of memory at each event.
 #[derive(Drop)]
-struct Exhausted {
+pub struct Exhausted {
     whole: Whole,
     failed: bool,
 }

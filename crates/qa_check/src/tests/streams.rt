@@ -15,8 +15,8 @@ const NEVER: u64 = u64::MAX;
 /// A reader or a writer over memory: it moves at most so many bytes a call, fails once at the call of that
 /// number, counted from 0, and goes on afterwards.
 #[derive(Drop)]
-struct Faulty<T> {
-    inner: T,
+pub struct Faulty<T> {
+    pub inner: T,
     most: usize,
     fails_at: u64,
     calls: u64,
@@ -24,7 +24,7 @@ struct Faulty<T> {
 }
 
 impl<T> Faulty<T> {
-    fn new(inner: T, most: usize, fails_at: u64) -> Faulty<T> {
+    pub fn new(inner: T, most: usize, fails_at: u64) -> Faulty<T> {
         Faulty {
             inner,
             most,
