@@ -1,7 +1,7 @@
 //! Explanations: a row for each line, and then the report.
 use super::ledgers::Exhausted;
 use super::streams::Faulty;
-use super::{report_of, sent, trace_of};
+use super::{report_of, trace_of};
 use crate::auditing::{AuditFault, Outcome};
 use crate::explaining::explain;
 use crate::streams::Metered;
@@ -17,10 +17,16 @@ fn row_of(alloc: Global, line: u64, kind: &str, bytes: u64) -> Result<String, Al
 }
 
 /// The rows of a header and this many packets.
-fn rows_of(alloc: Global, packets: u64) -> Result<String, AllocError> {
+fn rows_of(alloc: Global, packets: u8) -> Result<String, AllocError> {
     let mut rows = row_of(alloc, 1, "header", 0)?;
     for packet in 0..packets {
-        rows.push_str(row_of(alloc, packet + 2, "sent", (packet + 1) * 1200)?.as_str())?;
+        rows.push_str(row_of(
+            alloc,
+            u64::from(packet) + 2,
+            "sent",
+            (u64::from(packet) + 1) * 1200,
+        )?
+        .as_str())?;
     }
     Ok(rows)
 }
@@ -36,13 +42,18 @@ fn explained(alloc: Global, trace: &[u8]) -> (Result<Outcome, AuditFault>, Vec<u
 #[test]
 fn rows_and_report(rt: HostRuntime) -> Result<(), Fail> {
     for (packets, rows, outcome, first) in [
-        (0, 0, Outcome::Accepted, "accepted"),
+        (0, 0u8, Outcome::Accepted, "accepted"),
         (3, 3, Outcome::Accepted, "accepted"),
         (11, 10, Outcome::Refused, "refused line 12 V7 past-window"),
     ] {
         let trace = trace_of(rt.alloc(), packets)?;
         let mut wanted = rows_of(rt.alloc(), rows)?;
-        wanted.push_str(report_of(rt.alloc(), first, rows, rows * 1200)?.as_str())?;
+        wanted.push_str(report_of(
+            rt.alloc(),
+            first,
+            u64::from(rows),
+            u64::from(rows) * 1200,
+        )?.as_str())?;
         let (ended, written) = explained(rt.alloc(), trace.as_bytes());
         assert_eq!(rt; ended, Ok(outcome), "at {packets}");
         assert_eq!(rt; written.as_slice(), wanted.as_bytes(), "at {packets}");
@@ -53,14 +64,13 @@ fn rows_and_report(rt: HostRuntime) -> Result<(), Fail> {
 #[test]
 fn a_read_fails_behind_lines(rt: HostRuntime) -> Result<(), Fail> {
     let trace = trace_of(rt.alloc(), 3)?;
-    let packet = sent(rt.alloc(), 0)?.len() as u64 + 1;
-    let header = trace.len() as u64 - 3 * packet;
+    // The header takes 72 bytes with its LF, and each packet 97.
     for (bytes, rows) in [
-        (header, Some(0)),
-        (header - 1, None),
-        (header + packet, Some(1)),
-        (header + 2 * packet - 1, Some(1)),
-        (header + 3 * packet, Some(3)),
+        (71, None),
+        (72, Some(0u8)),
+        (169, Some(1)),
+        (265, Some(1)),
+        (363, Some(3)),
     ] {
         let mut reader = Faulty::new(trace.as_bytes(), 1, bytes);
         let mut writer = Metered::new(Vec::new(rt.alloc()));

@@ -24,8 +24,8 @@ lines-preserved g c =
     let is : c.show_line.result ≡ Ok Open = cc in
     record {
       ready = (t.closed ∙ c.lines.invariant.ready.0, t.whole);
-      whole = c.in-Ok-Open.ensures.whole;
-      unfailed = c.in-Ok-Open.ensures.failures ∙ c.lines.invariant.unfailed;
+      whole = rw is at c.show_line.ensures.whole;
+      unfailed = (rw is at c.show_line.ensures.failures) ∙ c.lines.invariant.unfailed;
       shown = λ start bytes f.
           follow_line (Shows g.L.Ledger.stands c.lines.checker start (g.W.Sink.held c.lines.writer)) (Shows g.L.Ledger.stands c.show_line.new.checker start (g.W.Sink.held c.show_line.new.writer)) _ _ _ _ _
           t.is_line t.taken c.lines.invariant.ready.0 c.as_slice.ensures.value (λ ls s. c.show_line.ensures.good is start ls s) bytes (c.lines.invariant.shown start bytes f);
