@@ -6,8 +6,6 @@ mod arguments;
 mod checking;
 mod ending;
 mod explaining;
-#[cfg(test)]
-mod tests;
 
 use crate::arguments::{Subcommand, parse, read_arguments};
 use crate::checking::{check, end};
