@@ -33,11 +33,11 @@ lines:
 run: build
 	@$(program) check < $(example)
 
+# `rt ci` proves all crates from nothing, and leaves each program built of what it proved.
 test:
 	rt ci
 	python3 conformance/test_run.py
 	python3 conformance/lines/make.py --check
-	$(MAKE) --no-print-directory --jobs=3 build one_byte lines
 	conformance/run $(program)
 	conformance/run --traces $(program_by_one_byte)
 	conformance/run --lines $(program_of_lines)
