@@ -36,9 +36,11 @@ run: build
 test:
 	rt ci
 	python3 conformance/test_run.py
+	python3 conformance/test_simulate.py
 	python3 conformance/lines/make.py --check
 	$(MAKE) --no-print-directory --jobs=3 build one_byte lines
 	conformance/run $(program)
+	conformance/simulate $(program)
 	conformance/run --traces $(program_by_one_byte)
 	conformance/run --lines $(program_of_lines)
 
