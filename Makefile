@@ -37,8 +37,10 @@ run: build
 test:
 	rt ci
 	python3 conformance/test_run.py
+	python3 conformance/test_simulate.py
 	python3 conformance/lines/make.py --check
 	conformance/run $(program)
+	conformance/simulate $(program)
 	conformance/run --traces $(program_by_one_byte)
 	conformance/run --lines $(program_of_lines)
 
