@@ -4,10 +4,13 @@
 mod ledger;
 mod metrics;
 mod rules;
+mod state;
 #[cfg(test)]
 mod tests;
 mod whole;
 
 pub use ledger::{Ledger, LedgerFault};
 pub use qa_plain as plain;
+pub use rules::first_broken;
+pub use state::State;
 pub use whole::Whole;

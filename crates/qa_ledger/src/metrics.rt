@@ -1,16 +1,19 @@
 //! The totals of a history, and what a sender reports compared with them.
-ghost use Rattle.std.specs.Prelude.{◌≡◌, ◌<◌, ◌^◌, length};
+ghost use Rattle.std.specs.Prelude.{◌≡◌, ◌<◌, ◌^◌, length, List};
 ghost use Rattle.std.specs.List.{All};
+ghost use Rattle.qa_base.specs.declared.event.Event.{Event as AnEvent};
 ghost use Rattle.qa_base.specs.machine.Loss as loss;
 ghost use Rattle.qa_base.specs.machine.Metrics as metrics;
 ghost use Rattle.qa_base.specs.machine.Packets.{history_of};
 ghost use Rattle.qa_base.specs.machine.Rules as rules;
 ghost use Rattle.qa_base.specs.machine.State as state;
 ghost use Rattle.qa_base.specs.machine.Widths.{Fits};
+ghost use Rattle.qa_base.specs.values.Settings.{Settings};
 ghost use Rattle.qa_ledger.specs.Tests.{totals_of};
 
+use crate::state::State;
 use qa_base::{Event, Field, Header, MetricValues, Rule, Totals};
-use qa_plain::{backoff, bytes_in_flight, owed_count, reno, rtt};
+use qa_plain::{backoff, owed_count, reno, rtt};
 use qa_recovery::{Reno, Rtt};
 
 /// Whether a value is reported that is not the machine's, which may have none.
@@ -72,12 +75,12 @@ fn totals_by(events: u64, reno: Reno, rtt: Rtt, bytes: u64, count: u64, owed: u6
 
 /// The bytes in flight, which 64 bits hold.
 #[tactic(auto, using(qa_base::proofs::machine::WindowBound::bytes_bound))]
-fn bytes_within(header: &Header, events: &[Event]) -> u64
+pub fn bytes_in_flight(header: &Header, events: &[Event]) -> u64
     requires few { length events.now < 2 ^ 32 }
     requires fit { All Fits events.now }
     ensures { result ≡ loss.bytes_in_flight header.now (history_of events.now) }
 {
-    bytes_in_flight(header, events) as u64
+    qa_plain::bytes_in_flight(header, events) as u64
 }
 
 /// The state of the machine after these events.
@@ -90,20 +93,18 @@ pub fn totals(header: &Header, events: &[Event]) -> Totals
         events.len() as u64,
         reno(header, events),
         rtt(header, events),
-        bytes_within(header, events),
+        bytes_in_flight(header, events),
         backoff(header, events),
         owed_count(header, events),
     )
 }
 
 /// V16: the first reported value that is not the machine's.
-pub fn metrics_rule(header: &Header, events: &[Event], event: &Event) -> Option<Rule>
-    requires few { length events.now < 2 ^ 32 }
-    requires fit { All Fits events.now }
-    ensures { result ≡ rules.first_of (metrics.metric_tests header.now (history_of events.now) event.now) }
+pub fn metrics_rule<S: State>(state: &S, event: &Event) -> Option<Rule>
+    ensures { (c : Settings) (h : List AnEvent) → S.tells state.now c h → result ≡ rules.first_of (metrics.metric_tests c h event.now) }
 {
     match event {
-        Event::Metrics { values, .. } => metric_rule(values, &totals(header, events)),
+        Event::Metrics { values, .. } => metric_rule(values, &state.held()),
         _ => None,
     }
 }

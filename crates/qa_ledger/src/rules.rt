@@ -1,89 +1,83 @@
 //! The rules that an event can break, each judged from the events before it, and the first of them.
-ghost use Rattle.std.specs.Prelude.{◌≡◌, ◌≤◌, ◌<◌, ◌^◌, length};
-ghost use Rattle.std.specs.List.{All};
+ghost use Rattle.std.specs.Prelude.{◌≡◌, ◌≤◌, ◌^◌, List};
 ghost use Rattle.std.specs.Option.{ForSome};
+ghost use Rattle.qa_base.specs.declared.event.Event.{Event as AnEvent};
 ghost use Rattle.qa_base.specs.machine.Breaches as breaches;
-ghost use Rattle.qa_base.specs.machine.Packets.{history_of};
 ghost use Rattle.qa_base.specs.machine.Rules as rules;
-ghost use Rattle.qa_base.specs.machine.Timer as timers;
-ghost use Rattle.qa_base.specs.machine.Widths.{Fits};
+ghost use Rattle.qa_base.specs.values.Settings.{Settings};
 ghost use Rattle.qa_ledger.specs.Tests.{leave_tests, timer_tests};
 
 use crate::metrics::metrics_rule;
+use crate::state::State;
 use qa_base::constants::PROBE_DATAGRAMS;
-use qa_base::{Due, Event, Header, Kind, Leave, Rule, Space};
-use qa_plain::{
-    bytes_in_flight, deadline, has_at_or_above, is_confirmed, is_gone, is_probe_due, names_owed,
-    owes, owes_in, probe_spent, recovery_spent, reno, time_of, were_sent,
-};
+use qa_base::{Due, Event, Kind, Leave, Rule, Space};
+use qa_plain::time_of;
 
 /// V1: the event is earlier than the one before it.
-fn is_time_back(events: &[Event], event: &Event) -> bool
-    ensures { result ≡ breaches.is_time_back (history_of events.now) event.now }
+fn is_time_back<S: State>(state: &S, event: &Event) -> bool
+    ensures { (c : Settings) (h : List AnEvent) → S.tells state.now c h → result ≡ breaches.is_time_back h event.now }
 {
-    match events.last() {
-        Some(last) => time_of(event) < time_of(last),
+    match state.last_time() {
+        Some(last) => time_of(event) < last,
         None => false,
     }
 }
 
 /// V2: a loss is owed, and the event is no Lost line.
-fn is_loss_owed(header: &Header, events: &[Event], event: &Event) -> bool
-    ensures { result ≡ breaches.is_loss_owed header.now (history_of events.now) event.now }
+fn is_loss_owed<S: State>(state: &S, event: &Event) -> bool
+    ensures { (c : Settings) (h : List AnEvent) → S.tells state.now c h → result ≡ breaches.is_loss_owed c h event.now }
 {
     match event {
         Event::Lost { .. } => false,
-        _ => owes(header, events),
+        _ => state.has_owed(),
     }
 }
 
 /// V3: a Lost line, and nothing is owed in its space.
-fn is_loss_not_owed(header: &Header, events: &[Event], event: &Event) -> bool
-    ensures { result ≡ breaches.is_loss_not_owed header.now (history_of events.now) event.now }
+fn is_loss_not_owed<S: State>(state: &S, event: &Event) -> bool
+    ensures { (c : Settings) (h : List AnEvent) → S.tells state.now c h → result ≡ breaches.is_loss_not_owed c h event.now }
 {
     match event {
-        Event::Lost { space, .. } => !owes_in(header, events, *space),
+        Event::Lost { space, .. } => !state.has_owed_in(*space),
         _ => false,
     }
 }
 
 /// V4: a Lost line that does not name exactly the packets owed.
-fn is_other_loss_set(header: &Header, events: &[Event], event: &Event) -> bool
-    ensures { result ≡ breaches.is_other_loss_set header.now (history_of events.now) event.now }
+fn is_other_loss_set<S: State>(state: &S, event: &Event) -> bool
+    ensures { (c : Settings) (h : List AnEvent) → S.tells state.now c h → result ≡ breaches.is_other_loss_set c h event.now }
 {
     match event {
-        Event::Lost { ranges, .. } => !names_owed(header, events, ranges.as_slice()),
+        Event::Lost { ranges, .. } => !state.names_owed(ranges.as_slice()),
         _ => false,
     }
 }
 
 /// V5: the space was discarded.
-fn is_space_gone(events: &[Event], event: &Event) -> bool
-    ensures { result ≡ breaches.is_space_gone (history_of events.now) event.now }
+fn is_space_gone<S: State>(state: &S, event: &Event) -> bool
+    ensures { (c : Settings) (h : List AnEvent) → S.tells state.now c h → result ≡ breaches.is_space_gone h event.now }
 {
     match event {
         Event::Sent { space, .. } | Event::Ack { space, .. } | Event::Discard { space, .. } => {
-            is_gone(events, *space)
+            state.is_gone(*space)
         }
         _ => false,
     }
 }
 
 /// V6: a packet was sent in the space with this number or a higher one.
-fn is_number_not_higher(events: &[Event], event: &Event) -> bool
-    ensures { result ≡ breaches.is_number_not_higher (history_of events.now) event.now }
+fn is_number_not_higher<S: State>(state: &S, event: &Event) -> bool
+    ensures { (c : Settings) (h : List AnEvent) → S.tells state.now c h → result ≡ breaches.is_number_not_higher h event.now }
 {
     match event {
-        Event::Sent { space, number, .. } => has_at_or_above(events, *space, number.get()),
+        Event::Sent { space, number, .. } => state.has_at_or_above(*space, *number),
         _ => false,
     }
 }
 
 /// V7: the packet takes the bytes in flight past the congestion window.
-fn is_past_window(header: &Header, events: &[Event], event: &Event) -> bool
-    requires few { length events.now < 2 ^ 32 }
-    requires fit { All Fits events.now }
-    ensures { result ≡ breaches.is_past_window header.now (history_of events.now) event.now }
+fn is_past_window<S: State>(state: &S, event: &Event) -> bool
+    ensures { (c : Settings) (h : List AnEvent) → S.tells state.now c h → result ≡ breaches.is_past_window c h event.now }
 {
     match event {
         Event::Sent {
@@ -93,8 +87,8 @@ fn is_past_window(header: &Header, events: &[Event], event: &Event) -> bool
             ..
         } => {
             *in_flight
-                && u128::from(reno(header, events).window)
-                    < bytes_in_flight(header, events) + u128::from(*size)
+                && u128::from(state.window())
+                    < u128::from(state.bytes_in_flight()) + u128::from(*size)
         }
         _ => false,
     }
@@ -112,9 +106,8 @@ fn is_over(allowance: u64, more: u64, spent: Option<u128>) -> bool
 }
 
 /// V8: a probe before any probe timeout, or past the datagrams that one allows.
-fn is_past_probe(header: &Header, events: &[Event], event: &Event) -> bool
-    requires few { length events.now < 2 ^ 32 }
-    ensures { result ≡ breaches.is_past_probe header.now (history_of events.now) event.now }
+fn is_past_probe<S: State>(state: &S, event: &Event) -> bool
+    ensures { (c : Settings) (h : List AnEvent) → S.tells state.now c h → result ≡ breaches.is_past_probe c h event.now }
 {
     match event {
         Event::Sent {
@@ -124,9 +117,9 @@ fn is_past_probe(header: &Header, events: &[Event], event: &Event) -> bool
             ..
         } => *in_flight
             && is_over(
-                PROBE_DATAGRAMS * header.max_datagram_size(),
+                PROBE_DATAGRAMS * state.max_datagram_size(),
                 *size,
-                probe_spent(events),
+                state.probe_spent(),
             ),
         _ => false,
     }
@@ -144,29 +137,25 @@ fn widened(spent: Option<u64>) -> Option<u128>
 }
 
 /// V9: the packet of an entry into recovery, which was not or had its packet.
-fn is_past_recovery(header: &Header, events: &[Event], event: &Event) -> bool
-    requires few { length events.now < 2 ^ 32 }
-    requires fit { All Fits events.now }
-    ensures { result ≡ breaches.is_past_recovery header.now (history_of events.now) event.now }
+fn is_past_recovery<S: State>(state: &S, event: &Event) -> bool
+    ensures { (c : Settings) (h : List AnEvent) → S.tells state.now c h → result ≡ breaches.is_past_recovery c h event.now }
 {
     match event {
         Event::Sent {
             in_flight,
             leave: Leave::Recovery,
             ..
-        } => *in_flight && is_over(1, 1, widened(recovery_spent(header, events))),
+        } => *in_flight && is_over(1, 1, widened(state.recovery_spent())),
         _ => false,
     }
 }
 
 /// V10: an acknowledgment of a number that was never sent in its space.
-fn is_ack_unsent(header: &Header, events: &[Event], event: &Event) -> bool
-    ensures { result ≡ breaches.is_ack_unsent (history_of events.now) event.now }
+fn is_ack_unsent<S: State>(state: &S, event: &Event) -> bool
+    ensures { (c : Settings) (h : List AnEvent) → S.tells state.now c h → result ≡ breaches.is_ack_unsent h event.now }
 {
     match event {
-        Event::Ack { space, ranges, .. } => {
-            !were_sent(header, events, *space, ranges.as_slice())
-        }
+        Event::Ack { space, ranges, .. } => { !state.were_sent(*space, ranges.as_slice()) }
         _ => false,
     }
 }
@@ -192,136 +181,124 @@ fn is_before(time: u64, due: Option<Due>) -> bool
 }
 
 /// V11: the timer fired where none is set.
-fn is_timer_not_set(header: &Header, events: &[Event], event: &Event) -> bool
-    requires counted { timers.backoff header.now (history_of events.now) ≤ 40 }
-    ensures { result ≡ breaches.is_timer_not_set header.now (history_of events.now) event.now }
+fn is_timer_not_set<S: State>(state: &S, event: &Event) -> bool
+    ensures { (c : Settings) (h : List AnEvent) → S.tells state.now c h → result ≡ breaches.is_timer_not_set c h event.now }
 {
     match event {
-        Event::Timer { .. } => deadline(header, events).is_none(),
+        Event::Timer { .. } => state.deadline().is_none(),
         _ => false,
     }
 }
 
 /// V12: the timer fired for another cause or space than it is set for.
-fn is_timer_other(header: &Header, events: &[Event], event: &Event) -> bool
-    requires counted { timers.backoff header.now (history_of events.now) ≤ 40 }
-    ensures { result ≡ breaches.is_timer_other header.now (history_of events.now) event.now }
+fn is_timer_other<S: State>(state: &S, event: &Event) -> bool
+    ensures { (c : Settings) (h : List AnEvent) → S.tells state.now c h → result ≡ breaches.is_timer_other c h event.now }
 {
     match event {
-        Event::Timer { kind, space, .. } => is_other(*kind, *space, deadline(header, events)),
+        Event::Timer { kind, space, .. } => is_other(*kind, *space, state.deadline()),
         _ => false,
     }
 }
 
 /// V13: the timer fired before it was due.
-fn is_timer_early(header: &Header, events: &[Event], event: &Event) -> bool
-    requires counted { timers.backoff header.now (history_of events.now) ≤ 40 }
-    ensures { result ≡ breaches.is_timer_early header.now (history_of events.now) event.now }
+fn is_timer_early<S: State>(state: &S, event: &Event) -> bool
+    ensures { (c : Settings) (h : List AnEvent) → S.tells state.now c h → result ≡ breaches.is_timer_early c h event.now }
 {
     match event {
-        Event::Timer { time, .. } => is_before(time.get(), deadline(header, events)),
+        Event::Timer { time, .. } => is_before(time.get(), state.deadline()),
         _ => false,
     }
 }
 
 /// V14: a probe timeout while the probe of the last one is due.
-fn is_probe_owed(events: &[Event], event: &Event) -> bool
-    ensures { result ≡ breaches.is_probe_owed (history_of events.now) event.now }
+fn is_probe_owed<S: State>(state: &S, event: &Event) -> bool
+    ensures { (c : Settings) (h : List AnEvent) → S.tells state.now c h → result ≡ breaches.is_probe_owed h event.now }
 {
     match event {
         Event::Timer {
             kind: Kind::Pto,
             ..
-        } => is_probe_due(events),
+        } => state.is_probe_due(),
         _ => false,
     }
 }
 
 /// V15: the Handshake space is discarded before the handshake is confirmed.
-fn is_not_confirmed(events: &[Event], event: &Event) -> bool
-    ensures { result ≡ breaches.is_not_confirmed (history_of events.now) event.now }
+fn is_not_confirmed<S: State>(state: &S, event: &Event) -> bool
+    ensures { (c : Settings) (h : List AnEvent) → S.tells state.now c h → result ≡ breaches.is_not_confirmed h event.now }
 {
     match event {
         Event::Discard {
             space: Space::Handshake,
             ..
-        } => !is_confirmed(events),
+        } => !state.is_confirmed(),
         _ => false,
     }
 }
 
 /// The first rule from V11 on that the event breaks.
-fn timer_rule(header: &Header, events: &[Event], event: &Event) -> Option<Rule>
-    requires few { length events.now < 2 ^ 32 }
-    requires fit { All Fits events.now }
-    requires counted { timers.backoff header.now (history_of events.now) ≤ 40 }
-    ensures { result ≡ rules.first_of (timer_tests header.now (history_of events.now) event.now) }
+fn timer_rule<S: State>(state: &S, event: &Event) -> Option<Rule>
+    ensures { (c : Settings) (h : List AnEvent) → S.tells state.now c h → result ≡ rules.first_of (timer_tests c h event.now) }
 {
-    if is_timer_not_set(header, events, event) {
+    if is_timer_not_set(state, event) {
         return Some(Rule::TimerNotSet);
     }
-    if is_timer_other(header, events, event) {
+    if is_timer_other(state, event) {
         return Some(Rule::TimerOther);
     }
-    if is_timer_early(header, events, event) {
+    if is_timer_early(state, event) {
         return Some(Rule::TimerEarly);
     }
-    if is_probe_owed(events, event) {
+    if is_probe_owed(state, event) {
         return Some(Rule::ProbeOwed);
     }
-    if is_not_confirmed(events, event) {
+    if is_not_confirmed(state, event) {
         return Some(Rule::NotConfirmed);
     }
-    metrics_rule(header, events, event)
+    metrics_rule(state, event)
 }
 
 /// The first rule from V7 on that the event breaks.
-fn leave_rule(header: &Header, events: &[Event], event: &Event) -> Option<Rule>
-    requires few { length events.now < 2 ^ 32 }
-    requires fit { All Fits events.now }
-    requires counted { timers.backoff header.now (history_of events.now) ≤ 40 }
-    ensures { result ≡ rules.first_of (leave_tests header.now (history_of events.now) event.now) }
+fn leave_rule<S: State>(state: &S, event: &Event) -> Option<Rule>
+    ensures { (c : Settings) (h : List AnEvent) → S.tells state.now c h → result ≡ rules.first_of (leave_tests c h event.now) }
 {
-    if is_past_window(header, events, event) {
+    if is_past_window(state, event) {
         return Some(Rule::PastWindow);
     }
-    if is_past_probe(header, events, event) {
+    if is_past_probe(state, event) {
         return Some(Rule::PastProbe);
     }
-    if is_past_recovery(header, events, event) {
+    if is_past_recovery(state, event) {
         return Some(Rule::PastRecovery);
     }
-    if is_ack_unsent(header, events, event) {
+    if is_ack_unsent(state, event) {
         return Some(Rule::AckUnsent);
     }
-    timer_rule(header, events, event)
+    timer_rule(state, event)
 }
 
 /// The first rule that the event breaks after these events, V1 to V16 in their order.
 #[tactic(auto, unfolding(qa_base::specs::machine::Rules::first_broken))]
-pub fn first_broken(header: &Header, events: &[Event], event: &Event) -> Option<Rule>
-    requires few { length events.now < 2 ^ 32 }
-    requires fit { All Fits events.now }
-    requires counted { timers.backoff header.now (history_of events.now) ≤ 40 }
-    ensures { result ≡ rules.first_broken header.now (history_of events.now) event.now }
+pub fn first_broken<S: State>(state: &S, event: &Event) -> Option<Rule>
+    ensures { (c : Settings) (h : List AnEvent) → S.tells state.now c h → result ≡ rules.first_broken c h event.now }
 {
-    if is_time_back(events, event) {
+    if is_time_back(state, event) {
         return Some(Rule::TimeBack);
     }
-    if is_loss_owed(header, events, event) {
+    if is_loss_owed(state, event) {
         return Some(Rule::LossOwed);
     }
-    if is_loss_not_owed(header, events, event) {
+    if is_loss_not_owed(state, event) {
         return Some(Rule::LossNotOwed);
     }
-    if is_other_loss_set(header, events, event) {
+    if is_other_loss_set(state, event) {
         return Some(Rule::LossSet);
     }
-    if is_space_gone(events, event) {
+    if is_space_gone(state, event) {
         return Some(Rule::SpaceGone);
     }
-    if is_number_not_higher(events, event) {
+    if is_number_not_higher(state, event) {
         return Some(Rule::NumberNotHigher);
     }
-    leave_rule(header, events, event)
+    leave_rule(state, event)
 }

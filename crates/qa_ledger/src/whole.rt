@@ -7,9 +7,11 @@ ghost use Rattle.qa_base.specs.machine.Widths.{Fits};
 ghost use Rattle.qa_ledger.specs.Holding.{StandsFor};
 
 use crate::ledger::{Ledger, LedgerFault};
-use crate::{metrics, rules};
-use qa_base::{Event, Header, Rule, Totals};
-use qa_plain::{owes, time_of};
+use crate::metrics;
+use crate::rules::first_broken;
+use crate::state::State;
+use qa_base::{Due, Event, Header, Micros, PacketNumber, Space, Span, Totals};
+use qa_plain::time_of;
 use std::alloc::{AllocError, Global};
 use std::marker::Model;
 
@@ -46,14 +48,6 @@ fn keep(alloc: Global, events: &mut Vec<Event>, event: &Event) -> Result<(), All
 }
 
 impl Whole {
-    /// The first rule that the event breaks after those that were admitted.
-    #[tactic(auto, using(qa_base::proofs::machine::PtoCount::pto_count))]
-    fn first_broken(&self, event: &Event) -> Option<Rule>
-        ensures { result ≡ rules.first_broken self.now.header (history_of self.now.events) event.now }
-    {
-        rules::first_broken(&self.header, &self.events, event)
-    }
-
     /// Puts an event behind the others that breaks no rule after them.
     #[tactic(auto, using(crate::proofs::Sound::sound_more))]
     fn push(&mut self, event: &Event) -> Result<(), AllocError>
@@ -99,7 +93,7 @@ impl Ledger for Whole {
         if self.failed {
             return Err(LedgerFault::OutOfMemory);
         }
-        if let Some(rule) = self.first_broken(event) {
+        if let Some(rule) = first_broken(self, event) {
             return Err(LedgerFault::Broken(rule));
         }
         match self.push(event) {
@@ -115,6 +109,77 @@ impl Ledger for Whole {
 
     /// Whether a loss is owed.
     fn owes(&self) -> bool {
-        owes(&self.header, &self.events)
+        qa_plain::owes(&self.header, &self.events)
+    }
+}
+
+impl State for Whole {
+    ghost use Rattle.qa_ledger.specs.Holding.{StandsFor};
+
+    ghost tells = { StandsFor };
+
+    fn max_datagram_size(&self) -> u64 {
+        self.header.max_datagram_size()
+    }
+
+    fn last_time(&self) -> Option<Micros> {
+        self.events.last().map(|event| time_of(event))
+    }
+
+    fn has_owed(&self) -> bool {
+        qa_plain::owes(&self.header, &self.events)
+    }
+
+    fn has_owed_in(&self, space: Space) -> bool {
+        qa_plain::owes_in(&self.header, &self.events, space)
+    }
+
+    fn names_owed(&self, ranges: &[Span]) -> bool {
+        qa_plain::names_owed(&self.header, &self.events, ranges)
+    }
+
+    fn is_gone(&self, space: Space) -> bool {
+        qa_plain::is_gone(&self.events, space)
+    }
+
+    fn has_at_or_above(&self, space: Space, number: PacketNumber) -> bool {
+        qa_plain::has_at_or_above(&self.events, space, number.get())
+    }
+
+    fn were_sent(&self, space: Space, ranges: &[Span]) -> bool {
+        qa_plain::were_sent(&self.header, &self.events, space, ranges)
+    }
+
+    fn window(&self) -> u64 {
+        qa_plain::reno(&self.header, &self.events).window
+    }
+
+    fn bytes_in_flight(&self) -> u64 {
+        metrics::bytes_in_flight(&self.header, &self.events)
+    }
+
+    fn probe_spent(&self) -> Option<u128> {
+        qa_plain::probe_spent(&self.events)
+    }
+
+    fn recovery_spent(&self) -> Option<u64> {
+        qa_plain::recovery_spent(&self.header, &self.events)
+    }
+
+    #[tactic(auto, using(qa_base::proofs::machine::PtoCount::pto_count))]
+    fn deadline(&self) -> Option<Due> {
+        qa_plain::deadline(&self.header, &self.events)
+    }
+
+    fn is_probe_due(&self) -> bool {
+        qa_plain::is_probe_due(&self.events)
+    }
+
+    fn is_confirmed(&self) -> bool {
+        qa_plain::is_confirmed(&self.events)
+    }
+
+    fn held(&self) -> Totals {
+        metrics::totals(&self.header, &self.events)
     }
 }

@@ -7,4 +7,4 @@ use Rattle.qa_ledger.proofs.metrics.totals.Goals as goal
 pub returns : goal.returns
 returns c =
     c.totals_by.ensures
-    ∙ totals_are c.args.header.now (history_of c.args.events.now) _ c.reno.result c.rtt.result c.bytes_within.result c.backoff.result c.owed_count.result (sym (length-history_of c.args.events.now)) c.reno.ensures c.rtt.ensures c.bytes_within.ensures c.backoff.ensures.value c.owed_count.ensures
+    ∙ totals_are c.args.header.now (history_of c.args.events.now) _ c.reno.result c.rtt.result c.bytes_in_flight.result c.backoff.result c.owed_count.result (sym (length-history_of c.args.events.now)) c.reno.ensures c.rtt.ensures c.bytes_in_flight.ensures c.backoff.ensures.value c.owed_count.ensures
