@@ -1,21 +1,24 @@
 //! The rules that an event can break, each judged from the events before it, and the first of them.
-ghost use Rattle.std.specs.Prelude.{◌≡◌, ◌≤◌, ◌<◌, ◌^◌, length};
+ghost use Rattle.std.specs.Prelude.{◌≡◌, ◌≤◌, ◌<◌, ◌^◌, List, length};
 ghost use Rattle.std.specs.List.{All};
 ghost use Rattle.std.specs.Option.{ForSome};
+ghost use Rattle.qa_base.specs.declared.event.Event.{Event as AnEvent};
 ghost use Rattle.qa_base.specs.machine.Breaches as breaches;
 ghost use Rattle.qa_base.specs.machine.Packets.{history_of};
 ghost use Rattle.qa_base.specs.machine.Rules as rules;
 ghost use Rattle.qa_base.specs.machine.Timer as timers;
 ghost use Rattle.qa_base.specs.machine.Widths.{Fits};
 ghost use Rattle.qa_ledger.specs.Tests.{leave_tests, timer_tests};
+ghost use Rattle.qa_ranges.specs.Sent.{AreSent};
 
 use crate::metrics::metrics_rule;
 use qa_base::constants::PROBE_DATAGRAMS;
 use qa_base::{Due, Event, Header, Kind, Leave, Rule, Space};
 use qa_plain::{
-    bytes_in_flight, deadline, has_at_or_above, is_confirmed, is_gone, is_probe_due, names_owed,
-    owes, owes_in, probe_spent, recovery_spent, reno, time_of, were_sent,
+    bytes_in_flight, deadline, is_confirmed, is_gone, is_probe_due, names_owed, owes, owes_in,
+    probe_spent, recovery_spent, reno, time_of,
 };
+use qa_ranges::SentNumbers;
 
 /// V1: the event is earlier than the one before it.
 fn is_time_back(events: &[Event], event: &Event) -> bool
@@ -70,11 +73,11 @@ fn is_space_gone(events: &[Event], event: &Event) -> bool
 }
 
 /// V6: a packet was sent in the space with this number or a higher one.
-fn is_number_not_higher(events: &[Event], event: &Event) -> bool
-    ensures { result ≡ breaches.is_number_not_higher (history_of events.now) event.now }
+fn is_number_not_higher(sent: &SentNumbers, event: &Event) -> bool
+    ensures { (h : List AnEvent) → AreSent sent.now h → result ≡ breaches.is_number_not_higher h event.now }
 {
     match event {
-        Event::Sent { space, number, .. } => has_at_or_above(events, *space, number.get()),
+        Event::Sent { space, number, .. } => sent.has_at_or_above(*space, *number),
         _ => false,
     }
 }
@@ -160,13 +163,11 @@ fn is_past_recovery(header: &Header, events: &[Event], event: &Event) -> bool
 }
 
 /// V10: an acknowledgment of a number that was never sent in its space.
-fn is_ack_unsent(header: &Header, events: &[Event], event: &Event) -> bool
-    ensures { result ≡ breaches.is_ack_unsent (history_of events.now) event.now }
+fn is_ack_unsent(sent: &SentNumbers, event: &Event) -> bool
+    ensures { (h : List AnEvent) → AreSent sent.now h → result ≡ breaches.is_ack_unsent h event.now }
 {
     match event {
-        Event::Ack { space, ranges, .. } => {
-            !were_sent(header, events, *space, ranges.as_slice())
-        }
+        Event::Ack { space, ranges, .. } => !sent.were_sent(*space, ranges.as_slice()),
         _ => false,
     }
 }
@@ -276,7 +277,13 @@ fn timer_rule(header: &Header, events: &[Event], event: &Event) -> Option<Rule>
 }
 
 /// The first rule from V7 on that the event breaks.
-fn leave_rule(header: &Header, events: &[Event], event: &Event) -> Option<Rule>
+fn leave_rule(
+    header: &Header,
+    events: &[Event],
+    sent: &SentNumbers,
+    event: &Event,
+) -> Option<Rule>
+    requires sent { AreSent sent.now (history_of events.now) }
     requires few { length events.now < 2 ^ 32 }
     requires fit { All Fits events.now }
     requires counted { timers.backoff header.now (history_of events.now) ≤ 40 }
@@ -291,15 +298,22 @@ fn leave_rule(header: &Header, events: &[Event], event: &Event) -> Option<Rule>
     if is_past_recovery(header, events, event) {
         return Some(Rule::PastRecovery);
     }
-    if is_ack_unsent(header, events, event) {
+    if is_ack_unsent(sent, event) {
         return Some(Rule::AckUnsent);
     }
     timer_rule(header, events, event)
 }
 
-/// The first rule that the event breaks after these events, V1 to V16 in their order.
+/// The first rule that the event breaks after these events, which sent these numbers, V1 to V16 in
+/// their order.
 #[tactic(auto, unfolding(qa_base::specs::machine::Rules::first_broken))]
-pub fn first_broken(header: &Header, events: &[Event], event: &Event) -> Option<Rule>
+pub fn first_broken(
+    header: &Header,
+    events: &[Event],
+    sent: &SentNumbers,
+    event: &Event,
+) -> Option<Rule>
+    requires sent { AreSent sent.now (history_of events.now) }
     requires few { length events.now < 2 ^ 32 }
     requires fit { All Fits events.now }
     requires counted { timers.backoff header.now (history_of events.now) ≤ 40 }
@@ -320,8 +334,8 @@ pub fn first_broken(header: &Header, events: &[Event], event: &Event) -> Option<
     if is_space_gone(events, event) {
         return Some(Rule::SpaceGone);
     }
-    if is_number_not_higher(events, event) {
+    if is_number_not_higher(sent, event) {
         return Some(Rule::NumberNotHigher);
     }
-    leave_rule(header, events, event)
+    leave_rule(header, events, sent, event)
 }

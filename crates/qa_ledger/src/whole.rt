@@ -1,27 +1,31 @@
 //! A ledger that keeps all events, and judges each by the history before it.
-ghost use Rattle.std.specs.Prelude.{◌≡◌, ◌<◌, ◌+◌, ◌∷◌, ◌++◌, [], length, true, false, Ok, Err, Some, None, OnOk, OnErr};
+ghost use Rattle.std.specs.Prelude.{◌≡◌, ◌<◌, ◌+◌, ◌∷◌, ◌++◌, List, [], length, true, false, Ok, Err, Some, None, OnOk, OnErr};
+ghost use Rattle.qa_base.specs.declared.event.Event.{Event as AnEvent};
 ghost use Rattle.qa_base.specs.machine.Loss.{owed};
 ghost use Rattle.qa_base.specs.machine.Packets.{history_of};
 ghost use Rattle.qa_base.specs.machine.Rules as rules;
 ghost use Rattle.qa_base.specs.machine.Widths.{Fits};
 ghost use Rattle.qa_ledger.specs.Holding.{StandsFor};
+ghost use Rattle.qa_ranges.specs.Sent.{AreSent};
 
 use crate::ledger::{Ledger, LedgerFault};
 use crate::{metrics, rules};
 use qa_base::{Event, Header, Rule, Totals};
 use qa_plain::{owes, time_of};
+use qa_ranges::SentNumbers;
 use std::alloc::{AllocError, Global};
 use std::marker::Model;
 
 /// A ledger that keeps all events, and judges each by the definitions over those before it.
 ///
-/// It keeps a copy of each event. The time grows about as the cube of their number: 300 events take
+/// It keeps a copy of each event, and the numbers that were sent as sets of runs. The time grows about as the cube of their number: 300 events take
 /// a fraction of a second, and 2,400 about half a minute.
 #[derive(Drop)]
 pub struct Whole {
     alloc: Global,
     header: Header,
     events: Vec<Event>,
+    sent: SentNumbers,
     failed: bool,
 }
 
@@ -32,15 +36,25 @@ impl Model for Whole {
 
     ghost view = { λ w. record { header = w.header; events = w.events.items; failed = w.failed } };
 
-    ghost invariant = { λ w. IsSound w.header w.events.items };
+    ghost invariant = { λ w. IsSound w.header w.events.items w.sent };
 }
 
-/// Puts an equal event behind the others.
-fn keep(alloc: Global, events: &mut Vec<Event>, event: &Event) -> Result<(), AllocError>
+/// Puts an equal event behind the others, and adds the number of a packet that it sends.
+fn keep(
+    alloc: Global,
+    events: &mut Vec<Event>,
+    sent: &mut SentNumbers,
+    event: &Event,
+) -> Result<(), AllocError>
     ensures ok { OnOk result (events.new.items ≡ events.old.items ++ event.now ∷ []) }
+    ensures sent { OnOk result ((h : List AnEvent) → AreSent sent.old h → AreSent sent.new (event.now ∷ h)) }
     ensures err { OnErr result (events.new.items ≡ events.old.items) }
+    ensures unsent { OnErr result (sent.new ≡ sent.old) }
 {
     let copy = event.duplicate(alloc)?;
+    events.reserve(1)?;
+    sent.insert_sent(event)?;
+    // It has room, so that nothing is left half done.
     events.push(copy)?;
     Ok(())
 }
@@ -51,7 +65,7 @@ impl Whole {
     fn first_broken(&self, event: &Event) -> Option<Rule>
         ensures { result ≡ rules.first_broken self.now.header (history_of self.now.events) event.now }
     {
-        rules::first_broken(&self.header, &self.events, event)
+        rules::first_broken(&self.header, &self.events, &self.sent, event)
     }
 
     /// Puts an event behind the others that breaks no rule after them.
@@ -64,7 +78,7 @@ impl Whole {
         ensures err { OnErr result (self.new ≡ record { header = self.old.header; events = self.old.events; failed = true }) }
     {
         let _time = time_of(event).get();
-        match keep(self.alloc, &mut self.events, event) {
+        match keep(self.alloc, &mut self.events, &mut self.sent, event) {
             Ok(()) => Ok(()),
             Err(_) => {
                 self.failed = true;
@@ -90,6 +104,7 @@ impl Ledger for Whole {
             alloc,
             header,
             events: Vec::new(alloc),
+            sent: SentNumbers::new(alloc),
             failed: false,
         }
     }
