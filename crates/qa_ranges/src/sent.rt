@@ -1,6 +1,7 @@
 //! The numbers of the packets that were sent, as a set for each packet number space.
-ghost use Rattle.std.specs.Prelude.{◌≡◌, ℕ, List, [], ◌∷◌, OnOk, OnErr};
+ghost use Rattle.std.specs.Prelude.{◌≡◌, ◌+◌, ℕ, List, [], ◌∷◌, length, OnOk, OnErr};
 ghost use Rattle.qa_base.specs.declared.event.Event.{Event as AnEvent};
+ghost use Rattle.qa_base.specs.declared.space.Space.TheVariants.{Initial, Handshake, App};
 ghost use Rattle.qa_base.specs.machine.Breaches as breaches;
 ghost use Rattle.qa_base.specs.machine.Kept as kept;
 ghost use Rattle.qa_base.specs.machine.Numbers as numbers;
@@ -107,7 +108,8 @@ impl SentNumbers {
 
     /// How many runs of consecutive numbers were sent, in all spaces: the spans that it keeps.
     pub fn runs(&self) -> u128
-        ensures { (c : Settings) (h : List AnEvent) → IsRun c h → AreSent self.now h → result ≡ kept.runs h }
+        ensures kept { result ≡ length (runs_in self.now Initial) + length (runs_in self.now Handshake) + length (runs_in self.now App) }
+        ensures sent { (c : Settings) (h : List AnEvent) → IsRun c h → AreSent self.now h → result ≡ kept.runs h }
     {
         u128::from(self.initial.runs())
             + u128::from(self.handshake.runs())

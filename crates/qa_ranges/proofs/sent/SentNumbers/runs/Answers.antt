@@ -4,8 +4,8 @@ use Rattle.qa_base.specs.machine.Kept.{numbers_of, runs_of}
 use Rattle.qa_ranges.proofs.Histories.{numbers_distinct}
 use Rattle.qa_ranges.proofs.sent.SentNumbers.runs.Goals as goal
 
-pub returns : goal.returns
-returns c = λ settings h run sent.
+pub returns-clause-sent : goal.returns-clause-sent
+returns-clause-sent c = λ settings h run sent.
     let each = rw (← c.self.view_is) at sent in
     let initial : c.runs.result ≡ runs_of h Initial = c.runs.ensures.count (numbers_of h Initial) (each.each Initial) (numbers_distinct settings h Initial run) in
     let handshake : c.runs-2.result ≡ runs_of h Handshake = c.runs-2.ensures.count (numbers_of h Handshake) (each.each Handshake) (numbers_distinct settings h Handshake run) in
