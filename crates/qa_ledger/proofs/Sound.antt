@@ -10,17 +10,20 @@ use Rattle.qa_base.specs.values.Settings.{Settings}
 use Rattle.qa_base.proofs.machine.Histories.{history_of-snoc}
 use Rattle.qa_ledger.specs.Holding.{IsSound}
 use Rattle.qa_base.specs.machine.Widths.{Fits, IsTimely}
+use Rattle.qa_ranges.specs.Sent.{BySpace, AreSent}
 
 each_append : {X : Type 0} (P : X → Type 0) (xs ys : List X) → AllByRecursion P xs → AllByRecursion P ys → AllByRecursion P (xs ++ ys)
 each_append P [] ys a b = b
 each_append P (x ∷ xs) ys a b = (a.0, each_append P xs ys a.1 b)
 
-pub sound_more : (c : Settings) (events : List Event) (e : Event) → IsSound c events → first_broken c (history_of events) e ≡ None → IsTimely e → Fits e → length events < 4294967295 → IsSound c (events ++ e ∷ [])
-sound_more c events e sound allowed timely fit few =
+pub sound_more : (c : Settings) (events : List Event) (e : Event) (old new : BySpace) → IsSound c events old → first_broken c (history_of events) e ≡ None → IsTimely e → Fits e → length events < 4294967295
+    → ((h : List Event) → AreSent old h → AreSent new (e ∷ h)) → IsSound c (events ++ e ∷ []) new
+sound_more c events e old new sound allowed timely fit few more =
     let longer : e ∷ history_of events ≡ history_of (events ++ e ∷ []) = sym (history_of-snoc events e) in
     record {
       run = subst (λ (h : List Event). IsRun c h) longer (sound.run, allowed);
       timely = subst (λ (h : List Event). AllByRecursion IsTimely h) longer (timely, sound.timely);
       fit = All-from_recursion Fits (events ++ e ∷ []) (each_append Fits events (e ∷ []) (recursion_from_All Fits events sound.fit) (fit, tt));
       few = omega (arith, few, length-append events (e ∷ []));
+      sent = subst (λ (h : List Event). AreSent new h) longer (more (history_of events) sound.sent);
     }

@@ -6,6 +6,7 @@ use Rattle.qa_base.specs.machine.Packets.{history_of}
 use Rattle.qa_base.specs.machine.Rules.{IsRun}
 use Rattle.qa_base.specs.machine.Widths.{Fits, IsTimely}
 use Rattle.qa_base.specs.values.Settings.{Settings}
+use Rattle.qa_ranges.specs.Sent.{BySpace, AreSent}
 
 -- its header, its events in their order, and whether it was out of memory
 pub record Held : Type 0 where
@@ -13,12 +14,13 @@ pub record Held : Type 0 where
   pub events : List Event
   pub failed : Bool
 
--- its events are a run, each in its ranges, and no more than lines may say
-pub record IsSound (c : Settings) (events : List Event) : Type 0 where
+-- its events are a run, each in its ranges, and no more than lines may say, and its sets have the numbers that they sent
+pub record IsSound (c : Settings) (events : List Event) (sets : BySpace) : Type 0 where
   pub run : IsRun c (history_of events)
   pub timely : AllByRecursion IsTimely (history_of events)
   pub fit : All Fits events
   pub few : length events ≤ 4294967295
+  pub sent : AreSent sets (history_of events)
 
 -- it stands for this history under this header
 pub record StandsFor (held : Held) (c : Settings) (h : List Event) : Type 0 where

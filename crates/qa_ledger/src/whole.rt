@@ -1,10 +1,12 @@
 //! A ledger that keeps all events, and judges each by the history before it.
-ghost use Rattle.std.specs.Prelude.{◌≡◌, ◌<◌, ◌+◌, ◌∷◌, ◌++◌, [], length, true, false, Ok, Err, Some, None, OnOk, OnErr};
+ghost use Rattle.std.specs.Prelude.{◌≡◌, ◌<◌, ◌+◌, ◌∷◌, ◌++◌, List, [], length, true, false, Ok, Err, Some, None, OnOk, OnErr};
+ghost use Rattle.qa_base.specs.declared.event.Event.{Event as AnEvent};
 ghost use Rattle.qa_base.specs.machine.Loss.{owed};
 ghost use Rattle.qa_base.specs.machine.Packets.{history_of};
 ghost use Rattle.qa_base.specs.machine.Rules as rules;
 ghost use Rattle.qa_base.specs.machine.Widths.{Fits};
 ghost use Rattle.qa_ledger.specs.Holding.{StandsFor};
+ghost use Rattle.qa_ranges.specs.Sent.{AreSent};
 
 use crate::ledger::{Ledger, LedgerFault};
 use crate::metrics;
@@ -12,18 +14,20 @@ use crate::rules::first_broken;
 use crate::state::State;
 use qa_base::{Due, Event, Header, Micros, PacketNumber, Space, Span, Totals};
 use qa_plain::time_of;
+use qa_ranges::SentNumbers;
 use std::alloc::{AllocError, Global};
 use std::marker::Model;
 
 /// A ledger that keeps all events, and judges each by the definitions over those before it.
 ///
-/// It keeps a copy of each event. The time grows about as the cube of their number: 300 events take
-/// a fraction of a second, and 2,400 about half a minute.
+/// It keeps a copy of each event, and the numbers that were sent as sets of runs. The time grows about
+/// as the cube of the number of events: 300 take a fraction of a second, and 2,400 about half a minute.
 #[derive(Drop)]
 pub struct Whole {
     alloc: Global,
     header: Header,
     events: Vec<Event>,
+    sent: SentNumbers,
     failed: bool,
 }
 
@@ -34,15 +38,25 @@ impl Model for Whole {
 
     ghost view = { λ w. record { header = w.header; events = w.events.items; failed = w.failed } };
 
-    ghost invariant = { λ w. IsSound w.header w.events.items };
+    ghost invariant = { λ w. IsSound w.header w.events.items w.sent };
 }
 
-/// Puts an equal event behind the others.
-fn keep(alloc: Global, events: &mut Vec<Event>, event: &Event) -> Result<(), AllocError>
+/// Puts an equal event behind the others, and adds the number of a packet that it sends.
+fn keep(
+    alloc: Global,
+    events: &mut Vec<Event>,
+    sent: &mut SentNumbers,
+    event: &Event,
+) -> Result<(), AllocError>
     ensures ok { OnOk result (events.new.items ≡ events.old.items ++ event.now ∷ []) }
+    ensures sent { OnOk result ((h : List AnEvent) → AreSent sent.old h → AreSent sent.new (event.now ∷ h)) }
     ensures err { OnErr result (events.new.items ≡ events.old.items) }
+    ensures unsent { OnErr result (sent.new ≡ sent.old) }
 {
     let copy = event.duplicate(alloc)?;
+    events.reserve(1)?;
+    sent.insert_sent(event)?;
+    // It has room, so that nothing is left half done.
     events.push(copy)?;
     Ok(())
 }
@@ -58,7 +72,7 @@ impl Whole {
         ensures err { OnErr result (self.new ≡ record { header = self.old.header; events = self.old.events; failed = true }) }
     {
         let _time = time_of(event).get();
-        match keep(self.alloc, &mut self.events, event) {
+        match keep(self.alloc, &mut self.events, &mut self.sent, event) {
             Ok(()) => Ok(()),
             Err(_) => {
                 self.failed = true;
@@ -84,6 +98,7 @@ impl Ledger for Whole {
             alloc,
             header,
             events: Vec::new(alloc),
+            sent: SentNumbers::new(alloc),
             failed: false,
         }
     }
@@ -143,11 +158,11 @@ impl State for Whole {
     }
 
     fn has_at_or_above(&self, space: Space, number: PacketNumber) -> bool {
-        qa_plain::has_at_or_above(&self.events, space, number.get())
+        self.sent.has_at_or_above(space, number)
     }
 
     fn were_sent(&self, space: Space, ranges: &[Span]) -> bool {
-        qa_plain::were_sent(&self.header, &self.events, space, ranges)
+        self.sent.were_sent(space, ranges)
     }
 
     fn window(&self) -> u64 {

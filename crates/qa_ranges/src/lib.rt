@@ -1,0 +1,10 @@
+//! Sets of packet numbers that take memory for each run of consecutive numbers, and not for each number.
+#![tactic(auto)]
+
+mod ranges;
+mod sent;
+#[cfg(test)]
+mod tests;
+
+pub use ranges::Ranges;
+pub use sent::SentNumbers;

@@ -1,0 +1,118 @@
+//! The numbers of the packets that were sent, as a set for each packet number space.
+ghost use Rattle.std.specs.Prelude.{◌≡◌, ◌+◌, ℕ, List, [], ◌∷◌, length, OnOk, OnErr};
+ghost use Rattle.qa_base.specs.declared.event.Event.{Event as AnEvent};
+ghost use Rattle.qa_base.specs.declared.space.Space.TheVariants.{Initial, Handshake, App};
+ghost use Rattle.qa_base.specs.machine.Breaches as breaches;
+ghost use Rattle.qa_base.specs.machine.Kept as kept;
+ghost use Rattle.qa_base.specs.machine.Numbers as numbers;
+ghost use Rattle.qa_base.specs.machine.Rules.{IsRun};
+ghost use Rattle.qa_base.specs.values.Settings.{Settings};
+ghost use Rattle.qa_ranges.specs.Runs.{AreApart};
+ghost use Rattle.qa_ranges.specs.Sent.{AreSent, AreSentWith, runs_in};
+
+use crate::Ranges;
+use qa_base::{Event, PacketNumber, Space, Span};
+use std::alloc::{AllocError, Global};
+use std::marker::Model;
+
+/// The numbers of the packets that were sent, a set for each packet number space.
+///
+/// It takes memory for each run of consecutive numbers. `AreSent` says of which history it has the
+/// numbers.
+#[derive(Debug, Drop)]
+pub struct SentNumbers {
+    initial: Ranges,
+    handshake: Ranges,
+    app: Ranges,
+}
+
+impl Model for SentNumbers {
+    ghost use Rattle.qa_ranges.specs.Sent.{BySpace};
+
+    ghost Value = { BySpace };
+
+    ghost view = { λ s. record { initial = s.initial; handshake = s.handshake; app = s.app } };
+}
+
+impl SentNumbers {
+    /// No numbers. Takes no memory.
+    pub fn new(alloc: Global) -> SentNumbers
+        ensures { AreSent result [] }
+    {
+        SentNumbers {
+            initial: Ranges::new(alloc),
+            handshake: Ranges::new(alloc),
+            app: Ranges::new(alloc),
+        }
+    }
+
+    /// The set of the space.
+    pub fn of_space(&self, space: Space) -> &Ranges
+        ensures { result.now ≡ runs_in self.now space }
+    {
+        match space {
+            Space::Initial => &self.initial,
+            Space::Handshake => &self.handshake,
+            Space::App => &self.app,
+        }
+    }
+
+    /// Whether a packet of the space was sent with this number or a higher one.
+    pub fn has_at_or_above(&self, space: Space, number: PacketNumber) -> bool
+        ensures { (h : List AnEvent) → AreSent self.now h → result ≡ breaches.has_at_or_above space number h }
+    {
+        match self.of_space(space).greatest() {
+            Some(greatest) => number <= greatest,
+            None => false,
+        }
+    }
+
+    /// Whether each number of the ranges was sent in the space.
+    pub fn were_sent(&self, space: Space, ranges: &[Span]) -> bool
+        ensures { (h : List AnEvent) → AreSent self.now h → result ≡ numbers.has_all (kept.numbers_of h space) ranges.now }
+    {
+        let sent = self.of_space(space);
+        for range in ranges {
+            if !sent.covers(*range) {
+                return false;
+            }
+        }
+        true
+    }
+
+    /// Adds the number of a packet that is sent in the space. `AllocError` comes where it is out of
+    /// memory, and leaves the sets as they were.
+    pub fn insert(&mut self, space: Space, number: PacketNumber) -> Result<(), AllocError>
+        ensures ok { OnOk result ((h : List AnEvent) → AreSent self.old h → AreSentWith self.new space number h) }
+        ensures err { OnErr result (self.new ≡ self.old) }
+    {
+        let alone = Span::new(number, number).unwrap();
+        match space {
+            Space::Initial => self.initial.insert_range(alone),
+            Space::Handshake => self.handshake.insert_range(alone),
+            Space::App => self.app.insert_range(alone),
+        }
+    }
+
+    /// Adds the number of the packet that the event sends, where it sends one. `AllocError` comes
+    /// where it is out of memory, and leaves the sets as they were.
+    pub fn insert_sent(&mut self, event: &Event) -> Result<(), AllocError>
+        ensures ok { OnOk result ((h : List AnEvent) → AreSent self.old h → AreSent self.new (event.now ∷ h)) }
+        ensures err { OnErr result (self.new ≡ self.old) }
+    {
+        match event {
+            Event::Sent { space, number, .. } => self.insert(*space, *number),
+            _ => Ok(()),
+        }
+    }
+
+    /// How many runs of consecutive numbers were sent, in all spaces: the spans that it keeps.
+    pub fn runs(&self) -> u128
+        ensures kept { result ≡ length (runs_in self.now Initial) + length (runs_in self.now Handshake) + length (runs_in self.now App) }
+        ensures sent { (c : Settings) (h : List AnEvent) → IsRun c h → AreSent self.now h → result ≡ kept.runs h }
+    {
+        u128::from(self.initial.runs())
+            + u128::from(self.handshake.runs())
+            + u128::from(self.app.runs())
+    }
+}
