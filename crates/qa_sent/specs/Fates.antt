@@ -1,9 +1,9 @@
 -- What is asked of one packet that is kept.
-use Rattle.std.specs.Prelude.{ℕ, ◌&&◌, ◌||◌, not, Bool, true, false, List, if◌then◌else◌}
+use Rattle.std.specs.Prelude.{ℕ, ◌&&◌, not, Bool, true, false, List, if◌then◌else◌}
 use Rattle.qa_base.specs.declared.space.Space.{Space}
 use Rattle.qa_base.specs.values.Events.{is_space, is_named}
 use Rattle.qa_sent.specs.declared.fate.Fate.{Fate}
-use Rattle.qa_sent.specs.declared.fate.Fate.TheVariants.{Open, Owed, DeclaredLost, Covered, Discarded}
+use Rattle.qa_sent.specs.declared.fate.Fate.TheVariants.{Open, Owed, Covered, Discarded}
 use Rattle.qa_sent.specs.declared.packet.SentPacket.{SentPacket}
 
 abbrev pub is_open : Fate → Bool

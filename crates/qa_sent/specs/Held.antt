@@ -77,7 +77,7 @@ pub record IsSound (dropped : ℕ) (packets : List SentPacket) (losses : Losses)
   pub initial : IsLane Initial dropped packets lanes.initial
   pub handshake : IsLane Handshake dropped packets lanes.handshake
   pub app : IsLane App dropped packets lanes.app
-  pub losses : AreLosses dropped packets losses
+  pub owed : AreLosses dropped packets losses
   pub ordered : AreOrdered packets
   pub sizes : AllByRecursion (λ (p : SentPacket). p.size ≤ max_packet_size) packets
   pub few : dropped + length packets ≤ 4294967295

@@ -1,12 +1,12 @@
 -- What events make of the packets that are kept.
-use Rattle.std.specs.Prelude.{ℕ, ◌+◌, ◌&&◌, not, Bool, List, length, drop_while, filter, map, option_map, take_while, Some, None, Option, if◌then◌else◌, [], ◌∷◌}
+use Rattle.std.specs.Prelude.{ℕ, ◌+◌, ◌&&◌, Bool, List, drop, length, take_while, Option, if◌then◌else◌}
 use Rattle.qa_base.specs.declared.space.Space.{Space}
 use Rattle.qa_base.specs.declared.space.Leave.TheVariants.{Window}
 use Rattle.qa_base.specs.machine.Loss.{is_late}
 use Rattle.qa_base.specs.machine.Packets.{Packet}
 use Rattle.qa_base.specs.machine.Rtt.{Estimate}
 use Rattle.qa_base.specs.values.Events.{is_named}
-use Rattle.qa_sent.specs.Fates.{is_closed, is_flying, is_open, is_owed, is_waiting}
+use Rattle.qa_sent.specs.Fates.{is_closed, is_flying, is_owed, is_waiting}
 use Rattle.qa_sent.specs.Held.{Held}
 use Rattle.qa_sent.specs.declared.fate.Fate.{Fate}
 use Rattle.qa_sent.specs.declared.fate.Fate.TheVariants.{Covered, DeclaredLost, Discarded, Owed}
@@ -64,9 +64,15 @@ declared p = if is_owed p.fate then with_fate DeclaredLost p else p
 abbrev pub discarded_in : Space → SentPacket → SentPacket
 discarded_in s p = if is_waiting s p then with_fate Discarded p else p
 
--- the closed packets before all others are dropped
+-- ---- dropping
+
+-- how many closed packets stand before all others
+abbrev pub closed_count : List SentPacket → ℕ
+closed_count ps = length (take_while is_closed ps)
+
+-- they are dropped
 abbrev pub trimmed : Held → Held
 trimmed h = record {
-  dropped = h.dropped + length (take_while is_closed h.packets);
-  packets = drop_while is_closed h.packets;
+  dropped = h.dropped + closed_count h.packets;
+  packets = drop (closed_count h.packets) h.packets;
 }
