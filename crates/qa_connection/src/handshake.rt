@@ -1,0 +1,45 @@
+//! How far the handshake is.
+ghost use Rattle.std.specs.Prelude.{◌≡◌, ◌||◌};
+ghost use Rattle.qa_base.specs.machine.Handshake as handshake;
+
+use qa_base::{Event, Header, Role, Space};
+
+/// Whether the event confirms the handshake (RFC 9001, section 4.1.2).
+pub(crate) fn confirms(event: &Event) -> bool
+    ensures { result ≡ handshake.confirms event.now }
+{
+    match event {
+        Event::Confirmed { .. } => true,
+        _ => false,
+    }
+}
+
+/// Whether the event is an acknowledgment of Handshake packets.
+pub(crate) fn acknowledges_handshake(event: &Event) -> bool
+    ensures { result ≡ handshake.acknowledges_handshake event.now }
+{
+    match event {
+        Event::Ack { space, .. } => *space == Space::Handshake,
+        _ => false,
+    }
+}
+
+/// Whether the event shows that the keys of the Handshake space are there.
+pub(crate) fn shows_keys(event: &Event) -> bool
+    ensures { result ≡ handshake.shows_keys event.now }
+{
+    match event {
+        Event::Keys { .. } => true,
+        Event::Sent { space, .. } => *space == Space::Handshake,
+        Event::Discard { space, .. } => *space == Space::Initial,
+        _ => false,
+    }
+}
+
+/// Whether the peer has validated the sender's address: a server's peer always has, and a client's
+/// once it acknowledged a Handshake packet or the handshake is confirmed (RFC 9002, A.8).
+pub(crate) fn is_validated(header: &Header, acknowledged: bool, confirmed: bool) -> bool
+    ensures { result ≡ (handshake.is_server header.now.role || acknowledged || confirmed) }
+{
+    header.role() == Role::Server || acknowledged || confirmed
+}
