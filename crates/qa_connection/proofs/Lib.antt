@@ -1,1 +1,6 @@
 pub mod Answered
+pub mod Told
+pub mod Grown
+pub mod Entries
+pub mod Spent
+pub mod Ended

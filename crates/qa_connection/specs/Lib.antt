@@ -1,2 +1,3 @@
+pub mod Known
 pub mod Spaces
 pub mod Steps

@@ -1,14 +1,13 @@
 -- What one event makes of the values that are kept.
-use Rattle.std.specs.Prelude.{ℕ, ◌+◌, ◌-◌, ◌&&◌, ◌==◌, nat_le, min, map, fold, find, reverse, Bool, true, false, List, [], ◌∷◌, Option, Some, None, option_map, if◌then◌else◌}
+use Rattle.std.specs.Prelude.{◌≤◌, ℕ, ◌-◌, ◌&&◌, ◌==◌, nat_le, min, fold, find, reverse, Bool, true, false, List, [], ◌∷◌, Option, Some, None, option_map, if◌then◌else◌}
 use Rattle.std.specs.List.{list_any}
 use Rattle.qa_base.specs.declared.event.Event.{Event}
 use Rattle.qa_base.specs.declared.event.Event.TheVariants.{Ack, Discard}
 use Rattle.qa_base.specs.machine.Packets.{Packet, greatest}
 use Rattle.qa_base.specs.machine.Reno.{Control, Move, Hit, collapses, grow, is_limited, is_outside_recovery, latest_sent, moved}
-use Rattle.qa_base.specs.machine.Rtt.{Estimate, Sample, updated}
+use Rattle.qa_base.specs.machine.Rtt.{Sample}
 use Rattle.qa_base.specs.values.Events.{time_of}
-use Rattle.qa_base.specs.values.Limits.{max_packet_size}
-use Rattle.qa_base.specs.values.Settings.{Settings}
+use Rattle.qa_base.specs.values.Limits.{least_datagram_size, max_packet_size}
 use Rattle.qa_sent.specs.declared.packet.SentPacket.{SentPacket}
 
 -- a number, or the greatest of 64 bits where it is greater
@@ -43,6 +42,10 @@ sample_of most confirmed (Ack time space ranges delay limited) ps = sample_by ti
 sample_of most confirmed _ ps = None
 
 -- ---- the window
+
+-- a maximum datagram size in its range
+abbrev pub IsDatagramSize : ℕ → Type 0
+IsDatagramSize size = (least_datagram_size ≤ size) × (size ≤ max_packet_size)
 
 -- when the last of the packets was sent, where there are any
 abbrev pub last_sent : List Packet → Option ℕ

@@ -1,7 +1,9 @@
 //! The congestion window, move by move (RFC 9002, section 7, appendix B).
 ghost use Rattle.std.specs.Prelude.{◌≡◌, fold, [], if◌then◌else◌};
 ghost use Rattle.qa_base.specs.machine.Reno as moves;
+ghost use Rattle.qa_base.specs.values.Settings.{AreInRange};
 ghost use Rattle.qa_connection.specs.Steps as steps;
+ghost use Rattle.qa_connection.specs.Steps.{IsDatagramSize};
 
 use crate::event::{is_limited, time_of};
 use qa_base::limits::MAX_PACKET_SIZE;
@@ -32,23 +34,25 @@ pub(crate) fn enters(reno: Reno, last_owed: Option<Micros>) -> bool
 }
 
 /// The window after a loss, of packets the last of which was sent then (B.6).
-fn hit(header: &Header, reno: Reno, last_owed: Option<Micros>, now: Micros) -> Reno
-    ensures { result ≡ fold (moves.moved header.now.max_datagram_size) reno (steps.hits_at now last_owed) }
+fn hit(reno: Reno, last_owed: Option<Micros>, now: Micros, max_datagram_size: u64) -> Reno
+    requires { IsDatagramSize max_datagram_size }
+    ensures { result ≡ fold (moves.moved max_datagram_size) reno (steps.hits_at now last_owed) }
 {
     let mut more = reno;
     if let Some(last) = last_owed {
-        more.hit(last, now, header.max_datagram_size());
+        more.hit(last, now, max_datagram_size);
     }
     more
 }
 
 /// The window after persistent congestion, where there is any (B.8).
-fn collapsed(header: &Header, reno: Reno, is_persistent: bool) -> Reno
-    ensures { result ≡ fold (moves.moved header.now.max_datagram_size) reno (moves.collapses is_persistent) }
+fn collapsed(reno: Reno, is_persistent: bool, max_datagram_size: u64) -> Reno
+    requires { IsDatagramSize max_datagram_size }
+    ensures { result ≡ fold (moves.moved max_datagram_size) reno (moves.collapses is_persistent) }
 {
     let mut more = reno;
     if is_persistent {
-        more.collapse(header.max_datagram_size());
+        more.collapse(max_datagram_size);
     }
     more
 }
@@ -61,35 +65,43 @@ fn can_grow(window: u64, size: u64) -> bool
 }
 
 /// The window after the packet was acknowledged (B.5).
-fn grown_by(header: &Header, reno: Reno, packet: SentPacket) -> Reno
-    ensures { result ≡ steps.grown_by header.now.max_datagram_size reno packet }
+fn grown_by(reno: Reno, packet: SentPacket, max_datagram_size: u64) -> Reno
+    requires { IsDatagramSize max_datagram_size }
+    ensures { result ≡ steps.grown_by max_datagram_size reno packet }
 {
     let mut more = reno;
     if packet.in_flight && can_grow(reno.window, packet.size) {
-        more.grow(packet.size, packet.time, header.max_datagram_size());
+        more.grow(packet.size, packet.time, max_datagram_size);
     }
     more
 }
 
 /// The window after the packets were acknowledged, one after the other.
-fn grown(header: &Header, reno: Reno, packets: &[SentPacket]) -> Reno
-    ensures { result ≡ fold (steps.grown_by header.now.max_datagram_size) reno packets.now }
+fn grown(reno: Reno, packets: &[SentPacket], max_datagram_size: u64) -> Reno
+    requires { IsDatagramSize max_datagram_size }
+    ensures { result ≡ fold (steps.grown_by max_datagram_size) reno packets.now }
 {
     let mut reno = reno;
     for packet in packets {
-        reno = grown_by(header, reno, *packet);
+        reno = grown_by(reno, *packet, max_datagram_size);
     }
     reno
 }
 
 /// The window after the growth by an event, if the sender used the window that it had (section 7.8).
-fn grown_unless_limited(header: &Header, reno: Reno, event: &Event, packets: &[SentPacket]) -> Reno
-    ensures { result ≡ fold (steps.grown_by header.now.max_datagram_size) reno (if moves.is_limited event.now then [] else packets.now) }
+fn grown_unless_limited(
+    reno: Reno,
+    event: &Event,
+    packets: &[SentPacket],
+    max_datagram_size: u64,
+) -> Reno
+    requires { IsDatagramSize max_datagram_size }
+    ensures { result ≡ fold (steps.grown_by max_datagram_size) reno (if moves.is_limited event.now then [] else packets.now) }
 {
     if is_limited(event) {
         reno
     } else {
-        grown(header, reno, packets)
+        grown(reno, packets, max_datagram_size)
     }
 }
 
@@ -103,9 +115,11 @@ pub(crate) fn reno_after(
     last_owed: Option<Micros>,
     is_persistent: bool,
 ) -> Reno
-    ensures { result ≡ steps.reno_after header.now.max_datagram_size reno event.now packets.now last_owed is_persistent }
+    ensures range { AreInRange header.now }
+    ensures value { result ≡ steps.reno_after header.now.max_datagram_size reno event.now packets.now last_owed is_persistent }
 {
-    let reno = hit(header, reno, last_owed, time_of(event));
-    let reno = collapsed(header, reno, is_persistent);
-    grown_unless_limited(header, reno, event, packets)
+    let max_datagram_size = header.max_datagram_size();
+    let reno = hit(reno, last_owed, time_of(event), max_datagram_size);
+    let reno = collapsed(reno, is_persistent, max_datagram_size);
+    grown_unless_limited(reno, event, packets, max_datagram_size)
 }

@@ -5,7 +5,7 @@ ghost use Rattle.qa_base.specs.machine.Handshake as handshake;
 use qa_base::{Event, Header, Role, Space};
 
 /// Whether the event confirms the handshake (RFC 9001, section 4.1.2).
-pub(crate) fn confirms(event: &Event) -> bool
+fn confirms(event: &Event) -> bool
     ensures { result ≡ handshake.confirms event.now }
 {
     match event {
@@ -14,8 +14,15 @@ pub(crate) fn confirms(event: &Event) -> bool
     }
 }
 
+/// Whether the handshake is confirmed by an event or was before it.
+pub(crate) fn is_confirmed_after(before: bool, event: &Event) -> bool
+    ensures { result ≡ (handshake.confirms event.now || before) }
+{
+    confirms(event) || before
+}
+
 /// Whether the event is an acknowledgment of Handshake packets.
-pub(crate) fn acknowledges_handshake(event: &Event) -> bool
+fn acknowledges_handshake(event: &Event) -> bool
     ensures { result ≡ handshake.acknowledges_handshake event.now }
 {
     match event {
@@ -24,8 +31,15 @@ pub(crate) fn acknowledges_handshake(event: &Event) -> bool
     }
 }
 
+/// Whether a Handshake packet is acknowledged by an event or was before it.
+pub(crate) fn is_acknowledged_after(before: bool, event: &Event) -> bool
+    ensures { result ≡ (handshake.acknowledges_handshake event.now || before) }
+{
+    acknowledges_handshake(event) || before
+}
+
 /// Whether the event shows that the keys of the Handshake space are there.
-pub(crate) fn shows_keys(event: &Event) -> bool
+fn shows_keys(event: &Event) -> bool
     ensures { result ≡ handshake.shows_keys event.now }
 {
     match event {
@@ -34,6 +48,13 @@ pub(crate) fn shows_keys(event: &Event) -> bool
         Event::Discard { space, .. } => *space == Space::Initial,
         _ => false,
     }
+}
+
+/// Whether those keys are there after an event.
+pub(crate) fn has_keys_after(before: bool, event: &Event) -> bool
+    ensures { result ≡ (handshake.shows_keys event.now || before) }
+{
+    shows_keys(event) || before
 }
 
 /// Whether the peer has validated the sender's address: a server's peer always has, and a client's

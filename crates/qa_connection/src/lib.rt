@@ -6,10 +6,12 @@
 
 mod allowances;
 mod congestion;
+mod connection;
 mod event;
 mod handshake;
 mod sampling;
 mod spaces;
 mod timeouts;
 
+pub use connection::{Connection, Outcome};
 pub use spaces::{SpaceState, Spaces};

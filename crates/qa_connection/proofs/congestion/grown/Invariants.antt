@@ -3,4 +3,4 @@ use Rattle.qa_connection.specs.Steps.{grown_by}
 use Rattle.qa_connection.proofs.congestion.grown.Given as goal
 
 abbrev pub invariant-loop-packet : goal.invariant-loop-packet
-invariant-loop-packet l = l.reno ≡ fold (grown_by l.header.max_datagram_size) l.fn.reno (take l.packet-index l.packets)
+invariant-loop-packet l = l.reno ≡ fold (grown_by l.max_datagram_size) l.fn.reno (take l.packet-index l.packets)
