@@ -4,3 +4,5 @@ pub mod Grown
 pub mod Entries
 pub mod Spent
 pub mod Ended
+pub mod Powers
+pub mod Due

@@ -1,6 +1,7 @@
 //! What is kept of a connection beside the packets that were sent.
 ghost use Rattle.std.specs.Prelude.{◌≡◌, ◌∷◌, [], List};
 ghost use Rattle.qa_base.specs.declared.event.Event.{Event};
+ghost use Rattle.qa_base.specs.machine.Handshake.{is_validated};
 ghost use Rattle.qa_base.specs.values.Settings.{Settings};
 ghost use Rattle.qa_connection.specs.Known.{IsBegun, IsOf, IsOutcome, IsProperRun, acknowledged_by};
 
@@ -80,12 +81,18 @@ impl Connection {
         }
     }
 
+    /// Whether the peer has validated the sender's address (RFC 9002, A.8).
+    pub fn is_validated(&self) -> bool
+        ensures { (c : Settings) (h : List Event) → IsOf self.now c h → result ≡ is_validated c h }
+    {
+        handshake::is_validated(&self.header, self.handshake_acknowledged, self.confirmed)
+    }
+
     /// Takes the first half of an event: what an acknowledgment says of the round-trip time, and the
     /// largest number that it acknowledges. `acknowledged` are the packets that the event newly
     /// acknowledges, in the order of sending; other events have none.
     pub fn begin(&mut self, event: &Event, acknowledged: &[SentPacket])
-        ensures { (c : Settings) (h : List Event) → IsOf self.old c h → IsProperRun c (event.now ∷ h)
-            → acknowledged.now ≡ acknowledged_by c event.now h → IsBegun self.new c event.now h }
+        ensures { (c : Settings) (h : List Event) → IsOf self.old c h → acknowledged.now ≡ acknowledged_by c event.now h → IsBegun self.new c event.now h }
     {
         self.rtt = sampling::rtt_after(self.rtt, &self.header, self.confirmed, event, acknowledged);
         self.spaces = self.spaces.acknowledged(event);

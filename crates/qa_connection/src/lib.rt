@@ -7,6 +7,7 @@
 mod allowances;
 mod congestion;
 mod connection;
+mod deadline;
 mod event;
 mod handshake;
 mod sampling;
@@ -14,4 +15,5 @@ mod spaces;
 mod timeouts;
 
 pub use connection::{Connection, Outcome};
+pub use deadline::{OpenInSpace, OpenPackets};
 pub use spaces::{SpaceState, Spaces};

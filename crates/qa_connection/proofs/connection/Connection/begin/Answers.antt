@@ -5,7 +5,7 @@ use Rattle.qa_connection.proofs.Ended.{largest_of, rtt_of}
 use Rattle.qa_connection.proofs.connection.Connection.begin.Goals as goal
 
 pub returns : goal.returns
-returns c = λ c' h of run are.
+returns c = λ c' h of are.
     let k = c.args.self.now in
     let e = c.args.event.now in
     let s = of.settled in
