@@ -1,0 +1,32 @@
+-- Entries into recovery, by the last packet that was found lost.
+use Rattle.std.proofs.Common.{◌≡◌, ◌∙◌, ℕ, List, [], ◌∷◌, ◌++◌, Bool, true, false, Option, Some, None, refl, sym, ap, map}
+use Rattle.std.specs.Prelude.{if◌then◌else◌}
+use Rattle.qa_base.specs.declared.event.Event.{Event}
+use Rattle.qa_base.specs.machine.Loss.{owed, is_persistent}
+use Rattle.qa_base.specs.machine.Packets.{Packet, newly_acknowledged}
+use Rattle.qa_base.specs.machine.Reno.{Move, Grow, collapses, enters, grows, is_entry, is_limited, reno}
+use Rattle.qa_base.specs.values.Events.{time_of}
+use Rattle.qa_base.specs.values.Settings.{Settings}
+use Rattle.qa_connection.specs.Steps.{enters_at, hits_at, last_sent}
+use Rattle.qa_connection.proofs.Grown.{hits_is}
+
+no_growth_enters : (r : Option ℕ) (ps : List Packet) → enters r (map (λ (p : Packet). Grow p.size p.time) ps) ≡ false
+no_growth_enters r [] = refl
+no_growth_enters r (p ∷ ps) = refl
+
+open_growth : (r : Option ℕ) (limited : Bool) (ps : List Packet) → enters r (if limited then [] else map (λ (p : Packet). Grow p.size p.time) ps) ≡ false
+open_growth r true ps = refl
+open_growth r false ps = no_growth_enters r ps
+
+by_last : (r : Option ℕ) (now : ℕ) (last : Option ℕ) (b : Bool) (zs : List Move) → enters r zs ≡ false → enters r ((hits_at now last ++ collapses b) ++ zs) ≡ enters_at r last
+by_last r now (Some t) b zs none = refl
+by_last r now None true zs none = refl
+by_last r now None false zs none = none
+
+-- an event enters recovery by the last packet that it found lost
+pub entry_is : (c : Settings) (e : Event) (h : List Event) → enters_at (reno c h).recovery_start_time (last_sent (owed c (e ∷ h))) ≡ is_entry c (e ∷ h)
+entry_is c e h =
+    let r = (reno c h).recovery_start_time in
+    let zs : List Move = if is_limited e then [] else grows (newly_acknowledged (e ∷ h)) in
+    sym (ap (λ (xs : List Move). enters r ((xs ++ collapses (is_persistent c (e ∷ h))) ++ zs)) (hits_is (time_of e) (owed c (e ∷ h)))
+    ∙ by_last r (time_of e) (last_sent (owed c (e ∷ h))) (is_persistent c (e ∷ h)) zs (open_growth r (is_limited e) _))

@@ -1,0 +1,4 @@
+pub mod Deadlines
+pub mod Known
+pub mod Spaces
+pub mod Steps

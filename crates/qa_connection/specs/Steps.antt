@@ -1,0 +1,79 @@
+-- What one event makes of the values that are kept.
+use Rattle.std.specs.Prelude.{◌≤◌, ℕ, ◌-◌, ◌&&◌, ◌==◌, nat_le, min, fold, find, reverse, Bool, true, false, List, [], ◌∷◌, Option, Some, None, option_map, if◌then◌else◌}
+use Rattle.std.specs.List.{list_any}
+use Rattle.qa_base.specs.declared.event.Event.{Event}
+use Rattle.qa_base.specs.declared.event.Event.TheVariants.{Ack, Discard}
+use Rattle.qa_base.specs.machine.Packets.{Packet, greatest}
+use Rattle.qa_base.specs.machine.Reno.{Control, Move, Hit, collapses, grow, is_limited, is_outside_recovery, latest_sent, moved}
+use Rattle.qa_base.specs.machine.Rtt.{Sample}
+use Rattle.qa_base.specs.values.Events.{time_of}
+use Rattle.qa_base.specs.values.Limits.{least_datagram_size, max_packet_size}
+use Rattle.qa_sent.specs.declared.packet.SentPacket.{SentPacket}
+
+-- a number, or the greatest of 64 bits where it is greater
+abbrev pub capped : ℕ → ℕ
+capped n = min n 18446744073709551615
+
+-- the event discards the keys of a space
+abbrev pub is_discard : Event → Bool
+is_discard (Discard time space) = true
+is_discard _ = false
+
+-- ---- samples (RFC 9002, section 5.1)
+
+-- when the last packet of this number was sent, of those in the order of sending
+abbrev pub sent_at : ℕ → List SentPacket → Option ℕ
+sent_at number ps = option_map (λ p. p.time) (find (λ p. p.number == number) (reverse ps))
+
+abbrev pub limited_delay : ℕ → Bool → ℕ → ℕ
+limited_delay most confirmed delay = if confirmed then min delay most else delay
+
+abbrev pub sample_at : ℕ → ℕ → Option ℕ → Option Sample
+sample_at time delay None = None
+sample_at time delay (Some sent) = Some (record { latest_rtt = time - sent; ack_delay = delay; time = time })
+
+-- the sample of an acknowledgment of these packets
+abbrev pub sample_by : ℕ → ℕ → ℕ → List SentPacket → Option Sample
+sample_by time delay number ps = if list_any (λ p. p.eliciting) ps then sample_at time delay (sent_at number ps) else None
+
+-- the sample of an event that newly acknowledges these packets
+abbrev pub sample_of : ℕ → Bool → Event → List SentPacket → Option Sample
+sample_of most confirmed (Ack time space ranges delay limited) ps = sample_by time (limited_delay most confirmed delay) (greatest ranges) ps
+sample_of most confirmed _ ps = None
+
+-- ---- the window
+
+-- a maximum datagram size in its range
+abbrev pub IsDatagramSize : ℕ → Type 0
+IsDatagramSize size = (least_datagram_size ≤ size) × (size ≤ max_packet_size)
+
+-- when the last of the packets was sent, where there are any
+abbrev pub last_sent : List Packet → Option ℕ
+last_sent [] = None
+last_sent (p ∷ ps) = Some (latest_sent (p ∷ ps))
+
+-- the move of a loss, of packets the last of which was sent at a time, where there are any
+abbrev pub hits_at : ℕ → Option ℕ → List Move
+hits_at now None = []
+hits_at now (Some last) = Hit last now ∷ []
+
+-- a loss enters recovery, of packets the last of which was sent at a time, where there are any
+abbrev pub enters_at : Option ℕ → Option ℕ → Bool
+enters_at recovery None = false
+enters_at recovery (Some last) = is_outside_recovery recovery last
+
+-- a window and a packet of sizes at which the window grows by it
+abbrev pub can_grow : ℕ → ℕ → Bool
+can_grow window size = nat_le 1 window && nat_le window 4611686018427387904 && nat_le 1 size && nat_le size max_packet_size
+
+-- the window after a packet was acknowledged, where the sizes allow it
+abbrev pub grown_by : ℕ → Control → SentPacket → Control
+grown_by max_datagram_size r p =
+    if p.in_flight && can_grow r.window p.size then grow max_datagram_size p.size p.time r else r
+
+-- the window after an event: first its loss counts, then persistent congestion, then growth
+abbrev pub reno_after : ℕ → Control → Event → List SentPacket → Option ℕ → Bool → Control
+reno_after max_datagram_size r e ps last is_persistent =
+    let after_losses = fold (moved max_datagram_size) r (hits_at (time_of e) last) in
+    let after_collapse = fold (moved max_datagram_size) after_losses (collapses is_persistent) in
+    fold (grown_by max_datagram_size) after_collapse (if is_limited e then [] else ps)

@@ -1,0 +1,125 @@
+//! The congestion window, move by move (RFC 9002, section 7, appendix B).
+ghost use Rattle.std.specs.Prelude.{◌≡◌, fold, [], if◌then◌else◌};
+ghost use Rattle.qa_base.specs.machine.Reno as moves;
+ghost use Rattle.qa_base.specs.values.Settings.{AreInRange};
+ghost use Rattle.qa_connection.specs.Steps as steps;
+ghost use Rattle.qa_connection.specs.Steps.{IsDatagramSize};
+
+use crate::event::{is_limited, time_of};
+use qa_base::limits::MAX_PACKET_SIZE;
+use qa_base::{Event, Header, Micros};
+use qa_recovery::Reno;
+use qa_sent::SentPacket;
+
+/// The greatest window that grows, 2^62 bytes. No run reaches it: its window is below 2^49.
+const GREATEST_WINDOW: u64 = 4_611_686_018_427_387_904;
+
+/// The window at the start.
+pub(crate) fn start(header: &Header) -> Reno
+    ensures { result ≡ moves.start header.now.initial_window }
+{
+    Reno::start(header.initial_window())
+}
+
+/// Whether the event enters recovery by a loss, of packets the last of which was sent then (RFC 9002,
+/// section 7.3.2).
+pub(crate) fn enters(reno: Reno, last_owed: Option<Micros>) -> bool
+    ensures { result ≡ steps.enters_at reno.recovery_start_time last_owed }
+{
+    match (reno.recovery_start_time, last_owed) {
+        (_, None) => false,
+        (None, Some(_)) => true,
+        (Some(began), Some(last)) => began < last,
+    }
+}
+
+/// The window after a loss, of packets the last of which was sent then (B.6).
+fn hit(reno: Reno, last_owed: Option<Micros>, now: Micros, max_datagram_size: u64) -> Reno
+    requires { IsDatagramSize max_datagram_size }
+    ensures { result ≡ fold (moves.moved max_datagram_size) reno (steps.hits_at now last_owed) }
+{
+    let mut more = reno;
+    if let Some(last) = last_owed {
+        more.hit(last, now, max_datagram_size);
+    }
+    more
+}
+
+/// The window after persistent congestion, where there is any (B.8).
+fn collapsed(reno: Reno, is_persistent: bool, max_datagram_size: u64) -> Reno
+    requires { IsDatagramSize max_datagram_size }
+    ensures { result ≡ fold (moves.moved max_datagram_size) reno (moves.collapses is_persistent) }
+{
+    let mut more = reno;
+    if is_persistent {
+        more.collapse(max_datagram_size);
+    }
+    more
+}
+
+/// Whether the window and the packet's size are in the ranges in which it grows; those of a run are.
+fn can_grow(window: u64, size: u64) -> bool
+    ensures { result ≡ steps.can_grow window size }
+{
+    1 <= window && window <= GREATEST_WINDOW && 1 <= size && size <= MAX_PACKET_SIZE
+}
+
+/// The window after the packet was acknowledged (B.5).
+fn grown_by(reno: Reno, packet: SentPacket, max_datagram_size: u64) -> Reno
+    requires { IsDatagramSize max_datagram_size }
+    ensures { result ≡ steps.grown_by max_datagram_size reno packet }
+{
+    let mut more = reno;
+    if packet.in_flight && can_grow(reno.window, packet.size) {
+        more.grow(packet.size, packet.time, max_datagram_size);
+    }
+    more
+}
+
+/// The window after the packets were acknowledged, one after the other.
+fn grown(reno: Reno, packets: &[SentPacket], max_datagram_size: u64) -> Reno
+    requires { IsDatagramSize max_datagram_size }
+    ensures { result ≡ fold (steps.grown_by max_datagram_size) reno packets.now }
+{
+    let mut reno = reno;
+    for packet in packets {
+        reno = grown_by(reno, *packet, max_datagram_size);
+    }
+    reno
+}
+
+/// The window after the growth by an event, if the sender used the window that it had (section 7.8).
+fn grown_unless_limited(
+    reno: Reno,
+    event: &Event,
+    packets: &[SentPacket],
+    max_datagram_size: u64,
+) -> Reno
+    requires { IsDatagramSize max_datagram_size }
+    ensures { result ≡ fold (steps.grown_by max_datagram_size) reno (if moves.is_limited event.now then [] else packets.now) }
+{
+    if is_limited(event) {
+        reno
+    } else {
+        grown(reno, packets, max_datagram_size)
+    }
+}
+
+/// The window after an event: first its loss counts, then persistent congestion, then growth by the
+/// packets that it newly acknowledges, in the order of sending (A.7).
+pub(crate) fn reno_after(
+    header: &Header,
+    reno: Reno,
+    event: &Event,
+    packets: &[SentPacket],
+    last_owed: Option<Micros>,
+    is_persistent: bool,
+) -> Reno
+    ensures range { AreInRange header.now }
+    ensures value { result ≡ steps.reno_after header.now.max_datagram_size reno event.now packets.now last_owed is_persistent }
+{
+    let max_datagram_size = header.max_datagram_size();
+    let reno = hit(reno, last_owed, time_of(event), max_datagram_size);
+    let reno = collapsed(reno, is_persistent, max_datagram_size);
+    grown_unless_limited(reno, event, packets, max_datagram_size)
+}

@@ -1,0 +1,140 @@
+//! What is kept of a connection beside the packets that were sent.
+ghost use Rattle.std.specs.Prelude.{◌≡◌, ◌∷◌, [], List};
+ghost use Rattle.qa_base.specs.declared.event.Event.{Event};
+ghost use Rattle.qa_base.specs.machine.Handshake.{is_validated};
+ghost use Rattle.qa_base.specs.values.Settings.{Settings};
+ghost use Rattle.qa_connection.specs.Known.{IsBegun, IsOf, IsOutcome, IsProperRun, acknowledged_by};
+
+use crate::event::time_of;
+use crate::spaces::Spaces;
+use crate::{allowances, congestion, handshake, sampling, timeouts};
+use qa_base::{Event, Header, Micros, Space};
+use qa_recovery::{Reno, Rtt};
+use qa_sent::SentPacket;
+
+/// What is kept of a connection beside the packets that were sent (RFC 9002, A.3 and B.2).
+///
+/// An event is taken in two steps, since losses are looked for between them: `begin`, then
+/// detection over the packets, then `end`.
+#[derive(Clone, Copy, Debug, PartialEq, Eq)]
+pub struct Connection {
+    /// The header of the trace.
+    pub header: Header,
+    /// How many events there were.
+    pub events: u64,
+    /// When the last event happened.
+    pub last_time: Option<Micros>,
+    /// Whether the handshake is confirmed (RFC 9001, section 4.1.2).
+    pub confirmed: bool,
+    /// Whether a Handshake packet was acknowledged.
+    pub handshake_acknowledged: bool,
+    /// Whether the keys of the Handshake space are there.
+    pub has_keys: bool,
+    /// The estimate of the round-trip time.
+    pub rtt: Rtt,
+    /// The congestion window.
+    pub reno: Reno,
+    /// The probe timeouts since the last event that set their count to 0 (RFC 9002, section 6.2.1).
+    pub pto_count: u64,
+    /// When the timer was last set.
+    pub last_set: Option<Micros>,
+    /// The bytes of probes since the last probe timeout; None without one (section 6.2.4).
+    pub probe_spent: Option<u64>,
+    /// The space in which a probe is due since the last probe timeout.
+    pub probe_due: Option<Space>,
+    /// How many recovery packets there were since the last entry into recovery; None without one
+    /// (section 7.3.2).
+    pub recovery_spent: Option<u64>,
+    /// What is kept of each packet number space.
+    pub spaces: Spaces,
+}
+
+/// What an event found lost (RFC 9002, A.10).
+#[derive(Clone, Copy, Debug, PartialEq, Eq)]
+pub struct Outcome {
+    /// When the last packet was sent that it found lost, where it found one.
+    pub last_owed: Option<Micros>,
+    /// Whether they establish persistent congestion (section 7.6).
+    pub is_persistent: bool,
+}
+
+impl Connection {
+    /// Before any event.
+    pub fn start(header: Header) -> Connection
+        ensures { IsOf result header [] }
+    {
+        Connection {
+            header,
+            events: 0,
+            last_time: None,
+            confirmed: false,
+            handshake_acknowledged: false,
+            has_keys: false,
+            rtt: sampling::start(&header),
+            reno: congestion::start(&header),
+            pto_count: 0,
+            last_set: None,
+            probe_spent: None,
+            probe_due: None,
+            recovery_spent: None,
+            spaces: Spaces::start(),
+        }
+    }
+
+    /// Whether the peer has validated the sender's address (RFC 9002, A.8).
+    pub fn is_validated(&self) -> bool
+        ensures { (c : Settings) (h : List Event) → IsOf self.now c h → result ≡ is_validated c h }
+    {
+        handshake::is_validated(&self.header, self.handshake_acknowledged, self.confirmed)
+    }
+
+    /// Takes the first half of an event: what an acknowledgment says of the round-trip time, and the
+    /// largest number that it acknowledges. `acknowledged` are the packets that the event newly
+    /// acknowledges, in the order of sending; other events have none.
+    pub fn begin(&mut self, event: &Event, acknowledged: &[SentPacket])
+        ensures { (c : Settings) (h : List Event) → IsOf self.old c h → acknowledged.now ≡ acknowledged_by c event.now h → IsBegun self.new c event.now h }
+    {
+        self.rtt = sampling::rtt_after(self.rtt, &self.header, self.confirmed, event, acknowledged);
+        self.spaces = self.spaces.acknowledged(event);
+    }
+
+    /// Takes the second half of an event that was begun: all that follows from what it newly
+    /// acknowledges and from what it found lost.
+    pub fn end(&mut self, event: &Event, acknowledged: &[SentPacket], outcome: Outcome)
+        ensures { (c : Settings) (h : List Event) → IsBegun self.old c event.now h → IsProperRun c (event.now ∷ h)
+            → acknowledged.now ≡ acknowledged_by c event.now h → IsOutcome outcome c (event.now ∷ h) → IsOf self.new c (event.now ∷ h) }
+    {
+        let is_new = !acknowledged.is_empty();
+        let confirmed = handshake::is_confirmed_after(self.confirmed, event);
+        let handshake_acknowledged = handshake::is_acknowledged_after(
+            self.handshake_acknowledged,
+            event,
+        );
+        let validated = handshake::is_validated(&self.header, handshake_acknowledged, confirmed);
+        let resets = timeouts::resets_count(event, is_new, validated);
+        let entered = congestion::enters(self.reno, outcome.last_owed);
+        *self = Connection {
+            header: self.header,
+            events: self.events.saturating_add(1),
+            last_time: Some(time_of(event)),
+            confirmed,
+            handshake_acknowledged,
+            has_keys: handshake::has_keys_after(self.has_keys, event),
+            rtt: self.rtt,
+            reno: congestion::reno_after(
+                &self.header,
+                self.reno,
+                event,
+                acknowledged,
+                outcome.last_owed,
+                outcome.is_persistent,
+            ),
+            pto_count: timeouts::pto_count_after(self.pto_count, event, resets),
+            last_set: timeouts::last_set_after(self.last_set, event, is_new),
+            probe_spent: allowances::probe_spent_after(self.probe_spent, event),
+            probe_due: allowances::probe_due_after(self.probe_due, event, is_new),
+            recovery_spent: allowances::recovery_spent_after(self.recovery_spent, event, entered),
+            spaces: self.spaces.passed(event),
+        };
+    }
+}

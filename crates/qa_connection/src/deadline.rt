@@ -1,0 +1,251 @@
+//! The deadline of the loss detection timer (RFC 9002, section 6.2, A.8).
+ghost use Rattle.std.specs.Prelude.{◌≡◌, ◌≤◌, ◌+◌, ◌*◌, ◌^◌, min, List, None, if◌then◌else◌};
+ghost use Rattle.std.specs.Option.{option_or};
+ghost use Rattle.qa_base.specs.declared.event.Event.{Event};
+ghost use Rattle.qa_base.specs.machine.Timer as timers;
+ghost use Rattle.qa_base.specs.values.Settings.{Settings};
+ghost use Rattle.qa_connection.specs.Deadlines as deadlines;
+ghost use Rattle.qa_connection.specs.Deadlines.{AreOpen};
+ghost use Rattle.qa_connection.specs.Known.{IsOf, IsProperRun};
+
+use crate::connection::Connection;
+use crate::handshake::is_validated;
+use crate::spaces::SpaceState;
+use qa_base::{Due, Kind, Micros, PacketNumber, Space};
+use qa_recovery::Rtt;
+use qa_sent::SentPacket;
+
+/// What the timer asks of the open packets of a packet number space.
+#[derive(Clone, Copy, Debug, PartialEq, Eq)]
+pub struct OpenInSpace {
+    /// Whether one of them is ack-eliciting.
+    pub awaits: bool,
+    /// The first in the order of sending that is in flight.
+    pub oldest: Option<SentPacket>,
+}
+
+/// What the timer asks of the open packets.
+#[derive(Clone, Copy, Debug, PartialEq, Eq)]
+pub struct OpenPackets {
+    pub initial: OpenInSpace,
+    pub handshake: OpenInSpace,
+    pub app: OpenInSpace,
+}
+
+/// The earlier of the two; of equal times the first.
+fn earlier(due: Option<Due>, later: Option<Due>) -> Option<Due>
+    ensures { result ≡ timers.earlier due later }
+{
+    match (due, later) {
+        (None, later) => later,
+        (Some(due), None) => Some(due),
+        (Some(due), Some(later)) => {
+            if due.time <= later.time {
+                Some(due)
+            } else {
+                Some(later)
+            }
+        }
+    }
+}
+
+/// The first of the two that there is.
+fn or_else(due: Option<Due>, other: Option<Due>) -> Option<Due>
+    ensures { result ≡ option_or due other }
+{
+    match due {
+        None => other,
+        Some(due) => Some(due),
+    }
+}
+
+// ---- losses
+
+/// Whether the number is below the largest that was acknowledged.
+fn is_below_largest(number: PacketNumber, largest: Option<PacketNumber>) -> bool
+    ensures { result ≡ timers.is_below_largest number largest }
+{
+    match largest {
+        None => false,
+        Some(largest) => number < largest,
+    }
+}
+
+/// When the oldest packet of the space is old, where it is below the largest acknowledged number.
+fn loss_due(
+    rtt: Rtt,
+    largest: Option<PacketNumber>,
+    space: Space,
+    oldest: Option<SentPacket>,
+) -> Option<Due>
+    ensures { result ≡ deadlines.loss_due rtt largest space oldest }
+{
+    match oldest {
+        None => None,
+        Some(packet) => {
+            if is_below_largest(packet.number, largest) {
+                Some(Due {
+                    kind: Kind::Loss,
+                    space,
+                    time: u128::from(packet.time.get() + rtt.loss_delay()),
+                })
+            } else {
+                None
+            }
+        }
+    }
+}
+
+// ---- probe timeouts
+
+/// The most doublings of a probe timeout. No run has more.
+const MOST_DOUBLINGS: u64 = 40;
+
+/// Two to the power of the PTO count.
+#[tactic(auto, using(crate::proofs::Powers::power_is, crate::proofs::Powers::power_small))]
+fn power(count: u64) -> u128
+    requires count { count ≤ 40 }
+    ensures value { result ≡ 2 ^ count }
+    ensures bound { result ≤ 1099511627776 }
+{
+    1 << count
+}
+
+/// A duration, doubled for each probe timeout.
+#[tactic(auto, using(crate::proofs::Powers::product_small))]
+fn doubled(base: u64, count: u64) -> u128
+    requires base { base ≤ 6000000000000000 }
+    ensures value { result ≡ base * 2 ^ min count 40 }
+    ensures bound { result ≤ 6597069766656000000000000000 }
+{
+    u128::from(base) * power(count.min(MOST_DOUBLINGS))
+}
+
+/// A probe timeout of the space, so long after a time, where there is one.
+fn pto_at(space: Space, since: Option<Micros>, base: u64, count: u64) -> Option<Due>
+    requires base { base ≤ 6000000000000000 }
+    ensures { result ≡ deadlines.pto_at space since base count }
+{
+    match since {
+        None => None,
+        Some(since) => Some(Due {
+            kind: Kind::Pto,
+            space,
+            time: u128::from(since.get()) + doubled(base, count),
+        }),
+    }
+}
+
+/// The probe timeout of the space, where an open packet of it asks for an acknowledgment.
+fn pto_due(
+    space: Space,
+    awaits: bool,
+    last_eliciting: Option<Micros>,
+    base: u64,
+    count: u64,
+) -> Option<Due>
+    requires base { base ≤ 6000000000000000 }
+    ensures { result ≡ (if awaits then deadlines.pto_at space last_eliciting base count else None) }
+{
+    if !awaits {
+        return None;
+    }
+    pto_at(space, last_eliciting, base, count)
+}
+
+impl Connection {
+    /// When the first open packet is old enough to be lost (RFC 9002, section 6.1.2).
+    fn earliest_loss(&self, packets: &OpenPackets) -> Option<Due>
+        ensures { result ≡ deadlines.earliest_loss self.now packets.now }
+    {
+        let spaces = &self.spaces;
+        earlier(
+            loss_due(
+                self.rtt,
+                spaces.initial.largest,
+                Space::Initial,
+                packets.initial.oldest,
+            ),
+            earlier(
+                loss_due(
+                    self.rtt,
+                    spaces.handshake.largest,
+                    Space::Handshake,
+                    packets.handshake.oldest,
+                ),
+                loss_due(self.rtt, spaces.app.largest, Space::App, packets.app.oldest),
+            ),
+        )
+    }
+
+    /// The probe timeout of application data, for which the peer may delay its acknowledgments. It
+    /// counts once the handshake is confirmed.
+    fn app_pto(&self, awaits: bool) -> Option<Due>
+        ensures { result ≡ deadlines.app_pto self.now awaits }
+    {
+        if !self.confirmed {
+            return None;
+        }
+        pto_due(
+            Space::App,
+            awaits,
+            self.spaces.app.last_eliciting,
+            self.rtt.pto_base() + self.header.max_ack_delay(),
+            self.pto_count,
+        )
+    }
+
+    /// The earliest probe timeout of all spaces (section 6.2.1).
+    fn earliest_pto(&self, packets: &OpenPackets) -> Option<Due>
+        ensures { result ≡ deadlines.earliest_pto self.now packets.now }
+    {
+        let base = self.rtt.pto_base();
+        let spaces = &self.spaces;
+        earlier(
+            pto_due(
+                Space::Initial,
+                packets.initial.awaits,
+                spaces.initial.last_eliciting,
+                base,
+                self.pto_count,
+            ),
+            earlier(
+                pto_due(
+                    Space::Handshake,
+                    packets.handshake.awaits,
+                    spaces.handshake.last_eliciting,
+                    base,
+                    self.pto_count,
+                ),
+                self.app_pto(packets.app.awaits),
+            ),
+        )
+    }
+
+    /// The timer that a client keeps until its address is validated (section 6.2.2.1).
+    fn anti_deadlock(&self) -> Option<Due>
+        ensures { result ≡ deadlines.anti_deadlock self.now }
+    {
+        if is_validated(&self.header, self.handshake_acknowledged, self.confirmed) {
+            return None;
+        }
+        let space = if self.has_keys {
+            Space::Handshake
+        } else {
+            Space::Initial
+        };
+        pto_at(space, self.last_set, self.rtt.pto_base(), self.pto_count)
+    }
+
+    /// What the loss detection timer is set for; None where it is not set (RFC 9002, A.8). `packets`
+    /// is what it asks of the packets that are open.
+    #[tactic(auto, using(crate::proofs::Due::deadline_is))]
+    pub fn deadline(&self, packets: &OpenPackets) -> Option<Due>
+        ensures { (c : Settings) (h : List Event) → IsOf self.now c h → IsProperRun c h → AreOpen packets.now c h → result ≡ timers.deadline c h }
+    {
+        or_else(
+            self.earliest_loss(packets),
+            or_else(self.earliest_pto(packets), self.anti_deadlock()),
+        )
+    }
+}

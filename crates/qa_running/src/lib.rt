@@ -1,0 +1,2 @@
+//! The ledger that passes once over the events, and keeps no event.
+#![tactic(auto)]

@@ -1,0 +1,83 @@
+-- What is kept of the packets, and beside them for each space.
+use Rattle.std.specs.Prelude.{◌≡◌, ◌≤◌, ◌<◌, ◌-◌, ℕ, suc, ◌+◌, ◌⊎◌, true, false, List, [], ◌∷◌, count_by, drop, length, sum_by, take, if◌then◌else◌}
+use Rattle.std.specs.List.{AllByRecursion}
+use Rattle.qa_base.specs.declared.space.Space.{Space}
+use Rattle.qa_base.specs.declared.space.Space.TheVariants.{Initial, Handshake, App}
+use Rattle.qa_base.specs.values.Events.{is_space}
+use Rattle.qa_base.specs.values.Limits.{max_packet_size}
+use Rattle.qa_sent.specs.Fates.{flight_bytes_in, is_awaiting, is_flying, is_owed, is_waiting}
+use Rattle.qa_sent.specs.declared.lane.Lane.{Lane}
+use Rattle.qa_sent.specs.declared.lane.Lanes.{Lanes}
+use Rattle.qa_sent.specs.declared.packet.SentPacket.{SentPacket}
+use Rattle.qa_sent.specs.declared.packets.Losses.{Losses}
+
+-- how many packets were dropped, and those behind them in the order of sending
+pub record Held : Type 0 where
+  pub dropped : ℕ
+  pub packets : List SentPacket
+
+-- ---- the order of sending
+
+-- q was sent before p
+pub record IsBefore (p q : SentPacket) : Type 0 where
+  pub time : q.time ≤ p.time
+  pub number : is_space p.space q.space ≡ true → q.number < p.number
+
+-- each packet was sent before those behind it
+abbrev pub AreOrdered : List SentPacket → Type 0
+AreOrdered [] = Unit {0}
+AreOrdered (q ∷ ps) = AllByRecursion (λ p. IsBefore p q) ps × AreOrdered ps
+
+-- ---- beside them for a space
+
+-- the numbers of the waiting packets with their places, of which the first is the given one
+abbrev pub uncovered_in : Space → ℕ → List SentPacket → List (ℕ × ℕ)
+uncovered_in s place [] = []
+uncovered_in s place (p ∷ ps) = if is_waiting s p then (p.number, place) ∷ uncovered_in s (suc place) ps else uncovered_in s (suc place) ps
+
+-- none of these is of the space, open and in flight
+abbrev pub NoneFlies : Space → List SentPacket → Type 0
+NoneFlies s ps = AllByRecursion (λ p. is_flying s p ≡ false) ps
+
+-- the first of these is, or none is
+abbrev pub FirstFlies : Space → List SentPacket → Type 0
+FirstFlies s [] = Unit {0}
+FirstFlies s (p ∷ ps) = (is_flying s p ≡ true) ⊎ NoneFlies s (p ∷ ps)
+
+-- the map and the sums of a space are those of the packets, of which the first has this place
+pub record IsIndexed (s : Space) (dropped : ℕ) (packets : List SentPacket) (lane : Lane) : Type 0 where
+  pub entries : lane.uncovered.entries ≡ uncovered_in s dropped packets
+  pub in_flight : lane.in_flight ≡ sum_by (flight_bytes_in s) packets
+  pub awaiting : lane.awaiting ≡ count_by (is_awaiting s) packets
+
+-- before a place among them none flies
+pub record IsBehind (s : Space) (dropped : ℕ) (packets : List SentPacket) (next : ℕ) : Type 0 where
+  pub low : dropped ≤ next
+  pub high : next ≤ dropped + length packets
+  pub none : NoneFlies s (take (next - dropped) packets)
+
+-- and the packet there flies, or none does
+pub record IsLane (s : Space) (dropped : ℕ) (packets : List SentPacket) (lane : Lane) : Type 0 where
+  pub indexed : IsIndexed s dropped packets lane
+  pub behind : IsBehind s dropped packets lane.next
+  pub first : FirstFlies s (drop (lane.next - dropped) packets)
+
+-- ---- what is owed
+
+-- the packets that are owed are of one space, so many, and within two places
+pub record AreLosses (dropped : ℕ) (packets : List SentPacket) (losses : Losses) : Type 0 where
+  pub count : losses.count ≡ count_by (λ p. is_owed p.fate) packets
+  pub of_space : AllByRecursion (λ p. is_owed p.fate ≡ true → is_space losses.space p.space ≡ true) packets
+  pub before : AllByRecursion (λ p. is_owed p.fate ≡ false) (take (losses.from - dropped) packets)
+  pub behind : AllByRecursion (λ p. is_owed p.fate ≡ false) (drop (losses.to - dropped) packets)
+
+-- ---- all of it
+
+pub record IsSound (dropped : ℕ) (packets : List SentPacket) (losses : Losses) (lanes : Lanes) : Type 0 where
+  pub initial : IsLane Initial dropped packets lanes.initial
+  pub handshake : IsLane Handshake dropped packets lanes.handshake
+  pub app : IsLane App dropped packets lanes.app
+  pub owed : AreLosses dropped packets losses
+  pub ordered : AreOrdered packets
+  pub sizes : AllByRecursion (λ (p : SentPacket). p.size ≤ max_packet_size) packets
+  pub few : dropped + length packets ≤ 4294967295

@@ -1,0 +1,5 @@
+pub mod Fates
+pub mod Held
+pub mod Steps
+pub mod Walks
+pub mod Told

@@ -1,0 +1,12 @@
+//! The packets that were sent, each with what became of it, as a sender keeps them (RFC 9002, A.1):
+//! those since the oldest that is still open or owed, in the order of sending.
+#![tactic(auto)]
+
+mod fate;
+mod lane;
+mod packet;
+mod packets;
+
+pub use fate::Fate;
+pub use packet::SentPacket;
+pub use packets::SentPackets;
