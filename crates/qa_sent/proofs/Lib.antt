@@ -1,2 +1,5 @@
+pub mod Alike
 pub mod Entries
+pub mod Owed
+pub mod Parts
 pub mod Sums

@@ -5,6 +5,7 @@
 mod advancing;
 mod fate;
 mod lane;
+mod owing;
 mod packet;
 mod packets;
 
