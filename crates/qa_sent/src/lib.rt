@@ -5,6 +5,7 @@
 mod advancing;
 mod fate;
 mod lane;
+mod naming;
 mod owing;
 mod packet;
 mod packets;
