@@ -1,4 +1,5 @@
 pub mod Alike
+pub mod Declared
 pub mod Entries
 pub mod Numbers
 pub mod Owed

@@ -3,6 +3,7 @@
 #![tactic(auto)]
 
 mod advancing;
+mod declaring;
 mod fate;
 mod lane;
 mod naming;
