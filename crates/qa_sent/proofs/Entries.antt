@@ -123,7 +123,7 @@ find_entry s d n place [] e = cc
 find_entry s d n place (x ∷ ps) e = elim (cases_Bool (is_waiting s x)) [
   | inl y ↦ elim (cases_Bool (is_between n n x.number)) [
     | inl k ↦ (
-        let got : Some (x.number, d) ≡ Some (n, place) = rw (y, k) at e in
+        let got : ◌≡◌ {A = Option (ℕ × ℕ)} (Some (x.number, d)) (Some (n, place)) = rw (y, k) at e in
         let where_it_is : d ≡ place = ap (λ (o : Option (ℕ × ℕ)). elim o [ None ↦ 0 | Some z ↦ z.1 ]) got in (
           0,
           omega arith,

@@ -1,2 +1,4 @@
 pub mod Entries
 pub mod Sums
+pub mod Sound
+pub mod Pushed

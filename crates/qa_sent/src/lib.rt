@@ -7,6 +7,7 @@ mod fate;
 mod lane;
 mod packet;
 mod packets;
+mod pushing;
 
 pub use fate::Fate;
 pub use packet::SentPacket;
