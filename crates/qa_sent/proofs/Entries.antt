@@ -88,7 +88,7 @@ pub waits_here : (s : Space) (p : SentPacket) → is_waiting s p ≡ true → is
 waits_here s p w = (and_parts (is_space s p.space) (is_uncovered p.fate) w).0
 
 -- with a fate of which no entry is kept
-not_waiting : (s : Space) (f : Fate) (p : SentPacket) → is_uncovered f ≡ false → is_waiting s (with_fate f p) ≡ false
+pub not_waiting : (s : Space) (f : Fate) (p : SentPacket) → is_uncovered f ≡ false → is_waiting s (with_fate f p) ≡ false
 not_waiting s f p out = rw out (elim (is_space s p.space) as (λ b. (b && false) ≡ false) [ true ↦ refl | false ↦ refl ])
 
 -- at this index stands a packet of the space with this number, of which an entry is kept

@@ -3,6 +3,7 @@
 #![tactic(auto)]
 
 mod advancing;
+mod covering;
 mod fate;
 mod lane;
 mod packet;
