@@ -1,5 +1,6 @@
 pub mod Fates
 pub mod Held
+pub mod Owing
 pub mod Steps
 pub mod Walks
 pub mod Told

@@ -1,20 +1,11 @@
 //! Where the first packet of a space stands that is open and in flight.
 ghost use Rattle.std.specs.Prelude.{◌≡◌, ◌≤◌, ◌<◌, ◌+◌, true, false, drop, length, take};
-ghost use Rattle.qa_sent.specs.Fates as fates;
 ghost use Rattle.qa_sent.specs.Held.{FirstFlies, IsBehind, IsIndexed, IsLane, NoneFlies};
 
-use crate::fate::Fate;
 use crate::lane::Lane;
 use crate::packet::SentPacket;
 use qa_base::Space;
 use std::collections::VecDeque;
-
-/// Whether the packet is of the space, open and in flight.
-pub(crate) fn is_flying(space: Space, packet: &SentPacket) -> bool
-    ensures { result ≡ fates.is_flying space packet.now }
-{
-    space == packet.space && packet.in_flight && packet.fate == Fate::Open
-}
 
 /// Whether a search from the front ends at this index: the packet there is one that flies, or there
 /// is none.
@@ -25,7 +16,7 @@ fn ends_at(packets: &VecDeque<SentPacket>, space: Space, at: usize) -> bool
 {
     match packets.get(at) {
         None => true,
-        Some(packet) => is_flying(space, packet),
+        Some(packet) => packet.flies_in(space),
     }
 }
 

@@ -6,6 +6,7 @@ mod advancing;
 mod covering;
 mod fate;
 mod lane;
+mod owing;
 mod packet;
 mod packets;
 mod pushing;
