@@ -1,16 +1,19 @@
 -- Covering the packets of a space, number by number, range by range.
-use Rattle.std.proofs.Common.{◌≡◌, ◌∙◌, ℕ, zero, suc, ◌+◌, ◌≤◌, ◌<◌, Bool, true, false, ◌&&◌, ◌||◌, List, [], ◌∷◌, ◌++◌, length, get_or, set, map, take, add-one, refl, sym, ap, arith, inl, inr, Option, Some, None}
+use Rattle.std.proofs.Common.{◌≡◌, ◌∙◌, ℕ, zero, suc, ◌+◌, ◌-◌, ◌<◌, Bool, true, false, ◌&&◌, ◌||◌, List, [], ◌∷◌, ◌++◌, length, get_or, set, map, take, add-one, refl, sym, ap, subst, arith, inl, inr, Option, Some, None}
 use Rattle.std.specs.Prelude.{if◌then◌else◌}
-use Rattle.std.proofs.lemmas.Bool.{cases_Bool}
+use Rattle.std.proofs.lemmas.Bool.{and_parts, cases_Bool}
+use Rattle.std.proofs.lemmas.List.{length-map, take-map}
 use Rattle.qa_base.specs.declared.space.Space.{Space}
 use Rattle.qa_base.specs.values.Events.{is_space, is_named}
 use Rattle.qa_sent.specs.Covering.{covered_in, first_between, is_between}
-use Rattle.qa_sent.specs.Fates.{is_uncovered, is_waiting}
-use Rattle.qa_sent.specs.Held.{uncovered_in}
+use Rattle.qa_sent.specs.Fates.{is_flying, is_owed, is_waiting}
+use Rattle.qa_sent.specs.Held.{IsBehind, NoneFlies, uncovered_in}
 use Rattle.qa_sent.specs.Steps.{covered_by, with_fate}
 use Rattle.qa_sent.specs.declared.fate.Fate.TheVariants.{Covered}
 use Rattle.qa_sent.specs.declared.packet.SentPacket.{SentPacket}
-use Rattle.qa_sent.proofs.Entries.{not_waiting}
+use Rattle.qa_sent.proofs.Alike.{IsAlike, IsSame, alike_if, alike_other, not_other, same_if}
+use Rattle.qa_sent.proofs.Entries.{not_waiting, waits_here}
+use Rattle.qa_sent.proofs.Parts.{each_map}
 
 -- ---- one packet
 
@@ -98,3 +101,40 @@ take_more zero (y ∷ xs) x within is = ap (λ z. z ∷ []) (sym is)
 take_more (suc i) (y ∷ xs) x within is =
     let rest = take_more i xs x (omega arith) is in
     rw (add-one (suc i)) (ap (λ zs. y ∷ zs) (rw (add-one i) at rest))
+
+not_last : (a b : Bool) → (a && (b && false)) ≡ false
+not_last true true = refl
+not_last true false = refl
+not_last false b = refl
+
+-- ---- what covering leaves as it was
+
+pub covered_same : (s : Space) (ranges : List (ℕ × ℕ)) (p : SentPacket) → IsSame p (covered_by s ranges p)
+covered_same s ranges p = same_if (is_waiting s p && is_named ranges p.number) Covered p
+
+not_owed_if : (b : Bool) (p : SentPacket) → is_owed p.fate ≡ false → is_owed (if b then with_fate Covered p else p).fate ≡ false
+not_owed_if true p none = refl
+not_owed_if false p none = none
+
+pub covered_not_owed : (s : Space) (ranges : List (ℕ × ℕ)) (p : SentPacket) → is_owed p.fate ≡ false → is_owed (covered_by s ranges p).fate ≡ false
+covered_not_owed s ranges p none = not_owed_if (is_waiting s p && is_named ranges p.number) p none
+
+pub covered_alike : (s : Space) (ranges : List (ℕ × ℕ)) (t : Space) → is_space t s ≡ false → (p : SentPacket) → IsAlike t p (covered_by s ranges p)
+covered_alike s ranges t out p =
+    alike_if t (is_waiting s p && is_named ranges p.number) Covered p
+    (λ y. alike_other t Covered p (not_other t s p out (waits_here s p (and_parts (is_waiting s p) (is_named ranges p.number) y).0)))
+
+grounded_if : (s : Space) (b : Bool) (p : SentPacket) → is_flying s p ≡ false → is_flying s (if b then with_fate Covered p else p) ≡ false
+grounded_if s true p out = not_last (is_space s p.space) p.in_flight
+grounded_if s false p out = out
+
+pub covered_behind : (s : Space) (ranges : List (ℕ × ℕ)) (d : ℕ) (ps : List SentPacket) (next : ℕ) → IsBehind s d ps next → IsBehind s d (map (covered_by s ranges) ps) next
+covered_behind s ranges d ps next b =
+    let long : length (map (covered_by s ranges) ps) ≡ length ps = length-map ps (covered_by s ranges) in
+    let high = b.high in
+    record {
+      low = b.low;
+      high = omega (arith, high, long);
+      none = subst (NoneFlies s) (sym (take-map (covered_by s ranges) (next - d) ps))
+          (each_map (λ p. is_flying s p ≡ false) (λ p. is_flying s p ≡ false) (covered_by s ranges) (λ p out. grounded_if s (is_waiting s p && is_named ranges p.number) p out) (take (next - d) ps) b.none);
+    }

@@ -3,6 +3,7 @@ pub mod Entries
 pub mod Owed
 pub mod Parts
 pub mod Sums
+pub mod Settled
 pub mod Sound
 pub mod Pushed
 pub mod Covered

@@ -1,13 +1,13 @@
 -- A packet more behind the others: what lanes, losses and order make of it.
-use Rattle.std.proofs.Common.{◌≡◌, ◌∙◌, ℕ, zero, suc, ◌+◌, ◌-◌, ◌≤◌, ◌<◌, Bool, true, false, ◌&&◌, List, [], ◌∷◌, ◌++◌, length, take, drop, length-append, refl, sym, ap, subst, arith, inl, inr, count_by, cond}
+use Rattle.std.proofs.Common.{◌≡◌, ◌∙◌, ℕ, zero, suc, ◌+◌, ◌-◌, ◌≤◌, ◌<◌, Bool, true, false, ◌&&◌, List, [], ◌∷◌, ◌++◌, length, take, drop, length-append, refl, sym, ap, arith, inl, inr, cond}
 use Rattle.std.specs.Prelude.{if◌then◌else◌}
 use Rattle.std.specs.List.{AllByRecursion}
 use Rattle.qa_base.specs.declared.space.Space.{Space}
 use Rattle.qa_base.specs.declared.space.Space.TheVariants.{Initial, Handshake, App}
 use Rattle.qa_base.specs.values.Events.{is_space}
 use Rattle.qa_base.specs.values.Limits.{max_packet_size}
-use Rattle.qa_sent.specs.Fates.{flight_bytes, flight_bytes_in, is_awaiting, is_flying, is_open, is_owed, is_uncovered, is_waiting}
-use Rattle.qa_sent.specs.Held.{AreLosses, AreOrdered, FirstFlies, IsBefore, IsBehind, IsIndexed, IsLane, IsSound, NoneFlies, uncovered_in}
+use Rattle.qa_sent.specs.Fates.{flight_bytes, flight_bytes_in, is_flying, is_open, is_owed, is_uncovered, is_waiting}
+use Rattle.qa_sent.specs.Held.{AreLosses, AreOrdered, FirstFlies, IsBefore, IsBehind, IsIndexed, IsLane, IsSound, uncovered_in}
 use Rattle.qa_sent.specs.Lanes.{awaiting_count, lane_of, with_lane}
 use Rattle.qa_sent.specs.declared.fate.Fate.{Fate}
 use Rattle.qa_sent.specs.declared.fate.Fate.TheVariants.{Open}

@@ -10,7 +10,7 @@ use Rattle.qa_base.specs.declared.space.Space.{Space}
 use Rattle.qa_base.specs.values.Events.{is_space}
 use Rattle.qa_base.specs.values.Limits.{max_packet_size}
 use Rattle.qa_sent.specs.Fates.{flight_bytes, flight_bytes_in, is_awaiting, is_open, is_uncovered}
-use Rattle.qa_sent.specs.Held.{IsIndexed, uncovered_in}
+use Rattle.qa_sent.specs.Held.{IsIndexed}
 use Rattle.qa_sent.specs.Lanes.{awaiting_count}
 use Rattle.qa_sent.specs.Steps.{with_fate}
 use Rattle.qa_sent.specs.declared.fate.Fate.{Fate}

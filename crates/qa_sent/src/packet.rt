@@ -23,7 +23,7 @@ pub struct SentPacket {
 
 impl SentPacket {
     ghost use Rattle.std.specs.Prelude.{◌≡◌};
-    ghost use Rattle.qa_sent.specs.Fates.{flight_bytes, is_open, is_owed};
+    ghost use Rattle.qa_sent.specs.Fates.{flight_bytes, is_flying, is_open, is_owed};
     ghost use Rattle.qa_sent.specs.Lanes.{awaiting_count};
 
     /// Whether it is open.
@@ -38,6 +38,13 @@ impl SentPacket {
         ensures { result ≡ is_owed self.now.fate }
     {
         self.fate == Fate::Owed
+    }
+
+    /// Whether it is of the space, open and in flight.
+    pub(crate) fn flies_in(&self, space: Space) -> bool
+        ensures { result ≡ is_flying space self.now }
+    {
+        self.space == space && self.in_flight && self.is_open()
     }
 
     /// What it adds to the bytes in flight (RFC 9002, B.4).

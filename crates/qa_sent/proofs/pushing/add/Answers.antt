@@ -1,4 +1,4 @@
-use Rattle.std.proofs.Common.{◌≡◌, ◌∙◌, ◌+◌, [], ◌∷◌, ◌++◌, length, refl, ap, sym}
+use Rattle.std.proofs.Common.{◌≡◌, ◌∙◌, ◌+◌, [], ◌∷◌, ◌++◌, length, ap}
 use Rattle.qa_sent.specs.Held.{IsIndexed}
 use Rattle.qa_sent.proofs.Pushed.{entries_below, indexed_push, space_same}
 use Rattle.qa_sent.proofs.Sums.{bytes_fit}

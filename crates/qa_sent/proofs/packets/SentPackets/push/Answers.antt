@@ -1,5 +1,3 @@
-use Rattle.std.proofs.Common.{◌≡◌, ◌∙◌, sym, ap, subst}
-use Rattle.qa_sent.specs.Held.{Held, IsLane}
 use Rattle.qa_sent.proofs.Pushed.{sound_push}
 use Rattle.qa_sent.proofs.Sound.{beside, lane_sound, sound_with}
 use Rattle.qa_sent.proofs.packets.SentPackets.push.Goals as goal
