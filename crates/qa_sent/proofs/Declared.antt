@@ -18,29 +18,8 @@ use Rattle.qa_sent.specs.declared.lane.Lanes.{Lanes}
 use Rattle.qa_sent.specs.declared.packet.SentPacket.{SentPacket}
 use Rattle.qa_sent.specs.declared.packets.Losses.{Losses}
 use Rattle.qa_sent.proofs.Alike.{IsAlike, IsSame, alike_if, alike_same, lane_alike, ordered_same, same_if, sizes_same}
-use Rattle.qa_sent.proofs.Parts.{each_drop, each_map, each_take, each_weaker, map_same}
-
--- ---- where nothing is owed
-
-pub count_none : (ps : List SentPacket) → NoneOwed ps → count_by (λ p. is_owed p.fate) ps ≡ 0
-count_none [] none = refl
-count_none (p ∷ ps) none =
-    let sum : count_by (λ q. is_owed q.fate) (p ∷ ps) ≡ cond (is_owed p.fate) 1 0 + count_by (λ q. is_owed q.fate) ps = sum_by-cons (λ q. cond (is_owed q.fate) 1 0) p ps in
-    let here : ◌≡◌ {A = ℕ} (cond (is_owed p.fate) 1 0) 0 = ap (λ b. cond b 1 0) none.0 in
-    let rest = count_none ps none.1 in
-    omega (arith, sum, here, rest)
-
-not_owed : (b : Bool) (P : Type 0) → b ≡ false → b ≡ true → P
-not_owed b P out is = cc
-
-pub no_losses : (d : ℕ) (ps : List SentPacket) (losses : Losses) → NoneOwed ps → losses.count ≡ 0 → AreLosses d ps losses
-no_losses d ps losses none zero = record {
-  count = zero ∙ sym (count_none ps none);
-  of_space = each_weaker (λ p. is_owed p.fate ≡ false) (λ p. is_owed p.fate ≡ true → is_space losses.space p.space ≡ true)
-      (λ p out is. not_owed (is_owed p.fate) (is_space losses.space p.space ≡ true) out is) ps none;
-  before = each_take (λ p. is_owed p.fate ≡ false) ps (losses.from - d) none;
-  behind = each_drop (λ p. is_owed p.fate ≡ false) ps (losses.to - d) none;
-}
+use Rattle.qa_sent.proofs.Parts.{each_weaker, map_same}
+use Rattle.qa_sent.proofs.Settled.{losses_none}
 
 -- ---- what becomes of one packet
 
@@ -97,7 +76,7 @@ sound_declared d ps losses after lanes sound zero =
       initial = lane_alike Initial declared (declared_alike Initial) d ps lanes.initial sound.initial;
       handshake = lane_alike Handshake declared (declared_alike Handshake) d ps lanes.handshake sound.handshake;
       app = lane_alike App declared (declared_alike App) d ps lanes.app sound.app;
-      owed = no_losses d (map declared ps) after (none_declared ps) zero;
+      owed = losses_none d (map declared ps) after zero (none_declared ps);
       ordered = ordered_same declared declared_same ps sound.ordered;
       sizes = sizes_same max_packet_size declared declared_same ps sound.sizes;
       few = omega (arith, few, long);

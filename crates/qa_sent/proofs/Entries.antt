@@ -1,5 +1,5 @@
 -- The entries of a map of uncovered numbers: the packets that they lead to, and what changes them.
-use Rattle.std.proofs.Common.{◌≡◌, ◌∙◌, ℕ, zero, suc, ◌+◌, ◌-◌, ◌≤◌, ◌<◌, Bool, true, false, cond, not, ◌&&◌, List, [], ◌∷◌, ◌++◌, length, get_or, set, map, refl, sym, ap, subst, arith, inl, inr, Option, Some, None}
+use Rattle.std.proofs.Common.{◌≡◌, ◌∙◌, ℕ, zero, suc, ◌+◌, ◌-◌, ◌≤◌, ◌<◌, Bool, true, false, cond, ◌&&◌, List, [], ◌∷◌, ◌++◌, length, get_or, set, refl, sym, ap, subst, arith, inl, inr, Option, Some, None}
 use Rattle.std.specs.Prelude.{if◌then◌else◌, slice_get}
 use Rattle.std.specs.List.{AllByRecursion}
 use Rattle.std.specs.declared.cmp.Ordering.TheVariants.{Greater}
@@ -88,7 +88,7 @@ pub waits_here : (s : Space) (p : SentPacket) → is_waiting s p ≡ true → is
 waits_here s p w = (and_parts (is_space s p.space) (is_uncovered p.fate) w).0
 
 -- with a fate of which no entry is kept
-not_waiting : (s : Space) (f : Fate) (p : SentPacket) → is_uncovered f ≡ false → is_waiting s (with_fate f p) ≡ false
+pub not_waiting : (s : Space) (f : Fate) (p : SentPacket) → is_uncovered f ≡ false → is_waiting s (with_fate f p) ≡ false
 not_waiting s f p out = rw out (elim (is_space s p.space) as (λ b. (b && false) ≡ false) [ true ↦ refl | false ↦ refl ])
 
 -- at this index stands a packet of the space with this number, of which an entry is kept
@@ -123,7 +123,7 @@ find_entry s d n place [] e = cc
 find_entry s d n place (x ∷ ps) e = elim (cases_Bool (is_waiting s x)) [
   | inl y ↦ elim (cases_Bool (is_between n n x.number)) [
     | inl k ↦ (
-        let got : Some (x.number, d) ≡ Some (n, place) = rw (y, k) at e in
+        let got : ◌≡◌ {A = Option (ℕ × ℕ)} (Some (x.number, d)) (Some (n, place)) = rw (y, k) at e in
         let where_it_is : d ≡ place = ap (λ (o : Option (ℕ × ℕ)). elim o [ None ↦ 0 | Some z ↦ z.1 ]) got in (
           0,
           omega arith,

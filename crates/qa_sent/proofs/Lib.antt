@@ -5,3 +5,7 @@ pub mod Numbers
 pub mod Owed
 pub mod Parts
 pub mod Sums
+pub mod Settled
+pub mod Sound
+pub mod Pushed
+pub mod Covered

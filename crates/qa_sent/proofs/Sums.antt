@@ -1,5 +1,5 @@
 -- What the packets of a space add to its sums, and what a write, or a packet more, changes.
-use Rattle.std.proofs.Common.{◌≡◌, ◌∙◌, ℕ, zero, suc, ◌+◌, ◌*◌, ◌≤◌, ◌<◌, Bool, true, false, cond, ◌&&◌, List, [], ◌∷◌, ◌++◌, length, get_or, set, count_by, sum_by, refl, sym, ap, arith}
+use Rattle.std.proofs.Common.{◌≡◌, ◌∙◌, ℕ, zero, suc, ◌+◌, ◌*◌, ◌^◌, ◌≤◌, ◌<◌, Bool, true, false, cond, ◌&&◌, List, [], ◌∷◌, ◌++◌, length, get_or, set, count_by, sum_by, refl, sym, ap, arith}
 use Rattle.std.specs.Prelude.{if◌then◌else◌}
 use Rattle.std.specs.List.{AllByRecursion}
 use Rattle.std.specs.Map.{remove_entry}
@@ -10,7 +10,7 @@ use Rattle.qa_base.specs.declared.space.Space.{Space}
 use Rattle.qa_base.specs.values.Events.{is_space}
 use Rattle.qa_base.specs.values.Limits.{max_packet_size}
 use Rattle.qa_sent.specs.Fates.{flight_bytes, flight_bytes_in, is_awaiting, is_open, is_uncovered}
-use Rattle.qa_sent.specs.Held.{IsIndexed, uncovered_in}
+use Rattle.qa_sent.specs.Held.{IsIndexed}
 use Rattle.qa_sent.specs.Lanes.{awaiting_count}
 use Rattle.qa_sent.specs.Steps.{with_fate}
 use Rattle.qa_sent.specs.declared.fate.Fate.{Fate}
@@ -159,3 +159,11 @@ awaiting_bounded s (p ∷ ps) =
     let here : awaiting_in s p ≤ 1 = awaiting_small (is_awaiting s p) in
     let rest : sum_by (awaiting_in s) ps ≤ length ps = awaiting_bounded s ps in
     omega (arith, sum, here, rest)
+
+-- there is room in the sum for one packet more
+pub bytes_fit : (s : Space) (d : ℕ) (ps : List SentPacket) (lane : Lane) (p : SentPacket) → IsIndexed s d ps lane → AllByRecursion (λ (q : SentPacket). q.size ≤ max_packet_size) ps → d + length ps < 4294967295 → p.size ≤ max_packet_size
+    → lane.in_flight + flight_bytes p < 2 ^ 64
+bytes_fit s d ps lane p indexed sizes few small =
+    let all = sum_bounded s ps sizes in
+    let one = bytes_if (p.in_flight && is_open p.fate) p.size in
+    omega (arith, all, one, few, small, indexed.in_flight)

@@ -3,6 +3,7 @@
 #![tactic(auto)]
 
 mod advancing;
+mod covering;
 mod declaring;
 mod fate;
 mod lane;
@@ -10,6 +11,7 @@ mod naming;
 mod owing;
 mod packet;
 mod packets;
+mod pushing;
 
 pub use fate::Fate;
 pub use packet::SentPacket;
