@@ -1,0 +1,11 @@
+pub mod Alike
+pub mod Declared
+pub mod Entries
+pub mod Numbers
+pub mod Owed
+pub mod Parts
+pub mod Sums
+pub mod Settled
+pub mod Sound
+pub mod Pushed
+pub mod Covered

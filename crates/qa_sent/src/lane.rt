@@ -1,4 +1,6 @@
 //! What is kept for one packet number space beside the packets.
+use crate::packet::SentPacket;
+use qa_base::Space;
 use std::alloc::Global;
 use std::collections::BTreeMap;
 
@@ -17,7 +19,9 @@ pub(crate) struct Lane {
 }
 
 impl Lane {
-    ghost use Rattle.std.specs.Prelude.{◌≡◌, []};
+    ghost use Rattle.std.specs.Prelude.{◌≡◌, ◌+◌, ◌^◌, ◌<◌, ◌≤◌, []};
+    ghost use Rattle.qa_sent.specs.Fates.{flight_bytes};
+    ghost use Rattle.qa_sent.specs.Lanes.{awaiting_count};
 
     /// Of a space in which nothing was sent yet. Takes no memory.
     pub(crate) fn new(alloc: Global) -> Lane
@@ -33,6 +37,32 @@ impl Lane {
             in_flight: 0,
         }
     }
+
+    /// A packet enters the sums, if it is open.
+    pub(crate) fn put_on(&mut self, packet: &SentPacket)
+        requires in_flight { self.old.in_flight + flight_bytes packet.now < 2 ^ 64 }
+        requires awaiting { self.old.awaiting + awaiting_count packet.now < 2 ^ 64 }
+        ensures entries { self.new.uncovered.entries ≡ self.old.uncovered.entries }
+        ensures next { self.new.next ≡ self.old.next }
+        ensures in_flight { self.new.in_flight ≡ self.old.in_flight + flight_bytes packet.now }
+        ensures awaiting { self.new.awaiting ≡ self.old.awaiting + awaiting_count packet.now }
+    {
+        self.in_flight += packet.flight_bytes();
+        self.awaiting += packet.awaiting_count();
+    }
+
+    /// A packet leaves the sums, which it is in if it is open.
+    pub(crate) fn take_off(&mut self, packet: &SentPacket)
+        requires in_flight { flight_bytes packet.now ≤ self.old.in_flight }
+        requires awaiting { awaiting_count packet.now ≤ self.old.awaiting }
+        ensures entries { self.new.uncovered.entries ≡ self.old.uncovered.entries }
+        ensures next { self.new.next ≡ self.old.next }
+        ensures in_flight { self.new.in_flight + flight_bytes packet.now ≡ self.old.in_flight }
+        ensures awaiting { self.new.awaiting + awaiting_count packet.now ≡ self.old.awaiting }
+    {
+        self.in_flight -= packet.flight_bytes();
+        self.awaiting -= packet.awaiting_count();
+    }
 }
 
 /// What is kept for each packet number space.
@@ -45,6 +75,9 @@ pub(crate) struct Lanes {
 
 impl Lanes {
     ghost use Rattle.std.specs.Prelude.{◌≡◌, []};
+    ghost use Rattle.std.specs.Borrow.{sem};
+    ghost use Rattle.qa_sent.specs.Lanes.{lane_of};
+    ghost use Rattle.qa_sent.specs.Lending.{LendsLane};
 
     /// Of spaces in which nothing was sent yet. Takes no memory.
     pub(crate) fn new(alloc: Global) -> Lanes
@@ -65,6 +98,29 @@ impl Lanes {
             initial: Lane::new(alloc),
             handshake: Lane::new(alloc),
             app: Lane::new(alloc),
+        }
+    }
+
+    /// The lane of a space.
+    pub(crate) fn of(&self, space: Space) -> &Lane
+        ensures { result.now ≡ lane_of space self.now }
+    {
+        match space {
+            Space::Initial => &self.initial,
+            Space::Handshake => &self.handshake,
+            Space::App => &self.app,
+        }
+    }
+
+    /// The lane of a space, to be changed.
+    pub(crate) fn of_mut(&mut self, space: Space) -> &mut Lane
+        ensures* writes_back { sem 𝓛 (LendsLane self.entry space result) }
+        ensures value { result.now ≡ lane_of space self.old }
+    {
+        match space {
+            Space::Initial => &mut self.initial,
+            Space::Handshake => &mut self.handshake,
+            Space::App => &mut self.app,
         }
     }
 }

@@ -2,10 +2,16 @@
 //! those since the oldest that is still open or owed, in the order of sending.
 #![tactic(auto)]
 
+mod advancing;
+mod covering;
+mod declaring;
 mod fate;
 mod lane;
+mod naming;
+mod owing;
 mod packet;
 mod packets;
+mod pushing;
 
 pub use fate::Fate;
 pub use packet::SentPacket;

@@ -20,3 +20,52 @@ pub struct SentPacket {
     /// What became of it.
     pub fate: Fate,
 }
+
+impl SentPacket {
+    ghost use Rattle.std.specs.Prelude.{◌≡◌};
+    ghost use Rattle.qa_sent.specs.Fates.{flight_bytes, is_flying, is_open, is_owed};
+    ghost use Rattle.qa_sent.specs.Lanes.{awaiting_count};
+
+    /// Whether it is open.
+    pub(crate) fn is_open(&self) -> bool
+        ensures { result ≡ is_open self.now.fate }
+    {
+        self.fate == Fate::Open
+    }
+
+    /// Whether it is owed.
+    pub(crate) fn is_owed(&self) -> bool
+        ensures { result ≡ is_owed self.now.fate }
+    {
+        self.fate == Fate::Owed
+    }
+
+    /// Whether it is of the space, open and in flight.
+    pub(crate) fn flies_in(&self, space: Space) -> bool
+        ensures { result ≡ is_flying space self.now }
+    {
+        self.space == space && self.in_flight && self.is_open()
+    }
+
+    /// What it adds to the bytes in flight (RFC 9002, B.4).
+    pub(crate) fn flight_bytes(&self) -> u64
+        ensures { result ≡ flight_bytes self.now }
+    {
+        if self.in_flight && self.is_open() {
+            self.size
+        } else {
+            0
+        }
+    }
+
+    /// What it adds to the count of the open packets that are ack-eliciting.
+    pub(crate) fn awaiting_count(&self) -> u64
+        ensures { result ≡ awaiting_count self.now }
+    {
+        if self.eliciting && self.is_open() {
+            1
+        } else {
+            0
+        }
+    }
+}

@@ -1,0 +1,58 @@
+-- Where nothing is owed, and packets of one space get another fate, by which nothing is owed: all is sound with the lane of that space.
+use Rattle.std.proofs.Common.{◌≡◌, ◌∙◌, ℕ, ◌+◌, ◌-◌, true, false, List, [], ◌∷◌, length, map, cond, count_by, sum_by, refl, sym, arith}
+use Rattle.std.proofs.lemmas.List.{length-map}
+use Rattle.std.proofs.lemmas.List.Sums.{sum_by-cons}
+use Rattle.qa_base.specs.declared.space.Space.{Space}
+use Rattle.qa_base.specs.values.Events.{is_space}
+use Rattle.qa_base.specs.values.Limits.{max_packet_size}
+use Rattle.qa_sent.specs.Fates.{is_owed}
+use Rattle.qa_sent.specs.Held.{AreLosses, IsLane, IsSound}
+use Rattle.qa_sent.specs.Lanes.{lane_of, with_lane}
+use Rattle.qa_sent.specs.Owing.{NoneOwed}
+use Rattle.qa_sent.specs.declared.lane.Lane.{Lane}
+use Rattle.qa_sent.specs.declared.lane.Lanes.{Lanes}
+use Rattle.qa_sent.specs.declared.packet.SentPacket.{SentPacket}
+use Rattle.qa_sent.specs.declared.packets.Losses.{Losses}
+use Rattle.qa_sent.proofs.Alike.{IsAlike, IsSame, lane_alike, ordered_same, sizes_same}
+use Rattle.qa_sent.proofs.Parts.{each_drop, each_map, each_take, each_weaker}
+use Rattle.qa_sent.proofs.Sound.{IsSoundBeside, beside, lane_sound, sound_with}
+
+pub count_none : (ps : List SentPacket) → NoneOwed ps → count_by (λ p. is_owed p.fate) ps ≡ 0
+count_none [] none = refl
+count_none (p ∷ ps) none =
+    let weight : SentPacket → ℕ = λ x. cond (is_owed x.fate) 1 0 in
+    let sum : sum_by weight (p ∷ ps) ≡ weight p + sum_by weight ps = sum_by-cons weight p ps in
+    let here : weight p ≡ 0 = rw none.0 refl in
+    let rest : sum_by weight ps ≡ 0 = count_none ps none.1 in
+    omega (arith, sum, here, rest)
+
+not_owed : (losses : Losses) (p : SentPacket) → is_owed p.fate ≡ false → is_owed p.fate ≡ true → is_space losses.space p.space ≡ true
+not_owed losses p none owed = cc
+
+pub losses_none : (d : ℕ) (ps : List SentPacket) (losses : Losses) → losses.count ≡ 0 → NoneOwed ps → AreLosses d ps losses
+losses_none d ps losses count none = record {
+  count = count ∙ sym (count_none ps none);
+  of_space = each_weaker (λ p. is_owed p.fate ≡ false) (λ p. is_owed p.fate ≡ true → is_space losses.space p.space ≡ true) (λ p out owed. not_owed losses p out owed) ps none;
+  before = each_take (λ p. is_owed p.fate ≡ false) ps (losses.from - d) none;
+  behind = each_drop (λ p. is_owed p.fate ≡ false) ps (losses.to - d) none;
+}
+
+beside_settled : (d : ℕ) (ps : List SentPacket) (losses : Losses) (f : SentPacket → SentPacket) → ((p : SentPacket) → IsSame p (f p)) → ((p : SentPacket) → is_owed p.fate ≡ false → is_owed (f p).fate ≡ false)
+    → NoneOwed ps → IsSoundBeside d ps losses → IsSoundBeside d (map f ps) losses
+beside_settled d ps losses f each closed none b =
+    let long : length (map f ps) ≡ length ps = length-map ps f in
+    let few = b.few in
+    record {
+      owed = losses_none d (map f ps) losses (b.owed.count ∙ count_none ps none) (each_map (λ p. is_owed p.fate ≡ false) (λ p. is_owed p.fate ≡ false) f closed ps none);
+      ordered = ordered_same f each ps b.ordered;
+      sizes = sizes_same max_packet_size f each ps b.sizes;
+      few = omega (arith, long, few);
+    }
+
+pub sound_settled : (d : ℕ) (ps : List SentPacket) (losses : Losses) (lanes : Lanes) (s : Space) (lane : Lane) (f : SentPacket → SentPacket)
+    → ((p : SentPacket) → IsSame p (f p)) → ((p : SentPacket) → is_owed p.fate ≡ false → is_owed (f p).fate ≡ false)
+    → ((t : Space) → is_space t s ≡ false → (p : SentPacket) → IsAlike t p (f p))
+    → NoneOwed ps → IsSound d ps losses lanes → IsLane s d (map f ps) lane → IsSound d (map f ps) losses (with_lane s lanes lane)
+sound_settled d ps losses lanes s lane f each closed alike none sound own =
+    sound_with d (map f ps) losses lanes s lane (beside_settled d ps losses f each closed none (beside d ps losses lanes sound)) own
+    (λ t out. lane_alike t f (alike t out) d ps (lane_of t lanes) (lane_sound d ps losses lanes sound t))

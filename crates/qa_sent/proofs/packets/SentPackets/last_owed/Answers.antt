@@ -1,0 +1,13 @@
+use Rattle.std.proofs.Common.{◌∙◌, None, sym, ap}
+use Rattle.std.specs.Prelude.{slice_range}
+use Rattle.qa_sent.specs.Held.{Held}
+use Rattle.qa_sent.specs.Walks.{last_owed}
+use Rattle.qa_sent.proofs.Owed.{last_of_part}
+use Rattle.qa_sent.proofs.packets.SentPackets.last_owed.Goals as goal
+
+pub returns : goal.returns
+returns c =
+    let part = c.owed_part.result in
+    c.last_owed_in.ensures
+    ∙ (ap (λ (h : Held). last_owed None (slice_range h.packets part.start part.end)) c.self.view_is
+    ∙ sym (last_of_part c.args.self.now.packets part.start part.end c.owed_part.ensures))

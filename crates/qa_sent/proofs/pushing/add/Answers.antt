@@ -1,0 +1,26 @@
+use Rattle.std.proofs.Common.{◌≡◌, ◌∙◌, ◌+◌, [], ◌∷◌, ◌++◌, length, ap}
+use Rattle.qa_sent.specs.Held.{IsIndexed}
+use Rattle.qa_sent.proofs.Pushed.{entries_below, indexed_push, space_same}
+use Rattle.qa_sent.proofs.Sums.{bytes_fit}
+use Rattle.qa_sent.proofs.pushing.add.Goals as goal
+
+pub enter-requires : goal.enter-requires
+enter-requires c =
+    rw (c.get.ensures.value, c.requires.lane.indexed.entries) (entries_below c.args.dropped c.args.packets.now.items c.args.packet c.requires.ordered)
+
+pub put_on-requires-clause-in_flight : goal.put_on-requires-clause-in_flight
+put_on-requires-clause-in_flight c =
+    bytes_fit c.args.packet.space c.args.dropped c.args.packets.now.items c.args.lane.now c.args.packet c.requires.lane.indexed c.requires.sizes c.requires.few c.requires.small
+
+pub advance-requires-clause-indexed : goal.advance-requires-clause-indexed
+advance-requires-clause-indexed c =
+    let p = c.args.packet in
+    let ps = c.args.packets.now.items in
+    let items : c.push_back_reserved.new.self.items ≡ ps ++ p ∷ [] = c.push_back_reserved.ensures.items ∙ ap (λ xs. xs ++ p ∷ []) c.in_ok-reserve.ensures.items in
+    let len : c.len.result ≡ length ps = c.len.ensures ∙ c.args.packets.now.ok.0 in
+    let entries = c.put_on.ensures.entries ∙ (c.in_ok-enter.ensures.ok
+    ∙ (ap (λ k. c.args.lane.now.uncovered.entries ++ (k, c.args.dropped + c.len.result) ∷ []) c.get.ensures.value
+    ∙ ap (λ k. c.args.lane.now.uncovered.entries ++ (p.number, c.args.dropped + k) ∷ []) len)) in
+    let here : IsIndexed p.space c.args.dropped (ps ++ p ∷ []) c.put_on.new.self =
+    indexed_push p.space c.args.dropped ps p c.args.lane.now c.put_on.new.self (space_same p.space) c.requires.open c.requires.lane.indexed entries c.put_on.ensures.in_flight c.put_on.ensures.awaiting in
+    rw items here

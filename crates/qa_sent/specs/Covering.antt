@@ -1,0 +1,33 @@
+-- An acknowledgment of the numbers of one range, by which those of all its ranges are covered.
+use Rattle.std.specs.Prelude.{ℕ, ◌&&◌, nat_le, Bool, List, [], ◌∷◌, Option, Some, None, if◌then◌else◌, ◌<◌}
+use Rattle.qa_base.specs.declared.space.Space.{Space}
+use Rattle.qa_base.specs.values.Events.{is_space}
+use Rattle.qa_sent.specs.Fates.{is_open, is_waiting}
+use Rattle.qa_sent.specs.Steps.{with_fate}
+use Rattle.qa_sent.specs.declared.fate.Fate.TheVariants.{Covered}
+use Rattle.qa_sent.specs.declared.packet.SentPacket.{SentPacket}
+
+abbrev pub is_between : ℕ → ℕ → ℕ → Bool
+is_between lo hi n = nat_le lo n && nat_le n hi
+
+-- the first entry from lo to hi
+abbrev pub first_between : ℕ → ℕ → List (ℕ × ℕ) → Option (ℕ × ℕ)
+first_between lo hi [] = None
+first_between lo hi (e ∷ es) = if is_between lo hi e.0 then Some e else first_between lo hi es
+
+abbrev pub covered_in : Space → ℕ → ℕ → SentPacket → SentPacket
+covered_in s lo hi p = if is_waiting s p && is_between lo hi p.number then with_fate Covered p else p
+
+-- open, of the space and from lo to hi
+abbrev pub is_new_in : Space → ℕ → ℕ → SentPacket → Bool
+is_new_in s lo hi p = is_space s p.space && is_open p.fate && is_between lo hi p.number
+
+-- the first of these ranges begins above the number
+abbrev pub BeginsAbove : ℕ → List (ℕ × ℕ) → Type 0
+BeginsAbove n [] = Unit {0}
+BeginsAbove n (range ∷ ranges) = n < range.0
+
+-- each range begins above the end of the one before it
+abbrev pub AreApart : List (ℕ × ℕ) → Type 0
+AreApart [] = Unit {0}
+AreApart (range ∷ ranges) = BeginsAbove range.1 ranges × AreApart ranges
