@@ -1,11 +1,9 @@
 -- How the packets that are held go on standing for a history: what holds of all of them, and what one more event owes for each.
-use Rattle.std.proofs.Common.{◌≡◌, ◌∙◌, ◌+◌, ◌≤◌, ℕ, List, [], ◌∷◌, ◌++◌, length, map, Bool, true, false, ◌||◌, refl, sym, ap, subst, arith, reverse, Contains, length-append}
+use Rattle.std.proofs.Common.{◌≡◌, ◌∙◌, List, [], ◌∷◌, map, false, refl, sym, ap, subst, reverse, Contains}
 use Rattle.std.proofs.lemmas.Bool.{and_parts, or_parts, or_from, both_ways, false_from_ne_true}
-use Rattle.std.proofs.lemmas.List.{length-map, length-reverse}
 use Rattle.std.proofs.lemmas.List.Elements.{Contains-append_left, Contains-append_right}
 use Rattle.std.specs.List.{AllByRecursion}
 use Rattle.qa_base.specs.declared.event.Event.{Event}
-use Rattle.qa_base.specs.declared.event.Event.TheVariants.{Sent}
 use Rattle.qa_base.specs.machine.Kept.{is_kept}
 use Rattle.qa_base.specs.machine.Loss.{is_open as opens, is_owed as owes, owed}
 use Rattle.qa_base.specs.machine.Packets.{Packet, packets, is_some_packet}

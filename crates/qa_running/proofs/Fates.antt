@@ -6,7 +6,7 @@ use Rattle.qa_base.specs.declared.event.Event.{Event}
 use Rattle.qa_base.specs.declared.event.Event.TheVariants.{Ack, Lost, Discard}
 use Rattle.qa_base.specs.declared.space.Space.{Space}
 use Rattle.qa_base.specs.declared.space.Space.TheVariants.{Initial, Handshake, App}
-use Rattle.qa_base.specs.machine.Loss.{detection, is_found, is_found_at, is_late, is_open as opens, is_owed as owes, is_unsettled}
+use Rattle.qa_base.specs.machine.Loss.{detection, is_found, is_found_at, is_late, is_open as opens, is_owed as owes}
 use Rattle.qa_base.specs.machine.Packets.{Packet, packets, is_covered as covers, is_gone, is_lost, is_newly_acknowledged, is_of, largest_acknowledged}
 use Rattle.qa_base.specs.machine.Rtt.{Estimate, rtt}
 use Rattle.qa_base.specs.machine.Rules.{IsRun}
@@ -16,11 +16,11 @@ use Rattle.qa_laws.proofs.machine.Changes.{covered_after, lost_is_owed, found_un
 use Rattle.qa_laws.proofs.machine.Courses.{is_space_is}
 use Rattle.qa_laws.proofs.machine.Detection.{space_of_detection}
 use Rattle.qa_running.specs.Lateness.{IsLatenessAt}
-use Rattle.qa_sent.specs.Fates.{is_covered, is_flying, is_new, is_open, is_owed, is_uncovered, is_waiting}
+use Rattle.qa_sent.specs.Fates.{is_covered, is_flying, is_new, is_open, is_owed, is_uncovered}
 use Rattle.qa_sent.specs.Steps.{Lateness, covered_by, declared, discarded_in, found_by, is_late_by, packet_at, with_fate}
 use Rattle.qa_sent.specs.Told.{fate, fate_by, sent_of}
 use Rattle.qa_sent.specs.declared.fate.Fate.{Fate}
-use Rattle.qa_sent.specs.declared.fate.Fate.TheVariants.{Open, Owed, DeclaredLost, Covered, Discarded}
+use Rattle.qa_sent.specs.declared.fate.Fate.TheVariants.{Owed, Covered, Discarded}
 use Rattle.qa_sent.specs.declared.packet.SentPacket.{SentPacket}
 
 -- the packet as it is kept, with this fate

@@ -1,3 +1,4 @@
 pub mod Lists
 pub mod Fates
 pub mod Carrying
+pub mod Events
