@@ -2,3 +2,4 @@ pub mod Lists
 pub mod Fates
 pub mod Carrying
 pub mod Events
+pub mod Dropping
