@@ -3,3 +3,5 @@ pub mod Fates
 pub mod Carrying
 pub mod Events
 pub mod Dropping
+pub mod Queries
+pub mod Losses

@@ -114,6 +114,27 @@ pub all_same : {X : Type 0} (f g : X → Bool) (xs : List X) → AllByRecursion 
 all_same f g [] same = refl
 all_same f g (x ∷ xs) same = ap (λ b. b && list_all f xs) same.0 ∙ ap (λ b. g x && b) (all_same f g xs same.1)
 
+pub any_same : {X : Type 0} (f g : X → Bool) (xs : List X) → AllByRecursion (λ x. f x ≡ g x) xs → list_any f xs ≡ list_any g xs
+any_same f g [] same = refl
+any_same f g (x ∷ xs) same = ap (λ b. b || list_any f xs) same.0 ∙ ap (λ b. g x || b) (any_same f g xs same.1)
+
+-- ---- a part of a list
+
+any_if : {X : Type 0} (f g : X → Bool) (x : X) (xs : List X) (b : Bool) → list_any g (cond b (x ∷ xs) xs) ≡ ((b && g x) || list_any g xs)
+any_if f g x xs true = refl
+any_if f g x xs false = refl
+
+-- some element of a part passes a test exactly where some element passes both
+pub any_in_filter : {X : Type 0} (f g : X → Bool) (xs : List X) → list_any g (filter f xs) ≡ list_any (λ x. f x && g x) xs
+any_in_filter f g [] = refl
+any_in_filter f g (x ∷ xs) = any_if f g x (filter f xs) (f x) ∙ ap (λ b. (f x && g x) || b) (any_in_filter f g xs)
+
+pub and_turned : (a b : Bool) → (a && b) ≡ (b && a)
+and_turned true true = refl
+and_turned true false = refl
+and_turned false true = refl
+and_turned false false = refl
+
 -- what holds of every value holds of each element
 pub each_value : {X : Type 0} (P : X → Type 0) → ((x : X) → P x) → (xs : List X) → AllByRecursion P xs
 each_value P holds [] = tt
