@@ -25,8 +25,15 @@ use Rattle.qa_sent.specs.declared.packet.SentPacket.{SentPacket}
 -- ---- the packets that are held, and those that were dropped
 
 -- no packets stand for no events
-pub stands_at_start : (c : Settings) → StandsFor (record { dropped = 0; packets = [] }) c []
-stands_at_start c = record { gone = []; kept = []; parts = refl; place = refl; packets_are = refl; forgotten = tt }
+pub stands_at_start : (c : Settings) (held : Held) → held ≡ record { dropped = 0; packets = [] } → StandsFor held c []
+stands_at_start c held is = record {
+  gone = [];
+  kept = [];
+  parts = refl;
+  place = ap (λ (k : Held). k.dropped) is;
+  packets_are = ap (λ (k : Held). k.packets) is;
+  forgotten = tt;
+}
 
 -- each packet that is held is one of the history
 pub kept_has : (held : Held) (c : Settings) (h : List Event) (stands : StandsFor held c h) (p : Packet) → Contains stands.kept p → Contains (packets h) p

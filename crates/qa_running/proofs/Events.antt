@@ -1,7 +1,8 @@
 -- What each kind of event makes of the packets that are held, so that they stand for the history with that event.
-use Rattle.std.proofs.Common.{◌≡◌, ◌∙◌, ℕ, List, [], ◌∷◌, ◌++◌, length, map, map-id, Bool, true, false, ◌||◌, Option, Some, None, refl, sym, ap, subst, arith, filter, reverse}
+use Rattle.std.proofs.Common.{◌≡◌, ◌∙◌, ℕ, List, [], ◌∷◌, ◌++◌, length, map, map-id, Bool, true, false, ◌&&◌, ◌||◌, not, Option, Some, None, refl, sym, ap, subst, arith, filter, reverse}
 use Rattle.std.proofs.lemmas.Bool.{lt-ltb}
 use Rattle.std.proofs.lemmas.List.{map_push, length-map, length-reverse}
+use Rattle.std.proofs.lemmas.List.Elements.{filter_agree}
 use Rattle.std.specs.List.{AllByRecursion}
 use Rattle.std.specs.Prelude.{if◌then◌else◌, nat_lt}
 use Rattle.qa_base.specs.declared.event.Event.{Event}
@@ -11,15 +12,15 @@ use Rattle.qa_base.specs.declared.space.Kind.TheVariants.{Loss, Pto}
 use Rattle.qa_base.specs.declared.space.Leave.{Leave}
 use Rattle.qa_base.specs.declared.space.Space.{Space}
 use Rattle.qa_base.specs.machine.Breaches.{is_loss_owed}
-use Rattle.qa_base.specs.machine.Loss.{detection, is_found_at, is_owed as owes, owed}
+use Rattle.qa_base.specs.machine.Loss.{detection, found_at, is_found_at, is_owed as owes, owed}
 use Rattle.qa_base.specs.machine.Packets.{Packet, packets, acknowledges_new, is_covered as covers, is_gone, is_lost, is_newly_acknowledged, is_some_packet, newly_acknowledged}
 use Rattle.qa_base.specs.machine.Rules.{IsRun}
-use Rattle.qa_base.specs.values.Events.{acknowledges, declares_lost, discards}
+use Rattle.qa_base.specs.values.Events.{acknowledges, declares_lost, discards, is_named, is_space}
 use Rattle.qa_base.specs.values.Settings.{Settings}
 use Rattle.qa_base.proofs.machine.Quiet.{not_followed}
 use Rattle.qa_base.proofs.machine.RunLaws.{all_hold}
 use Rattle.qa_laws.proofs.machine.Courses.{in_order}
-use Rattle.qa_laws.proofs.machine.Pairs.{at_one}
+use Rattle.qa_laws.proofs.machine.Pairs.{at_one, none_left, of_each}
 use Rattle.qa_laws.proofs.machine.Sending.{newly_of_kept_in_order, parts_after}
 use Rattle.qa_laws.specs.machine.Sequence.{WasSentBefore}
 use Rattle.qa_running.proofs.Carrying.{dropped_closed, dropped_stay, each_kept, none_held_owed, none_owes, stands_after}
@@ -27,7 +28,7 @@ use Rattle.qa_running.proofs.Fates.{covered_told, declared_told, discarded_told,
 use Rattle.qa_running.proofs.Lists.{each_of_map, each_value, filter_of_map, map_fused, map_same}
 use Rattle.qa_running.specs.Lateness.{IsLatenessAt}
 use Rattle.qa_running.specs.Standing.{StandsFor, replaced}
-use Rattle.qa_sent.specs.Fates.{is_new, is_owed}
+use Rattle.qa_sent.specs.Fates.{is_new, is_open, is_owed, is_waiting}
 use Rattle.qa_sent.specs.Held.{Held, IsBefore}
 use Rattle.qa_sent.specs.Steps.{Lateness, covered_by, declared, discarded_in, found_by, with_fate}
 use Rattle.qa_sent.specs.Told.{fate, fate_by, sent_of}
@@ -144,6 +145,25 @@ new_by_count c h time space ranges delay limited run held stands =
     some_by_length new
     ∙ ap (nat_lt 0) (sym (ap length (newly_stand c h time space ranges delay limited run held stands) ∙ (length-map (reverse new) (sent_of c h) ∙ length-reverse new)))
 
+-- an event that acknowledges nothing newly acknowledges nothing; of each kind but an acknowledgment the premise is `λ p. refl`
+pub nothing_new : (e : Event) (h : List Event) → ((p : Packet) → acknowledges p.space p.number e ≡ false) → newly_acknowledged (e ∷ h) ≡ []
+nothing_new e h no_ack =
+    none_left (is_newly_acknowledged e h) (packets h) (of_each (λ p. is_newly_acknowledged e h p ≡ false) (packets h)
+    (λ p has. ap (λ b. b && not (covers h p) && not (is_lost h p)) (no_ack p)))
+
+-- ranges that name the same numbers cover the same packets
+pub covered_by_names : (s : Space) (ranges others : List (ℕ × ℕ)) → ((n : ℕ) → is_named ranges n ≡ is_named others n) → (ps : List SentPacket)
+    → map (covered_by s ranges) ps ≡ map (covered_by s others) ps
+covered_by_names s ranges others same ps =
+    map_same (covered_by s ranges) (covered_by s others) ps (each_value (λ p. covered_by s ranges p ≡ covered_by s others p)
+    (λ p. ap (λ b. if is_waiting s p && b then with_fate Covered p else p) (same p.number)) ps)
+
+-- and acknowledge the same newly
+pub new_by_names : (s : Space) (ranges others : List (ℕ × ℕ)) → ((n : ℕ) → is_named ranges n ≡ is_named others n) → (ps : List SentPacket)
+    → filter (is_new s ranges) ps ≡ filter (is_new s others) ps
+new_by_names s ranges others same ps =
+    filter_agree (is_new s ranges) (is_new s others) (λ p. ap (λ b. is_space s p.space && is_open p.fate && b) (same p.number)) ps
+
 nothing_found : (c : Settings) (h : List Event) (time : ℕ) (space : Space) (ranges : List (ℕ × ℕ)) (delay : ℕ) (limited : Bool)
     → acknowledges_new (Ack time space ranges delay limited ∷ h) ≡ false → (p : Packet) → owes c (Ack time space ranges delay limited ∷ h) p ≡ false
 nothing_found c h time space ranges delay limited none p =
@@ -151,6 +171,12 @@ nothing_found c h time space ranges delay limited none p =
 
 between_by : (cov los was own gone : Bool) → was ≡ false → own ≡ false → fate_by cov los false gone ≡ fate_by cov (was || los) own gone
 between_by cov los was own gone not_was not_own = rw (not_was, not_own) refl
+
+-- an acknowledgment of nothing new finds nothing lost
+pub nothing_owed : (c : Settings) (h : List Event) (time : ℕ) (space : Space) (ranges : List (ℕ × ℕ)) (delay : ℕ) (limited : Bool)
+    → acknowledges_new (Ack time space ranges delay limited ∷ h) ≡ false → owed c (Ack time space ranges delay limited ∷ h) ≡ []
+nothing_owed c h time space ranges delay limited none =
+    ap (λ b. found_at c (Ack time space ranges delay limited ∷ h) (if◌then◌else◌ {A = Option (Space × ℕ)} b (Some (space, time)) None)) none
 
 -- in a run, after an acknowledgment of nothing new, the packets that it names are covered, and the packets held stand for the history
 pub stands_covered : (c : Settings) (h : List Event) (time : ℕ) (space : Space) (ranges : List (ℕ × ℕ)) (delay : ℕ) (limited : Bool)
