@@ -1,0 +1,7 @@
+pub mod Lists
+pub mod Fates
+pub mod Carrying
+pub mod Events
+pub mod Dropping
+pub mod Queries
+pub mod Losses

@@ -1,1 +1,4 @@
 pub mod Standing
+pub mod Lateness
+pub mod Trimmed
+pub mod Answers

@@ -6,6 +6,7 @@ use Rattle.qa_base.specs.values.Settings.{Settings}
 use Rattle.qa_laws.specs.machine.Parts.{AreDropped}
 use Rattle.qa_sent.specs.Held.{Held}
 use Rattle.qa_sent.specs.Told.{sent_of}
+use Rattle.qa_sent.specs.declared.packet.SentPacket.{SentPacket}
 
 -- the packets of the history in the order of sending: those that were dropped, none of which is open or owed, and the rest, which is
 -- kept
@@ -16,3 +17,10 @@ pub record StandsFor (held : Held) (c : Settings) (h : List Event) : Type 0 wher
   pub place : held.dropped ≡ length gone
   pub packets_are : held.packets ≡ map (sent_of c h) kept
   pub forgotten : AreDropped c h gone
+
+-- each packet that is held, replaced by what a step makes of it
+abbrev pub replaced : (SentPacket → SentPacket) → Held → Held
+replaced step held = record {
+  dropped = held.dropped;
+  packets = map step held.packets;
+}
