@@ -2,3 +2,4 @@ pub mod Standing
 pub mod Lateness
 pub mod Trimmed
 pub mod Answers
+pub mod Running

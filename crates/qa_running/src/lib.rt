@@ -1,2 +1,6 @@
 //! The ledger that passes once over the events, and keeps no event.
 #![tactic(auto)]
+
+mod running;
+
+pub use running::Running;

@@ -1,0 +1,37 @@
+-- What the ledger holds that keeps no event, and for which history it stands.
+use Rattle.std.specs.Prelude.{◌≡◌, Bool, false, List}
+use Rattle.qa_base.specs.declared.event.Event.{Event}
+use Rattle.qa_base.specs.values.Settings.{Settings}
+use Rattle.qa_connection.specs.Known.{IsOf, IsProperRun}
+use Rattle.qa_connection.specs.declared.connection.Connection.{Connection}
+use Rattle.qa_ranges.specs.Sent.{AreSent, BySpace}
+use Rattle.qa_running.specs.Standing.{StandsFor}
+use Rattle.qa_running.specs.Trimmed.{IsTrimmed}
+use Rattle.qa_sent.specs.Held.{Held}
+
+-- the connection, the packets that are kept, the numbers that were sent, and whether it was out of memory
+pub record State : Type 0 where
+  pub connection : Connection
+  pub packets : Held
+  pub numbers : BySpace
+  pub failed : Bool
+
+-- it is the state after this history under this header; one that has failed may have taken the number of a packet that it did not
+-- admit
+pub record IsAfter (state : State) (c : Settings) (h : List Event) : Type 0 where
+  pub run : IsProperRun c h
+  pub connection : IsOf state.connection c h
+  pub packets : StandsFor state.packets c h
+  pub numbers : state.failed ≡ false → AreSent state.numbers h
+
+-- the same, and it has not failed
+pub record Answers (state : State) (c : Settings) (h : List Event) : Type 0 where
+  pub after : IsAfter state c h
+  pub works : state.failed ≡ false
+
+-- it is the state after some history, and its packets begin with one that is still of use
+pub record IsSound (state : State) : Type 0 where
+  pub header : Settings
+  pub history : List Event
+  pub after : IsAfter state header history
+  pub trimmed : IsTrimmed state.packets.packets
