@@ -1,5 +1,6 @@
 pub mod Alike
 pub mod Entries
+pub mod Opened
 pub mod Owed
 pub mod Parts
 pub mod Sums
