@@ -8,3 +8,4 @@ pub mod Settled
 pub mod Sound
 pub mod Pushed
 pub mod Covered
+pub mod Totals

@@ -11,6 +11,7 @@ mod owing;
 mod packet;
 mod packets;
 mod pushing;
+mod queries;
 
 pub use fate::Fate;
 pub use packet::SentPacket;
