@@ -1,5 +1,6 @@
 pub mod Alike
 pub mod Declared
+pub mod Detected
 pub mod Entries
 pub mod Numbers
 pub mod Owed

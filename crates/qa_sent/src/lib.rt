@@ -5,6 +5,7 @@
 mod advancing;
 mod covering;
 mod declaring;
+mod detecting;
 mod fate;
 mod lane;
 mod naming;
@@ -13,6 +14,7 @@ mod packet;
 mod packets;
 mod pushing;
 
+pub use detecting::Lateness;
 pub use fate::Fate;
 pub use packet::SentPacket;
 pub use packets::SentPackets;
