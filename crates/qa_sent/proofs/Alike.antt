@@ -110,6 +110,16 @@ alike_other t g p out = record {
   awaits = and_off (is_space t p.space) (p.eliciting && is_open g) (p.eliciting && is_open p.fate) out;
 }
 
+-- of one whose fate was open, or waited, as its new one is
+pub alike_same : (t : Space) (g : Fate) (p : SentPacket) → is_uncovered g ≡ is_uncovered p.fate → is_open g ≡ is_open p.fate → IsAlike t p (with_fate g p)
+alike_same t g p waits opens = record {
+  number = refl;
+  waits = ap (λ b. is_space t p.space && b) waits;
+  flies = ap (λ b. is_space t p.space && (p.in_flight && b)) opens;
+  bytes = ap (λ b. if is_space t p.space then (if p.in_flight && b then p.size else 0) else 0) opens;
+  awaits = ap (λ b. is_space t p.space && (p.eliciting && b)) opens;
+}
+
 pub space_is : (a b : Space) → is_space a b ≡ true → a ≡ b
 space_is Initial Initial e = refl
 space_is Handshake Handshake e = refl

@@ -1,6 +1,8 @@
 -- What holds of each element of a part of a list.
 use Rattle.std.proofs.Common.{◌≡◌, ◌∙◌, ℕ, zero, suc, ◌+◌, ◌≤◌, ◌<◌, List, [], ◌∷◌, ◌++◌, length, get_or, set, map, take, drop, add-one, refl, sym, ap, subst, arith}
 use Rattle.std.specs.List.{AllByRecursion}
+use Rattle.std.proofs.lemmas.List.{length-append, length-map, take-append-drop}
+use Rattle.std.proofs.lemmas.List.Edits.{map_over_more}
 
 -- the element at an index
 pub element : {X : Type 0} (xs : List X) (at : ℕ) → at < length xs → (x : X) × (x ≡ get_or xs at x)
@@ -64,3 +66,22 @@ each_weaker P Q goes (x ∷ xs) all = (goes x all.0, each_weaker P Q goes xs all
 pub map_same : {X : Type 0} (f : X → X) (xs : List X) → AllByRecursion (λ x. f x ≡ x) xs → map f xs ≡ xs
 map_same f [] all = refl
 map_same f (x ∷ xs) all = ap (λ y. y ∷ map f xs) all.0 ∙ ap (λ ys. x ∷ ys) (map_same f xs all.1)
+
+-- ---- a list of which each of the first was changed
+
+pub mapped_length : {X : Type 0} (f : X → X) (xs ys : List X) (at : ℕ) → ys ≡ map f (take at xs) ++ drop at xs → length ys ≡ length xs
+mapped_length f xs ys at is =
+    let whole : length ys ≡ length (map f (take at xs) ++ drop at xs) = ap length is in
+    let after = length-append (map f (take at xs)) (drop at xs) in
+    let same = length-map (take at xs) f in
+    let before = length-append (take at xs) (drop at xs) in
+    let all : length (take at xs ++ drop at xs) ≡ length xs = ap length (take-append-drop at xs) in
+    omega (arith, whole, after, same, before, all)
+
+-- and one more
+pub mapped_more : {X : Type 0} (f : X → X) (xs ys zs : List X) (at : ℕ) → at < length xs → ys ≡ map f (take at xs) ++ drop at xs
+    → ((x : X) → x ≡ get_or ys at x → zs ≡ set ys at (f x)) → zs ≡ map f (take (at + 1) xs) ++ drop (at + 1) xs
+mapped_more f xs ys zs at within is written =
+    let long = mapped_length f xs ys at is in
+    let x = element ys at (omega (arith, within, long)) in
+    written x.0 x.1 ∙ map_over_more f xs ys at x.0 within is x.1

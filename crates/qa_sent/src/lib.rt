@@ -5,14 +5,18 @@
 mod acknowledging;
 mod advancing;
 mod covering;
+mod declaring;
+mod detecting;
 mod fate;
 mod lane;
+mod naming;
 mod owing;
 mod packet;
 mod packets;
 mod pushing;
 mod queries;
 
+pub use detecting::Lateness;
 pub use fate::Fate;
 pub use packet::SentPacket;
 pub use packets::SentPackets;
