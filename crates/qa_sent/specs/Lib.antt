@@ -1,3 +1,4 @@
+pub mod Detection
 pub mod Fates
 pub mod Held
 pub mod Owing

@@ -2,9 +2,11 @@
 //! those since the oldest that is still open or owed, in the order of sending.
 #![tactic(auto)]
 
+mod acknowledging;
 mod advancing;
 mod covering;
 mod declaring;
+mod detecting;
 mod fate;
 mod lane;
 mod naming;
@@ -12,7 +14,11 @@ mod owing;
 mod packet;
 mod packets;
 mod pushing;
+mod queries;
+#[cfg(test)]
+mod tests;
 
+pub use detecting::Lateness;
 pub use fate::Fate;
 pub use packet::SentPacket;
 pub use packets::SentPackets;

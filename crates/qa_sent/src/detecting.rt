@@ -1,0 +1,152 @@
+//! Detection of losses (RFC 9002, section 6.1, A.10): a walk along the packets of a space.
+ghost use Rattle.std.specs.Prelude.{◌≡◌, ◌≤◌, ◌<◌, ◌+◌, ◌-◌, ℕ, false, true, count_by, drop, length, map, slice_index_or, slice_set};
+ghost use Rattle.std.specs.List.{AllByRecursion};
+ghost use Rattle.qa_base.specs.machine.Loss.{is_old};
+ghost use Rattle.qa_sent.specs.Detection.{IsEnd, IsPassed, lost_in};
+ghost use Rattle.qa_sent.specs.Fates.{is_owed};
+ghost use Rattle.qa_sent.specs.Held.{AreLosses, AreOrdered, IsIndexed, IsLane};
+ghost use Rattle.qa_sent.specs.Owing.{NoneOwed};
+ghost use Rattle.qa_sent.specs.Steps.{found_by, is_late_by, packet_at};
+ghost use Rattle.qa_sent.specs.declared.packet.SentPacket.{SentPacket};
+
+use crate::fate::Fate;
+use crate::lane::Lane;
+use crate::packet::SentPacket;
+use crate::packets::{Losses, SentPackets};
+use qa_base::constants::PACKET_THRESHOLD;
+use qa_base::{Micros, PacketNumber, Space};
+use qa_recovery::Rtt;
+use std::collections::VecDeque;
+use std::marker::Model;
+
+/// By what a detection tells which packets are late.
+#[derive(Clone, Copy, Debug, PartialEq, Eq)]
+pub struct Lateness {
+    /// The estimate of the round-trip time.
+    pub rtt: Rtt,
+    /// The time of the detection.
+    pub now: Micros,
+    /// The largest acknowledged number of the space, if there is one.
+    pub largest: Option<PacketNumber>,
+}
+
+impl Model for Lateness {
+    ghost use Rattle.qa_sent.specs.Steps as steps;
+
+    ghost Value = { steps.Lateness };
+
+    ghost view = { λ l. record { rtt = l.rtt; now = l.now; largest = l.largest } };
+
+    ghost inverse = { λ l. record { rtt = l.rtt; now = l.now; largest = l.largest } };
+}
+
+impl Lateness {
+    /// Whether the packet is below the largest acknowledged number, by the packet threshold or for
+    /// long enough (RFC 9002, sections 6.1.1 and 6.1.2).
+    fn is_late(&self, packet: &SentPacket) -> bool
+        ensures { result ≡ is_late_by self.entry.now packet.now }
+    {
+        match self.largest {
+            None => false,
+            Some(largest) => {
+                let number = packet.number.get();
+                number < largest.get()
+                    && (PACKET_THRESHOLD <= largest.get() - number || self.is_old(packet))
+            }
+        }
+    }
+
+    /// Whether the packet was sent as long ago as the loss delay.
+    fn is_old(&self, packet: &SentPacket) -> bool
+        ensures { result ≡ is_old self.entry.now.rtt self.entry.now.now (packet_at packet.now) }
+    {
+        let age = self.now.get().saturating_sub(packet.time.get());
+        self.rtt.loss_delay() <= age
+    }
+}
+
+impl SentPackets {
+    /// Looks for losses in a space: the packets in flight that are late are owed from now on.
+    /// Nothing may be owed before.
+    ///
+    /// It walks from the first packet of the space in flight, and ends at the first that is in
+    /// flight and not late: since a space's numbers and times rise, none behind it is late.
+    pub fn detect(&mut self, space: Space, lateness: &Lateness)
+        requires settled { AllByRecursion (λ p. is_owed p.fate ≡ false) self.old.packets }
+        ensures { self.new ≡ record { dropped = self.old.dropped; packets = map (found_by space lateness.entry.now) self.old.packets } }
+    {
+        let lane = self.lanes.of_mut(space);
+        self.losses = detect_in_lane(&mut self.packets, self.dropped, lane, space, lateness);
+    }
+}
+
+/// Looks for losses in the space of the lane, and raises its `next` to where the walk ends.
+fn detect_in_lane(
+    packets: &mut VecDeque<SentPacket>,
+    dropped: u64,
+    lane: &mut Lane,
+    space: Space,
+    lateness: &Lateness,
+) -> Losses
+    requires few { dropped + length packets.old.items ≤ 4294967295 }
+    requires lane { IsLane space dropped packets.old.items lane.old }
+    requires settled { NoneOwed packets.old.items }
+    requires ordered { AreOrdered packets.old.items }
+    ensures packets { packets.new.items ≡ map (found_by space lateness.entry.now) packets.old.items }
+    ensures lane { IsLane space dropped packets.new.items lane.new }
+    ensures losses { AreLosses dropped packets.new.items result }
+{
+    let from = lane.next;
+    let mut count = 0;
+    let mut at = (from - dropped) as usize;
+    while goes_on(packets, space, lateness, at) {
+        pass(packets, lane, space, at, &mut count);
+        at += 1;
+    }
+    lane.next = dropped + at as u64;
+    Losses {
+        space,
+        count,
+        from,
+        to: lane.next,
+    }
+}
+
+/// Whether a detection goes on behind this index: the packet there does not fly, or it is late.
+fn goes_on(packets: &VecDeque<SentPacket>, space: Space, lateness: &Lateness, at: usize) -> bool
+    ensures passes { result ≡ true → IsPassed space lateness.entry.now at packets.now.items }
+    ensures ends { result ≡ false → IsEnd space lateness.entry.now (drop at packets.now.items) }
+{
+    match packets.get(at) {
+        None => false,
+        Some(packet) => !packet.flies_in(space) || lateness.is_late(packet),
+    }
+}
+
+/// Passes the packet at this index: if it flies it is found lost, leaves the sums and is counted.
+fn pass(
+    packets: &mut VecDeque<SentPacket>,
+    lane: &mut Lane,
+    space: Space,
+    at: usize,
+    count: &mut u64,
+)
+    requires few { length packets.old.items ≤ 4294967295 }
+    requires within { at < length packets.old.items }
+    requires indexed { (d : ℕ) × IsIndexed space d packets.old.items lane.old }
+    requires count { count.old ≡ count_by (λ p. is_owed p.fate) packets.old.items }
+    ensures packets { (p : SentPacket) → p ≡ slice_index_or packets.old.items at p → packets.new.items ≡ slice_set packets.old.items at (lost_in space p) }
+    ensures indexed { (d : ℕ) → IsIndexed space d packets.old.items lane.old → IsIndexed space d packets.new.items lane.new }
+    ensures count { count.new ≡ count_by (λ p. is_owed p.fate) packets.new.items }
+    ensures next { lane.new.next ≡ lane.old.next }
+{
+    let packet = packets[at];
+    if packet.flies_in(space) {
+        lane.take_off(&packet);
+        packets[at] = SentPacket {
+            fate: Fate::Owed,
+            ..packet
+        };
+        *count += 1;
+    }
+}
