@@ -3,6 +3,7 @@
 
 mod ranges;
 mod sent;
+mod spans;
 #[cfg(test)]
 mod tests;
 

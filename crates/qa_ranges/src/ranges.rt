@@ -17,7 +17,7 @@ use std::marker::Model;
 /// order, and a number is in the set where it is in one of them.
 #[derive(Debug, Drop)]
 pub struct Ranges {
-    runs: Vec<Span>,
+    pub(crate) runs: Vec<Span>,
 }
 
 impl Model for Ranges {
