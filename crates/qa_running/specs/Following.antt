@@ -1,0 +1,29 @@
+-- The steps in which an event changes the packets that are kept.
+use Rattle.std.specs.Prelude.{◌≡◌, Bool, List, ◌∷◌}
+use Rattle.qa_base.specs.declared.event.Event.{Event}
+use Rattle.qa_base.specs.declared.event.Event.TheVariants.{Sent}
+use Rattle.qa_base.specs.machine.Packets.{acknowledges_new}
+use Rattle.qa_base.specs.values.Settings.{Settings}
+use Rattle.qa_connection.specs.Known.{IsBegun, IsProperRun}
+use Rattle.qa_connection.specs.declared.connection.Connection.{Connection}
+use Rattle.qa_running.specs.Standing.{StandsFor}
+use Rattle.qa_sent.specs.Held.{Held}
+
+-- a packet that the event sends is kept already, and nothing else of it is done
+abbrev pub StandsOnceSent : Held → Settings → Event → List Event → Type 0
+StandsOnceSent held c (Sent time space number size eliciting in_flight leave) h = StandsFor held c (Sent time space number size eliciting in_flight leave ∷ h)
+StandsOnceSent held c e h = StandsFor held c h
+
+-- the event comes next in some run, after whose events the packets are kept
+pub record IsNext (held : Held) (e : Event) : Type 0 where
+  pub header : Settings
+  pub history : List Event
+  pub run : IsProperRun header (e ∷ history)
+  pub stands : StandsFor held header history
+
+-- and what it sends is kept already
+pub record IsOnceSent (held : Held) (e : Event) : Type 0 where
+  pub header : Settings
+  pub history : List Event
+  pub run : IsProperRun header (e ∷ history)
+  pub stands : StandsOnceSent held header e history
