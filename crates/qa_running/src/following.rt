@@ -1,13 +1,16 @@
 //! What an event that is admitted changes in the packets that are kept.
-ghost use Rattle.std.specs.Prelude.{◌≡◌, ◌∷◌, List, true, IfOk, OnOk, OnErr};
+ghost use Rattle.std.specs.Prelude.{◌≡◌, ◌∷◌, List, true, filter, IfOk, OnOk, OnErr};
 ghost use Rattle.qa_base.specs.declared.event.Event.{Event as AnEvent};
+ghost use Rattle.qa_base.specs.machine.Loss as loss;
 ghost use Rattle.qa_base.specs.machine.Packets.{acknowledges_new};
 ghost use Rattle.qa_base.specs.machine.Rules.{IsRun};
 ghost use Rattle.qa_base.specs.values.Events.{fits};
 ghost use Rattle.qa_base.specs.values.Settings.{Settings};
-ghost use Rattle.qa_connection.specs.Known.{IsBegun, IsMeasured, IsOutcome, acknowledged_by};
+ghost use Rattle.qa_connection.specs.Known.{IsMeasured, IsOutcome, acknowledged_by};
 ghost use Rattle.qa_running.specs.Following.{IsNext, IsOnceSent, StandsOnceSent};
+ghost use Rattle.qa_running.specs.Lateness.{IsLatenessAt};
 ghost use Rattle.qa_running.specs.Standing.{StandsFor};
+ghost use Rattle.qa_sent.specs.Fates.{is_new};
 
 use qa_base::{Event, Kind, Micros, Space, Span};
 use qa_connection::{Connection, Outcome};
@@ -42,5 +45,103 @@ pub(crate) fn send(packets: &mut SentPackets, event: &Event) -> Result<(), Alloc
             fate: Fate::Open,
         }),
         _ => Ok(()),
+    }
+}
+
+/// The packets that the event newly acknowledges, in the order of sending; none where it is no
+/// acknowledgment. `AllocError` comes where it is out of memory.
+pub(crate) fn acknowledged(
+    alloc: Global,
+    packets: &SentPackets,
+    event: &Event,
+) -> Result<Vec<SentPacket>, AllocError>
+    ensures { IfOk result (λ found. (c : Settings) (h : List AnEvent) → StandsFor packets.now c h → IsRun c (event.now ∷ h) → found.items ≡ acknowledged_by c event.now h) }
+{
+    match event {
+        Event::Ack { space, ranges, .. } => named(alloc, packets, *space, ranges.as_slice()),
+        _ => Ok(Vec::new(alloc)),
+    }
+}
+
+/// The open packets of the space that some span names, in the order of sending.
+fn named(
+    alloc: Global,
+    packets: &SentPackets,
+    space: Space,
+    spans: &[Span],
+) -> Result<Vec<SentPacket>, AllocError>
+    ensures { IfOk result (λ found. found.items ≡ filter (is_new space spans.now) packets.now.packets) }
+{
+    if spans.len() == 1 {
+        // It is in order by itself, which takes no memory.
+        return packets.newly_acknowledged(space, spans);
+    }
+    let in_order = Ranges::of_spans(alloc, spans)?;
+    packets.newly_acknowledged(space, in_order.as_slice())
+}
+
+/// By what the event tells which packets of the space are late.
+fn lateness(connection: &Connection, space: Space, now: Micros) -> Lateness
+    ensures { (c : Settings) (h : List AnEvent) → IsMeasured connection.now c h → IsLatenessAt c h space now result }
+{
+    Lateness {
+        rtt: connection.rtt,
+        now,
+        largest: connection.spaces.get(space).largest,
+    }
+}
+
+/// Does to the packets what the event does to them that sends none: it covers, finds lost, declares
+/// or discards. `is_new` is whether it newly acknowledges some packet.
+pub(crate) fn settle(packets: &mut SentPackets, connection: &Connection, event: &Event, is_new: bool)
+    requires next { IsOnceSent packets.old event.now }
+    ensures { (c : Settings) (h : List AnEvent) → StandsOnceSent packets.old c event.now h → IsMeasured connection.now c (event.now ∷ h)
+        → IsRun c (event.now ∷ h) → is_new ≡ acknowledges_new (event.now ∷ h) → StandsFor packets.new c (event.now ∷ h) }
+{
+    match event {
+        Event::Ack {
+            time,
+            space,
+            ranges,
+            ..
+        } => {
+            packets.cover(*space, ranges.as_slice());
+            if is_new {
+                packets.detect(*space, &lateness(connection, *space, *time));
+            }
+        }
+        Event::Timer {
+            time,
+            kind: Kind::Loss,
+            space,
+        } => packets.detect(*space, &lateness(connection, *space, *time)),
+        Event::Lost { .. } => packets.declare_lost(),
+        Event::Discard { space, .. } => packets.discard(*space),
+        _ => {}
+    }
+}
+
+/// What the last event found lost.
+pub(crate) fn outcome(packets: &SentPackets, connection: &Connection) -> Outcome
+    ensures { (c : Settings) (h : List AnEvent) → StandsFor packets.now c h → IsRun c h → IsMeasured connection.now c h
+        → connection.now.header ≡ c → IsOutcome result c h }
+{
+    Outcome {
+        last_owed: packets.last_owed(),
+        is_persistent: is_persistent(packets, connection),
+    }
+}
+
+/// Whether what the last event found lost establishes persistent congestion (RFC 9002, section 7.6).
+fn is_persistent(packets: &SentPackets, connection: &Connection) -> bool
+    ensures { (c : Settings) (h : List AnEvent) → StandsFor packets.now c h → IsRun c h → IsMeasured connection.now c h
+        → connection.now.header ≡ c → result ≡ loss.is_persistent c h }
+{
+    match connection.rtt.first_rtt_sample {
+        None => false,
+        Some(first) => {
+            let limit = connection.rtt.persistent_after(connection.header.max_ack_delay());
+            packets.is_persistent(limit, first)
+        }
     }
 }
