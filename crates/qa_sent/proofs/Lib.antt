@@ -1,12 +1,13 @@
 pub mod Alike
+pub mod Covered
 pub mod Declared
 pub mod Detected
 pub mod Entries
 pub mod Numbers
+pub mod Opened
 pub mod Owed
 pub mod Parts
-pub mod Sums
+pub mod Pushed
 pub mod Settled
 pub mod Sound
-pub mod Pushed
-pub mod Covered
+pub mod Sums

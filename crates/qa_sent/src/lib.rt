@@ -2,6 +2,7 @@
 //! those since the oldest that is still open or owed, in the order of sending.
 #![tactic(auto)]
 
+mod acknowledging;
 mod advancing;
 mod covering;
 mod declaring;

@@ -1,0 +1,82 @@
+//! What an acknowledgment newly acknowledges.
+ghost use Rattle.std.specs.Prelude.{◌≡◌, ◌≤◌, [], ◌∷◌, ◌++◌, filter, IfOk, OnOk};
+ghost use Rattle.qa_sent.specs.Covering.{AreApart, is_new_in};
+ghost use Rattle.qa_sent.specs.Fates.{is_new, is_open};
+ghost use Rattle.qa_sent.specs.Held.{AreOrdered, IsIndexed};
+
+use crate::lane::Lane;
+use crate::packet::SentPacket;
+use crate::packets::SentPackets;
+use qa_base::{Space, Span};
+use std::alloc::{AllocError, Global};
+use std::collections::VecDeque;
+
+impl SentPackets {
+    /// The packets of a space that are open and that some span names, in the order of sending, which
+    /// is that of their numbers. Each span begins above the end of the one before it. It visits the
+    /// packets alone that stand in a span and are not covered. `AllocError` comes where it is out of
+    /// memory.
+    pub fn newly_acknowledged(
+        &self,
+        space: Space,
+        spans: &[Span],
+    ) -> Result<Vec<SentPacket>, AllocError>
+        requires apart { AreApart spans.now }
+        ensures { IfOk result (λ found. found.items ≡ filter (is_new space spans.now) self.now.packets) }
+    {
+        let lane = self.lanes.of(space);
+        new_in_spans(self.alloc, &self.packets, self.dropped, lane, space, spans)
+    }
+}
+
+/// The open packets of a space that some span names, by the lane of the space.
+fn new_in_spans(
+    alloc: Global,
+    packets: &VecDeque<SentPacket>,
+    dropped: u64,
+    lane: &Lane,
+    space: Space,
+    spans: &[Span],
+) -> Result<Vec<SentPacket>, AllocError>
+    requires apart { AreApart spans.now }
+    requires indexed { IsIndexed space dropped packets.now.items lane.now }
+    requires ordered { AreOrdered packets.now.items }
+    ensures { IfOk result (λ found. found.items ≡ filter (is_new space spans.now) packets.now.items) }
+{
+    let mut found = Vec::new(alloc);
+    for span in spans {
+        push_span(&mut found, packets, dropped, lane, space, *span)?;
+    }
+    Ok(found)
+}
+
+/// Adds the open packets of the space whose numbers are in the span.
+fn push_span(
+    found: &mut Vec<SentPacket>,
+    packets: &VecDeque<SentPacket>,
+    dropped: u64,
+    lane: &Lane,
+    space: Space,
+    span: Span,
+) -> Result<(), AllocError>
+    requires indexed { IsIndexed space dropped packets.now.items lane.now }
+    ensures order { span.0 ≤ span.1 }
+    ensures found { OnOk result (found.new.items ≡ found.old.items ++ filter (is_new_in space span.0 span.1) packets.now.items) }
+{
+    let lo = span.lo().get();
+    let hi = span.hi().get();
+    for (_, place) in lane.uncovered.range(lo..=hi) {
+        push_open(found, &packets[(*place - dropped) as usize])?;
+    }
+    Ok(())
+}
+
+/// Adds the packet, if it is open.
+fn push_open(found: &mut Vec<SentPacket>, packet: &SentPacket) -> Result<(), AllocError>
+    ensures { OnOk result (found.new.items ≡ found.old.items ++ filter (λ p. is_open p.fate) (packet.now ∷ [])) }
+{
+    if packet.is_open() {
+        found.push(*packet)?;
+    }
+    Ok(())
+}
