@@ -13,3 +13,4 @@ pub mod Pushed
 pub mod Settled
 pub mod Sound
 pub mod Sums
+pub mod Totals

@@ -16,6 +16,9 @@ mod owing;
 mod packet;
 mod packets;
 mod pushing;
+mod queries;
+#[cfg(test)]
+mod tests;
 
 pub use detecting::Lateness;
 pub use fate::Fate;
