@@ -6,3 +6,5 @@ pub mod Dropping
 pub mod Queries
 pub mod Losses
 pub mod Sends
+pub mod Settles
+pub mod Acks

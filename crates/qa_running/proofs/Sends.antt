@@ -1,5 +1,5 @@
 -- What an event sends is kept behind all other packets.
-use Rattle.std.proofs.Common.{◌≡◌, ◌<◌, ◌+◌, List, [], ◌∷◌, ◌++◌, Result, Ok, Err, OnOk, length, arith, subst, sym}
+use Rattle.std.proofs.Common.{◌≡◌, ◌<◌, ◌+◌, List, [], ◌∷◌, ◌++◌, Result, Ok, Err, IfOk, OnOk, length, arith, subst, sym}
 use Rattle.std.specs.List.{AllByRecursion}
 use Rattle.qa_base.specs.declared.event.Event.{Event}
 use Rattle.qa_base.specs.declared.event.Event.TheVariants.{Sent}
@@ -13,6 +13,11 @@ use Rattle.qa_running.specs.Standing.{StandsFor}
 use Rattle.qa_sent.specs.Held.{Held, IsBefore}
 use Rattle.qa_sent.specs.declared.fate.Fate.TheVariants.{Open}
 use Rattle.qa_sent.specs.declared.packet.SentPacket.{SentPacket}
+
+-- what follows from each value follows of the value, where there is one
+pub if_ok : {T E : Type 0} {P Q : T → Type 0} (r : Result T E) → IfOk r P → ((t : T) → P t → Q t) → IfOk r Q
+if_ok (Ok t) p f = f t p
+if_ok (Err e) p f = tt
 
 -- what follows from a value follows where there is one
 pub on_ok : {T E P Q : Type 0} (r : Result T E) → OnOk r P → (P → Q) → OnOk r Q

@@ -1,7 +1,8 @@
 -- The steps in which an event changes the packets that are kept.
-use Rattle.std.specs.Prelude.{◌≡◌, Bool, List, ◌∷◌}
+use Rattle.std.specs.Prelude.{◌≡◌, Bool, true, false, List, ◌∷◌}
 use Rattle.qa_base.specs.declared.event.Event.{Event}
-use Rattle.qa_base.specs.declared.event.Event.TheVariants.{Sent}
+use Rattle.qa_base.specs.declared.event.Event.TheVariants.{Sent, Ack, Lost, Timer, Discard}
+use Rattle.qa_base.specs.declared.space.Kind.TheVariants.{Loss}
 use Rattle.qa_base.specs.machine.Packets.{acknowledges_new}
 use Rattle.qa_base.specs.values.Settings.{Settings}
 use Rattle.qa_connection.specs.Known.{IsBegun, IsProperRun}
@@ -27,3 +28,15 @@ pub record IsOnceSent (held : Held) (e : Event) : Type 0 where
   pub history : List Event
   pub run : IsProperRun header (e ∷ history)
   pub stands : StandsOnceSent held header e history
+
+-- the event changes none of the packets that are kept, but that it may send one
+abbrev pub keeps_packets : Event → Bool
+keeps_packets (Ack time space ranges delay limited) = false
+keeps_packets (Lost time space ranges) = false
+keeps_packets (Timer time Loss space) = false
+keeps_packets (Discard time space) = false
+keeps_packets e = true
+
+abbrev pub is_ack : Event → Bool
+is_ack (Ack time space ranges delay limited) = true
+is_ack e = false

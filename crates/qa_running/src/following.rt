@@ -12,7 +12,7 @@ ghost use Rattle.qa_running.specs.Lateness.{IsLatenessAt};
 ghost use Rattle.qa_running.specs.Standing.{StandsFor};
 ghost use Rattle.qa_sent.specs.Fates.{is_new};
 
-use qa_base::{Event, Kind, Micros, Space, Span};
+use qa_base::{Event, Header, Kind, Micros, Space, Span};
 use qa_connection::{Connection, Outcome};
 use qa_ranges::Ranges;
 use qa_sent::{Fate, Lateness, SentPacket, SentPackets};
@@ -50,6 +50,7 @@ pub(crate) fn send(packets: &mut SentPackets, event: &Event) -> Result<(), Alloc
 
 /// The packets that the event newly acknowledges, in the order of sending; none where it is no
 /// acknowledgment. `AllocError` comes where it is out of memory.
+#[tactic(auto, using(crate::proofs::Acks::none_acknowledged))]
 pub(crate) fn acknowledged(
     alloc: Global,
     packets: &SentPackets,
@@ -59,7 +60,13 @@ pub(crate) fn acknowledged(
 {
     match event {
         Event::Ack { space, ranges, .. } => named(alloc, packets, *space, ranges.as_slice()),
-        _ => Ok(Vec::new(alloc)),
+        Event::Sent { .. }
+        | Event::Lost { .. }
+        | Event::Timer { .. }
+        | Event::Discard { .. }
+        | Event::Confirmed { .. }
+        | Event::Keys { .. }
+        | Event::Metrics { .. } => Ok(Vec::new(alloc)),
     }
 }
 
@@ -93,6 +100,7 @@ fn lateness(connection: &Connection, space: Space, now: Micros) -> Lateness
 
 /// Does to the packets what the event does to them that sends none: it covers, finds lost, declares
 /// or discards. `is_new` is whether it newly acknowledges some packet.
+#[tactic(auto, using(crate::proofs::Settles::after_quiet))]
 pub(crate) fn settle(packets: &mut SentPackets, connection: &Connection, event: &Event, is_new: bool)
     requires next { IsOnceSent packets.old event.now }
     ensures { (c : Settings) (h : List AnEvent) → StandsOnceSent packets.old c event.now h → IsMeasured connection.now c (event.now ∷ h)
@@ -117,7 +125,14 @@ pub(crate) fn settle(packets: &mut SentPackets, connection: &Connection, event: 
         } => packets.detect(*space, &lateness(connection, *space, *time)),
         Event::Lost { .. } => packets.declare_lost(),
         Event::Discard { space, .. } => packets.discard(*space),
-        _ => {}
+        Event::Timer {
+            kind: Kind::Pto,
+            ..
+        }
+        | Event::Sent { .. }
+        | Event::Confirmed { .. }
+        | Event::Keys { .. }
+        | Event::Metrics { .. } => {}
     }
 }
 
@@ -140,8 +155,15 @@ fn is_persistent(packets: &SentPackets, connection: &Connection) -> bool
     match connection.rtt.first_rtt_sample {
         None => false,
         Some(first) => {
-            let limit = connection.rtt.persistent_after(connection.header.max_ack_delay());
+            let limit = connection.rtt.persistent_after(peer_delay(&connection.header));
             packets.is_persistent(limit, first)
         }
     }
+}
+
+/// The peer's `max_ack_delay`.
+fn peer_delay(header: &Header) -> Micros
+    ensures { result ≡ header.now.max_ack_delay }
+{
+    Micros::new(header.max_ack_delay()).unwrap()
 }
