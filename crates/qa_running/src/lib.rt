@@ -2,6 +2,7 @@
 #![tactic(auto)]
 
 mod following;
+mod ledger;
 mod running;
 
 pub use running::Running;

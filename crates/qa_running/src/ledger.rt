@@ -1,0 +1,43 @@
+//! The ledger that keeps no event admits events.
+ghost use Rattle.std.specs.Prelude.{◌≡◌, ◌<◌, ◌+◌, ◌∷◌, List, true, false, None, OnOk, OnErr};
+ghost use Rattle.qa_base.specs.declared.event.Event.{Event as AnEvent};
+ghost use Rattle.qa_base.specs.machine.Rules as rules;
+ghost use Rattle.qa_base.specs.values.Events.{fits};
+ghost use Rattle.qa_base.specs.values.Settings.{Settings};
+ghost use Rattle.qa_running.specs.Running.{IsAfter};
+
+use crate::following::{acknowledged, outcome, send, settle};
+use crate::running::Running;
+use qa_base::Event;
+use qa_ledger::plain::time_of;
+use std::alloc::AllocError;
+
+impl Running {
+    /// Takes an event that breaks no rule. `AllocError` comes where it is out of memory: it has
+    /// failed then, and is the state before the event.
+    fn follow(&mut self, event: &Event) -> Result<(), AllocError>
+        requires works { self.old.failed ≡ false }
+        requires fitting { fits event.now ≡ true }
+        requires few { self.old.connection.events < 4294967295 }
+        requires allowed { (c : Settings) (h : List AnEvent) → IsAfter self.old c h → rules.first_broken c h event.now ≡ None }
+        ensures ok { OnOk result ((self.new.failed ≡ false) × (self.new.connection.events ≡ self.old.connection.events + 1)
+            × ((c : Settings) (h : List AnEvent) → IsAfter self.old c h → IsAfter self.new c (event.now ∷ h))) }
+        ensures err { OnErr result ((self.new.failed ≡ true) × (self.new.connection.events ≡ self.old.connection.events)
+            × ((c : Settings) (h : List AnEvent) → IsAfter self.old c h → IsAfter self.new c h)) }
+    {
+        let _time = time_of(event).get();
+        // It stays so where memory is refused below.
+        self.failed = true;
+        let acknowledged = acknowledged(self.alloc, &self.packets, event)?;
+        self.numbers.insert_sent(event)?;
+        send(&mut self.packets, event)?;
+        self.connection.begin(event, &acknowledged);
+        let is_new = !acknowledged.is_empty();
+        settle(&mut self.packets, &self.connection, event, is_new);
+        let outcome = outcome(&self.packets, &self.connection);
+        self.connection.end(event, &acknowledged, outcome);
+        self.packets.drop_closed();
+        self.failed = false;
+        Ok(())
+    }
+}
