@@ -5,3 +5,4 @@ pub mod Events
 pub mod Dropping
 pub mod Queries
 pub mod Losses
+pub mod Answered

@@ -1,6 +1,7 @@
 //! The ledger that passes once over the events, and keeps no event.
 #![tactic(auto)]
 
+mod answers;
 mod running;
 
 pub use running::Running;
