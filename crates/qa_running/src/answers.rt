@@ -1,6 +1,5 @@
 //! What the rules ask of the events before an event, answered by what is kept.
-ghost use Rattle.std.specs.Prelude.{◌≡◌, ◌≤◌, ◌^◌, List};
-ghost use Rattle.std.specs.Option.{ForSome};
+ghost use Rattle.std.specs.Prelude.{◌≡◌, List};
 ghost use Rattle.qa_base.specs.declared.event.Event.{Event as AnEvent};
 ghost use Rattle.qa_base.specs.machine.Loss.{owed};
 ghost use Rattle.qa_base.specs.machine.Packets.{is_some_packet};
@@ -8,7 +7,7 @@ ghost use Rattle.qa_base.specs.machine.Rules.{IsRun};
 ghost use Rattle.qa_base.specs.machine.State as state;
 ghost use Rattle.qa_base.specs.values.Settings.{Settings};
 ghost use Rattle.qa_connection.specs.Deadlines.{AreOpen, IsOpenIn};
-ghost use Rattle.qa_running.specs.Running.{Answers, IsAfter};
+ghost use Rattle.qa_running.specs.Running.{IsAfter};
 ghost use Rattle.qa_running.specs.Standing.{StandsFor};
 
 use crate::running::Running;

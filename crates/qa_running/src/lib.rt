@@ -2,6 +2,7 @@
 #![tactic(auto)]
 
 mod answers;
+mod kept;
 mod running;
 
 pub use running::Running;
