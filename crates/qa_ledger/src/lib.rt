@@ -10,6 +10,7 @@ mod tests;
 mod whole;
 
 pub use ledger::{Ledger, LedgerFault};
+pub use metrics::totals_by;
 pub use qa_plain as plain;
 pub use rules::first_broken;
 pub use state::State;

@@ -55,8 +55,9 @@ fn metric_rule(values: &MetricValues, held: &Totals) -> Option<Rule>
     None
 }
 
-/// The totals by their parts.
-fn totals_by(events: u64, reno: Reno, rtt: Rtt, bytes: u64, count: u64, owed: u64) -> Totals
+/// The totals by their parts: how many events there were, the window, the RTT, the bytes in flight, the
+/// PTO count and how many packets are owed.
+pub fn totals_by(events: u64, reno: Reno, rtt: Rtt, bytes: u64, count: u64, owed: u64) -> Totals
     ensures { result ≡ totals_of events reno rtt bytes count owed }
 {
     Totals {

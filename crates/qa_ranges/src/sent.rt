@@ -1,5 +1,5 @@
 //! The numbers of the packets that were sent, as a set for each packet number space.
-ghost use Rattle.std.specs.Prelude.{◌≡◌, ◌+◌, ℕ, List, [], ◌∷◌, length, OnOk, OnErr};
+ghost use Rattle.std.specs.Prelude.{◌≡◌, ◌≤◌, ◌+◌, ℕ, List, [], ◌∷◌, length, OnOk, OnErr};
 ghost use Rattle.qa_base.specs.declared.event.Event.{Event as AnEvent};
 ghost use Rattle.qa_base.specs.declared.space.Space.TheVariants.{Initial, Handshake, App};
 ghost use Rattle.qa_base.specs.machine.Breaches as breaches;
@@ -110,6 +110,7 @@ impl SentNumbers {
     pub fn runs(&self) -> u128
         ensures kept { result ≡ length (runs_in self.now Initial) + length (runs_in self.now Handshake) + length (runs_in self.now App) }
         ensures sent { (c : Settings) (h : List AnEvent) → IsRun c h → AreSent self.now h → result ≡ kept.runs h }
+        ensures bound { result ≤ 55340232221128654845 }
     {
         u128::from(self.initial.runs())
             + u128::from(self.handshake.runs())

@@ -8,3 +8,5 @@ pub mod Losses
 pub mod Sends
 pub mod Settles
 pub mod Acks
+pub mod Answered
+pub mod Followed

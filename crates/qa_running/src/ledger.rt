@@ -8,9 +8,10 @@ ghost use Rattle.qa_running.specs.Running.{IsAfter};
 
 use crate::following::{acknowledged, outcome, send, settle};
 use crate::running::Running;
-use qa_base::Event;
+use qa_base::{Event, Header, Totals};
 use qa_ledger::plain::time_of;
-use std::alloc::AllocError;
+use qa_ledger::{Ledger, LedgerFault, first_broken};
+use std::alloc::{AllocError, Global};
 
 impl Running {
     /// Takes an event that breaks no rule. `AllocError` comes where it is out of memory: it has
@@ -39,5 +40,44 @@ impl Running {
         self.packets.drop_closed();
         self.failed = false;
         Ok(())
+    }
+}
+
+impl Ledger for Running {
+    ghost use Rattle.qa_running.specs.Running.{IsAfter};
+
+    ghost stands = { IsAfter };
+
+    ghost has_failed = { λ r. r.failed };
+
+    ghost admitted = { λ r. r.connection.events };
+
+    /// The ledger under a header, before any event.
+    fn start(alloc: Global, header: Header) -> Running {
+        Running::new(alloc, header)
+    }
+
+    /// Admits an event, where it breaks no rule after those that were admitted.
+    fn admit(&mut self, event: &Event) -> Result<(), LedgerFault> {
+        if self.failed {
+            return Err(LedgerFault::OutOfMemory);
+        }
+        if let Some(rule) = first_broken(self, event) {
+            return Err(LedgerFault::Broken(rule));
+        }
+        match self.follow(event) {
+            Ok(()) => Ok(()),
+            Err(_) => Err(LedgerFault::OutOfMemory),
+        }
+    }
+
+    /// The state of the machine after the events that were admitted.
+    fn totals(&self) -> Totals {
+        self.totals_now()
+    }
+
+    /// Whether a loss is owed.
+    fn owes(&self) -> bool {
+        self.owes_now()
     }
 }

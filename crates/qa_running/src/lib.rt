@@ -1,7 +1,9 @@
 //! The ledger that passes once over the events, and keeps no event.
 #![tactic(auto)]
 
+mod answers;
 mod following;
+mod kept;
 mod ledger;
 mod running;
 

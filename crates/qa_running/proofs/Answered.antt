@@ -1,0 +1,60 @@
+-- The answers about the packets and the connection that are kept are those about the history.
+use Rattle.std.proofs.Common.{◌≡◌, ◌∙◌, ℕ, List, Option, Some, None, refl, sym, ap, find, sum_by, count_by}
+use Rattle.std.specs.List.{list_any}
+use Rattle.qa_base.specs.declared.event.Event.{Event}
+use Rattle.qa_base.specs.declared.space.Space.{Space}
+use Rattle.qa_base.specs.declared.space.Space.TheVariants.{Initial, Handshake, App}
+use Rattle.qa_base.specs.machine.Packets.{largest_acknowledged}
+use Rattle.qa_base.specs.machine.Rtt.{Estimate, rtt}
+use Rattle.qa_base.specs.machine.Rules.{IsRun}
+use Rattle.qa_base.specs.machine.State.{totals}
+use Rattle.qa_base.specs.values.Settings.{Settings}
+use Rattle.qa_connection.specs.Deadlines.{AreOpen, IsOpenIn, loss_due, open_in}
+use Rattle.qa_connection.specs.declared.deadline.OpenInSpace.{OpenInSpace}
+use Rattle.qa_connection.specs.declared.deadline.OpenPackets.{OpenPackets}
+use Rattle.qa_ledger.proofs.Totals.{totals_are}
+use Rattle.qa_ledger.specs.Tests.{totals_of}
+use Rattle.qa_running.proofs.Losses.{owed_are_counted}
+use Rattle.qa_running.proofs.Queries.{awaiting_are_held, bytes_are_held, loss_due_is_held}
+use Rattle.qa_running.specs.Answers.{loss_due_by}
+use Rattle.qa_running.specs.Running.{IsAfter, State}
+use Rattle.qa_running.specs.Standing.{StandsFor}
+use Rattle.qa_sent.specs.Fates.{flight_bytes, is_awaiting, is_flying, is_owed}
+use Rattle.qa_sent.specs.Held.{Held}
+use Rattle.qa_sent.specs.declared.packet.SentPacket.{SentPacket}
+
+-- ---- what the timer asks
+
+due_is : (r : Estimate) (largest : Option ℕ) (s : Space) (o : Option SentPacket) → loss_due r largest s o ≡ loss_due_by s r largest o
+due_is r largest s None = refl
+due_is r largest s (Some p) = refl
+
+-- in a run the packets held tell it of a space
+pub open_in_is : (told : OpenInSpace) (c : Settings) (h : List Event) (s : Space) (held : Held) → told.awaits ≡ list_any (is_awaiting s) held.packets → told.oldest ≡ find (is_flying s) held.packets
+    → IsRun c h → StandsFor held c h → IsOpenIn told c h s
+open_in_is told c h s held awaits oldest run stands = record {
+  awaits = awaits ∙ sym (awaiting_are_held c h s held stands);
+  oldest = due_is (rtt c h) (largest_acknowledged h s) s told.oldest
+      ∙ (ap (loss_due_by s (rtt c h) (largest_acknowledged h s)) oldest ∙ sym (loss_due_is_held c h run s held stands));
+}
+
+each_open : (told : OpenPackets) (c : Settings) (h : List Event) → IsOpenIn told.initial c h Initial → IsOpenIn told.handshake c h Handshake → IsOpenIn told.app c h App
+    → (s : Space) → IsOpenIn (open_in s told) c h s
+each_open told c h initial handshake app Initial = initial
+each_open told c h initial handshake app Handshake = handshake
+each_open told c h initial handshake app App = app
+
+-- and of all of them
+pub are_open : (told : OpenPackets) (c : Settings) (h : List Event) → IsOpenIn told.initial c h Initial → IsOpenIn told.handshake c h Handshake → IsOpenIn told.app c h App → AreOpen told c h
+are_open told c h initial handshake app = record { each = each_open told c h initial handshake app }
+
+-- ---- the totals
+
+-- they are those of the history, by what is kept
+pub totals_kept : (state : State) (c : Settings) (h : List Event) (bytes owed : ℕ) → bytes ≡ sum_by flight_bytes state.packets.packets → owed ≡ count_by (λ p. is_owed p.fate) state.packets.packets
+    → IsAfter state c h → totals_of state.connection.events state.connection.reno state.connection.rtt bytes state.connection.pto_count owed ≡ totals c h
+totals_kept state c h bytes owed is_bytes is_owed after =
+    let known = after.connection.settled in
+    totals_are c h _ _ _ bytes _ owed known.events known.reno after.connection.measured.rtt
+    (is_bytes ∙ sym (bytes_are_held c h state.packets after.packets)) known.pto_count
+    (is_owed ∙ sym (owed_are_counted c h after.run.run state.packets after.packets))

@@ -1,0 +1,13 @@
+use Rattle.std.proofs.Common.{◌≡◌, ◌≤◌, ◌*◌, arith, length}
+use Rattle.qa_base.specs.machine.Kept.{kept_count, runs}
+use Rattle.qa_running.proofs.Dropping.{kept_is_held}
+use Rattle.qa_running.proofs.running.Running.kept.Goals as goal
+
+pub returns-clause-bound : goal.returns-clause-bound
+returns-clause-bound c = rw (← c.self.view_is) (λ settings h is.
+    let run = is.after.run.run in
+    let held = c.self.inside.packets in
+    let entries : c.kept_count.result ≤ 2 * length held.packets = c.kept_count.ensures.bound in
+    let many : kept_count settings h ≡ length held.packets = kept_is_held settings h run held is.after.packets c.self.invariant.trimmed in
+    let numbers : c.runs.result ≡ runs h = c.runs.ensures.sent settings h run (is.after.numbers is.works) in
+    omega (arith, entries, many, numbers, c.from.ensures))
