@@ -1,5 +1,6 @@
 -- An event that breaks no rule is followed: each step on the way gives what the next one asks for.
-use Rattle.std.proofs.Common.{◌≡◌, ◌∙◌, ◌<◌, ◌≤◌, ◌+◌, ℕ, Bool, false, nat_lt, List, [], ◌∷◌, length, map, reverse, None, refl, sym, ap, arith}
+use Rattle.std.proofs.Common.{◌≡◌, ◌∙◌, ◌<◌, ◌==◌, ℕ, Bool, false, not, nat_lt, List, ◌∷◌, length, reverse, None, sym, ap, arith}
+use Rattle.std.proofs.lemmas.Bool.Decides.{nat_tests}
 use Rattle.std.proofs.lemmas.List.{length-map, length-reverse}
 use Rattle.qa_base.specs.declared.event.Event.{Event}
 use Rattle.qa_base.specs.machine.Packets.{acknowledges_new, newly_acknowledged}
@@ -35,6 +36,13 @@ pub new_by_length : (k : Settings) (h : List Event) (e : Event) (acked : List Se
 new_by_length k h e acked is =
     ap (nat_lt 0) (ap length is ∙ (length-map (reverse (newly_acknowledged (e ∷ h))) (sent_of k h) ∙ length-reverse (newly_acknowledged (e ∷ h))))
     ∙ sym (some_by_length (newly_acknowledged (e ∷ h)))
+
+above_zero : (n : ℕ) → not (n == 0) ≡ nat_lt 0 n
+above_zero n = grind (arith, nat_tests)
+
+-- a list is not empty where it has some element
+pub some_left : (is_empty : Bool) (len n : ℕ) → is_empty ≡ (len == 0) → len ≡ n → not is_empty ≡ nat_lt 0 n
+some_left is_empty len n is same = ap not (is ∙ ap (λ k. k == 0) same) ∙ above_zero n
 
 pub followed : (k : Settings) (h : List Event) (e : Event) (old : State) → IsAfter old k h → old.failed ≡ false
     → first_broken k h e ≡ None → IsTimely e → Fits e → old.connection.events < 4294967295

@@ -1,12 +1,10 @@
 -- The steps in which an event changes the packets that are kept.
-use Rattle.std.specs.Prelude.{◌≡◌, Bool, true, false, List, ◌∷◌}
+use Rattle.std.specs.Prelude.{Bool, true, false, List, ◌∷◌}
 use Rattle.qa_base.specs.declared.event.Event.{Event}
 use Rattle.qa_base.specs.declared.event.Event.TheVariants.{Sent, Ack, Lost, Timer, Discard}
 use Rattle.qa_base.specs.declared.space.Kind.TheVariants.{Loss}
-use Rattle.qa_base.specs.machine.Packets.{acknowledges_new}
 use Rattle.qa_base.specs.values.Settings.{Settings}
-use Rattle.qa_connection.specs.Known.{IsBegun, IsProperRun}
-use Rattle.qa_connection.specs.declared.connection.Connection.{Connection}
+use Rattle.qa_connection.specs.Known.{IsProperRun}
 use Rattle.qa_running.specs.Standing.{StandsFor}
 use Rattle.qa_sent.specs.Held.{Held}
 

@@ -101,7 +101,12 @@ fn lateness(connection: &Connection, space: Space, now: Micros) -> Lateness
 /// Does to the packets what the event does to them that sends none: it covers, finds lost, declares
 /// or discards. `is_new` is whether it newly acknowledges some packet.
 #[tactic(auto, using(crate::proofs::Settles::after_quiet))]
-pub(crate) fn settle(packets: &mut SentPackets, connection: &Connection, event: &Event, is_new: bool)
+pub(crate) fn settle(
+    packets: &mut SentPackets,
+    connection: &Connection,
+    event: &Event,
+    is_new: bool,
+)
     requires next { IsOnceSent packets.old event.now }
     ensures { (c : Settings) (h : List AnEvent) → StandsOnceSent packets.old c event.now h → IsMeasured connection.now c (event.now ∷ h)
         → IsRun c (event.now ∷ h) → is_new ≡ acknowledges_new (event.now ∷ h) → StandsFor packets.new c (event.now ∷ h) }
@@ -155,7 +160,9 @@ fn is_persistent(packets: &SentPackets, connection: &Connection) -> bool
     match connection.rtt.first_rtt_sample {
         None => false,
         Some(first) => {
-            let limit = connection.rtt.persistent_after(peer_delay(&connection.header));
+            let limit = connection
+                .rtt
+                .persistent_after(peer_delay(&connection.header));
             packets.is_persistent(limit, first)
         }
     }
