@@ -12,6 +12,8 @@ mod event;
 mod handshake;
 mod sampling;
 mod spaces;
+#[cfg(test)]
+mod tests;
 mod timeouts;
 
 pub use connection::{Connection, Outcome};
