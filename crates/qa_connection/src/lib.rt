@@ -16,6 +16,7 @@ mod spaces;
 mod tests;
 mod timeouts;
 
-pub use connection::{Connection, Outcome};
+pub use congestion::Outcome;
+pub use connection::Connection;
 pub use deadline::{OpenInSpace, OpenPackets};
 pub use spaces::{SpaceState, Spaces};
