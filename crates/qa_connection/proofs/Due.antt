@@ -1,13 +1,12 @@
 -- The deadline from what is kept is that of the history.
-use Rattle.std.proofs.Common.{◌≡◌, ◌∙◌, ◌≤◌, ◌+◌, ◌*◌, ◌^◌, ◌||◌, ℕ, min, List, Bool, true, false, Option, Some, None, option_map, refl, sym, ap, arith}
+use Rattle.std.proofs.Common.{◌≡◌, ◌≤◌, ◌+◌, ◌*◌, ◌^◌, ℕ, min, List, Bool, Option, None, option_map, refl, ap, arith}
 use Rattle.std.specs.List.{list_any}
-use Rattle.std.specs.Option.{option_or}
 use Rattle.std.specs.Prelude.{if◌then◌else◌}
 use Rattle.qa_base.specs.declared.event.Event.{Event}
 use Rattle.qa_base.specs.declared.space.Kind.TheVariants.{Pto}
 use Rattle.qa_base.specs.declared.space.Space.{Space}
 use Rattle.qa_base.specs.declared.space.Space.TheVariants.{Initial, Handshake, App}
-use Rattle.qa_base.specs.machine.Handshake.{has_keys, is_confirmed, is_validated}
+use Rattle.qa_base.specs.machine.Handshake.{has_keys, is_validated}
 use Rattle.qa_base.specs.machine.Packets.{largest_acknowledged, packets_of}
 use Rattle.qa_base.specs.machine.Rtt.{Estimate, pto_base, rtt}
 use Rattle.qa_base.specs.machine.Timer.{Due, anti_deadlock, awaits_acknowledgment, backoff, earlier, earliest_loss, earliest_pto, last_eliciting, last_set}

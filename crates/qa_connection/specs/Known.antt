@@ -17,7 +17,7 @@ use Rattle.qa_base.specs.values.Settings.{Settings}
 use Rattle.qa_connection.specs.Spaces.{state_of}
 use Rattle.qa_connection.specs.Steps.{last_sent}
 use Rattle.qa_connection.specs.declared.connection.Connection.{Connection}
-use Rattle.qa_connection.specs.declared.connection.Outcome.{Outcome}
+use Rattle.qa_connection.specs.declared.congestion.Outcome.{Outcome}
 use Rattle.qa_sent.specs.Told.{sent_of}
 use Rattle.qa_sent.specs.declared.packet.SentPacket.{SentPacket}
 

@@ -14,6 +14,15 @@ use qa_sent::SentPacket;
 /// The greatest window that grows, 2^62 bytes. No run reaches it: its window is below 2^49.
 const GREATEST_WINDOW: u64 = 4_611_686_018_427_387_904;
 
+/// What an event found lost (RFC 9002, A.10).
+#[derive(Clone, Copy, Debug, PartialEq, Eq)]
+pub struct Outcome {
+    /// When the last packet was sent that it found lost, where it found one.
+    pub last_owed: Option<Micros>,
+    /// Whether they establish persistent congestion (section 7.6).
+    pub is_persistent: bool,
+}
+
 /// The window at the start.
 pub(crate) fn start(header: &Header) -> Reno
     ensures { result ≡ moves.start header.now.initial_window }
@@ -112,14 +121,13 @@ pub(crate) fn reno_after(
     reno: Reno,
     event: &Event,
     packets: &[SentPacket],
-    last_owed: Option<Micros>,
-    is_persistent: bool,
+    outcome: Outcome,
 ) -> Reno
     ensures range { AreInRange header.now }
-    ensures value { result ≡ steps.reno_after header.now.max_datagram_size reno event.now packets.now last_owed is_persistent }
+    ensures value { result ≡ steps.reno_after header.now.max_datagram_size reno event.now packets.now outcome.last_owed outcome.is_persistent }
 {
     let max_datagram_size = header.max_datagram_size();
-    let reno = hit(reno, last_owed, time_of(event), max_datagram_size);
-    let reno = collapsed(reno, is_persistent, max_datagram_size);
+    let reno = hit(reno, outcome.last_owed, time_of(event), max_datagram_size);
+    let reno = collapsed(reno, outcome.is_persistent, max_datagram_size);
     grown_unless_limited(reno, event, packets, max_datagram_size)
 }

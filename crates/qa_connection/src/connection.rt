@@ -5,6 +5,7 @@ ghost use Rattle.qa_base.specs.machine.Handshake.{is_validated};
 ghost use Rattle.qa_base.specs.values.Settings.{Settings};
 ghost use Rattle.qa_connection.specs.Known.{IsBegun, IsOf, IsOutcome, IsProperRun, acknowledged_by};
 
+use crate::congestion::Outcome;
 use crate::event::time_of;
 use crate::spaces::Spaces;
 use crate::{allowances, congestion, handshake, sampling, timeouts};
@@ -47,15 +48,6 @@ pub struct Connection {
     pub recovery_spent: Option<u64>,
     /// What is kept of each packet number space.
     pub spaces: Spaces,
-}
-
-/// What an event found lost (RFC 9002, A.10).
-#[derive(Clone, Copy, Debug, PartialEq, Eq)]
-pub struct Outcome {
-    /// When the last packet was sent that it found lost, where it found one.
-    pub last_owed: Option<Micros>,
-    /// Whether they establish persistent congestion (section 7.6).
-    pub is_persistent: bool,
 }
 
 impl Connection {
@@ -121,14 +113,7 @@ impl Connection {
             handshake_acknowledged,
             has_keys: handshake::has_keys_after(self.has_keys, event),
             rtt: self.rtt,
-            reno: congestion::reno_after(
-                &self.header,
-                self.reno,
-                event,
-                acknowledged,
-                outcome.last_owed,
-                outcome.is_persistent,
-            ),
+            reno: congestion::reno_after(&self.header, self.reno, event, acknowledged, outcome),
             pto_count: timeouts::pto_count_after(self.pto_count, event, resets),
             last_set: timeouts::last_set_after(self.last_set, event, is_new),
             probe_spent: allowances::probe_spent_after(self.probe_spent, event),

@@ -27,8 +27,11 @@ pub struct OpenInSpace {
 /// What the timer asks of the open packets.
 #[derive(Clone, Copy, Debug, PartialEq, Eq)]
 pub struct OpenPackets {
+    /// Of those of the Initial space.
     pub initial: OpenInSpace,
+    /// Of those of the Handshake space.
     pub handshake: OpenInSpace,
+    /// Of those of the application data space.
     pub app: OpenInSpace,
 }
 

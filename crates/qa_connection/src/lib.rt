@@ -12,8 +12,11 @@ mod event;
 mod handshake;
 mod sampling;
 mod spaces;
+#[cfg(test)]
+mod tests;
 mod timeouts;
 
-pub use connection::{Connection, Outcome};
+pub use congestion::Outcome;
+pub use connection::Connection;
 pub use deadline::{OpenInSpace, OpenPackets};
 pub use spaces::{SpaceState, Spaces};

@@ -23,8 +23,11 @@ pub struct SpaceState {
 /// What is kept of each packet number space.
 #[derive(Clone, Copy, Debug, PartialEq, Eq)]
 pub struct Spaces {
+    /// Of the Initial space.
     pub initial: SpaceState,
+    /// Of the Handshake space.
     pub handshake: SpaceState,
+    /// Of the application data space.
     pub app: SpaceState,
 }
 
