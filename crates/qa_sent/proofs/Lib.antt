@@ -2,6 +2,8 @@ pub mod Alike
 pub mod Covered
 pub mod Declared
 pub mod Detected
+pub mod Discarded
+pub mod Dropped
 pub mod Entries
 pub mod Numbers
 pub mod Opened

@@ -1,4 +1,5 @@
 pub mod Detection
+pub mod Dropping
 pub mod Fates
 pub mod Held
 pub mod Owing

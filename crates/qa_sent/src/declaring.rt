@@ -19,6 +19,7 @@ impl SentPackets {
         let part = self.owed_part();
         declare_in(&mut self.packets, part);
         self.losses.count = 0;
+        self.losses.to = self.losses.from;
     }
 }
 

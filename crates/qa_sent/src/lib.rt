@@ -7,6 +7,8 @@ mod advancing;
 mod covering;
 mod declaring;
 mod detecting;
+mod discarding;
+mod dropping;
 mod fate;
 mod lane;
 mod naming;

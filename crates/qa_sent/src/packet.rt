@@ -23,7 +23,7 @@ pub struct SentPacket {
 
 impl SentPacket {
     ghost use Rattle.std.specs.Prelude.{◌≡◌};
-    ghost use Rattle.qa_sent.specs.Fates.{flight_bytes, is_flying, is_open, is_owed};
+    ghost use Rattle.qa_sent.specs.Fates.{flight_bytes, is_closed, is_flying, is_open, is_owed, is_waiting};
     ghost use Rattle.qa_sent.specs.Lanes.{awaiting_count};
 
     /// Whether it is open.
@@ -38,6 +38,20 @@ impl SentPacket {
         ensures { result ≡ is_owed self.now.fate }
     {
         self.fate == Fate::Owed
+    }
+
+    /// Whether it is neither open nor owed.
+    pub(crate) fn is_closed(&self) -> bool
+        ensures { result ≡ is_closed self.now }
+    {
+        !self.is_open() && !self.is_owed()
+    }
+
+    /// Whether it is of the space, and an acknowledgment would still cover it.
+    pub(crate) fn waits_in(&self, space: Space) -> bool
+        ensures { result ≡ is_waiting space self.now }
+    {
+        self.space == space && self.fate != Fate::Covered && self.fate != Fate::Discarded
     }
 
     /// Whether it is of the space, open and in flight.
