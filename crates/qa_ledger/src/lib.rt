@@ -10,4 +10,5 @@ mod whole;
 
 pub use ledger::{Ledger, LedgerFault};
 pub use qa_plain as plain;
+pub use qa_ranges as ranges;
 pub use whole::Whole;
