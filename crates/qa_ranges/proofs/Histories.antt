@@ -1,7 +1,9 @@
 -- Sets that stand for the numbers of the packets that were sent.
-use Rattle.std.proofs.Common.{◌≡◌, ℕ, ◌≤◌, Bool, true, false, ◌&&◌, ◌||◌, List, [], ◌∷◌, length, map, filter, Option, Some, None, refl, sym, ◌∙◌, ap, arith, inl, inr, ◌↔◌, IsTrue, nat_eq, nat_le}
+use Rattle.std.proofs.Common.{◌≡◌, ℕ, ◌+◌, ◌≤◌, Bool, true, false, ◌&&◌, ◌||◌, not, List, [], ◌∷◌, length, map, filter, Option, Some, None, refl, sym, ◌∙◌, ap, arith, inl, inr, ◌↔◌, IsTrue, nat_eq, nat_le}
 use Rattle.std.specs.List.{AllByRecursion, list_any}
 use Rattle.std.proofs.lemmas.Bool.{cases_Bool, and_parts, and_from, or_cases, or_left, or_right, or_from, eqb-true, eq-eqb, ne_eqb, both_ways, false_from_ne_true, le-leb, lt-leb, leb-true, leb-false}
+use Rattle.std.proofs.lemmas.List.{length-map}
+use Rattle.std.proofs.lemmas.List.Sums.{count_by-le-length}
 use Rattle.qa_base.specs.declared.event.Event.{Event}
 use Rattle.qa_base.specs.declared.event.Event.TheVariants.{Sent, Ack, Lost, Timer, Discard, Confirmed, Keys, Metrics}
 use Rattle.qa_base.specs.declared.space.Space.{Space}
@@ -146,6 +148,27 @@ numbers_distinct c h s run = distinct_of s (packets h) (numbers_fall c h run)
 -- a set has as many runs as were sent in the space
 pub runs_are : (c : Settings) (h : List Event) (s : Space) (sets : BySpace) → IsRun c h → AreSent sets h → AreApart (runs_in sets s) → length (runs_in sets s) ≡ runs_of h s
 runs_are c h s sets run sent apart = counted (runs_in sets s) (numbers_of h s) apart (sent.each s) (numbers_distinct c h s run)
+
+-- each event sends one packet at most
+sent_at_most : (h : List Event) → length (packets_of h Initial) + length (packets_of h Handshake) + length (packets_of h App) ≤ length h
+sent_at_most [] = omega arith
+sent_at_most (Sent time Initial number size eliciting in_flight leave ∷ h) = (let rest = sent_at_most h in omega arith)
+sent_at_most (Sent time Handshake number size eliciting in_flight leave ∷ h) = (let rest = sent_at_most h in omega arith)
+sent_at_most (Sent time App number size eliciting in_flight leave ∷ h) = (let rest = sent_at_most h in omega arith)
+sent_at_most (Ack time space ranges delay limited ∷ h) = (let rest = sent_at_most h in omega arith)
+sent_at_most (Lost time space ranges ∷ h) = (let rest = sent_at_most h in omega arith)
+sent_at_most (Timer time kind space ∷ h) = (let rest = sent_at_most h in omega arith)
+sent_at_most (Discard time space ∷ h) = (let rest = sent_at_most h in omega arith)
+sent_at_most (Confirmed time ∷ h) = (let rest = sent_at_most h in omega arith)
+sent_at_most (Keys time ∷ h) = (let rest = sent_at_most h in omega arith)
+sent_at_most (Metrics time values ∷ h) = (let rest = sent_at_most h in omega arith)
+
+runs_of_at_most : (h : List Event) (s : Space) → runs_of h s ≤ length (packets_of h s)
+runs_of_at_most h s = omega (arith, count_by-le-length (λ n. not (is_in (numbers_of h s) (n + 1))) (numbers_of h s), length-map (packets_of h s) (λ p. p.number))
+
+-- there are no more runs than events
+pub runs_at_most : (h : List Event) → runs h ≤ length h
+runs_at_most h = omega (arith, sent_at_most h, runs_of_at_most h Initial, runs_of_at_most h Handshake, runs_of_at_most h App)
 
 -- ---- one event more
 

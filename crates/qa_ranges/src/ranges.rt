@@ -74,6 +74,7 @@ impl Ranges {
 
     /// How many runs of consecutive numbers the set has, none of which can be made longer. The set
     /// keeps that many spans.
+    #[tactic(auto, using(crate::proofs::Counts::counted))]
     pub fn runs(&self) -> u64
         ensures kept { result ≡ length self.now }
         ensures maximal { AreApart self.now }
@@ -83,6 +84,7 @@ impl Ranges {
     }
 
     /// The greatest number of the set, or None where it is empty.
+    #[tactic(auto, using(crate::proofs::Sets::greatest_is_last))]
     pub fn greatest(&self) -> Option<PacketNumber>
         ensures { IsGreatest self.now result }
     {
@@ -117,7 +119,7 @@ fn is_within(span: Span, run: Span) -> bool
 fn joined(a: Span, b: Span) -> Span
     ensures { result ≡ defined.joined a b }
 {
-    Span::new(a.lo().min(b.lo()), a.hi().max(b.hi())).unwrap_or(a)
+    Span::new(a.lo().min(b.lo()), a.hi().max(b.hi())).unwrap()
 }
 
 /// How many runs end before the number with one missing between them.

@@ -1,5 +1,5 @@
 //! The numbers of the packets that were sent, as a set for each packet number space.
-ghost use Rattle.std.specs.Prelude.{◌≡◌, ◌≤◌, ◌+◌, ℕ, List, [], ◌∷◌, length, OnOk, OnErr};
+ghost use Rattle.std.specs.Prelude.{◌≡◌, ◌≤◌, ◌<◌, ◌+◌, ◌^◌, ℕ, List, [], ◌∷◌, length, OnOk, OnErr};
 ghost use Rattle.qa_base.specs.declared.event.Event.{Event as AnEvent};
 ghost use Rattle.qa_base.specs.declared.space.Space.TheVariants.{Initial, Handshake, App};
 ghost use Rattle.qa_base.specs.machine.Breaches as breaches;
@@ -61,10 +61,9 @@ impl SentNumbers {
     pub fn has_at_or_above(&self, space: Space, number: PacketNumber) -> bool
         ensures { (h : List AnEvent) → AreSent self.now h → result ≡ breaches.has_at_or_above space number h }
     {
-        match self.of_space(space).greatest() {
-            Some(greatest) => number <= greatest,
-            None => false,
-        }
+        self.of_space(space)
+            .greatest()
+            .is_some_and(|greatest| number <= greatest)
     }
 
     /// Whether each number of the ranges was sent in the space.
@@ -106,11 +105,13 @@ impl SentNumbers {
         }
     }
 
-    /// How many runs of consecutive numbers were sent, in all spaces: the spans that it keeps.
+    /// How many runs of consecutive numbers were sent, in all spaces: the spans that it keeps. Of a
+    /// run there are no more than events.
     pub fn runs(&self) -> u128
         ensures kept { result ≡ length (runs_in self.now Initial) + length (runs_in self.now Handshake) + length (runs_in self.now App) }
         ensures sent { (c : Settings) (h : List AnEvent) → IsRun c h → AreSent self.now h → result ≡ kept.runs h }
-        ensures bound { result ≤ 55340232221128654845 }
+        ensures small { result < 2 ^ 66 }
+        ensures bound { (c : Settings) (h : List AnEvent) → IsRun c h → AreSent self.now h → result ≤ length h }
     {
         u128::from(self.initial.runs())
             + u128::from(self.handshake.runs())
