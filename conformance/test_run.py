@@ -84,9 +84,9 @@ text, status = verdict({lines})
 sys.stdout.write(text)
 sys.exit(status)
 """
-# Allocates as often as it is told to, and ends as it is told to where an allocation is refused.
+# Allocates as often as it is told to, and ends as it is told to where an allocation is refused. Else it writes what
+# the subcommand is to write, for one trace or two.
 ALLOCATES = """
-#include <stdio.h>
 #include <stdlib.h>
 #include <unistd.h>
 static int put(int stream, const char *text)
@@ -96,18 +96,32 @@ static int put(int stream, const char *text)
         length++;
     return write(stream, text, length) == (ssize_t)length;
 }
+static int without_memory(void)
+{
+    put(2, "qaudit: out of memory\\n");
+    return 3;
+}
+static int report(void)
+{
+    return put(1, "accepted\\nevents 0\\n");
+}
 int main(int count, char **arguments)
 {
-    const char *first = arguments[1][0] == 'e' ? "line 1 header\\n" : "";
     for (int i = 0; i < %(allocations)d; i++) {
-        if (i == 5)
-            put(1, first);
+        if (i == 5 && arguments[1][0] == 'e')
+            put(1, "line 1 header\\n");
         volatile char *block = malloc(16);
         if (!block) {
             %(refused)s;
         }
     }
-    return put(1, "accepted\\nevents 0\\n") ? 0 : 3;
+    if (arguments[1][0] == 'a') {
+        put(2, "usage: qaudit check [FILE...] or qaudit explain [FILE]\\n");
+        return 64;
+    }
+    if (count == 4)
+        return !(put(1, "file a\\n") && report() && put(1, "file b\\n") && report());
+    return !report();
 }
 """
 USAGE_CASE = {
@@ -539,42 +553,40 @@ class RefusalsTest(RunnerCase):
         source.write_text(ALLOCATES % {"allocations": allocations, "refused": refused})
         subprocess.run([os.environ.get("CC", "cc"), "-o", self.program, source], check=True)
 
+    def assert_first_failure(self, text):
+        failure, *_others = self.lines(1)
+        self.assertTrue(failure.startswith(f"FAILED refusals: check{text}"), failure)
+
     def test_right_program(self):
-        self.compile_program('put(2, "qaudit: out of memory\\n"); return 3')
-        self.assert_passes(48)
+        self.compile_program("return without_memory()")
+        self.assert_passes(96)
 
     def test_no_program(self):
         self.assert_fails(str(self.program))
 
     def test_program_that_allocates_nothing(self):
-        self.compile_program("return 3", allocations=0)
-        *failures, _last = self.lines(1)
-        self.assertIn("FAILED refusals/check: no run was out of memory", failures)
+        self.compile_program("return without_memory()", allocations=0)
+        self.assert_first_failure(": no run was out of memory")
 
     def test_program_that_allocates_more_often_than_was_tried(self):
-        self.compile_program('put(2, "qaudit: out of memory\\n"); return 3', allocations=13)
-        *failures, _last = self.lines(1)
-        self.assertIn("FAILED refusals/check: it has more than 12 allocations", failures)
+        self.compile_program("return without_memory()", allocations=13)
+        self.assert_first_failure(": it has more than 12 allocations")
 
     def test_program_that_ignores_a_refusal(self):
-        self.compile_program('put(1, "unreadable\\n"); return 2')
-        *failures, _last = self.lines(1)
-        self.assertIn("FAILED refusals/check without allocation 1: status 2, wanted 0", failures[0])
+        self.compile_program('return put(1, "unreadable\\n")')
+        self.assert_first_failure(" without allocation 1: status 1, wanted 0; standard output b'unreadable\\n', wanted ")
 
     def test_program_that_crashes(self):
         self.compile_program("*block = 1")
-        *failures, _last = self.lines(1)
-        self.assertIn("FAILED refusals/check without allocation 1: status -11, wanted 0", failures[0])
+        self.assert_first_failure(" without allocation 1: status -11, wanted 0")
 
     def test_program_that_writes_a_part_of_its_report(self):
-        self.compile_program('put(1, "accepted\\n"); put(2, "qaudit: out of memory\\n"); return 3')
-        *failures, _last = self.lines(1)
-        self.assertIn("standard output b'accepted\\n', wanted b''", failures[0])
+        self.compile_program('put(1, "accepted\\n"); return without_memory()')
+        self.assert_first_failure(" without allocation 1: status 3")
 
     def test_program_that_says_nothing(self):
         self.compile_program("return 3")
-        *failures, _last = self.lines(1)
-        self.assertIn("standard error b'', wanted b'qaudit: out of memory\\n'", failures[0])
+        self.assert_first_failure(" without allocation 1: status 3, wanted 0")
 
 
 if __name__ == "__main__":
