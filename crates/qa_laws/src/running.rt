@@ -10,7 +10,7 @@ ghost use Rattle.qa_base.specs.declared.space.Space.TheVariants as spaces;
 ghost use Rattle.qa_base.specs.machine.Breaches.{has_at_or_above};
 ghost use Rattle.qa_base.specs.machine.Kept.{is_kept, kept_count, numbers_of, runs};
 ghost use Rattle.qa_base.specs.machine.Loss.{bytes_in_flight, detection, is_late, is_open, is_owed, is_persistent, owed};
-ghost use Rattle.qa_base.specs.machine.Packets.{Packet, packet_of, packets, greatest, is_covered, is_gone, is_lost, is_newly_acknowledged, is_of, largest_acknowledged, newly_acknowledged, packets_of};
+ghost use Rattle.qa_base.specs.machine.Packets.{Packet, packet_of, packets, greatest, is_covered, is_gone, is_lost, is_newly_acknowledged, is_of, is_some_packet, largest_acknowledged, newly_acknowledged, packets_of};
 ghost use Rattle.qa_base.specs.machine.Reno.{latest_sent};
 ghost use Rattle.qa_base.specs.machine.Rtt.{Estimate, persistent_after, rtt};
 ghost use Rattle.qa_base.specs.machine.Rules.{IsRun};
@@ -193,7 +193,8 @@ pub fn latest_packets_decide()
 
 /// As many packets of a history are of use as were sent since the first that is open or owed. In a run a
 /// packet that is of no use is of none after one more event, so that what is of use after an event that
-/// sends nothing is found among what was, and is no more. A packet that is sent is one more.
+/// sends nothing is found among what was, and is no more. It is as much where that is no acknowledgment,
+/// timer or discard, and nothing was owed. A packet that is sent is one more.
 pub fn kept_after_an_event()
     ensures is { (c : Settings) (h : List Event) → kept_count c h ≡ length (from_first (is_kept c h) (reverse (packets h))) }
     ensures dropped { (c : Settings) (e : Event) (h : List Event) → IsRun c (e ∷ h) → (p : Packet) → Contains (packets h) p
@@ -206,6 +207,8 @@ pub fn kept_after_an_event()
         → kept_count c (e ∷ h) ≡ length (from_first (is_kept c (e ∷ h)) kept) }
     ensures falls { (c : Settings) (e : Event) (h : List Event) → IsRun c (e ∷ h) → packet_of (length h) e ≡ []
         → kept_count c (e ∷ h) ≤ kept_count c h }
+    ensures stays { (c : Settings) (e : Event) (h : List Event) → IsRun c (e ∷ h) → is_quiet e ≡ true → packet_of (length h) e ≡ []
+        → is_some_packet (owed c h) ≡ false → kept_count c (e ∷ h) ≡ kept_count c h }
 {}
 
 /// In a run a packet that is sent begins one run of numbers more, unless the number before its own was

@@ -6,17 +6,19 @@ use Rattle.std.proofs.lemmas.List.Elements.{Contains-append_left, Contains-appen
 use Rattle.std.specs.List.{AllByRecursion}
 use Rattle.std.specs.Prelude.{if◌then◌else◌}
 use Rattle.qa_base.specs.declared.event.Event.{Event}
-use Rattle.qa_base.specs.declared.event.Event.TheVariants.{Sent}
+use Rattle.qa_base.specs.declared.event.Event.TheVariants.{Sent, Ack, Timer, Discard}
 use Rattle.qa_base.specs.declared.space.Leave.{Leave}
 use Rattle.qa_base.specs.declared.space.Space.{Space}
 use Rattle.qa_base.specs.machine.Kept.{is_kept, kept_count}
-use Rattle.qa_base.specs.machine.Loss.{is_open, is_owed}
-use Rattle.qa_base.specs.machine.Packets.{Packet, packets, packet_of}
+use Rattle.qa_base.specs.machine.Loss.{is_open, is_owed, owed}
+use Rattle.qa_base.specs.machine.Packets.{Packet, packets, packet_of, is_some_packet, is_newly_acknowledged}
 use Rattle.qa_base.specs.machine.Rules.{IsRun}
+use Rattle.qa_base.specs.values.Events.{is_quiet}
 use Rattle.qa_base.specs.values.Settings.{Settings}
 use Rattle.qa_base.proofs.machine.RunLaws.{all_hold}
 use Rattle.qa_base.proofs.machine.WindowBound.{each_append}
 use Rattle.qa_laws.specs.machine.Parts.{AreDropped, BeginsKept}
+use Rattle.qa_laws.specs.machine.Sums.{is_discarded_by}
 use Rattle.qa_laws.specs.machine.Useful.{from_first}
 use Rattle.qa_laws.proofs.machine.Changes.{not_owed_now, owed_was_flying}
 use Rattle.qa_laws.proofs.machine.Closing.{sent_is_open}
@@ -106,18 +108,46 @@ kept_falls c e h run none =
     let less = fewer (is_kept c (e ∷ h)) kept in
     omega (arith, before, after, less)
 
+-- ---- an event that changes nothing
+
+-- two tests that agree at each packet find the same rest
+same_rest : (f g : Packet → Bool) (ps : List Packet) → AllByRecursion (λ p. f p ≡ g p) ps → from_first f ps ≡ from_first g ps
+same_rest f g [] same = refl
+same_rest f g (p ∷ ps) same = rw (same.0, same_rest f g ps same.1) refl
+
+-- an event neither newly acknowledges the packet, nor finds it lost, nor discards it
+abbrev LeavesIt : Settings → Event → List Event → Packet → Type 0
+LeavesIt c e h p = (is_newly_acknowledged e h p ≡ false) × (is_owed c (e ∷ h) p ≡ false) × (is_discarded_by c e h p ≡ false)
+
+quiet_leaves : (c : Settings) (e : Event) (h : List Event) (p : Packet) → is_quiet e ≡ true → LeavesIt c e h p
+quiet_leaves c (Ack time space ranges delay limited) h p quiet = cc
+quiet_leaves c (Timer time kind space) h p quiet = cc
+quiet_leaves c (Discard time space) h p quiet = cc
+quiet_leaves c _ h p quiet = (refl, refl, refl)
+
+same_with : (is was owed_now owed_then : Bool) → is ≡ was → owed_now ≡ false → owed_then ≡ false → (is || owed_now) ≡ (was || owed_then)
+same_with is was owed_now owed_then same free freed = rw (same, free, freed) refl
+
+-- in a run a quiet event, before which nothing is owed, leaves of use what was
+quiet_use : (c : Settings) (e : Event) (h : List Event) → IsRun c (e ∷ h) → is_quiet e ≡ true → is_some_packet (owed c h) ≡ false
+    → (p : Packet) → Contains (packets h) p → is_kept c (e ∷ h) p ≡ is_kept c h p
+quiet_use c e h run quiet none p has =
+    let closes = quiet_leaves c e h p quiet in
+    same_with (is_open c (e ∷ h) p) (is_open c h p) (is_owed c (e ∷ h) p) (is_owed c h p)
+    (stays_open c e h run p has closes.0 closes.1 closes.2) closes.1 (not_owed_now c e h p has none)
+
+-- so where it sends nothing as much is of use as before
+pub kept_stays : (c : Settings) (e : Event) (h : List Event) → IsRun c (e ∷ h) → is_quiet e ≡ true → packet_of (length h) e ≡ [] → is_some_packet (owed c h) ≡ false
+    → kept_count c (e ∷ h) ≡ kept_count c h
+kept_stays c e h run quiet none free =
+    let ps = reverse (packets h) in
+    let same : packets (e ∷ h) ≡ packets h = ap (λ (qs : List Packet). qs ++ packets h) none in
+    let tests : AllByRecursion (λ p. is_kept c (e ∷ h) p ≡ is_kept c h p) ps =
+    of_each (λ p. is_kept c (e ∷ h) p ≡ is_kept c h p) ps (λ p has. quiet_use c e h run quiet free p (turned_has (packets h) p has)) in
+    kept_is c (e ∷ h) ∙ (ap (λ (qs : List Packet). length (from_first (is_kept c (e ∷ h)) (reverse qs))) same
+    ∙ (ap length (same_rest (is_kept c (e ∷ h)) (is_kept c h) ps tests) ∙ sym (kept_is c h)))
+
 -- ---- a packet that is sent
-
-same_after : (is was owed_then : Bool) → is ≡ was → owed_then ≡ false → (is || false) ≡ (was || owed_then)
-same_after is was owed_then same none = rw (same, none) refl
-
--- a packet that is sent leaves what is of use
-same_use : (c : Settings) (h : List Event) (time : ℕ) (space : Space) (number size : ℕ) (eliciting in_flight : Bool) (leave : Leave) → IsRun c (Sent time space number size eliciting in_flight leave ∷ h)
-    → (p : Packet) → Contains (packets h) p → is_kept c (Sent time space number size eliciting in_flight leave ∷ h) p ≡ is_kept c h p
-same_use c h time space number size eliciting in_flight leave run p has =
-    let e = Sent time space number size eliciting in_flight leave in
-    same_after (is_open c (e ∷ h) p) (is_open c h p) (is_owed c h p) (stays_open c e h run p has refl refl refl)
-    (not_owed_now c e h p has (all_hold c h e run.1).loss_owed)
 
 begins_sent : (c : Settings) (g h : List Event) (p : Packet) (kept : List Packet) → is_kept c g p ≡ true → ((q : Packet) → Contains kept q → is_kept c g q ≡ is_kept c h q) → BeginsKept c h kept
     → BeginsKept c g (kept ++ p ∷ [])
@@ -146,5 +176,5 @@ kept_sent c h time space number size eliciting in_flight leave run =
     let opens = sent_is_open c h time space number size eliciting in_flight leave p refl refl (all_hold c h e run.1).space_gone in
     let is : is_kept c (e ∷ h) p ≡ true = or_left (is_open c (e ∷ h) p) (is_owed c (e ∷ h) p) opens in
     kept_count_is c (e ∷ h) all.0 (kept ++ p ∷ []) split (front_stays c e h run all.0 kept all.1 all.2)
-    (begins_sent c (e ∷ h) h p kept is (λ q has. same_use c h time space number size eliciting in_flight leave run q (rest_has h all.0 kept all.1 q has)) (begins c h (reverse (packets h))))
+    (begins_sent c (e ∷ h) h p kept is (λ q has. quiet_use c e h run refl (all_hold c h e run.1).loss_owed q (rest_has h all.0 kept all.1 q has)) (begins c h (reverse (packets h))))
     ∙ (length-append kept (p ∷ []) ∙ ap (λ n. n + 1) (sym (kept_is c h)))

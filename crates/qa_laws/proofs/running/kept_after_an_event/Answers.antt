@@ -8,4 +8,5 @@ returns c = record {
   sent = useful.kept_sent;
   other = useful.kept_after;
   falls = useful.kept_falls;
+  stays = useful.kept_stays;
 }
