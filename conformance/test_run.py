@@ -363,11 +363,11 @@ class AuditorTest(RunnerCase):
     def test_streams_that_fail_once_reach_the_program(self):
         self.write_program(
             "import os\nfailed = 0\ntry:\n os.read(0, 9)\nexcept OSError:\n failed += 1\n"
-            "try:\n os.write(1, b'lost')\nexcept OSError:\n failed += 1\n"
-            "os.write(1, os.read(0, 9) + os.read(0, 9))\nos._exit(failed)\n"
+            "for stream in (1, 2):\n try:\n  os.write(stream, b'lost')\n except OSError:\n  failed += 1\n"
+            "os.write(1, os.read(0, 9) + os.read(0, 9))\nos.write(2, b'told')\nos._exit(failed)\n"
         )
-        case = {**USAGE_CASE, "input": {"fails once": "a line"}, "output": "fails once"}
-        self.write_cases([{**case, "status": 2, "stdout": "a line", "stderr": ""}])
+        case = {**USAGE_CASE, "input": {"fails once": "a line"}, "output": "fails once", "error": "fails once"}
+        self.write_cases([{**case, "status": 3, "stdout": "a line", "stderr": "told"}])
         *failures, last = self.lines(1)
         self.assertFalse([line for line in failures if line.startswith("FAILED streams/")], failures)
         self.assertTrue(last.startswith("1 passed"), last)
