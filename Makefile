@@ -1,5 +1,5 @@
 # What this repository is built, tested and installed with.
-# It needs `rt`, which proves and builds Rattle crates, and Python 3.
+# It needs `rt`, which proves and builds Rattle crates, and Python 3; `make test` also needs a C compiler.
 
 PREFIX ?= /usr/local
 DESTDIR ?=
@@ -40,7 +40,9 @@ test:
 	python3 conformance/test_simulate.py
 	python3 conformance/lines/make.py --check
 	conformance/run $(program)
-	conformance/simulate $(program)
+	conformance/simulate $(program) $(program_by_one_byte)
+	conformance/large $(program)
+	conformance/refusals $(program)
 	conformance/run --traces $(program_by_one_byte)
 	conformance/run --lines $(program_of_lines)
 

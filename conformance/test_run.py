@@ -1,18 +1,19 @@
 #!/usr/bin/env python3
-"""Shows that conformance/run passes what is right and fails what is not.
+"""Shows that conformance/run, large and refusals pass what is right and fail what is not.
 
-Each test gives the runner a small corpus of its own and a fake program, both
+Each test gives a runner a small corpus of its own and a fake program, both
 in a temporary folder.
 """
 
 import json
+import os
 import subprocess
 import sys
 import tempfile
 import unittest
 from pathlib import Path
 
-RUNNER = Path(__file__).resolve().parent / "run"
+RUNNERS = Path(__file__).resolve().parent
 TRACE = b"a line\nanother line\n"
 REPORT = b"accepted\nevents 0\n"
 EXPLANATION = b"line 1 header\n" + REPORT
@@ -58,6 +59,71 @@ for name in sys.argv[1:]:
     except OSError as error:
         sys.stderr.write(f"{error.errno}\\n")
 """
+TOTALS_OF_START = (
+    b"window 12000\nssthresh none\nbytes_in_flight 0\nlatest_rtt 0\nmin_rtt 0\nsmoothed_rtt 333000\nrttvar 166500\n"
+    b"pto_count 0\nowed 0\n"
+)
+# Reads line by line, to the first that is no blank one; a header may be followed by any events.
+READS_LINES = f"""
+import sys
+TOTALS = {TOTALS_OF_START.decode()!r}
+""" + """
+def verdict(lines):
+    number = 0
+    for line in lines:
+        number += 1
+        if len(line.rstrip(b"\\n")) > 65536:
+            return "unreadable line %d F8 line-too-long\\n" % number, 2
+        if line.startswith(b"{}"):
+            return "unreadable line %d F3 missing event\\n" % number, 2
+        if line.strip():
+            return "accepted\\nevents %d\\n" % sum(1 for more in lines if more.strip()) + TOTALS, 0
+"""
+ANSWERS = """
+text, status = verdict({lines})
+sys.stdout.write(text)
+sys.exit(status)
+"""
+# Allocates as often as it is told to, and ends as it is told to where an allocation is refused. Else it writes what
+# the subcommand is to write, for one trace or two.
+ALLOCATES = """
+#include <stdlib.h>
+#include <unistd.h>
+static int put(int stream, const char *text)
+{
+    size_t length = 0;
+    while (text[length])
+        length++;
+    return write(stream, text, length) == (ssize_t)length;
+}
+static int without_memory(void)
+{
+    put(2, "qaudit: out of memory\\n");
+    return 3;
+}
+static int report(void)
+{
+    return put(1, "accepted\\nevents 0\\n");
+}
+int main(int count, char **arguments)
+{
+    for (int i = 0; i < %(allocations)d; i++) {
+        if (i == 5 && arguments[1][0] == 'e')
+            put(1, "line 1 header\\n");
+        volatile char *block = malloc(16);
+        if (!block) {
+            %(refused)s;
+        }
+    }
+    if (arguments[1][0] == 'a') {
+        put(2, "usage: qaudit check [FILE...] or qaudit explain [FILE]\\n");
+        return 64;
+    }
+    if (count == 4)
+        return !(put(1, "file a\\n") && report() && put(1, "file b\\n") && report());
+    return !report();
+}
+"""
 USAGE_CASE = {
     "name": "no-arguments", "arguments": [], "input": {"file": ""}, "status": 64, "stdout": "", "stderr": "usage\n"
 }
@@ -66,7 +132,9 @@ USAGE_CASE = {
 class RunnerCase(unittest.TestCase):
     """A runner of a part of the corpus, which begins as a corpus that a right program passes."""
 
+    runner = "run"
     part = ()
+    more = ()
 
     def setUp(self):
         folder = tempfile.TemporaryDirectory()
@@ -86,7 +154,7 @@ class RunnerCase(unittest.TestCase):
 
     def lines(self, status):
         """Runs the runner, which must end with this status, and answers what it printed."""
-        command = [sys.executable, str(RUNNER), *self.part, str(self.program), str(self.corpus)]
+        command = [sys.executable, str(RUNNERS / self.runner), *self.part, str(self.program), str(self.corpus), *self.more]
         ended = subprocess.run(command, capture_output=True, text=True, check=False)
         self.assertEqual(ended.stderr, "")
         self.assertEqual(ended.returncode, status, ended.stdout)
@@ -292,6 +360,26 @@ class AuditorTest(RunnerCase):
         self.assertFalse([line for line in failures if line.startswith("FAILED streams/")], failures)
         self.assertTrue(last.startswith("3 passed"), last)
 
+    def test_streams_that_fail_once_reach_the_program(self):
+        self.write_program(
+            "import os\nfailed = 0\ntry:\n os.read(0, 9)\nexcept OSError:\n failed += 1\n"
+            "for stream in (1, 2):\n try:\n  os.write(stream, b'lost')\n except OSError:\n  failed += 1\n"
+            "os.write(1, os.read(0, 9) + os.read(0, 9))\nos.write(2, b'told')\nos._exit(failed)\n"
+        )
+        case = {**USAGE_CASE, "input": {"fails once": "a line"}, "output": "fails once", "error": "fails once"}
+        self.write_cases([{**case, "status": 3, "stdout": "a line", "stderr": "told"}])
+        *failures, last = self.lines(1)
+        self.assertFalse([line for line in failures if line.startswith("FAILED streams/")], failures)
+        self.assertTrue(last.startswith("1 passed"), last)
+
+    def test_program_that_writes_again(self):
+        self.write_program(
+            "import os\nfor _ in range(2):\n try:\n  os.write(1, b'again')\n  break\n except OSError:\n  pass\n"
+        )
+        self.write_cases([{**USAGE_CASE, "output": "fails once", "status": 0, "stdout": "", "stderr": ""}])
+        *failures, _last = self.lines(1)
+        self.assertIn("FAILED streams/no-arguments: standard output b'again', wanted b''", failures)
+
     def test_case_that_takes_too_long(self):
         self.write_program("import sys, time\nif len(sys.argv) == 1:\n time.sleep(1000)\n" + self.honest())
         self.write_cases([{**USAGE_CASE, "seconds": 0.5}])
@@ -387,6 +475,118 @@ class LinesTest(RunnerCase):
     def test_program_that_reads_once(self):
         self.write_program("import os\nfor line in os.read(0, 4096).splitlines(): print(len(line))")
         self.assert_fails("lines/one byte by byte")
+
+
+class LargeTest(RunnerCase):
+    runner = "large"
+
+    def setUp(self):
+        super().setUp()
+        (self.corpus / "traces").mkdir()
+        report = b"unreadable line 1 F3 missing event\n"
+        self.write_files("traces", "greatest-totals", {"trace": b"{}", "report": report, "explain": report})
+        accepted = b"accepted\nevents 0\n" + TOTALS_OF_START
+        self.write_files("traces", "first-loss", {"trace": b"a header\n", "report": accepted})
+
+    def write_reader(self, lines):
+        """A program that judges the lines that this expression gives."""
+        self.write_program(READS_LINES + ANSWERS.format(lines=lines))
+
+    def test_right_program(self):
+        self.write_reader("sys.stdin.buffer")
+        self.assert_passes(6)
+
+    def test_no_program(self):
+        self.assert_fails(str(self.program))
+
+    def test_no_such_case(self):
+        self.write_reader("sys.stdin.buffer")
+        self.more = ("other",)
+        self.assert_fails("large/other")
+
+    def test_program_that_keeps_its_input(self):
+        self.write_reader("iter(sys.stdin.buffer.readlines())")
+        self.more = ("blank-lines", "blank-lines-explained")
+        self.assert_fails("large/blank-lines", "large/blank-lines-explained")
+
+    def test_program_that_takes_long_for_a_byte(self):
+        self.write_program(
+            READS_LINES + "import time\nwhile len(sys.stdin.buffer.peek(1)) == 1 and time.process_time() < 1.2: pass\n"
+            + ANSWERS.format(lines="sys.stdin.buffer")
+        )
+        self.more = ("longest-line-by-bytes",)
+        failure, _last = self.lines(1)
+        self.assertTrue(failure.endswith(" seconds of processor time"), failure)
+
+    def test_program_that_takes_longer_for_the_bytes_of_a_long_line(self):
+        self.write_program(READS_LINES + """
+import time
+def slowly(lines):
+    for line in lines:
+        end = time.process_time() + 0.15 * (len(line) > 60000)
+        while time.process_time() < end: pass
+        yield line
+""" + ANSWERS.format(lines="slowly(sys.stdin.buffer)"))
+        self.more = ("long-lines-by-bytes",)
+        failure, _last = self.lines(1)
+        self.assertTrue(failure.endswith(" times the processor time of short lines"), failure)
+
+    def test_program_that_counts_no_event(self):
+        self.write_reader("iter([sys.stdin.buffer.readline()])")
+        self.more = ("many-events",)
+        failure, _last = self.lines(1)
+        self.assertTrue(failure.startswith("FAILED large/many-events: standard output"), failure)
+
+
+class RefusalsTest(RunnerCase):
+    runner = "refusals"
+    more = ("12",)
+
+    def setUp(self):
+        super().setUp()
+        (self.corpus / "traces").mkdir()
+        self.write_files("traces", "first-loss", {"trace": TRACE, "report": REPORT, "explain": EXPLANATION})
+
+    def compile_program(self, refused, allocations=10):
+        """A program that ends so where an allocation is refused."""
+        source = self.corpus / "program.c"
+        source.write_text(ALLOCATES % {"allocations": allocations, "refused": refused})
+        subprocess.run([os.environ.get("CC", "cc"), "-o", self.program, source], check=True)
+
+    def assert_first_failure(self, text):
+        failure, *_others = self.lines(1)
+        self.assertTrue(failure.startswith(f"FAILED refusals: check{text}"), failure)
+
+    def test_right_program(self):
+        self.compile_program("return without_memory()")
+        self.assert_passes(96)
+
+    def test_no_program(self):
+        self.assert_fails(str(self.program))
+
+    def test_program_that_allocates_nothing(self):
+        self.compile_program("return without_memory()", allocations=0)
+        self.assert_first_failure(": no run was out of memory")
+
+    def test_program_that_allocates_more_often_than_was_tried(self):
+        self.compile_program("return without_memory()", allocations=13)
+        self.assert_first_failure(": it has more than 12 allocations")
+
+    def test_program_that_ignores_a_refusal(self):
+        self.compile_program('return put(1, "unreadable\\n")')
+        self.assert_first_failure(" without allocation 1: status 1, wanted 0; standard output b'unreadable\\n', wanted ")
+
+    def test_program_that_crashes(self):
+        self.compile_program("*block = 1")
+        self.assert_first_failure(" without allocation 1: status -11, wanted 0")
+
+    def test_program_that_writes_a_part_of_its_report(self):
+        self.compile_program('put(1, "accepted\\n"); return without_memory()')
+        self.assert_first_failure(" without allocation 1: status 3")
+
+    def test_program_that_says_nothing(self):
+        self.compile_program("return 3")
+        self.assert_first_failure(" without allocation 1: status 3, wanted 0")
 
 
 if __name__ == "__main__":

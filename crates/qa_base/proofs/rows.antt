@@ -38,9 +38,11 @@ pub mod loss_set_partial
 pub mod loss_timer
 pub mod loss_timer_early
 pub mod metric_window
+pub mod metrics_after_samples
 pub mod metrics_of_the_start
 pub mod no_app_pto_unconfirmed
 pub mod no_collapse_at_exact_duration
+pub mod numbers_past_32_bits
 pub mod other_space_acknowledged_between
 pub mod other_space_not_acknowledged_between
 pub mod past_window_after_loss

@@ -13,6 +13,8 @@ pub mod Persistence
 pub mod Forward
 pub mod Sending
 pub mod KeptCount
+pub mod Useful
+pub mod NumberRuns
 pub mod Samples
 pub mod FateLaws
 pub mod Passing

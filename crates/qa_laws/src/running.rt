@@ -1,15 +1,16 @@
 //! What carries a ledger that keeps the open packets alone, in one pass over the events.
-ghost use Rattle.std.specs.Prelude.{◌≡◌, ◌≤◌, ◌<◌, ◌==◌, ◌++◌, ◌∷◌, ◌+◌, ◌&&◌, ◌||◌, List, ℕ, Bool, true, false, not, Contains, Option, Some, None, filter, find, length, nat_lt, reverse, sum_by, take_while};
+ghost use Rattle.std.specs.Prelude.{◌≡◌, ◌≤◌, ◌<◌, ◌==◌, ◌++◌, [], ◌∷◌, ◌+◌, ◌&&◌, ◌||◌, List, ℕ, Bool, true, false, not, Contains, Option, Some, None, filter, find, length, nat_lt, reverse, sum_by, take_while};
 ghost use Rattle.std.specs.List.{list_any};
 ghost use Rattle.qa_base.specs.declared.event.Event.{Event};
 ghost use Rattle.qa_base.specs.declared.event.Event.TheVariants as events;
 ghost use Rattle.qa_base.specs.declared.space.Kind.{Kind};
+ghost use Rattle.qa_base.specs.declared.space.Leave.{Leave};
 ghost use Rattle.qa_base.specs.declared.space.Space.{Space};
 ghost use Rattle.qa_base.specs.declared.space.Space.TheVariants as spaces;
 ghost use Rattle.qa_base.specs.machine.Breaches.{has_at_or_above};
-ghost use Rattle.qa_base.specs.machine.Kept.{kept_count};
+ghost use Rattle.qa_base.specs.machine.Kept.{is_kept, kept_count, numbers_of, runs};
 ghost use Rattle.qa_base.specs.machine.Loss.{bytes_in_flight, detection, is_late, is_open, is_owed, is_persistent, owed};
-ghost use Rattle.qa_base.specs.machine.Packets.{Packet, packet_of, packets, greatest, is_covered, is_gone, is_lost, is_newly_acknowledged, is_of, largest_acknowledged, newly_acknowledged, packets_of};
+ghost use Rattle.qa_base.specs.machine.Packets.{Packet, packet_of, packets, greatest, is_covered, is_gone, is_lost, is_newly_acknowledged, is_of, is_some_packet, largest_acknowledged, newly_acknowledged, packets_of};
 ghost use Rattle.qa_base.specs.machine.Reno.{latest_sent};
 ghost use Rattle.qa_base.specs.machine.Rtt.{Estimate, persistent_after, rtt};
 ghost use Rattle.qa_base.specs.machine.Rules.{IsRun};
@@ -22,6 +23,7 @@ ghost use Rattle.qa_laws.specs.machine.Latest.{first_if_numbered, is_first_at_or
 ghost use Rattle.qa_laws.specs.machine.Oldest.{NoneFlies, due_of, is_asked, is_flying, is_passed};
 ghost use Rattle.qa_laws.specs.machine.Parts.{AreClosed, AreDropped, AreOf, BeginsKept};
 ghost use Rattle.qa_laws.specs.machine.Sequence.{EachTwo, WasSentBefore};
+ghost use Rattle.qa_laws.specs.machine.Useful.{from_first, runs_begun};
 ghost use Rattle.qa_laws.specs.machine.Sums.{asks_of, bytes, bytes_of, counted, discarded, is_discarded_by, open_sum, within_space};
 
 /// In a run, of two packets of one space the one with the lower number was sent no later and stands
@@ -187,4 +189,33 @@ pub fn latest_packets_decide()
         ≡ first_if_numbered (greatest ranges) (newly_acknowledged (events.Ack time space ranges delay limited ∷ h)) }
     ensures number { (c : Settings) (h : List Event) → IsRun c h → (s : Space) (n : ℕ) → has_at_or_above s n h ≡ is_first_at_or_above n (packets_of h s) }
     ensures owed { (c : Settings) (h : List Event) → IsRun c h → latest_sent (owed c h) ≡ time_of_first (owed c h) }
+{}
+
+/// As many packets of a history are of use as were sent since the first that is open or owed. In a run a
+/// packet that is of no use is of none after one more event, so that what is of use after an event that
+/// sends nothing is found among what was, and is no more. It is as much where that is no acknowledgment,
+/// timer or discard, and nothing was owed. A packet that is sent is one more.
+pub fn kept_after_an_event()
+    ensures is { (c : Settings) (h : List Event) → kept_count c h ≡ length (from_first (is_kept c h) (reverse (packets h))) }
+    ensures dropped { (c : Settings) (e : Event) (h : List Event) → IsRun c (e ∷ h) → (p : Packet) → Contains (packets h) p
+        → is_kept c h p ≡ false → is_kept c (e ∷ h) p ≡ false }
+    ensures sent { (c : Settings) (h : List Event) (time : ℕ) (space : Space) (number size : ℕ) (eliciting in_flight : Bool) (leave : Leave)
+        → IsRun c (events.Sent time space number size eliciting in_flight leave ∷ h)
+        → kept_count c (events.Sent time space number size eliciting in_flight leave ∷ h) ≡ kept_count c h + 1 }
+    ensures other { (c : Settings) (e : Event) (h : List Event) → IsRun c (e ∷ h) → packet_of (length h) e ≡ []
+        → (gone kept : List Packet) → reverse (packets h) ≡ gone ++ kept → AreDropped c h gone
+        → kept_count c (e ∷ h) ≡ length (from_first (is_kept c (e ∷ h)) kept) }
+    ensures falls { (c : Settings) (e : Event) (h : List Event) → IsRun c (e ∷ h) → packet_of (length h) e ≡ []
+        → kept_count c (e ∷ h) ≤ kept_count c h }
+    ensures stays { (c : Settings) (e : Event) (h : List Event) → IsRun c (e ∷ h) → is_quiet e ≡ true → packet_of (length h) e ≡ []
+        → is_some_packet (owed c h) ≡ false → kept_count c (e ∷ h) ≡ kept_count c h }
+{}
+
+/// In a run a packet that is sent begins one run of numbers more, unless the number before its own was
+/// sent in its space. No other event changes how many there are, in a run or not.
+pub fn runs_after_an_event()
+    ensures sent { (c : Settings) (h : List Event) (time : ℕ) (space : Space) (number size : ℕ) (eliciting in_flight : Bool) (leave : Leave)
+        → IsRun c (events.Sent time space number size eliciting in_flight leave ∷ h)
+        → runs (events.Sent time space number size eliciting in_flight leave ∷ h) ≡ runs h + runs_begun (numbers_of h space) number }
+    ensures other { (e : Event) (h : List Event) → packet_of (length h) e ≡ [] → runs (e ∷ h) ≡ runs h }
 {}

@@ -72,7 +72,7 @@ fn a_read_fails_behind_lines(rt: HostRuntime) -> Result<(), Fail> {
         (265, Some(1)),
         (363, Some(3)),
     ] {
-        let mut reader = Faulty::new(trace.as_bytes(), 1, bytes);
+        let mut reader = Faulty::metered(trace.as_bytes(), 1, bytes);
         let mut writer = Metered::new(Vec::new(rt.alloc()));
         let ended = explain::<Whole, _, _>(rt.alloc(), &mut reader, &mut writer);
         let wanted = match rows {
@@ -85,6 +85,7 @@ fn a_read_fails_behind_lines(rt: HostRuntime) -> Result<(), Fail> {
             wanted.as_bytes(),
             "after {bytes}"
         );
+        assert_eq!(rt; reader.into_inner().calls, bytes + 1);
     }
     Ok(())
 }
@@ -96,10 +97,12 @@ fn a_write_fails_in_a_row(rt: HostRuntime) -> Result<(), Fail> {
     let whole = whole.as_slice();
     for bytes in 0..whole.len() {
         let mut reader = Metered::new(trace.as_bytes());
-        let mut writer = Faulty::new(Vec::new(rt.alloc()), 1, bytes as u64);
+        let mut writer = Faulty::metered(Vec::new(rt.alloc()), 1, bytes as u64);
         let ended = explain::<Whole, _, _>(rt.alloc(), &mut reader, &mut writer);
+        let writer = writer.into_inner();
         assert_eq!(rt; ended, Err(AuditFault::Write), "at {bytes}");
         assert_eq!(rt; writer.inner.as_slice(), &whole[..bytes], "at {bytes}");
+        assert_eq!(rt; writer.calls, bytes as u64 + 1, "at {bytes}");
     }
     Ok(())
 }

@@ -1,5 +1,5 @@
-//! Readers and writers that move few bytes a call, and fail once.
-ghost use Rattle.std.specs.Prelude.{◌≡◌, None};
+//! Readers and writers of std that move few bytes a call and fail once, under `Metered`.
+ghost use Rattle.std.specs.Prelude.{◌≤◌, IfOk};
 
 use super::{audited, report_of, sent, trace_of};
 use crate::auditing::{AuditFault, Outcome, audit};
@@ -17,72 +17,50 @@ const NEVER: u64 = u64::MAX;
 #[derive(Drop)]
 pub struct Faulty<T> {
     pub inner: T,
+    pub calls: u64,
     most: usize,
     fails_at: u64,
-    calls: u64,
-    failures: u64,
 }
 
 impl<T> Faulty<T> {
-    pub fn new(inner: T, most: usize, fails_at: u64) -> Faulty<T> {
-        Faulty {
+    pub fn metered(inner: T, most: usize, fails_at: u64) -> Metered<Faulty<T>> {
+        Metered::new(Faulty {
             inner,
+            calls: 0,
             most,
             fails_at,
-            calls: 0,
-            failures: 0,
-        }
+        })
     }
 
-    /// Counts a call, and returns whether it is to fail.
-    fn is_to_fail(&mut self) -> bool
-        ensures { self.new.failures ≡ self.old.failures }
+    /// Counts a call, and returns how many of these bytes it may move. It fails by the error that readers
+    /// and writers are most often asked again after.
+    fn turn(&mut self, len: usize) -> io::Result<usize>
+        ensures { IfOk result (λ n. n ≤ len) }
     {
         let call = self.calls;
         self.calls = call.wrapping_add(1);
-        call == self.fails_at
+        if call == self.fails_at {
+            return Err(io::Error::from(ErrorKind::Interrupted));
+        }
+        Ok(self.most.min(len))
     }
 }
 
-impl<T: Read> Source for Faulty<T> {
-    ghost left = { λ _. None };
-
-    ghost read_failures = { λ f. f.failures };
-
-    fn read_piece(&mut self, piece: &mut [u8]) -> io::Result<usize> {
-        let most = self.most.min(piece.len());
-        let result = if self.is_to_fail() {
-            Err(io::Error::from(ErrorKind::Other))
-        } else {
-            self.inner.read(&mut piece[..most])
-        };
-        if result.is_err() {
-            self.failures = self.failures.wrapping_add(1);
-        }
-        result
+impl<T: Read> Read for Faulty<T> {
+    fn read(&mut self, piece: &mut [u8]) -> io::Result<usize> {
+        let most = self.turn(piece.len())?;
+        self.inner.read(&mut piece[..most])
     }
 }
 
-impl<T: Write> Sink for Faulty<T> {
-    ghost held = { λ _. None };
+impl<T: Write> Write for Faulty<T> {
+    fn write(&mut self, piece: &[u8]) -> io::Result<usize> {
+        let most = self.turn(piece.len())?;
+        self.inner.write(&piece[..most])
+    }
 
-    ghost write_failures = { λ f. f.failures };
-
-    fn write_piece(&mut self, piece: &[u8]) -> io::Result<usize> {
-        let most = self.most.min(piece.len());
-        let result = if self.is_to_fail() {
-            Err(io::Error::from(ErrorKind::Other))
-        } else {
-            self.inner.write(&piece[..most])
-        };
-        let failed = match &result {
-            Ok(n) => *n == 0 && !piece.is_empty(),
-            Err(_) => true,
-        };
-        if failed {
-            self.failures = self.failures.wrapping_add(1);
-        }
-        result
+    fn flush(&mut self) -> io::Result<()> {
+        Ok(())
     }
 }
 
@@ -94,15 +72,16 @@ fn a_write_fails(rt: HostRuntime) -> Result<(), Fail> {
     assert_eq!(rt; report.len(), 139);
     for k in 0..140usize {
         let mut reader = Metered::new(trace.as_bytes());
-        let mut writer = Faulty::new(Vec::new(rt.alloc()), 1, k as u64);
+        let mut writer = Faulty::metered(Vec::new(rt.alloc()), 1, k as u64);
         let ended = audit::<Whole, _, _>(rt.alloc(), &mut reader, &mut writer);
-        let (wanted, failures) = match k {
-            139 => (Ok(Outcome::Accepted), 0),
-            _ => (Err(AuditFault::Write), 1),
+        let (wanted, calls) = match k {
+            139 => (Ok(Outcome::Accepted), 139),
+            _ => (Err(AuditFault::Write), k as u64 + 1),
         };
+        let writer = writer.into_inner();
         assert_eq!(rt; ended, wanted, "at {k}");
         assert_eq!(rt; writer.inner.as_slice(), &report[..k], "at {k}");
-        assert_eq!(rt; writer.failures, failures, "at {k}");
+        assert_eq!(rt; writer.calls, calls, "at {k}");
     }
     Ok(())
 }
@@ -125,13 +104,12 @@ fn a_writer_takes_no_more(rt: HostRuntime) -> Result<(), Fail> {
 fn a_read_fails(rt: HostRuntime) -> Result<(), Fail> {
     let trace = trace_of(rt.alloc(), 0)?;
     for (most, fails_at) in [(4096, 0), (4096, 1), (1, 0), (1, 30), (1, 72)] {
-        let mut reader = Faulty::new(trace.as_bytes(), most, fails_at);
+        let mut reader = Faulty::metered(trace.as_bytes(), most, fails_at);
         let mut writer = Metered::new(Vec::new(rt.alloc()));
         let ended = audit::<Whole, _, _>(rt.alloc(), &mut reader, &mut writer);
         assert_eq!(rt; ended, Err(AuditFault::Read), "at {fails_at}");
         assert!(rt; writer.into_inner().is_empty(), "at {fails_at}");
-        assert_eq!(rt; reader.calls, fails_at + 1);
-        assert_eq!(rt; reader.failures, 1);
+        assert_eq!(rt; reader.into_inner().calls, fails_at + 1);
     }
     Ok(())
 }
@@ -155,7 +133,7 @@ fn no_read_after_the_verdict(rt: HostRuntime) -> Result<(), Fail> {
             trace.push_str(packet.as_str())?;
             trace.push_str("\n")?;
         }
-        let mut reader = Faulty::new(trace.as_bytes(), 4096, reads);
+        let mut reader = Faulty::metered(trace.as_bytes(), 4096, reads);
         let mut writer = Metered::new(Vec::new(rt.alloc()));
         let ended = audit::<Whole, _, _>(rt.alloc(), &mut reader, &mut writer);
         let report = report_of(rt.alloc(), first, events, bytes)?;
@@ -165,8 +143,7 @@ fn no_read_after_the_verdict(rt: HostRuntime) -> Result<(), Fail> {
             report.as_bytes(),
             "at {first}"
         );
-        assert_eq!(rt; reader.calls, reads, "at {first}");
-        assert_eq!(rt; reader.failures, 0, "at {first}");
+        assert_eq!(rt; reader.into_inner().calls, reads, "at {first}");
     }
     Ok(())
 }
@@ -177,12 +154,12 @@ fn however_cut(rt: HostRuntime) -> Result<(), Fail> {
         let trace = trace_of(rt.alloc(), packets)?;
         let (whole, report) = audited(rt.alloc(), trace.as_bytes());
         for most in [1, 7, 72, 4096] {
-            let mut reader = Faulty::new(trace.as_bytes(), most, NEVER);
-            let mut writer = Faulty::new(Vec::new(rt.alloc()), most, NEVER);
+            let mut reader = Faulty::metered(trace.as_bytes(), most, NEVER);
+            let mut writer = Faulty::metered(Vec::new(rt.alloc()), most, NEVER);
             let ended = audit::<Whole, _, _>(rt.alloc(), &mut reader, &mut writer);
             assert_eq!(rt; ended, whole, "{packets} packets, by {most}");
             assert_eq!(rt;
-                writer.inner.as_slice(),
+                writer.into_inner().inner.as_slice(),
                 report.as_slice(),
                 "{packets} packets, by {most}"
             );

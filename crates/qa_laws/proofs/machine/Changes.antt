@@ -87,7 +87,8 @@ pub open_not_named : (c : Settings) (e : Event) (h : List Event) → IsRun c (e 
 open_not_named c (Lost time space ranges) h run p has free = names_owed c h time space ranges run p has ∙ free
 open_not_named c _ h run p has free = refl
 
-not_owed_now : (c : Settings) (e : Event) (h : List Event) (p : Packet) → Contains (packets h) p → is_some_packet (owed c h) ≡ false → is_owed c h p ≡ false
+-- where nothing is owed no packet is
+pub not_owed_now : (c : Settings) (e : Event) (h : List Event) (p : Packet) → Contains (packets h) p → is_some_packet (owed c h) ≡ false → is_owed c h p ≡ false
 not_owed_now c e h p has none = false_from_ne_true (is_owed c h p) (λ is. both_ways (is_some_packet (owed c h)) none (has_some (owed c h) p (owed_has c h p has is)))
 
 or_same : (a b l : Bool) → a ≡ b → (a || l) ≡ (b || l)

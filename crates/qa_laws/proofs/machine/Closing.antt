@@ -140,7 +140,8 @@ closed_sum weight c e h run =
     (sum_of_either weight newly found ps (of_each (λ p. newly p ≡ true → found p ≡ false) ps (λ p has is. newly_not_owed c e h p has is))
     ∙ ap (λ qs. sum_by weight (filter newly ps) + sum_by weight qs) (owed_among c e h)))
 
-sent_is_open : (c : Settings) (h : List Event) (time : ℕ) (space : Space) (number size : ℕ) (eliciting in_flight : Bool) (leave : Leave) (p : Packet)
+-- a packet is open that was just sent, unless its space is gone
+pub sent_is_open : (c : Settings) (h : List Event) (time : ℕ) (space : Space) (number size : ℕ) (eliciting in_flight : Bool) (leave : Leave) (p : Packet)
     → p.place ≡ length h → p.space ≡ space → is_gone h space ≡ false → is_open c (Sent time space number size eliciting in_flight leave ∷ h) p ≡ true
 sent_is_open c h time space number size eliciting in_flight leave p place in_space there =
     let not_covered : is_covered h p ≡ false = not_followed _ h p (omega (arith, place)) in
