@@ -4,5 +4,7 @@
 mod answers;
 mod kept;
 mod running;
+#[cfg(test)]
+mod tests;
 
 pub use running::Running;
