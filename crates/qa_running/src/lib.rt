@@ -6,5 +6,7 @@ mod following;
 mod kept;
 mod ledger;
 mod running;
+#[cfg(test)]
+mod tests;
 
 pub use running::Running;
