@@ -9,7 +9,7 @@ use Rattle.qa_base.specs.machine.Widths.{Fits, IsTimely}
 use Rattle.qa_base.specs.values.Settings.{Settings}
 use Rattle.qa_connection.specs.Known.{IsBegun, IsMeasured, IsOf, IsOutcome, IsProperRun, acknowledged_by}
 use Rattle.qa_connection.specs.declared.connection.Connection.{Connection}
-use Rattle.qa_connection.specs.declared.connection.Outcome.{Outcome}
+use Rattle.qa_connection.specs.declared.congestion.Outcome.{Outcome}
 use Rattle.qa_ranges.specs.Sent.{AreSent, BySpace}
 use Rattle.qa_running.proofs.Dropping.{stands_trimmed}
 use Rattle.qa_running.proofs.Events.{some_by_length}
