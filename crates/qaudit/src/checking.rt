@@ -8,7 +8,7 @@ ghost use Rattle.qaudit.specs.Ending.{status_of};
 
 use crate::ending::{Failure, Origin, status};
 use qa_check::{Metered, Outcome, Sink, Source, audit, write_whole};
-use qa_ledger::Whole;
+use qa_running::Running;
 use std::alloc::{AllocError, Global};
 use std::fs;
 use std::rt::Files;
@@ -130,7 +130,7 @@ fn audited<'a, I: Source, O: Sink>(
     ensures told { (bytes : List ℕ) → I.left input.old ≡ Some bytes
         → IfOk result (λ outcome. Reports (O.held output.old) (O.held output.new) outcome bytes) }
 {
-    match audit::<Whole, I, O>(alloc, input, output) {
+    match audit::<Running, I, O>(alloc, input, output) {
         Ok(outcome) => Ok(outcome),
         Err(fault) => Err(Failure::of_audit(fault, origin)),
     }

@@ -6,7 +6,7 @@ ghost use Rattle.qaudit.specs.Explaining.{Explained};
 use crate::checking::end;
 use crate::ending::{Failure, Origin};
 use qa_check::{Metered, Outcome, Sink, Source};
-use qa_ledger::Whole;
+use qa_running::Running;
 use std::alloc::Global;
 use std::fs;
 use std::rt::Files;
@@ -53,7 +53,7 @@ fn explained<'a, I: Source, O: Sink>(
 ) -> Result<Outcome, Failure<'a>>
     ensures { Explained result (O.held output.old) (O.held output.new) }
 {
-    match qa_check::explain::<Whole, I, O>(alloc, input, output) {
+    match qa_check::explain::<Running, I, O>(alloc, input, output) {
         Ok(outcome) => Ok(outcome),
         Err(fault) => Err(Failure::of_audit(fault, origin)),
     }
