@@ -8,6 +8,7 @@ ghost use Rattle.qa_base.specs.machine.Packets.{history_of, packets_of};
 ghost use Rattle.qa_plain.specs.Looks.{IsLook};
 ghost use Rattle.qa_base.specs.machine.Timer as timers;
 ghost use Rattle.qa_base.specs.declared.space.Space.TheVariants as spaces;
+ghost use Rattle.qa_base.specs.values.Limits.{max_time, greatest_max_ack_delay};
 
 use crate::event::time_of;
 use crate::handshake::{has_keys, is_confirmed, is_validated};
@@ -148,7 +149,7 @@ pub fn last_eliciting(events: &[Event], space: Space) -> Option<Micros>
 fn power(count: u64) -> u128
     requires count { count ≤ 40 }
     ensures value { result ≡ 2 ^ count }
-    ensures bound { result ≤ 1099511627776 }
+    ensures bound { result ≤ 2 ^ 40 }
 {
     1 << count
 }
@@ -157,9 +158,9 @@ fn power(count: u64) -> u128
 #[tactic(auto, using(crate::proofs::Powers::product_small))]
 fn doubled(base: u64, count: u64) -> u128
     requires count { count ≤ 40 }
-    requires base { base ≤ 6000000000000000 }
+    requires base { base ≤ 6 * max_time }
     ensures value { result ≡ base * 2 ^ count }
-    ensures bound { result ≤ 6597069766656000000000000000 }
+    ensures bound { result ≤ 6 * max_time * 2 ^ 40 }
 {
     u128::from(base) * power(count)
 }
@@ -177,7 +178,7 @@ fn pto_due(
     requires seen { IsLook header.now (history_of events.now) look }
     requires counted { count ≡ timers.backoff header.now (history_of events.now) }
     requires few { count ≤ 40 }
-    requires delay { peer_delay ≤ 16383000 }
+    requires delay { peer_delay ≤ greatest_max_ack_delay }
     ensures { result ≡ timers.pto_due header.now (history_of events.now) peer_delay space }
 {
     if !some_awaits(header, events, look, space) {

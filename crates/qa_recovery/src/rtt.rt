@@ -1,5 +1,6 @@
 //! The estimate of the round-trip time (RFC 9002, section 5).
 ghost use Rattle.std.specs.Prelude.{◌≡◌, ◌≤◌, ◌-◌, ◌+◌, ◌*◌, ◌/◌};
+ghost use Rattle.qa_base.specs.values.Constants.{persistent_congestion_threshold, time_threshold_parts, time_threshold_divisor};
 ghost use Rattle.qa_base.specs.values.Limits.{max_time};
 ghost use Rattle.qa_base.specs.machine.Rtt as estimates;
 ghost use Rattle.qa_base.specs.machine.Timer.{loss_delay as loss_delay_of};
@@ -107,7 +108,7 @@ impl Rtt {
     /// at least, in microseconds (RFC 9002, section 6.1.2).
     pub fn loss_delay(&self) -> u64
         ensures value { result ≡ loss_delay_of self.now }
-        ensures bound { result ≤ 1125000000000000 }
+        ensures bound { result ≤ time_threshold_parts * max_time / time_threshold_divisor }
     {
         let rtt = self.latest_rtt.get().max(self.smoothed_rtt.get());
         let parts = TIME_THRESHOLD_PARTS * rtt + (TIME_THRESHOLD_DIVISOR - 1);
@@ -128,7 +129,7 @@ impl Rtt {
     /// (RFC 9002, section 7.6.1).
     pub fn persistent_after(&self, max_ack_delay: Micros) -> u64
         ensures value { result ≡ estimates.persistent_after self.now max_ack_delay }
-        ensures bound { result ≤ 18 * max_time }
+        ensures bound { result ≤ persistent_congestion_threshold * (6 * max_time) }
     {
         PERSISTENT_CONGESTION_THRESHOLD * (self.pto_base() + max_ack_delay.get())
     }

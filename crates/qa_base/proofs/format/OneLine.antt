@@ -1,5 +1,5 @@
 -- The text of a simple value has no LF.
-use Rattle.std.proofs.Common.{◌≡◌, ℕ, zero, suc, ◌+◌, ◌%◌, ◌^◌, ◌<◌, List, [], ◌∷◌, ◌++◌, Bool, true, false, ◌&&◌, ◌||◌, not, nat_lt, decimal, inl, inr, refl, arith, ltb-true}
+use Rattle.std.proofs.Common.{◌≡◌, ℕ, zero, suc, ◌+◌, ◌%◌, ◌^◌, ◌<◌, List, [], ◌∷◌, ◌++◌, Bool, true, false, ◌&&◌, not, nat_lt, decimal, inl, inr, refl, arith, ltb-true}
 use Rattle.std.proofs.lemmas.Bool.{and_parts, or_parts, or_from, cases_eq, ne_eqb}
 use Rattle.std.proofs.lemmas.Fmt.{decimal_by_steps}
 use Rattle.json.specs.Print.{escape_byte, escape, quoted}
