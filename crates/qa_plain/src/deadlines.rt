@@ -1,7 +1,6 @@
 //! The deadline of the loss detection timer (RFC 9002, section 6.2, A.8).
 ghost use Rattle.std.specs.Prelude.{◌≡◌, ◌∷◌, ◌≤◌, ◌<◌, ◌^◌, ◌*◌, ◌+◌, Some, None, Option, filter, map, min, unwrap_or, if◌then◌else◌};
 ghost use Rattle.std.specs.List.{list_any};
-ghost use Rattle.std.specs.Option.{option_or};
 ghost use Rattle.qa_base.specs.declared.event.Event.{Event};
 ghost use Rattle.qa_base.specs.machine.Handshake as handshake;
 ghost use Rattle.qa_base.specs.machine.Packets.{history_of, packets_of};
@@ -280,28 +279,14 @@ fn anti_deadlock(header: &Header, events: &[Event], look: Look, count: u64) -> O
     }
 }
 
-/// The first of the two that there is.
-fn or_else(due: Option<Due>, other: Option<Due>) -> Option<Due>
-    ensures { result ≡ option_or due other }
-{
-    match due {
-        None => other,
-        Some(due) => Some(due),
-    }
-}
-
-/// What the timer is set for.
+/// What the timer is set for: the first of these that there is.
 pub fn deadline(header: &Header, events: &[Event], look: Look, count: u64) -> Option<Due>
     requires seen { IsLook header.now (history_of events.now) look }
     requires counted { count ≡ timers.backoff header.now (history_of events.now) }
     requires few { count ≤ 40 }
     ensures { result ≡ timers.deadline header.now (history_of events.now) }
 {
-    or_else(
-        earliest_loss(header, events, look),
-        or_else(
-            earliest_pto(header, events, look, count),
-            anti_deadlock(header, events, look, count),
-        ),
-    )
+    earliest_loss(header, events, look)
+        .or(earliest_pto(header, events, look, count))
+        .or(anti_deadlock(header, events, look, count))
 }
