@@ -202,11 +202,8 @@ impl Spans {
     pub fn duplicate(&self, alloc: Global) -> Result<Spans, AllocError>
         ensures { IfOk result (λ copy. copy ≡ self.now) }
     {
-        let mut copy = Spans::new(alloc);
-        for span in self.as_slice() {
-            copy.push(*span)?;
-        }
-        Ok(copy)
+        let items = Vec::from_slice(alloc, self.as_slice())?;
+        Ok(Spans { items })
     }
 
     /// The spans in their order.
