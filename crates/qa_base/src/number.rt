@@ -39,6 +39,14 @@ impl Micros {
         }
     }
 
+    /// This many microseconds, which are known to be at most 10^15.
+    pub fn of(value: u64) -> Micros
+        requires { value ≤ max_time }
+        ensures { result ≡ value }
+    {
+        Micros { value }
+    }
+
     /// The number of microseconds.
     pub fn get(self) -> u64
         ensures value { result ≡ self }

@@ -7,7 +7,6 @@ ghost use Rattle.qa_plain.specs.Looks.{IsLook};
 
 use crate::losses::{Look, is_owed};
 use crate::packet::{Packet, packet_of};
-use crate::sampling::micros;
 use crate::settled::is_covered;
 use qa_base::{Event, Header, Micros};
 
@@ -55,7 +54,9 @@ fn are_ends(header: &Header, events: &[Event], look: Look, first: Packet, second
 {
     is_end(header, events, look, first)
         && is_end(header, events, look, second)
-        && look.rtt.persistent_after(micros(header.max_ack_delay()))
+        && look
+            .rtt
+            .persistent_after(Micros::of(header.max_ack_delay()))
             < second.time.get().saturating_sub(first.time.get())
         && !is_acknowledged_between(events, first, second)
 }

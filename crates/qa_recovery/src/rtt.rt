@@ -48,26 +48,18 @@ impl Model for Rtt {
     } };
 }
 
-/// A number of microseconds that is known to be a time.
-fn micros(value: u64) -> Micros
-    requires { value ≤ max_time }
-    ensures { result ≡ value }
-{
-    Micros::new(value).unwrap()
-}
-
 impl Rtt {
     /// The estimate before the first sample: the initial RTT, and half of it as its variation
     /// (RFC 9002, section 5.3).
     pub fn start(initial_rtt: Micros) -> Rtt
         ensures { result ≡ estimates.start initial_rtt }
     {
-        let none = micros(0);
+        let none = Micros::of(0);
         Rtt {
             latest_rtt: none,
             min_rtt: none,
             smoothed_rtt: initial_rtt,
-            rttvar: micros(initial_rtt.get() / 2),
+            rttvar: Micros::of(initial_rtt.get() / 2),
             first_rtt_sample: None,
         }
     }
@@ -86,7 +78,7 @@ impl Rtt {
                 latest_rtt,
                 min_rtt: latest_rtt,
                 smoothed_rtt: latest_rtt,
-                rttvar: micros(latest_rtt.get() / 2),
+                rttvar: Micros::of(latest_rtt.get() / 2),
                 first_rtt_sample: Some(now),
             };
             return;
@@ -97,8 +89,8 @@ impl Rtt {
         *self = Rtt {
             latest_rtt,
             min_rtt,
-            smoothed_rtt: micros((7 * smoothed_rtt + adjusted_rtt) / 8),
-            rttvar: micros((3 * self.rttvar.get() + smoothed_rtt.abs_diff(adjusted_rtt)) / 4),
+            smoothed_rtt: Micros::of((7 * smoothed_rtt + adjusted_rtt) / 8),
+            rttvar: Micros::of((3 * self.rttvar.get() + smoothed_rtt.abs_diff(adjusted_rtt)) / 4),
             first_rtt_sample: self.first_rtt_sample,
         };
     }
