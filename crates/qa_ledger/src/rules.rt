@@ -160,13 +160,11 @@ fn is_past_recovery(header: &Header, events: &[Event], event: &Event) -> bool
 }
 
 /// V10: an acknowledgment of a number that was never sent in its space.
-fn is_ack_unsent(header: &Header, events: &[Event], event: &Event) -> bool
+fn is_ack_unsent(events: &[Event], event: &Event) -> bool
     ensures { result ≡ breaches.is_ack_unsent (history_of events.now) event.now }
 {
     match event {
-        Event::Ack { space, ranges, .. } => {
-            !were_sent(header, events, *space, ranges.as_slice())
-        }
+        Event::Ack { space, ranges, .. } => !were_sent(events, *space, ranges.as_slice()),
         _ => false,
     }
 }
@@ -291,7 +289,7 @@ fn leave_rule(header: &Header, events: &[Event], event: &Event) -> Option<Rule>
     if is_past_recovery(header, events, event) {
         return Some(Rule::PastRecovery);
     }
-    if is_ack_unsent(header, events, event) {
+    if is_ack_unsent(events, event) {
         return Some(Rule::AckUnsent);
     }
     timer_rule(header, events, event)
