@@ -18,7 +18,7 @@ use thiserror::Error;
 #[derive(Clone, Copy, Debug, PartialEq, Eq, Error)]
 pub enum LedgerFault {
     /// The event breaks this rule, the first of V1 to V16 that it breaks. The ledger is as it was.
-    #[error("{}", .0.name())]
+    #[error("{0}")]
     Broken(Rule),
     /// The ledger is out of memory, now or since an earlier event. It has failed, holds the state
     /// before that event, and admits nothing from then on.

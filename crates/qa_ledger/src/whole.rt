@@ -65,13 +65,11 @@ impl Whole {
         ensures err { OnErr result (self.new ≡ record { header = self.old.header; events = self.old.events; failed = true }) }
     {
         let _time = time_of(event).get();
-        match keep(self.alloc, &mut self.events, event) {
-            Ok(()) => Ok(()),
-            Err(_) => {
-                self.failed = true;
-                Err(AllocError)
-            }
+        let kept = keep(self.alloc, &mut self.events, event);
+        if kept.is_err() {
+            self.failed = true;
         }
+        kept
     }
 }
 
