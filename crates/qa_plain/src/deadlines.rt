@@ -279,7 +279,8 @@ fn anti_deadlock(header: &Header, events: &[Event], look: Look, count: u64) -> O
     }
 }
 
-/// What the timer is set for: the first of these that there is.
+/// What the timer is set for: a packet that will be old, else a probe timeout, else the timer that a
+/// client keeps until its address is validated.
 pub fn deadline(header: &Header, events: &[Event], look: Look, count: u64) -> Option<Due>
     requires seen { IsLook header.now (history_of events.now) look }
     requires counted { count ≡ timers.backoff header.now (history_of events.now) }
