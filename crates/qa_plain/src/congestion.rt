@@ -52,13 +52,11 @@ fn are_ends(header: &Header, events: &[Event], look: Look, first: Packet, second
     requires seen { IsLook header.now (history_of events.now) look }
     ensures { result ≡ loss.are_ends header.now (history_of events.now) first second }
 {
+    let delay = Micros::of(header.max_ack_delay());
     let apart = second.time.get().saturating_sub(first.time.get());
     is_end(header, events, look, first)
         && is_end(header, events, look, second)
-        && look
-            .rtt
-            .persistent_after(Micros::of(header.max_ack_delay()))
-            < apart
+        && look.rtt.persistent_after(delay) < apart
         && !is_acknowledged_between(events, first, second)
 }
 
