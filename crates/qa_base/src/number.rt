@@ -39,6 +39,14 @@ impl Micros {
         }
     }
 
+    /// This many microseconds, which are known to be at most 10^15.
+    pub fn of(value: u64) -> Micros
+        requires { value ≤ max_time }
+        ensures { result ≡ value }
+    {
+        Micros { value }
+    }
+
     /// The number of microseconds.
     pub fn get(self) -> u64
         ensures value { result ≡ self }
@@ -202,11 +210,8 @@ impl Spans {
     pub fn duplicate(&self, alloc: Global) -> Result<Spans, AllocError>
         ensures { IfOk result (λ copy. copy ≡ self.now) }
     {
-        let mut copy = Spans::new(alloc);
-        for span in self.as_slice() {
-            copy.push(*span)?;
-        }
-        Ok(copy)
+        let items = Vec::from_slice(alloc, self.as_slice())?;
+        Ok(Spans { items })
     }
 
     /// The spans in their order.

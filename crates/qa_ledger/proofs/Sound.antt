@@ -4,19 +4,17 @@ use Rattle.std.proofs.lemmas.List.{length-append}
 use Rattle.std.proofs.lemmas.List.Elements.{All-from_recursion, recursion_from_All}
 use Rattle.std.specs.List.{AllByRecursion}
 use Rattle.qa_base.specs.declared.event.Event.{Event}
+use Rattle.qa_base.specs.format.Lines.{max_lines}
 use Rattle.qa_base.specs.machine.Packets.{history_of}
 use Rattle.qa_base.specs.machine.Rules.{IsRun, first_broken}
 use Rattle.qa_base.specs.values.Settings.{Settings}
 use Rattle.qa_base.proofs.machine.Histories.{history_of-snoc}
+use Rattle.qa_base.proofs.machine.WindowBound.{each_append}
 use Rattle.qa_ledger.specs.Holding.{IsSound}
 use Rattle.qa_base.specs.machine.Widths.{Fits, IsTimely}
 use Rattle.qa_ranges.specs.Sent.{BySpace, AreSent}
 
-each_append : {X : Type 0} (P : X → Type 0) (xs ys : List X) → AllByRecursion P xs → AllByRecursion P ys → AllByRecursion P (xs ++ ys)
-each_append P [] ys a b = b
-each_append P (x ∷ xs) ys a b = (a.0, each_append P xs ys a.1 b)
-
-pub sound_more : (c : Settings) (events : List Event) (e : Event) (old new : BySpace) → IsSound c events old → first_broken c (history_of events) e ≡ None → IsTimely e → Fits e → length events < 4294967295
+pub sound_more : (c : Settings) (events : List Event) (e : Event) (old new : BySpace) → IsSound c events old → first_broken c (history_of events) e ≡ None → IsTimely e → Fits e → length events < max_lines
     → ((h : List Event) → AreSent old h → AreSent new (e ∷ h)) → IsSound c (events ++ e ∷ []) new
 sound_more c events e old new sound allowed timely fit few more =
     let longer : e ∷ history_of events ≡ history_of (events ++ e ∷ []) = sym (history_of-snoc events e) in

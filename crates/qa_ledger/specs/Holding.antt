@@ -2,6 +2,7 @@
 use Rattle.std.specs.Prelude.{◌≡◌, ◌≤◌, Bool, List, length}
 use Rattle.std.specs.List.{All, AllByRecursion}
 use Rattle.qa_base.specs.declared.event.Event.{Event}
+use Rattle.qa_base.specs.format.Lines.{max_lines}
 use Rattle.qa_base.specs.machine.Packets.{history_of}
 use Rattle.qa_base.specs.machine.Rules.{IsRun}
 use Rattle.qa_base.specs.machine.Widths.{Fits, IsTimely}
@@ -19,7 +20,7 @@ pub record IsSound (c : Settings) (events : List Event) (sets : BySpace) : Type 
   pub run : IsRun c (history_of events)
   pub timely : AllByRecursion IsTimely (history_of events)
   pub fit : All Fits events
-  pub few : length events ≤ 4294967295
+  pub few : length events ≤ max_lines
   pub sent : AreSent sets (history_of events)
 
 -- it stands for this history under this header

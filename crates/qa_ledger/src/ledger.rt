@@ -2,6 +2,7 @@
 ghost use Rattle.std.specs.Prelude.{◌≡◌, ◌<◌, ◌+◌, ℕ, Bool, true, false, List, [], ◌∷◌, Err, OnOk, Some, None};
 ghost use Rattle.qa_base.specs.declared.event.Event.{Event as AnEvent};
 ghost use Rattle.qa_base.specs.declared.rule.Rule.{Rule as ARule};
+ghost use Rattle.qa_base.specs.format.Lines.{max_lines};
 ghost use Rattle.qa_base.specs.machine.Loss.{owed};
 ghost use Rattle.qa_base.specs.machine.Packets.{is_some_packet};
 ghost use Rattle.qa_base.specs.machine.Rules.{first_broken};
@@ -17,7 +18,7 @@ use thiserror::Error;
 #[derive(Clone, Copy, Debug, PartialEq, Eq, Error)]
 pub enum LedgerFault {
     /// The event breaks this rule, the first of V1 to V16 that it breaks. The ledger is as it was.
-    #[error("{}", .0.name())]
+    #[error("{0}")]
     Broken(Rule),
     /// The ledger is out of memory, now or since an earlier event. It has failed, holds the state
     /// before that event, and admits nothing from then on.
@@ -52,7 +53,7 @@ pub trait Ledger {
     /// and holds what it held; a ledger that failed before is as it was.
     fn admit(&mut self, event: &Event) -> Result<(), LedgerFault>
         requires fitting { fits event.now ≡ true }
-        requires few { admitted self.old < 4294967295 }
+        requires few { admitted self.old < max_lines }
         ensures ok { OnOk result ((has_failed self.new ≡ false) × (admitted self.new ≡ admitted self.old + 1)
             × ((c : Settings) (h : List AnEvent) → stands self.old c h → (first_broken c h event.now ≡ None) × stands self.new c (event.now ∷ h))) }
         ensures broken { (r : ARule) → result ≡ Err (LedgerFault.Broken r) → (self.new ≡ self.old)

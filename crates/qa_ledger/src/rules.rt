@@ -155,7 +155,7 @@ fn is_ack_unsent<S: State>(state: &S, event: &Event) -> bool
     ensures { (c : Settings) (h : List AnEvent) → S.tells state.now c h → result ≡ breaches.is_ack_unsent h event.now }
 {
     match event {
-        Event::Ack { space, ranges, .. } => { !state.were_sent(*space, ranges.as_slice()) }
+        Event::Ack { space, ranges, .. } => !state.were_sent(*space, ranges.as_slice()),
         _ => false,
     }
 }

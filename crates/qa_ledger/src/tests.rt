@@ -83,7 +83,7 @@ fn a_loss(rt: HostRuntime) -> Result<(), Fail> {
     events.push(ack(100_000, Space::App, range(rt.alloc(), 4, 4)?)?)?;
     let (place, fault) = judged(rt.alloc(), header, &events).err().ok_or("admitted")?;
     assert_eq!(rt; (place, fault), (11, LedgerFault::Broken(Rule::LossOwed)));
-    assert_eq!(rt; format!(in rt.alloc(); "{fault}")?.as_str(), "loss-owed");
+    assert_eq!(rt; format!(in rt.alloc(); "{fault}")?.as_str(), "V2 loss-owed");
     Ok(())
 }
 

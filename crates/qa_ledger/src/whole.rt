@@ -1,6 +1,7 @@
 //! A ledger that keeps all events, and judges each by the history before it.
 ghost use Rattle.std.specs.Prelude.{◌≡◌, ◌<◌, ◌+◌, ◌∷◌, ◌++◌, List, [], length, true, false, Ok, Err, Some, None, OnOk, OnErr};
 ghost use Rattle.qa_base.specs.declared.event.Event.{Event as AnEvent};
+ghost use Rattle.qa_base.specs.format.Lines.{max_lines};
 ghost use Rattle.qa_base.specs.machine.Loss.{owed};
 ghost use Rattle.qa_base.specs.machine.Packets.{history_of};
 ghost use Rattle.qa_base.specs.machine.Rules as rules;
@@ -66,19 +67,17 @@ impl Whole {
     #[tactic(auto, using(crate::proofs::Sound::sound_more))]
     fn push(&mut self, event: &Event) -> Result<(), AllocError>
         requires fit { Fits event.now }
-        requires few { length self.old.events < 4294967295 }
+        requires few { length self.old.events < max_lines }
         requires allowed { rules.first_broken self.old.header (history_of self.old.events) event.now ≡ None }
         ensures ok { OnOk result (self.new ≡ record { header = self.old.header; events = self.old.events ++ event.now ∷ []; failed = self.old.failed }) }
         ensures err { OnErr result (self.new ≡ record { header = self.old.header; events = self.old.events; failed = true }) }
     {
         let _time = time_of(event).get();
-        match keep(self.alloc, &mut self.events, &mut self.sent, event) {
-            Ok(()) => Ok(()),
-            Err(_) => {
-                self.failed = true;
-                Err(AllocError)
-            }
+        let kept = keep(self.alloc, &mut self.events, &mut self.sent, event);
+        if kept.is_err() {
+            self.failed = true;
         }
+        kept
     }
 }
 

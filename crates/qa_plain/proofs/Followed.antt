@@ -1,4 +1,4 @@
--- Tests of the events behind a packet, as tests of the events in order.
+-- Tests of a history, as tests of its events in order.
 use Rattle.std.proofs.Common.{◌≡◌, ◌∙◌, ◌+◌, ◌-◌, ◌<◌, ◌≤◌, ℕ, zero, suc, List, [], ◌∷◌, Bool, true, false, ◌||◌, ◌&&◌, length, drop, refl, ap, arith, fold}
 use Rattle.std.proofs.lemmas.Bool.{lt-ltb, le-ltb}
 use Rattle.std.specs.List.{list_any}
@@ -52,3 +52,11 @@ or_none false = refl
 pub followed_is : (test : Event → Bool) (events : List Event) (p : Packet) → is_followed_by test (history_of events) p ≡ list_any test (drop (p.place + 1) events)
 followed_is test events p =
     followed_onto test p [] events (p.place + 1) (omega arith) ∙ or_none (list_any test (drop (p.place + 1) events))
+
+any_onto : (test : Event → Bool) (h events : List Event) → list_any test (fold (λ (h : List Event) e. e ∷ h) h events) ≡ (list_any test events || list_any test h)
+any_onto test h [] = refl
+any_onto test h (e ∷ events) = any_onto test (e ∷ h) events ∙ or_swap (list_any test events) (test e) (list_any test h)
+
+-- some event passes the test
+pub any_is : (test : Event → Bool) (events : List Event) → list_any test (history_of events) ≡ list_any test events
+any_is test events = any_onto test [] events ∙ or_none (list_any test events)

@@ -3,5 +3,4 @@ pub mod Moved
 pub mod Entries
 pub mod Answered
 pub mod Powers
-pub mod Chosen
 pub mod Followed

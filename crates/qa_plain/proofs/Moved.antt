@@ -1,14 +1,18 @@
 -- The moves of one event.
-use Rattle.std.proofs.Common.{◌≡◌, ◌∙◌, ℕ, max, List, [], ◌∷◌, ◌++◌, Bool, true, false, unwrap_or, refl, ap, map, reverse, filter, fold}
+use Rattle.std.proofs.Common.{◌≡◌, ◌∙◌, ◌≤◌, ◌<◌, ◌^◌, ℕ, max, List, [], ◌∷◌, ◌++◌, Bool, true, false, unwrap_or, refl, ap, map, reverse, filter, fold, take, length}
 use Rattle.std.proofs.lemmas.List.{map-append, reverse-append}
 use Rattle.std.proofs.lemmas.List.Sums.{fold-append}
+use Rattle.std.specs.List.{All}
 use Rattle.std.specs.Prelude.{if◌then◌else◌}
 use Rattle.qa_base.specs.declared.event.Event.{Event}
 use Rattle.qa_base.specs.values.Events.{time_of}
 use Rattle.qa_base.specs.machine.Loss.{owed, is_persistent}
-use Rattle.qa_base.specs.machine.Packets.{Packet, newly_acknowledged}
-use Rattle.qa_base.specs.values.Settings.{Settings}
-use Rattle.qa_base.specs.machine.Reno.{Move, Hit, Grow, Control, hits, latest_sent, grows, moved, collapses, is_limited, moves_of_last}
+use Rattle.qa_base.specs.machine.Packets.{Packet, history_of, newly_acknowledged}
+use Rattle.qa_base.specs.machine.Widths.{Fits}
+use Rattle.qa_base.specs.values.Constants.{minimum_window}
+use Rattle.qa_base.specs.values.Settings.{Settings, AreInRange}
+use Rattle.qa_base.specs.machine.Reno.{Move, Hit, Grow, Control, hits, latest_sent, grows, moved, collapses, is_limited, moves_of_last, reno}
+use Rattle.qa_base.proofs.machine.WindowBound.{window_at}
 use Rattle.qa_plain.specs.Words.{last_sending, hits_at}
 
 latest_is : (ps : List Packet) → latest_sent ps ≡ unwrap_or (last_sending ps) 0
@@ -51,3 +55,8 @@ moves_are c e h d r =
     let zs : List Move = if is_limited e then [] else grows (newly_acknowledged (e ∷ h)) in
     three d r (hits (time_of e) (owed c (e ∷ h))) ys zs
     ∙ ap (λ (xs : List Move). fold (moved d) (fold (moved d) (fold (moved d) r xs) ys) zs) (hits_is (time_of e) (owed c (e ∷ h)))
+
+-- after the first so many events the window is in the range that its moves ask for
+pub window_in_range : (c : Settings) (events : List Event) (i : ℕ) (r : Control) → AreInRange c → All Fits events → length events < 2 ^ 32 → r ≡ reno c (history_of (take i events))
+    → (minimum_window c.max_datagram_size ≤ r.window) × (r.window ≤ 2 ^ 60)
+window_in_range c events i r range fit few is = rw is (window_at c events i range fit few)

@@ -1,11 +1,13 @@
 -- What is owed, as one filter.
-use Rattle.std.proofs.Common.{◌≡◌, List, [], ◌∷◌, Bool, true, false, ◌&&◌, ℕ, Option, Some, None, refl, filter}
+use Rattle.std.proofs.Common.{◌≡◌, ◌∙◌, List, [], ◌∷◌, Bool, true, false, ◌&&◌, ℕ, Option, Some, None, refl, ap, filter}
 use Rattle.std.specs.Prelude.{if◌then◌else◌}
 use Rattle.qa_base.specs.declared.event.Event.{Event}
 use Rattle.qa_base.specs.declared.space.Space.{Space}
 use Rattle.qa_base.specs.machine.Loss.{is_found, is_found_at, is_owed, found_at, owed, detection}
 use Rattle.qa_base.specs.machine.Packets.{Packet, packets, is_of}
+use Rattle.qa_base.specs.machine.Rtt.{Estimate, rtt}
 use Rattle.qa_base.specs.values.Settings.{Settings}
+use Rattle.qa_plain.specs.Looks.{Seen, IsLook, largest_there, is_found_where, is_found_by}
 
 one_more : (found of_space : Packet → Bool) (p : Packet) (ps rest : List Packet) (a b : Bool) → found p ≡ b
     → filter found ps ≡ rest
@@ -28,6 +30,28 @@ found_is c h (Some d) = both (is_found c h d.1 d.0) (is_of d.0) (packets h)
 
 pub owed_is : (c : Settings) (h : List Event) → owed c h ≡ filter (is_owed c h) (packets h)
 owed_is c h = found_is c h (detection h)
+
+-- ---- by what is seen
+
+found_where : (c : Settings) (h : List Event) (p : Packet) (d : Option (Space × ℕ)) → is_found_where h (rtt c h) (largest_there h d) p d ≡ is_found_at c h p d
+found_where c h p None = refl
+found_where c h p (Some d) = refl
+
+pub found_by_is : (c : Settings) (h : List Event) (look : Seen) (p : Packet) → IsLook c h look → is_found_by h look p ≡ is_owed c h p
+found_by_is c h look p is =
+    ap (λ (r : Estimate). is_found_where h r look.largest p look.detection) is.0
+    ∙ (ap (λ (largest : Option ℕ). is_found_where h (rtt c h) largest p look.detection) is.2
+    ∙ (ap (λ (d : Option (Space × ℕ)). is_found_where h (rtt c h) (largest_there h (detection h)) p d) is.1
+    ∙ found_where c h p (detection h)))
+
+each_found : (c : Settings) (h : List Event) (look : Seen) (ps : List Packet) → IsLook c h look → filter (is_owed c h) ps ≡ filter (is_found_by h look) ps
+each_found c h look [] is = refl
+each_found c h look (p ∷ ps) is = rw (found_by_is c h look p is, each_found c h look ps is) refl
+
+pub owed_by : (c : Settings) (h : List Event) (look : Seen) → IsLook c h look → owed c h ≡ filter (is_found_by h look) (packets h)
+owed_by c h look is = owed_is c h ∙ each_found c h look (packets h) is
+
+-- ---- tests in another order
 
 pub and_turned : (a b : Bool) → (a && b) ≡ (b && a)
 and_turned true true = refl

@@ -1,9 +1,9 @@
 -- What is found out of a history once, before its packets are asked.
-use Rattle.std.specs.Prelude.{◌≡◌, ℕ, List, Option, Some, None}
+use Rattle.std.specs.Prelude.{◌≡◌, ◌&&◌, ℕ, Bool, false, List, Option, Some, None}
 use Rattle.qa_base.specs.declared.event.Event.{Event}
 use Rattle.qa_base.specs.declared.space.Space.{Space}
-use Rattle.qa_base.specs.machine.Loss.{detection}
-use Rattle.qa_base.specs.machine.Packets.{largest_acknowledged}
+use Rattle.qa_base.specs.machine.Loss.{detection, is_late, is_unsettled}
+use Rattle.qa_base.specs.machine.Packets.{Packet, is_of, largest_acknowledged}
 use Rattle.qa_base.specs.machine.Rtt.{Estimate, rtt}
 use Rattle.qa_base.specs.values.Settings.{Settings}
 
@@ -20,3 +20,12 @@ largest_there h (Some (s, now)) = largest_acknowledged h s
 -- this is seen of the history
 abbrev pub IsLook : Settings → List Event → Seen → Type 0
 IsLook c h look = (look.rtt ≡ rtt c h) × (look.detection ≡ detection h) × (look.largest ≡ largest_there h (detection h))
+
+-- a detection there and then, with this estimate and largest number, finds the packet lost
+abbrev pub is_found_where : List Event → Estimate → Option ℕ → Packet → Option (Space × ℕ) → Bool
+is_found_where h r largest p None = false
+is_found_where h r largest p (Some (s, now)) = is_of s p && (p.in_flight && is_unsettled h p && is_late r now largest p)
+
+-- by what is seen, the last event found the packet lost
+abbrev pub is_found_by : List Event → Seen → Packet → Bool
+is_found_by h look p = is_found_where h look.rtt look.largest p look.detection

@@ -7,7 +7,6 @@ ghost use Rattle.qa_plain.specs.Looks.{IsLook};
 
 use crate::losses::{Look, is_owed};
 use crate::packet::{Packet, packet_of};
-use crate::sampling::micros;
 use crate::settled::is_covered;
 use qa_base::{Event, Header, Micros};
 
@@ -53,10 +52,11 @@ fn are_ends(header: &Header, events: &[Event], look: Look, first: Packet, second
     requires seen { IsLook header.now (history_of events.now) look }
     ensures { result ≡ loss.are_ends header.now (history_of events.now) first second }
 {
+    let delay = Micros::of(header.max_ack_delay());
+    let apart = second.time.get().saturating_sub(first.time.get());
     is_end(header, events, look, first)
         && is_end(header, events, look, second)
-        && look.rtt.persistent_after(micros(header.max_ack_delay()))
-            < second.time.get().saturating_sub(first.time.get())
+        && look.rtt.persistent_after(delay) < apart
         && !is_acknowledged_between(events, first, second)
 }
 

@@ -1,13 +1,13 @@
 //! The deadline of the loss detection timer (RFC 9002, section 6.2, A.8).
 ghost use Rattle.std.specs.Prelude.{◌≡◌, ◌∷◌, ◌≤◌, ◌<◌, ◌^◌, ◌*◌, ◌+◌, Some, None, Option, filter, map, min, unwrap_or, if◌then◌else◌};
 ghost use Rattle.std.specs.List.{list_any};
-ghost use Rattle.std.specs.Option.{option_or};
 ghost use Rattle.qa_base.specs.declared.event.Event.{Event};
 ghost use Rattle.qa_base.specs.machine.Handshake as handshake;
 ghost use Rattle.qa_base.specs.machine.Packets.{history_of, packets_of};
 ghost use Rattle.qa_plain.specs.Looks.{IsLook};
 ghost use Rattle.qa_base.specs.machine.Timer as timers;
 ghost use Rattle.qa_base.specs.declared.space.Space.TheVariants as spaces;
+ghost use Rattle.qa_base.specs.values.Limits.{max_time, greatest_max_ack_delay};
 
 use crate::event::time_of;
 use crate::handshake::{has_keys, is_confirmed, is_validated};
@@ -148,7 +148,7 @@ pub fn last_eliciting(events: &[Event], space: Space) -> Option<Micros>
 fn power(count: u64) -> u128
     requires count { count ≤ 40 }
     ensures value { result ≡ 2 ^ count }
-    ensures bound { result ≤ 1099511627776 }
+    ensures bound { result ≤ 2 ^ 40 }
 {
     1 << count
 }
@@ -157,9 +157,9 @@ fn power(count: u64) -> u128
 #[tactic(auto, using(crate::proofs::Powers::product_small))]
 fn doubled(base: u64, count: u64) -> u128
     requires count { count ≤ 40 }
-    requires base { base ≤ 6000000000000000 }
+    requires base { base ≤ 6 * max_time }
     ensures value { result ≡ base * 2 ^ count }
-    ensures bound { result ≤ 6597069766656000000000000000 }
+    ensures bound { result ≤ 6 * max_time * 2 ^ 40 }
 {
     u128::from(base) * power(count)
 }
@@ -177,7 +177,7 @@ fn pto_due(
     requires seen { IsLook header.now (history_of events.now) look }
     requires counted { count ≡ timers.backoff header.now (history_of events.now) }
     requires few { count ≤ 40 }
-    requires delay { peer_delay ≤ 16383000 }
+    requires delay { peer_delay ≤ greatest_max_ack_delay }
     ensures { result ≡ timers.pto_due header.now (history_of events.now) peer_delay space }
 {
     if !some_awaits(header, events, look, space) {
@@ -279,28 +279,15 @@ fn anti_deadlock(header: &Header, events: &[Event], look: Look, count: u64) -> O
     }
 }
 
-/// The first of the two that there is.
-fn or_else(due: Option<Due>, other: Option<Due>) -> Option<Due>
-    ensures { result ≡ option_or due other }
-{
-    match due {
-        None => other,
-        Some(due) => Some(due),
-    }
-}
-
-/// What the timer is set for.
+/// What the timer is set for: a packet that will be old, else a probe timeout, else the timer that a
+/// client keeps until its address is validated.
 pub fn deadline(header: &Header, events: &[Event], look: Look, count: u64) -> Option<Due>
     requires seen { IsLook header.now (history_of events.now) look }
     requires counted { count ≡ timers.backoff header.now (history_of events.now) }
     requires few { count ≤ 40 }
     ensures { result ≡ timers.deadline header.now (history_of events.now) }
 {
-    or_else(
-        earliest_loss(header, events, look),
-        or_else(
-            earliest_pto(header, events, look, count),
-            anti_deadlock(header, events, look, count),
-        ),
-    )
+    earliest_loss(header, events, look)
+        .or(earliest_pto(header, events, look, count))
+        .or(anti_deadlock(header, events, look, count))
 }

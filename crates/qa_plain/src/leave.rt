@@ -149,10 +149,9 @@ pub fn is_probe_due(events: &[Event]) -> bool
 fn enters(reno: Reno, last: Option<Micros>) -> bool
     ensures { result ≡ words.entry_by reno.recovery_start_time last }
 {
-    match (reno.recovery_start_time, last) {
-        (_, None) => false,
-        (None, Some(_)) => true,
-        (Some(began), Some(last)) => began < last,
+    match last {
+        None => false,
+        Some(last) => reno.is_outside_recovery(last),
     }
 }
 

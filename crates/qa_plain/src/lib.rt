@@ -29,11 +29,9 @@ mod window;
 pub use event::time_of;
 pub use handshake::is_confirmed;
 pub use leave::{is_probe_due, probe_spent, recovery_spent};
-pub use named::has_at_or_above;
+pub use named::{has_at_or_above, were_sent};
 pub use packet::{Packet, packet_of};
-pub use questions::{
-    bytes_in_flight, deadline, is_owed, names_owed, owed_count, owes, owes_in, were_sent,
-};
+pub use questions::{bytes_in_flight, deadline, is_owed, names_owed, owed_count, owes, owes_in};
 pub use sampling::rtt;
 pub use settled::{is_covered, is_gone, is_lost, is_newly_acknowledged, largest_acknowledged};
 pub use timer::backoff;

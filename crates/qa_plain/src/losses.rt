@@ -5,7 +5,7 @@ ghost use Rattle.qa_base.specs.machine.Loss as loss;
 ghost use Rattle.qa_base.specs.machine.Packets as packets;
 ghost use Rattle.qa_base.specs.machine.Packets.{history_of};
 ghost use Rattle.qa_base.specs.machine.Rtt as estimates;
-ghost use Rattle.qa_plain.specs.Looks.{IsLook, largest_there as largest_there_of};
+ghost use Rattle.qa_plain.specs.Looks.{IsLook, is_found_by, largest_there as largest_there_of};
 ghost use Rattle.std.specs.List.{list_any};
 
 use crate::packet::{Packet, packet_of};
@@ -123,23 +123,6 @@ pub fn look_at(header: &Header, events: &[Event], rtt: Rtt) -> Look
     }
 }
 
-/// Whether a detection in this space, at this time, finds the packet lost.
-fn is_found(
-    header: &Header,
-    events: &[Event],
-    rtt: Rtt,
-    largest: Option<u64>,
-    now: Micros,
-    space: Space,
-    packet: Packet,
-) -> bool
-    requires known { rtt ≡ estimates.rtt header.now (history_of events.now) }
-    requires largest { largest ≡ packets.largest_acknowledged (history_of events.now) space }
-    ensures { result ≡ loss.is_found header.now (history_of events.now) now space packet }
-{
-    packet.in_flight && is_late_open(events, rtt, largest, now, packet)
-}
-
 /// Whether the packet is late and unsettled, the cheaper test first.
 #[tactic(auto, using(crate::proofs::Owed::and_turned))]
 fn is_late_open(
@@ -154,40 +137,27 @@ fn is_late_open(
     is_late(rtt, now, largest, packet) && is_unsettled(events, packet)
 }
 
-/// Whether a detection in the packet's space finds it lost.
-fn is_found_at(
-    header: &Header,
-    events: &[Event],
-    rtt: Rtt,
-    largest: Option<u64>,
-    detection: Option<(Space, Micros)>,
-    packet: Packet,
-) -> bool
-    requires known { rtt ≡ estimates.rtt header.now (history_of events.now) }
-    requires largest { largest ≡ largest_there_of (history_of events.now) detection }
-    ensures { result ≡ loss.is_found_at header.now (history_of events.now) packet detection }
+/// Whether by what is known the last event found the packet lost.
+pub fn is_found(events: &[Event], look: Look, packet: Packet) -> bool
+    ensures { result ≡ is_found_by (history_of events.now) look packet }
 {
-    match detection {
+    match look.detection {
         None => false,
         Some((space, now)) => {
-            space == packet.space && is_found(header, events, rtt, largest, now, space, packet)
+            space == packet.space
+                && packet.in_flight
+                && is_late_open(events, look.rtt, look.largest, now, packet)
         }
     }
 }
 
 /// Whether the last event found the packet lost.
+#[tactic(auto, using(crate::proofs::Owed::found_by_is))]
 pub fn is_owed(header: &Header, events: &[Event], look: Look, packet: Packet) -> bool
     requires seen { IsLook header.now (history_of events.now) look }
     ensures { result ≡ loss.is_owed header.now (history_of events.now) packet }
 {
-    is_found_at(
-        header,
-        events,
-        look.rtt,
-        look.largest,
-        look.detection,
-        packet,
-    )
+    is_found(events, look, packet)
 }
 
 /// How many packets the last event found lost.

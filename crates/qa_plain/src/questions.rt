@@ -59,13 +59,6 @@ pub fn names_owed(header: &Header, events: &[Event], ranges: &[Span]) -> bool
     named::names_owed(header, events, look(header, events), ranges)
 }
 
-/// Whether each number of the ranges was sent in the space.
-pub fn were_sent(header: &Header, events: &[Event], space: Space, ranges: &[Span]) -> bool
-    ensures { result ≡ tests.has_all (breaches.numbers (packets.packets_of (history_of events.now) space)) ranges.now }
-{
-    named::were_sent(header, events, look(header, events), space, ranges)
-}
-
 /// The bytes in flight: the sizes of the in-flight packets that are neither acknowledged nor lost,
 /// and whose space is not discarded (RFC 9002, B.4, B.9).
 pub fn bytes_in_flight(header: &Header, events: &[Event]) -> u128

@@ -1,7 +1,6 @@
 //! The round-trip time, by its samples (RFC 9002, section 5).
-ghost use Rattle.std.specs.Prelude.{◌≡◌, ◌≤◌, ◌∷◌, ◌==◌, find};
+ghost use Rattle.std.specs.Prelude.{◌≡◌, ◌∷◌, ◌==◌, find};
 ghost use Rattle.std.specs.List.{list_any};
-ghost use Rattle.qa_base.specs.values.Limits.{max_time};
 ghost use Rattle.qa_base.specs.machine.Packets.{history_of, newly_acknowledged};
 ghost use Rattle.qa_base.specs.machine.Rtt as estimates;
 
@@ -32,14 +31,6 @@ impl Model for Sample {
     ghost view = { λ s. record { latest_rtt = s.latest_rtt; ack_delay = s.ack_delay; time = s.time } };
 
     ghost inverse = { λ s. record { latest_rtt = s.latest_rtt; ack_delay = s.ack_delay; time = s.time } };
-}
-
-/// A number of microseconds that is known to be a time.
-pub fn micros(value: u64) -> Micros
-    requires { value ≤ max_time }
-    ensures { result ≡ value }
-{
-    Micros::new(value).unwrap()
 }
 
 /// Whether the event newly acknowledges an ack-eliciting packet.
@@ -90,7 +81,7 @@ fn sample_by(time: Micros, delay: u64, packet: Option<Packet>) -> Option<Sample>
     match packet {
         None => None,
         Some(packet) => Some(Sample {
-            latest_rtt: micros(time.get().saturating_sub(packet.time.get())),
+            latest_rtt: Micros::of(time.get().saturating_sub(packet.time.get())),
             ack_delay: delay,
             time,
         }),
@@ -136,7 +127,7 @@ pub fn updated(rtt: Rtt, sample: Option<Sample>) -> Rtt
 pub fn start(header: &Header) -> Rtt
     ensures { result ≡ estimates.start header.now.initial_rtt }
 {
-    Rtt::start(micros(header.initial_rtt()))
+    Rtt::start(Micros::of(header.initial_rtt()))
 }
 
 /// The estimate of the round-trip time after the events (RFC 9002, section 5, A.7).

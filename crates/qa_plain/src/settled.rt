@@ -59,13 +59,7 @@ pub fn is_lost(events: &[Event], packet: Packet) -> bool
 pub fn is_gone(events: &[Event], space: Space) -> bool
     ensures { result ≡ packets.is_gone (history_of events.now) space }
 {
-    let mut found = false;
-    for event in events {
-        if discards(event, space) {
-            found = true;
-        }
-    }
-    found
+    events.iter().any(|event| discards(event, space))
 }
 
 /// Whether an event after these newly acknowledges the packet: it acknowledges it, and the packet

@@ -111,14 +111,7 @@ fn losses(rt: HostRuntime) -> Result<(), Fail> {
     assert!(rt; owes_in(&header, acknowledged, SPACE));
     assert_eq!(rt; owed_count(&header, acknowledged), 1);
     assert!(rt; names_owed(&header, acknowledged, alone(rt.alloc(), 0)?.as_slice()));
-    assert!(rt;
-        were_sent(
-            &header,
-            acknowledged,
-            SPACE,
-            alone(rt.alloc(), 1)?.as_slice()
-        )
-    );
+    assert!(rt; were_sent(acknowledged, SPACE, alone(rt.alloc(), 1)?.as_slice()));
     assert_eq!(rt; bytes_in_flight(&header, &events[..3]), 2400);
     assert_eq!(rt; bytes_in_flight(&header, acknowledged), 0);
     if !all_fit(&events[..4]) {

@@ -1,11 +1,13 @@
 //! The congestion window, move by move (RFC 9002, section 7, appendix B).
-ghost use Rattle.std.specs.Prelude.{if◌then◌else◌, [], ◌≡◌, ◌∷◌, ◌≤◌, ◌<◌, ◌^◌, ◌*◌, ◌+◌, Some, unwrap_or, max, fold, length};
+ghost use Rattle.std.specs.Prelude.{if◌then◌else◌, [], ◌≡◌, ◌∷◌, ◌≤◌, ◌<◌, ◌^◌, ◌+◌, Some, unwrap_or, max, fold, length};
 ghost use Rattle.std.specs.List.{All};
 ghost use Rattle.qa_base.specs.machine.Loss as loss;
 ghost use Rattle.qa_base.specs.machine.Packets.{history_of, newly_acknowledged};
 ghost use Rattle.qa_base.specs.machine.Reno as steps;
 ghost use Rattle.qa_plain.specs.Looks.{IsLook};
 ghost use Rattle.qa_base.specs.machine.Widths.{Fits};
+ghost use Rattle.qa_base.specs.values.Constants.{minimum_window};
+ghost use Rattle.qa_base.specs.values.Limits.{max_packet_size};
 ghost use Rattle.qa_plain.specs.Words.{last_sending, hits_at};
 
 use crate::congestion::is_persistent;
@@ -45,9 +47,9 @@ pub fn last_owed(header: &Header, events: &[Event], look: Look) -> Option<Micros
 
 /// The window after a loss, of packets the last of which was sent then.
 fn hit_by(header: &Header, reno: Reno, last: Option<Micros>, now: Micros) -> Reno
-    requires low { 2 * header.now.max_datagram_size ≤ reno.window }
+    requires low { minimum_window header.now.max_datagram_size ≤ reno.window }
     ensures value { result ≡ fold (steps.moved header.now.max_datagram_size) reno (hits_at now last) }
-    ensures low { 2 * header.now.max_datagram_size ≤ result.window }
+    ensures low { minimum_window header.now.max_datagram_size ≤ result.window }
     ensures high { result.window ≤ reno.window }
 {
     let mut more = reno;
@@ -59,9 +61,9 @@ fn hit_by(header: &Header, reno: Reno, last: Option<Micros>, now: Micros) -> Ren
 
 /// The window after persistent congestion, where there is any.
 fn collapsed(header: &Header, reno: Reno, persistent: bool) -> Reno
-    requires low { 2 * header.now.max_datagram_size ≤ reno.window }
+    requires low { minimum_window header.now.max_datagram_size ≤ reno.window }
     ensures value { result ≡ fold (steps.moved header.now.max_datagram_size) reno (steps.collapses persistent) }
-    ensures low { 2 * header.now.max_datagram_size ≤ result.window }
+    ensures low { minimum_window header.now.max_datagram_size ≤ result.window }
     ensures high { result.window ≤ reno.window }
 {
     let mut more = reno;
@@ -74,13 +76,13 @@ fn collapsed(header: &Header, reno: Reno, persistent: bool) -> Reno
 /// The window after a packet of this size was acknowledged.
 #[tactic(auto, using(qa_base::proofs::machine::WindowBound::grown_little))]
 fn grow_by(header: &Header, reno: Reno, size: u64, sent: Micros) -> Reno
-    requires low { 2 * header.now.max_datagram_size ≤ reno.window }
+    requires low { minimum_window header.now.max_datagram_size ≤ reno.window }
     requires high { reno.window ≤ 2 ^ 62 }
     requires size_low { 1 ≤ size }
-    requires size_high { size ≤ 65527 }
+    requires size_high { size ≤ max_packet_size }
     ensures value { result ≡ steps.moved header.now.max_datagram_size reno (steps.Grow size sent) }
     ensures low { reno.window ≤ result.window }
-    ensures high { result.window ≤ reno.window + 65527 }
+    ensures high { result.window ≤ reno.window + max_packet_size }
 {
     let mut more = reno;
     more.grow(size, sent, header.max_datagram_size());
@@ -90,12 +92,12 @@ fn grow_by(header: &Header, reno: Reno, size: u64, sent: Micros) -> Reno
 /// The window after the packets that an event newly acknowledges, in the order of sending.
 #[tactic(auto, using(crate::proofs::Moved::grown_by, crate::proofs::Moved::grown_bare))]
 fn grown(header: &Header, before: &[Event], event: &Event, reno: Reno) -> Reno
-    requires low { 2 * header.now.max_datagram_size ≤ reno.window }
+    requires low { minimum_window header.now.max_datagram_size ≤ reno.window }
     requires high { reno.window ≤ 2 ^ 60 }
     requires few { length before.now < 2 ^ 32 }
     requires fit { All Fits before.now }
     ensures value { result ≡ fold (steps.moved header.now.max_datagram_size) reno (steps.grows (newly_acknowledged (event.now ∷ history_of before.now))) }
-    ensures low { 2 * header.now.max_datagram_size ≤ result.window }
+    ensures low { minimum_window header.now.max_datagram_size ≤ result.window }
 {
     let mut reno = reno;
     for (place, earlier) in before.iter().enumerate() {
@@ -120,11 +122,11 @@ fn is_limited(event: &Event) -> bool
 
 /// The window after the growth by an event, if the sender used the window that it had.
 fn grown_unless_limited(header: &Header, before: &[Event], event: &Event, reno: Reno) -> Reno
-    requires low { 2 * header.now.max_datagram_size ≤ reno.window }
+    requires low { minimum_window header.now.max_datagram_size ≤ reno.window }
     requires high { reno.window ≤ 2 ^ 60 }
     requires few { length before.now < 2 ^ 32 }
     requires fit { All Fits before.now }
-    ensures low { 2 * header.now.max_datagram_size ≤ result.window }
+    ensures low { minimum_window header.now.max_datagram_size ≤ result.window }
     ensures value { result ≡ fold (steps.moved header.now.max_datagram_size) reno (if steps.is_limited event.now then [] else steps.grows (newly_acknowledged (event.now ∷ history_of before.now))) }
 {
     if is_limited(event) {
@@ -146,7 +148,7 @@ pub fn moved(
 ) -> Reno
     requires whole { history_of after.now ≡ event.now ∷ history_of before.now }
     requires seen { IsLook header.now (history_of after.now) look }
-    requires low { 2 * header.now.max_datagram_size ≤ reno.window }
+    requires low { minimum_window header.now.max_datagram_size ≤ reno.window }
     requires high { reno.window ≤ 2 ^ 60 }
     requires few { length before.now < 2 ^ 32 }
     requires fit { All Fits before.now }

@@ -46,6 +46,17 @@ impl Reno {
         }
     }
 
+    /// Whether a packet that was sent then was sent after recovery began, or there is no recovery
+    /// (RFC 9002, B.5).
+    pub fn is_outside_recovery(&self, sent: Micros) -> bool
+        ensures { result ≡ steps.is_outside_recovery self.now.recovery_start_time sent }
+    {
+        match self.recovery_start_time {
+            None => true,
+            Some(began) => began < sent,
+        }
+    }
+
     /// A loss was found now, of packets the last of which was sent at `last_sent` (RFC 9002,
     /// section 7.3.2, B.6). `max_datagram_size` is 1200 to 65527 bytes.
     ///
@@ -58,7 +69,7 @@ impl Reno {
         ensures entered { result ≡ steps.is_outside_recovery self.old.recovery_start_time last_sent }
         ensures state { self.new ≡ steps.hit max_datagram_size last_sent now self.old }
     {
-        if !is_outside_recovery(self.recovery_start_time, last_sent) {
+        if !self.is_outside_recovery(last_sent) {
             return false;
         }
         let ssthresh = self.window / LOSS_REDUCTION_DIVISOR;
@@ -100,7 +111,7 @@ impl Reno {
         requires size_high { size ≤ max_packet_size }
         ensures { self.new ≡ steps.grow max_datagram_size size sent self.old }
     {
-        if !is_outside_recovery(self.recovery_start_time, sent) {
+        if !self.is_outside_recovery(sent) {
             return;
         }
         let growth = if is_slow_start(self.window, self.ssthresh) {
@@ -113,16 +124,6 @@ impl Reno {
             ssthresh: self.ssthresh,
             recovery_start_time: self.recovery_start_time,
         };
-    }
-}
-
-/// Whether a packet that was sent then was sent after recovery began, or there is no recovery.
-fn is_outside_recovery(recovery: Option<Micros>, sent: Micros) -> bool
-    ensures { result ≡ steps.is_outside_recovery recovery sent }
-{
-    match recovery {
-        None => true,
-        Some(began) => began < sent,
     }
 }
 

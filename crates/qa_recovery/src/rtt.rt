@@ -1,5 +1,6 @@
 //! The estimate of the round-trip time (RFC 9002, section 5).
 ghost use Rattle.std.specs.Prelude.{◌≡◌, ◌≤◌, ◌-◌, ◌+◌, ◌*◌, ◌/◌};
+ghost use Rattle.qa_base.specs.values.Constants.{persistent_congestion_threshold, time_threshold_parts, time_threshold_divisor};
 ghost use Rattle.qa_base.specs.values.Limits.{max_time};
 ghost use Rattle.qa_base.specs.machine.Rtt as estimates;
 ghost use Rattle.qa_base.specs.machine.Timer.{loss_delay as loss_delay_of};
@@ -47,26 +48,18 @@ impl Model for Rtt {
     } };
 }
 
-/// A number of microseconds that is known to be a time.
-fn micros(value: u64) -> Micros
-    requires { value ≤ max_time }
-    ensures { result ≡ value }
-{
-    Micros::new(value).unwrap()
-}
-
 impl Rtt {
     /// The estimate before the first sample: the initial RTT, and half of it as its variation
     /// (RFC 9002, section 5.3).
     pub fn start(initial_rtt: Micros) -> Rtt
         ensures { result ≡ estimates.start initial_rtt }
     {
-        let none = micros(0);
+        let none = Micros::of(0);
         Rtt {
             latest_rtt: none,
             min_rtt: none,
             smoothed_rtt: initial_rtt,
-            rttvar: micros(initial_rtt.get() / 2),
+            rttvar: Micros::of(initial_rtt.get() / 2),
             first_rtt_sample: None,
         }
     }
@@ -85,7 +78,7 @@ impl Rtt {
                 latest_rtt,
                 min_rtt: latest_rtt,
                 smoothed_rtt: latest_rtt,
-                rttvar: micros(latest_rtt.get() / 2),
+                rttvar: Micros::of(latest_rtt.get() / 2),
                 first_rtt_sample: Some(now),
             };
             return;
@@ -96,8 +89,8 @@ impl Rtt {
         *self = Rtt {
             latest_rtt,
             min_rtt,
-            smoothed_rtt: micros((7 * smoothed_rtt + adjusted_rtt) / 8),
-            rttvar: micros((3 * self.rttvar.get() + smoothed_rtt.abs_diff(adjusted_rtt)) / 4),
+            smoothed_rtt: Micros::of((7 * smoothed_rtt + adjusted_rtt) / 8),
+            rttvar: Micros::of((3 * self.rttvar.get() + smoothed_rtt.abs_diff(adjusted_rtt)) / 4),
             first_rtt_sample: self.first_rtt_sample,
         };
     }
@@ -107,7 +100,7 @@ impl Rtt {
     /// at least, in microseconds (RFC 9002, section 6.1.2).
     pub fn loss_delay(&self) -> u64
         ensures value { result ≡ loss_delay_of self.now }
-        ensures bound { result ≤ 1125000000000000 }
+        ensures bound { result ≤ time_threshold_parts * max_time / time_threshold_divisor }
     {
         let rtt = self.latest_rtt.get().max(self.smoothed_rtt.get());
         let parts = TIME_THRESHOLD_PARTS * rtt + (TIME_THRESHOLD_DIVISOR - 1);
@@ -128,7 +121,7 @@ impl Rtt {
     /// (RFC 9002, section 7.6.1).
     pub fn persistent_after(&self, max_ack_delay: Micros) -> u64
         ensures value { result ≡ estimates.persistent_after self.now max_ack_delay }
-        ensures bound { result ≤ 18 * max_time }
+        ensures bound { result ≤ persistent_congestion_threshold * (6 * max_time) }
     {
         PERSISTENT_CONGESTION_THRESHOLD * (self.pto_base() + max_ack_delay.get())
     }

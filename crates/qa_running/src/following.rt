@@ -12,7 +12,7 @@ ghost use Rattle.qa_running.specs.Lateness.{IsLatenessAt};
 ghost use Rattle.qa_running.specs.Standing.{StandsFor};
 ghost use Rattle.qa_sent.specs.Fates.{is_new};
 
-use qa_base::{Event, Header, Kind, Micros, Space, Span};
+use qa_base::{Event, Kind, Micros, Space, Span};
 use qa_connection::{Connection, Outcome};
 use qa_ranges::Ranges;
 use qa_sent::{Fate, Lateness, SentPacket, SentPackets};
@@ -162,15 +162,8 @@ fn is_persistent(packets: &SentPackets, connection: &Connection) -> bool
         Some(first) => {
             let limit = connection
                 .rtt
-                .persistent_after(peer_delay(&connection.header));
+                .persistent_after(Micros::of(connection.header.max_ack_delay()));
             packets.is_persistent(limit, first)
         }
     }
-}
-
-/// The peer's `max_ack_delay`.
-fn peer_delay(header: &Header) -> Micros
-    ensures { result ≡ header.now.max_ack_delay }
-{
-    Micros::new(header.max_ack_delay()).unwrap()
 }

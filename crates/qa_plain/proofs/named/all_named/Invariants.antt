@@ -7,6 +7,6 @@ use Rattle.qa_plain.proofs.named.all_named.Given as goal
 
 abbrev pub invariant-loop-place : goal.invariant-loop-place
 invariant-loop-place l = record {
-  all : l.all ≡ list_all (is_named l.ranges) (numbers_chosen l.header (history_of l.events) l.choice (history_of (take l.place l.events)));
+  all : l.all ≡ list_all (is_named l.ranges) (numbers_chosen (history_of l.events) l.choice (history_of (take l.place l.events)));
   long : length (history_of (take l.place l.events)) ≡ l.place;
 }

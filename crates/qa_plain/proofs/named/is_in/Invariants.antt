@@ -6,6 +6,6 @@ use Rattle.qa_plain.proofs.named.is_in.Given as goal
 
 abbrev pub invariant-loop-place : goal.invariant-loop-place
 invariant-loop-place l = record {
-  found : l.found ≡ is_in (numbers_chosen l.header (history_of l.events) l.choice (history_of (take l.place l.events))) l.wanted;
+  found : l.found ≡ is_in (numbers_chosen (history_of l.events) l.choice (history_of (take l.place l.events))) l.wanted;
   long : length (history_of (take l.place l.events)) ≡ l.place;
 }

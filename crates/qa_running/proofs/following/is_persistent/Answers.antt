@@ -11,6 +11,6 @@ returns-in-None c = λ k h stands run measured header.
 pub returns-in-Some : goal.returns-in-Some
 returns-in-Some c = λ k h stands run measured header.
     let first : c.args.connection.now.rtt.first_rtt_sample ≡ Some c.in-Some.first = search rules in
-    let delay : c.peer_delay.result ≡ c.args.connection.now.header.max_ack_delay = search rules in
-    persists k h run c.args.connection.now.rtt measured.rtt c.in-Some.first first c.args.packets.now stands c.persistent_after-limit.result c.peer_delay.result
+    let delay : c.of.result ≡ c.args.connection.now.header.max_ack_delay = search rules in
+    persists k h run c.args.connection.now.rtt measured.rtt c.in-Some.first first c.args.packets.now stands c.persistent_after-limit.result c.of.result
     c.persistent_after-limit.ensures.value (delay ∙ ap (λ (s : Settings). s.max_ack_delay) header) c.is_persistent.result c.is_persistent.ensures
