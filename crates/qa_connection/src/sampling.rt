@@ -1,8 +1,7 @@
 //! The round-trip time, by its samples (RFC 9002, section 5).
-ghost use Rattle.std.specs.Prelude.{◌≡◌, ◌≤◌, reverse};
+ghost use Rattle.std.specs.Prelude.{◌≡◌, reverse};
 ghost use Rattle.std.specs.List.{list_any};
 ghost use Rattle.qa_base.specs.machine.Rtt as estimates;
-ghost use Rattle.qa_base.specs.values.Limits.{max_time};
 ghost use Rattle.qa_connection.specs.Steps as steps;
 
 use crate::event::greatest;
@@ -10,19 +9,11 @@ use qa_base::{Event, Header, Micros, PacketNumber};
 use qa_recovery::Rtt;
 use qa_sent::SentPacket;
 
-/// A number of microseconds that is known to be a time.
-fn micros(value: u64) -> Micros
-    requires { value ≤ max_time }
-    ensures { result ≡ value }
-{
-    Micros::new(value).unwrap()
-}
-
 /// The estimate before the first sample.
 pub(crate) fn start(header: &Header) -> Rtt
     ensures { result ≡ estimates.start header.now.initial_rtt }
 {
-    Rtt::start(micros(header.initial_rtt()))
+    Rtt::start(Micros::of(header.initial_rtt()))
 }
 
 /// When the last packet of this number was sent.
@@ -64,7 +55,7 @@ fn sampled(rtt: Rtt, sent: Option<Micros>, delay: u64, now: Micros) -> Rtt
         None => rtt,
         Some(sent) => {
             let mut more = rtt;
-            more.sample(micros(now.get().saturating_sub(sent.get())), delay, now);
+            more.sample(Micros::of(now.get().saturating_sub(sent.get())), delay, now);
             more
         }
     }
