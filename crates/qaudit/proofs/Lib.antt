@@ -1,1 +1,2 @@
 mod Greatest
+mod Written

@@ -1,7 +1,6 @@
 //! The subcommand `check`.
-ghost use Rattle.std.specs.Prelude.{◌≡◌, ◌⊎◌, ℕ, List, [], Result, Some, IfOk, OnOk, IfErr, OnErr, nat_lt, length, take, string_bytes};
+ghost use Rattle.std.specs.Prelude.{◌≡◌, ◌⊎◌, ℕ, [], Result, IfOk, OnOk, IfErr, nat_lt, length, take, string_bytes};
 ghost use Rattle.std.specs.Io.KnownBytes.{Appends};
-ghost use Rattle.qa_check.specs.Audit.{Reports};
 ghost use Rattle.qaudit.specs.Checking as checking;
 ghost use Rattle.qaudit.specs.Checking.{Audited, Checks, ChecksAll, heading};
 ghost use Rattle.qaudit.specs.Ending.{status_of};
@@ -26,7 +25,7 @@ pub fn check<R: Files + Eprint + AllocGlobal, I: Source, O: Sink>(
 ) -> u8
     ensures files { files.now ≡ [] ⊎ ChecksAll (nat_lt 1 (length files.now)) files.now (O.held output.old) (O.held output.new) result }
     ensures input { files.now ≡ [] → (ended : Result Outcome Failure)
-        × Audited Origin.StandardInput ended (O.held output.old) (O.held output.new) × (result ≡ status_of ended) }
+        × Audited (I.left input.old) Origin.StandardInput ended (O.held output.old) (O.held output.new) × (result ≡ status_of ended) }
 {
     if files.is_empty() {
         let ended = audited(rt.alloc(), Origin::StandardInput, input, output);
@@ -126,9 +125,7 @@ fn audited<'a, I: Source, O: Sink>(
     input: &mut I,
     output: &mut O,
 ) -> Result<Outcome, Failure<'a>>
-    ensures wrote { Audited origin.entry result (O.held output.old) (O.held output.new) }
-    ensures told { (bytes : List ℕ) → I.left input.old ≡ Some bytes
-        → IfOk result (λ outcome. Reports (O.held output.old) (O.held output.new) outcome bytes) }
+    ensures { Audited (I.left input.old) origin.entry result (O.held output.old) (O.held output.new) }
 {
     match audit::<Whole, I, O>(alloc, input, output) {
         Ok(outcome) => Ok(outcome),
