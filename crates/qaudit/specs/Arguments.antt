@@ -19,14 +19,14 @@ abbrev pub is_option : List ℕ → Bool
 is_option [] = false
 is_option (byte ∷ rest) = byte == 45 && is_some (slice_get (chars rest) 0)
 
--- the names of files among the words behind a subcommand. Up to the first `--` none is an option; behind it all are names
+-- the names of files among the arguments behind a subcommand. Up to the first `--` none may be an option; behind it all are names
 abbrev pub names_in : List (List ℕ) → Option (List (List ℕ))
 names_in [] = Some []
-names_in (word ∷ words) =
-    if bytes_eq word (codes "--") then Some words
-    else (if is_option word then None else option_map (λ names. word ∷ names) (names_in words))
+names_in (argument ∷ rest) =
+    if bytes_eq argument (codes "--") then Some rest
+    else (if is_option argument then None else option_map (λ names. argument ∷ names) (names_in rest))
 
--- a subcommand and its files: `explain` has one at most
+-- a subcommand with its files, of which `explain` has one at most
 abbrev pub asked_of : List ℕ → List (List ℕ) → Option (List ℕ × List (List ℕ))
 asked_of command names =
     if bytes_eq (codes "check") command then Some (codes "check", names)
@@ -36,13 +36,14 @@ asked_of command names =
 abbrev pub asked : List (List ℕ) → Option (List ℕ × List (List ℕ))
 asked [] = None
 asked (program ∷ []) = None
-asked (program ∷ command ∷ words) = option_and_then (asked_of command) (names_in words)
+asked (program ∷ command ∷ rest) = option_and_then (asked_of command) (names_in rest)
 
 -- the same of a subcommand that was read
 abbrev pub request : Subcommand → List ℕ × List (List ℕ)
 request (Check files) = (codes "check", map (λ file. file.now) files.items)
 request (Explain file) = (codes "explain", option_to_list (option_map (λ name. name.now) file))
 
+-- the name of a subcommand
 abbrev pub IsCommand : List ℕ → Type 0
 IsCommand command = (command ≡ codes "check") ⊎ (command ≡ codes "explain")
 

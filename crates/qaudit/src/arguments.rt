@@ -27,6 +27,8 @@ pub enum Subcommand<'a> {
 }
 
 /// Reads the arguments that the program was started with, its own name first.
+///
+/// `Failure::Arguments` comes where one of them is not UTF-8, or they cannot be read.
 pub fn read_arguments(rt: &(impl Env + AllocGlobal)) -> Result<Vec<String>, Failure<'static>>
     ensures { IfErr result (λ failure. (failure ≡ Failure.OutOfMemory) ⊎ (failure ≡ Failure.Arguments)) }
 {
@@ -38,6 +40,8 @@ pub fn read_arguments(rt: &(impl Env + AllocGlobal)) -> Result<Vec<String>, Fail
 }
 
 /// Reads what the arguments ask for. The first is the program's own name.
+///
+/// `Failure::Arguments` comes where they ask for nothing.
 pub fn parse<'a>(alloc: Global, arguments: &'a [String]) -> Result<Subcommand<'a>, Failure<'a>>
     ensures ok { IfOk result (λ subcommand. asked (map string_bytes arguments.now) ≡ Some (request subcommand)) }
     ensures err { IfErr result (λ failure. (failure ≡ Failure.OutOfMemory)

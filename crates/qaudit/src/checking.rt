@@ -1,6 +1,7 @@
 //! The subcommand `check`.
-ghost use Rattle.std.specs.Prelude.{◌≡◌, ◌⊎◌, ℕ, [], Result, IfOk, OnOk, IfErr, nat_lt, length, take, string_bytes};
+ghost use Rattle.std.specs.Prelude.{◌≡◌, ◌⊎◌, ℕ, [], true, Result, Err, IfOk, OnOk, IfErr, nat_lt, length, take, string_bytes};
 ghost use Rattle.std.specs.Io.KnownBytes.{Appends};
+ghost use Rattle.qa_check.specs.Failures.{failures_after};
 ghost use Rattle.qaudit.specs.Checking as checking;
 ghost use Rattle.qaudit.specs.Checking.{Audited, Checks, ChecksAll, heading};
 ghost use Rattle.qaudit.specs.Ending.{status_of};
@@ -102,6 +103,7 @@ fn write_heading<'a, O: Sink>(alloc: Global, name: &str, output: &mut O) -> Resu
     ensures err { IfErr result (λ failure.
         (failure ≡ Failure.Write × ((n : ℕ) × Appends (O.held output.old) (O.held output.new) (take n (heading name.now))))
         ⊎ (failure ≡ Failure.OutOfMemory × (O.held output.new ≡ O.held output.old))) }
+    ensures failed { (result ≡ Err Failure.Write) → O.write_failures output.new ≡ failures_after true (O.write_failures output.old) }
 {
     let Ok(line) = heading_line(alloc, name) else {
         return Err(Failure::OutOfMemory);
