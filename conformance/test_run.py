@@ -380,6 +380,21 @@ class AuditorTest(RunnerCase):
         *failures, _last = self.lines(1)
         self.assertIn("FAILED streams/no-arguments: standard output b'again', wanted b''", failures)
 
+    def test_repeated_text_reaches_the_program(self):
+        repeated = {"repeated": {"before": "first\n", "text": "ab", "times": 40000, "behind": "\nlast"}}
+        whole = "first\n" + "ab" * 40000 + "\nlast"
+        self.assert_case_passes("import os\nwhile True:\n read = os.read(0, 4096)\n os.write(1, read) or os._exit(0)", {
+            "input": repeated, "stdout": whole,
+        })
+        self.assert_case_passes(WRITES_FILES, {"arguments": ["a"], "files": {"a": repeated}, "stdout": "a\n" + whole})
+
+    def test_limit_of_memory_reaches_the_program(self):
+        self.assert_case_passes("import resource\nprint(resource.getrlimit(resource.RLIMIT_DATA)[0])", {
+            "memory": 1 << 30, "stdout": "1073741824\n",
+        })
+        refused = "try:\n print(len(b'a' * (1 << 30)))\nexcept MemoryError:\n print('refused')"
+        self.assert_case_passes(refused, {"memory": 1 << 28, "stdout": "refused\n"})
+
     def test_case_that_takes_too_long(self):
         self.write_program("import sys, time\nif len(sys.argv) == 1:\n time.sleep(1000)\n" + self.honest())
         self.write_cases([{**USAGE_CASE, "seconds": 0.5}])

@@ -58,32 +58,27 @@ begins_longer a b text longer more is (begun, rest, parts, written) =
 -- ---- a row
 
 -- without a header there is no row
-pub no_row : {L : Type 0} (stands : Stands L) (ledger : Option L) (a : Option (List ℕ)) (n : ℕ) (kind : LineKind) (o : Option Totals)
-    → ((header : Option Settings) (h : List Event) → HoldsRun stands ledger header h → o ≡ option_map (λ c. totals c h) header) → o ≡ None
-    → (header : Option Settings) (h : List Event) → HoldsRun stands ledger header h → Appends a a (row_of n (Some kind) header h)
-no_row stands ledger a n kind o says none None h held = Appends-nil a
-no_row stands ledger a n kind o says none (Some c) h held = let is = says (Some c) h held in cc
+pub no_row : (a : Option (List ℕ)) (n : ℕ) (kind : LineKind) (o : Option Totals) → o ≡ None
+    → (header : Option Settings) (h : List Event) → o ≡ option_map (λ c. totals c h) header → Appends a a (row_of n (Some kind) header h)
+no_row a n kind o none None h is = Appends-nil a
+no_row a n kind o none (Some c) h is = cc
 
--- with one, it is the row of the state that the ledger tells
-one_row : {L : Type 0} (stands : Stands L) (ledger : Option L) (n : ℕ) (kind : LineKind) (o : Option Totals) (t : Totals) (text : List ℕ)
-    → ((header : Option Settings) (h : List Event) → HoldsRun stands ledger header h → o ≡ option_map (λ c. totals c h) header) → o ≡ Some t
-    → text ≡ row n kind t
-    → (header : Option Settings) (h : List Event) → HoldsRun stands ledger header h → row_of n (Some kind) header h ≡ text
-one_row stands ledger n kind o t text says some is None h held = let none = says None h held in cc
-one_row stands ledger n kind o t text says some is (Some c) h held =
-    let same : t ≡ totals c h = some_of (sym some ∙ says (Some c) h held) in
+-- with one, it is the row of the state
+pub one_row : (n : ℕ) (kind : LineKind) (o : Option Totals) (t : Totals) (text : List ℕ) → o ≡ Some t → text ≡ row n kind t
+    → (header : Option Settings) (h : List Event) → o ≡ option_map (λ c. totals c h) header → row_of n (Some kind) header h ≡ text
+one_row n kind o t text some is None h says = cc
+one_row n kind o t text some is (Some c) h says =
+    let same : t ≡ totals c h = some_of (sym some ∙ says) in
     sym (is ∙ ap (row n kind) same)
   where
     some_of : {x y : Totals} → Some x ≡ Some y → x ≡ y
     some_of e = cc
 
 -- it was begun
-pub row_begins : {L : Type 0} (stands : Stands L) (ledger : Option L) (n : ℕ) (kind : LineKind) (o : Option Totals) (t : Totals) (text : List ℕ) (a b : Option (List ℕ))
-    → ((header : Option Settings) (h : List Event) → HoldsRun stands ledger header h → o ≡ option_map (λ c. totals c h) header) → o ≡ Some t
-    → text ≡ row n kind t → (m : ℕ) × Appends a b (take m text)
-    → (header : Option Settings) (h : List Event) → HoldsRun stands ledger header h → Begins a b (row_of n (Some kind) header h)
-row_begins stands ledger n kind o t text a b says some is taken header h held =
-    rw (one_row stands ledger n kind o t text says some is header h held) (begins_taken a b text taken)
+pub row_begins : (n : ℕ) (kind : LineKind) (o : Option Totals) (t : Totals) (text : List ℕ) (a b : Option (List ℕ)) → o ≡ Some t → text ≡ row n kind t
+    → (m : ℕ) × Appends a b (take m text)
+    → (header : Option Settings) (h : List Event) → o ≡ option_map (λ c. totals c h) header → Begins a b (row_of n (Some kind) header h)
+row_begins n kind o t text a b some is taken header h says = rw (one_row n kind o t text some is header h says) (begins_taken a b text taken)
 
 -- ---- a line
 

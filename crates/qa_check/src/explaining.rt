@@ -1,8 +1,9 @@
 //! The explanation: from a reader of bytes to a row for each line, and a report, on a writer.
-ghost use Rattle.std.specs.Prelude.{◌≡◌, ◌≢◌, ◌++◌, ℕ, List, [], ◌∷◌, Option, true, false, Some, None, Ok, Err, OnOk, OnErr, IfOk, IfSome, IfNone};
+ghost use Rattle.std.specs.Prelude.{◌≡◌, ◌≢◌, ◌++◌, ℕ, List, [], ◌∷◌, Option, true, false, Some, None, Ok, Err, OnOk, OnErr, IfOk, IfSome, IfNone, option_map};
 ghost use Rattle.std.specs.Io.KnownBytes.{Appends};
 ghost use Rattle.qa_base.specs.declared.event.Event.{Event as AnEvent};
 ghost use Rattle.qa_base.specs.format.Reading.{reading};
+ghost use Rattle.qa_base.specs.machine.State as state;
 ghost use Rattle.qa_base.specs.values.Settings.{Settings};
 ghost use Rattle.qa_base.specs.verdicts.Explain as explanation;
 ghost use Rattle.qa_base.specs.verdicts.Verdict.{IsFixed, AreGood, AreDecided, verdict};
@@ -11,13 +12,12 @@ ghost use Rattle.qa_check.specs.Audit.{Reads, ReadsEnough, is_read_fault, is_wri
 ghost use Rattle.qa_check.specs.Writing.{Begins, Explains, ShowsRead, BeginsRead, JudgesShown, Shows, Shown, ended_rows};
 ghost use Rattle.qa_check.specs.Failures.{failures_after};
 ghost use Rattle.qa_check.specs.Following.{AnswersBy, IsReady};
-ghost use Rattle.qa_check.specs.Standing.{HoldsRun};
 
 use crate::auditing::{AuditFault, Outcome, PIECE, told, verdict_of, write_whole};
 use crate::checker::{Checker, Stop};
 use crate::streams::{Sink, Source};
 use crate::text::{report, row};
-use qa_base::{LineKind, Verdict};
+use qa_base::{LineKind, Totals, Verdict};
 use qa_ledger::Ledger;
 use qa_split::{SplitFault, Splitter};
 use std::alloc::Global;
@@ -277,33 +277,36 @@ fn show_line<L: Ledger + Drop, W: Sink>(
         Ok(kind) => kind,
         Err(stop) => return stopped(stop),
     };
-    match write_row(alloc, checker, writer, kind) {
+    let totals = checker.totals();
+    match write_row(alloc, writer, checker.lines(), kind, totals) {
         Ok(()) => Ok(Progress::Open),
         Err(fault) => Err(fault),
     }
 }
 
-/// Writes the row of the line that the checker took last, which is of this kind.
-fn write_row<L: Ledger + Drop, W: Sink>(
+/// Writes the row of a good line of this number and kind, where a header was read: the state is that
+/// of these totals.
+fn write_row<W: Sink>(
     alloc: Global,
-    checker: &Checker<L>,
     writer: &mut W,
+    line: u64,
     kind: Option<LineKind>,
+    totals: Option<Totals>,
 ) -> Result<(), AuditFault>
-    ensures ok { OnOk result ((header : Option Settings) (h : List AnEvent) → HoldsRun L.stands checker.now.ledger header h
-        → Appends (W.held writer.old) (W.held writer.new) (explanation.row_of checker.now.lines kind header h)) }
-    ensures begun { OnErr result ((header : Option Settings) (h : List AnEvent) → HoldsRun L.stands checker.now.ledger header h
-        → Begins (W.held writer.old) (W.held writer.new) (explanation.row_of checker.now.lines kind header h)) }
+    ensures ok { OnOk result ((header : Option Settings) (h : List AnEvent) → totals ≡ option_map (λ c. state.totals c h) header
+        → Appends (W.held writer.old) (W.held writer.new) (explanation.row_of line kind header h)) }
+    ensures begun { OnErr result ((header : Option Settings) (h : List AnEvent) → totals ≡ option_map (λ c. state.totals c h) header
+        → Begins (W.held writer.old) (W.held writer.new) (explanation.row_of line kind header h)) }
     ensures read { is_read_fault result ≡ false }
     ensures failures { W.write_failures writer.new ≡ failures_after (is_write_fault result) (W.write_failures writer.old) }
 {
     let Some(kind) = kind else {
         return Ok(());
     };
-    let Some(totals) = checker.totals() else {
+    let Some(totals) = totals else {
         return Ok(());
     };
-    let Ok(text) = row(alloc, checker.lines(), kind, &totals) else {
+    let Ok(text) = row(alloc, line, kind, &totals) else {
         return Err(AuditFault::OutOfMemory);
     };
     write_whole(writer, text.as_bytes())

@@ -4,7 +4,7 @@ ghost use Rattle.qa_base.specs.verdicts.Explain as explanation;
 ghost use Rattle.qa_base.specs.verdicts.Report as text;
 
 use itoa::Buffer;
-use qa_base::{Fault, Field, Key, LineKind, Rule, Totals, Verdict};
+use qa_base::{LineKind, Totals, Verdict};
 use std::alloc::{AllocError, Global};
 
 fn push_number(out: &mut String, number: u64) -> Result<(), AllocError>
@@ -16,73 +16,15 @@ fn push_number(out: &mut String, number: u64) -> Result<(), AllocError>
 
 // ---- the first line
 
-fn push_field(out: &mut String, field: Option<Field>) -> Result<(), AllocError>
-    ensures { OnOk result (string_bytes out.new ≡ string_bytes out.old ++ text.field_text field) }
-{
-    if let Some(field) = field {
-        out.push_str(" ")?;
-        out.push_str(field.name())?;
-    }
-    Ok(())
-}
-
-#[tactic(auto, unfolding(qa_base::specs::verdicts::Report::rule_text))]
-fn push_rule(out: &mut String, rule: Rule) -> Result<(), AllocError>
-    ensures { OnOk result (string_bytes out.new ≡ string_bytes out.old ++ text.rule_text rule) }
-{
-    out.push_str("V")?;
-    push_number(out, rule.number())?;
-    out.push_str(" ")?;
-    out.push_str(rule.name())?;
-    push_field(out, rule.field())
-}
-
-fn push_key(out: &mut String, key: Option<Key>) -> Result<(), AllocError>
-    ensures { OnOk result (string_bytes out.new ≡ string_bytes out.old ++ text.key_text key) }
-{
-    if let Some(key) = key {
-        out.push_str(" ")?;
-        out.push_str(key.name())?;
-    }
-    Ok(())
-}
-
-#[tactic(auto, unfolding(qa_base::specs::verdicts::Report::fault_text))]
-fn push_fault(out: &mut String, fault: Fault) -> Result<(), AllocError>
-    ensures { OnOk result (string_bytes out.new ≡ string_bytes out.old ++ text.fault_text fault) }
-{
-    out.push_str("F")?;
-    push_number(out, fault.number())?;
-    out.push_str(" ")?;
-    out.push_str(fault.name())?;
-    push_key(out, fault.key())
-}
-
-#[tactic(auto, unfolding(qa_base::specs::verdicts::Report::place_text))]
-fn push_place(out: &mut String, word: &str, line: u64) -> Result<(), AllocError>
-    ensures { OnOk result (string_bytes out.new ≡ string_bytes out.old ++ text.place_text word.now line) }
-{
-    out.push_str(word)?;
-    out.push_str(" line ")?;
-    push_number(out, line)?;
-    out.push_str(" ")
-}
-
-#[tactic(auto, unfolding(qa_base::specs::verdicts::Report::verdict_text))]
-fn push_verdict(out: &mut String, verdict: &Verdict) -> Result<(), AllocError>
-    ensures { OnOk result (string_bytes out.new ≡ string_bytes out.old ++ text.verdict_text verdict.now) }
+#[tactic(auto, unfolding(qa_base::specs::verdicts::Report::verdict_text, qa_base::specs::verdicts::Report::place_text))]
+fn verdict_line(alloc: Global, verdict: &Verdict) -> Result<String, AllocError>
+    ensures { IfOk result (λ line. string_bytes line ≡ text.verdict_text verdict.now) }
 {
     match verdict {
-        Verdict::Accepted(_) => out.push_str("accepted\n"),
-        Verdict::Refused(line, rule, _) => {
-            push_place(out, "refused", *line)?;
-            push_rule(out, *rule)?;
-            out.push_str("\n")
-        }
+        Verdict::Accepted(_) => format!(in alloc; "accepted\n"),
+        Verdict::Refused(line, rule, _) => format!(in alloc; "refused line {line} {rule}\n"),
         Verdict::Unreadable(line, fault, _) => {
-            push_place(out, "unreadable", *line)?;
-            push_fault(out, *fault)?;
-            out.push_str("\n")
+            format!(in alloc; "unreadable line {line} {fault}\n")
         }
     }
 }
@@ -148,8 +90,7 @@ fn push_totals(out: &mut String, totals: &Totals) -> Result<(), AllocError>
 pub fn report(alloc: Global, verdict: &Verdict) -> Result<String, AllocError>
     ensures { IfOk result (λ s. string_bytes s ≡ text.report verdict.now) }
 {
-    let mut out = String::new(alloc);
-    push_verdict(&mut out, verdict)?;
+    let mut out = verdict_line(alloc, verdict)?;
     match verdict {
         Verdict::Accepted(totals) => push_totals(&mut out, totals)?,
         Verdict::Refused(_, _, totals) => push_totals(&mut out, totals)?,

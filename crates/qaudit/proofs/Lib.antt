@@ -1,1 +1,5 @@
+mod Asking
+mod Files
 mod Greatest
+mod Words
+mod Written

@@ -1,5 +1,5 @@
 -- What `check` writes, and the exit status that it returns.
-use Rattle.std.specs.Prelude.{◌≡◌, ◌⊎◌, ◌++◌, ℕ, Bool, true, false, List, [], ◌∷◌, take, max, codes, Option, Result, Ok, Err}
+use Rattle.std.specs.Prelude.{◌≡◌, ◌⊎◌, ◌++◌, ⊤, ℕ, Bool, true, false, List, [], ◌∷◌, take, max, codes, Option, Some, None, Result, Ok, Err}
 use Rattle.std.specs.Borrow.{Bor}
 use Rattle.std.specs.Io.KnownBytes.{Appends}
 use Rattle.qa_check.specs.Audit.{Reports, BeginsReport}
@@ -19,14 +19,19 @@ abbrev pub Headed : Bool → List ℕ → Option (List ℕ) → Option (List ℕ
 Headed true name old new = Appends old new (heading name)
 Headed false name old new = new ≡ old
 
--- what an audit of this origin wrote that ended so: the report of some bytes, its beginning, or nothing
-abbrev pub Audited : Origin → Result Outcome Failure → Option (List ℕ) → Option (List ℕ) → Type 0
-Audited origin (Ok outcome) old new = (bytes : List ℕ) × Reports old new outcome bytes
-Audited origin (Err Arguments) old new = ⊥
-Audited origin (Err (Open name)) old new = ⊥
-Audited origin (Err (Read failed)) old new = (failed ≡ origin) × (new ≡ old)
-Audited origin (Err Write) old new = (bytes : List ℕ) × BeginsReport old new bytes
-Audited origin (Err OutOfMemory) old new = new ≡ old
+-- these are the bytes that an origin tells, where it tells them
+abbrev pub AreOf : Option (List ℕ) → List ℕ → Type 0
+AreOf None bytes = ⊤
+AreOf (Some told) bytes = bytes ≡ told
+
+-- what an audit of this origin wrote that ended so: the report of the bytes that the origin tells, or else of some; its beginning; or nothing
+abbrev pub Audited : Option (List ℕ) → Origin → Result Outcome Failure → Option (List ℕ) → Option (List ℕ) → Type 0
+Audited left origin (Ok outcome) old new = (bytes : List ℕ) × AreOf left bytes × Reports old new outcome bytes
+Audited left origin (Err Arguments) old new = ⊥
+Audited left origin (Err (Open name)) old new = ⊥
+Audited left origin (Err (Read failed)) old new = (failed ≡ origin) × (new ≡ old)
+Audited left origin (Err Write) old new = (bytes : List ℕ) × AreOf left bytes × BeginsReport old new bytes
+Audited left origin (Err OutOfMemory) old new = new ≡ old
 
 -- what was written where no audit of a file began
 abbrev pub Unaudited : Bor (List ℕ) → Result Outcome Failure → Option (List ℕ) → Option (List ℕ) → Type 0
@@ -40,7 +45,7 @@ Unaudited name (Err OutOfMemory) old new = new ≡ old
 -- what was written for one file, one of several or not, which ended so
 abbrev pub Checks : Bool → Bor (List ℕ) → Result Outcome Failure → Option (List ℕ) → Option (List ℕ) → Type 0
 Checks several name ended old new =
-    Unaudited name ended old new ⊎ ((middle : Option (List ℕ)) × Headed several name.now old middle × Audited (origins.File name) ended middle new)
+    Unaudited name ended old new ⊎ ((middle : Option (List ℕ)) × Headed several name.now old middle × Audited None (origins.File name) ended middle new)
 
 -- whether no file behind is audited: a failed write ends the program
 abbrev pub stops : Result Outcome Failure → Bool

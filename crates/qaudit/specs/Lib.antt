@@ -1,3 +1,5 @@
+pub mod Arguments
 pub mod Checking
+pub mod Commands
 pub mod Ending
 pub mod Explaining

@@ -1,4 +1,8 @@
 //! The arguments of the command line.
+ghost use Rattle.std.specs.Prelude.{◌≡◌, ◌⊎◌, ℕ, List, [], Some, None, IfOk, IfErr, codes, map, string_bytes, unwrap_or};
+ghost use Rattle.clap.specs.Words.{all_of, app_of, found_of, rows_of};
+ghost use Rattle.qaudit.specs.Arguments.{asked, parser_of_arguments, request, HasFiles, IsCommand};
+
 use crate::ending::Failure;
 use clap::error::ErrorKind;
 use clap::{Arg, ArgAction, ArgMatches, Command, Error};
@@ -23,7 +27,11 @@ pub enum Subcommand<'a> {
 }
 
 /// Reads the arguments that the program was started with, its own name first.
-pub fn read_arguments(rt: &(impl Env + AllocGlobal)) -> Result<Vec<String>, Failure<'static>> {
+///
+/// `Failure::Arguments` comes where one of them is not UTF-8, or they cannot be read.
+pub fn read_arguments(rt: &(impl Env + AllocGlobal)) -> Result<Vec<String>, Failure<'static>>
+    ensures { IfErr result (λ failure. (failure ≡ Failure.OutOfMemory) ⊎ (failure ≡ Failure.Arguments)) }
+{
     let arguments = env::args(rt).map_err(|error| match error.kind() {
         io::ErrorKind::OutOfMemory => Failure::OutOfMemory,
         _ => Failure::Arguments,
@@ -32,20 +40,42 @@ pub fn read_arguments(rt: &(impl Env + AllocGlobal)) -> Result<Vec<String>, Fail
 }
 
 /// Reads what the arguments ask for. The first is the program's own name.
-pub fn parse<'a>(alloc: Global, arguments: &'a [String]) -> Result<Subcommand<'a>, Failure<'a>> {
+///
+/// `Failure::Arguments` comes where they ask for nothing.
+pub fn parse<'a>(alloc: Global, arguments: &'a [String]) -> Result<Subcommand<'a>, Failure<'a>>
+    ensures ok { IfOk result (λ subcommand. asked (map string_bytes arguments.now) ≡ Some (request subcommand)) }
+    ensures err { IfErr result (λ failure. (failure ≡ Failure.OutOfMemory)
+        ⊎ ((failure ≡ Failure.Arguments) × (asked (map string_bytes arguments.now) ≡ None))) }
+{
     let matches = parser(alloc)?.try_get_matches_from(arguments)?;
     match matches.subcommand() {
-        Some((CHECK, found)) => Ok(Subcommand::Check(files(alloc, found)?)),
-        Some((EXPLAIN, found)) => Ok(Subcommand::Explain(found.get_str(FILE))),
+        Some((name, found)) => subcommand_of(alloc, name, found),
+        None => Err(Failure::Arguments),
+    }
+}
+
+/// The subcommand of this name, with the files that its parser found.
+fn subcommand_of<'a>(
+    alloc: Global,
+    name: &str,
+    found: &ArgMatches<'a>,
+) -> Result<Subcommand<'a>, Failure<'a>>
+    ensures ok { IfOk result (λ subcommand. (names : List (List ℕ)) → HasFiles name.now names (rows_of (found_of found.now))
+        → request subcommand ≡ (name.now, names)) }
+    ensures err { IfErr result (λ failure. (failure ≡ Failure.OutOfMemory) ⊎ ((failure ≡ Failure.Arguments) × (IsCommand name.now → ⊥))) }
+{
+    match name {
+        CHECK => Ok(Subcommand::Check(files(alloc, found)?)),
+        EXPLAIN => Ok(Subcommand::Explain(found.get_str(FILE))),
         _ => Err(Failure::Arguments),
     }
 }
 
 /// The parser of the command line. It has no help of its own.
-fn parser<'a>(alloc: Global) -> Result<Command<'a>, AllocError> {
-    let files = Arg::new(alloc, FILE)
-        .num_args(0..)
-        .action(ArgAction::Append);
+fn parser<'a>(alloc: Global) -> Result<Command<'a>, AllocError>
+    ensures { IfOk result (λ parser. app_of parser ≡ parser_of_arguments) }
+{
+    let files = Arg::new(alloc, FILE).action(ArgAction::Append);
     let check = Command::new(alloc, CHECK)
         .disable_help_flag(true)
         .arg(files)?;
@@ -62,7 +92,9 @@ fn parser<'a>(alloc: Global) -> Result<Command<'a>, AllocError> {
 }
 
 /// The names of files that a subcommand was given.
-fn files<'a>(alloc: Global, found: &ArgMatches<'a>) -> Result<Vec<&'a str>, AllocError> {
+fn files<'a>(alloc: Global, found: &ArgMatches<'a>) -> Result<Vec<&'a str>, AllocError>
+    ensures { IfOk result (λ names. map (λ name. name.now) names.items ≡ unwrap_or (all_of (codes "FILE") (rows_of (found_of found.now))) []) }
+{
     match found.get_strs(FILE) {
         Some(names) => Vec::from_slice(alloc, names),
         None => Ok(Vec::new(alloc)),
@@ -70,6 +102,12 @@ fn files<'a>(alloc: Global, found: &ArgMatches<'a>) -> Result<Vec<&'a str>, Allo
 }
 
 impl From<Error> for Failure<'_> {
+    ghost use Rattle.std.specs.Prelude.{◌≡◌};
+    ghost use Rattle.clap.specs.Words.{kind_of};
+    ghost use Rattle.qaudit.specs.Arguments.{failure_of_kind};
+
+    ghost from_gives = { λ error failure. failure ≡ failure_of_kind (kind_of error) };
+
     fn from(error: Error) -> Self {
         match error.kind() {
             ErrorKind::OutOfMemory => Failure::OutOfMemory,

@@ -1,7 +1,7 @@
 //! The subcommand `check`.
-ghost use Rattle.std.specs.Prelude.{◌≡◌, ◌⊎◌, ℕ, List, [], Result, Some, IfOk, OnOk, IfErr, OnErr, nat_lt, length, take, string_bytes};
+ghost use Rattle.std.specs.Prelude.{◌≡◌, ◌⊎◌, ℕ, [], true, Result, Err, IfOk, OnOk, IfErr, nat_lt, length, take, string_bytes};
 ghost use Rattle.std.specs.Io.KnownBytes.{Appends};
-ghost use Rattle.qa_check.specs.Audit.{Reports};
+ghost use Rattle.qa_check.specs.Failures.{failures_after};
 ghost use Rattle.qaudit.specs.Checking as checking;
 ghost use Rattle.qaudit.specs.Checking.{Audited, Checks, ChecksAll, heading};
 ghost use Rattle.qaudit.specs.Ending.{status_of};
@@ -26,7 +26,7 @@ pub fn check<R: Files + Eprint + AllocGlobal, I: Source, O: Sink>(
 ) -> u8
     ensures files { files.now ≡ [] ⊎ ChecksAll (nat_lt 1 (length files.now)) files.now (O.held output.old) (O.held output.new) result }
     ensures input { files.now ≡ [] → (ended : Result Outcome Failure)
-        × Audited Origin.StandardInput ended (O.held output.old) (O.held output.new) × (result ≡ status_of ended) }
+        × Audited (I.left input.old) Origin.StandardInput ended (O.held output.old) (O.held output.new) × (result ≡ status_of ended) }
 {
     if files.is_empty() {
         let ended = audited(rt.alloc(), Origin::StandardInput, input, output);
@@ -103,6 +103,7 @@ fn write_heading<'a, O: Sink>(alloc: Global, name: &str, output: &mut O) -> Resu
     ensures err { IfErr result (λ failure.
         (failure ≡ Failure.Write × ((n : ℕ) × Appends (O.held output.old) (O.held output.new) (take n (heading name.now))))
         ⊎ (failure ≡ Failure.OutOfMemory × (O.held output.new ≡ O.held output.old))) }
+    ensures failed { (result ≡ Err Failure.Write) → O.write_failures output.new ≡ failures_after true (O.write_failures output.old) }
 {
     let Ok(line) = heading_line(alloc, name) else {
         return Err(Failure::OutOfMemory);
@@ -126,9 +127,7 @@ fn audited<'a, I: Source, O: Sink>(
     input: &mut I,
     output: &mut O,
 ) -> Result<Outcome, Failure<'a>>
-    ensures wrote { Audited origin.entry result (O.held output.old) (O.held output.new) }
-    ensures told { (bytes : List ℕ) → I.left input.old ≡ Some bytes
-        → IfOk result (λ outcome. Reports (O.held output.old) (O.held output.new) outcome bytes) }
+    ensures { Audited (I.left input.old) origin.entry result (O.held output.old) (O.held output.new) }
 {
     match audit::<Running, I, O>(alloc, input, output) {
         Ok(outcome) => Ok(outcome),

@@ -1,7 +1,7 @@
 //! The subcommand `explain`.
-ghost use Rattle.std.specs.Prelude.{◌≡◌, ℕ, List, Result, IfOk};
+ghost use Rattle.std.specs.Prelude.{◌≡◌, Result};
 ghost use Rattle.qaudit.specs.Ending.{status_of};
-ghost use Rattle.qaudit.specs.Explaining.{Explained};
+ghost use Rattle.qaudit.specs.Explaining.{Explained, ExplainsFile, Explains};
 
 use crate::checking::end;
 use crate::ending::{Failure, Origin};
@@ -20,7 +20,8 @@ pub fn explain<R: Files + Eprint + AllocGlobal, I: Source, O: Sink>(
     input: &mut I,
     output: &mut O,
 ) -> u8
-    ensures { (ended : Result Outcome Failure) × Explained ended (O.held output.old) (O.held output.new) × (result ≡ status_of ended) }
+    ensures { (ended : Result Outcome Failure) × Explains (I.left input.old) file.entry ended (O.held output.old) (O.held output.new)
+        × (result ≡ status_of ended) }
 {
     let ended = match file {
         None => explained(rt.alloc(), Origin::StandardInput, input, output),
@@ -35,7 +36,7 @@ fn explain_file<'a, R: Files + AllocGlobal, O: Sink>(
     name: &'a str,
     output: &mut O,
 ) -> Result<Outcome, Failure<'a>>
-    ensures { Explained result (O.held output.old) (O.held output.new) }
+    ensures { ExplainsFile name.entry result (O.held output.old) (O.held output.new) }
 {
     let Ok(file) = fs::open(rt, name) else {
         return Err(Failure::Open(name));
@@ -51,7 +52,7 @@ fn explained<'a, I: Source, O: Sink>(
     input: &mut I,
     output: &mut O,
 ) -> Result<Outcome, Failure<'a>>
-    ensures { Explained result (O.held output.old) (O.held output.new) }
+    ensures { Explained (I.left input.old) origin.entry result (O.held output.old) (O.held output.new) }
 {
     match qa_check::explain::<Running, I, O>(alloc, input, output) {
         Ok(outcome) => Ok(outcome),

@@ -2,6 +2,8 @@
 //! output.
 #![tactic(auto)]
 
+ghost use Rattle.qaudit.specs.Commands.{Commands};
+
 mod arguments;
 mod checking;
 mod ending;
@@ -25,7 +27,9 @@ fn command<R: Env + Files + Eprint + AllocGlobal, I: Source, O: Sink>(
     rt: &R,
     input: &mut I,
     output: &mut O,
-) -> u8 {
+) -> u8
+    ensures { Commands (I.left input.old) (O.held output.old) (O.held output.new) result }
+{
     let arguments = match read_arguments(rt) {
         Ok(arguments) => arguments,
         Err(failure) => return end(rt, &Err(failure)),

@@ -14,8 +14,10 @@ returns-in-Err-clause-begun g c = on_err_of c.stopped.result (λ start ls shows.
 
 pub returns-in-Ok-write_row-clause-good : goal.returns-in-Ok-write_row-clause-good
 returns-in-Ok-write_row-clause-good g c = λ is start ls shows.
-    show_good g.L.Ledger.stands c.args.checker.now c.kind_of_line.new.self start _ _ _ _ c.in-Ok.ensures.good c.in-Ok.ensures.kind c.in-Ok-write_row.ensures.ok ls shows
+    show_good g.L.Ledger.stands c.args.checker.now c.kind_of_line.new.self start _ _ _ _ c.in-Ok.ensures.good c.in-Ok.ensures.kind
+    (λ header h held. rw c.lines.ensures at (c.in-Ok-write_row.ensures.ok header h (c.totals-totals.ensures header h held))) ls shows
 
 pub returns-in-Err-write_row-clause-begun : goal.returns-in-Err-write_row-clause-begun
 returns-in-Err-write_row-clause-begun g c = λ start ls shows.
-    show_begun g.L.Ledger.stands c.args.checker.now c.kind_of_line.new.self start _ _ _ _ c.in-Ok.ensures.good c.in-Ok.ensures.kind c.in-Err-write_row.ensures.begun ls shows
+    show_begun g.L.Ledger.stands c.args.checker.now c.kind_of_line.new.self start _ _ _ _ c.in-Ok.ensures.good c.in-Ok.ensures.kind
+    (λ header h held. rw c.lines.ensures at (c.in-Err-write_row.ensures.begun header h (c.totals-totals.ensures header h held))) ls shows

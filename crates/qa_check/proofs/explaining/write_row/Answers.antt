@@ -5,7 +5,7 @@ use Rattle.qa_check.proofs.explaining.write_row.Goals as goal
 
 pub returns-clause-begun : goal.returns-clause-begun
 returns-clause-begun g c =
-    let written = rw (c.as_bytes.ensures.value, c.in-Ok.ensures, c.lines.ensures) at c.write_whole.ensures.err in
+    let written = rw (c.as_bytes.ensures.value, c.in-Ok.ensures) at c.write_whole.ensures.err in
     on_err_weaker c.write_whole.result
-    (λ taken. rw c.in-Some.is (row_begins g.L.Ledger.stands _ _ _ _ _ _ _ _ c.totals.ensures c.in-Some-totals.is refl taken))
+    (λ taken. rw c.in-Some.is (row_begins _ _ _ _ _ _ _ c.in-Some-totals.is refl taken))
     written

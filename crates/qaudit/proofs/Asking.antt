@@ -1,0 +1,387 @@
+-- What the definitions of `clap` make of the whole command line.
+use Rattle.std.proofs.Common.{◌≡◌, ◌∙◌, ◌⊎◌, inl, inr, Bool, true, false, List, [], ◌∷◌, ◌++◌, length, fold, Option, Some, None, refl, sym, ap, ap₂, append_assoc, append-nil, codes, bytes_eq, nat_le, is_some, IfErr, IsErrAnd, Result, Ok, Err, arith}
+use Rattle.std.proofs.lemmas.Bool.{lt-leb}
+use Rattle.std.specs.Prelude.{option_map, option_and_then, unwrap_or}
+use Rattle.std.specs.Option.{option_to_list}
+use Rattle.std.specs.Prelude.{Box}
+use Rattle.std.specs.Box.{box_value}
+use Rattle.clap.proofs.WalkLemmas.{first_value-rows, raw_values-rows}
+use Rattle.clap.specs.Faults.{is_simple_and_free, check_fault, defaults_fault, entered_fault, fault_of, settle_fault, turn_fault, walk_fault}
+use Rattle.clap.specs.Kinds.{IsAmong, Kinds, or_else}
+use Rattle.clap.specs.Matches.{first_value, found_of, matched_of, raw_values, subcommand_name_of}
+use Rattle.clap.specs.Simple.{App, Shape, is_simple, matches_of, subcommand_rows, subcommand_rows_of, built, entered, names_of, rows_at, subcommand_of}
+use Rattle.clap.specs.Walk.{Names, Row, Text, Walk, rows_of, all_of, finished, first_of, idle, nothing_held, settled, subcommand_met, walked}
+use Rattle.clap.specs.declared.error.kind.ErrorKind.{ErrorKind}
+use Rattle.clap.specs.declared.parser.matches.ArgMatches.{ArgMatches}
+use Rattle.clap.specs.declared.parser.matches.ArgMatches.TheViews.{out-SubCommand}
+use Rattle.clap.specs.declared.parser.matches.Found.{Found}
+use Rattle.clap.specs.declared.parser.matches.SubCommand.{SubCommand}
+use Rattle.clap.specs.declared.error.kind.ErrorKind.TheVariants as kinds
+use Rattle.clap.specs.declared.error.kind.ErrorKind.TheVariants.{InvalidSubcommand, MissingSubcommand, UnknownArgument}
+use Rattle.qaudit.specs.Arguments.{HasFiles, IsCommand, failure_of_kind, request, asked, asked_of, is_option, names_in, parser_of_arguments}
+use Rattle.qaudit.specs.declared.arguments.Subcommand.{Subcommand}
+use Rattle.qaudit.specs.declared.ending.Failure.{Failure}
+use Rattle.qaudit.specs.declared.ending.Failure.TheVariants.{Arguments, OutOfMemory}
+use Rattle.qaudit.proofs.Words.{Fails, HasNoOption, Runs, fail_later, fail_now, fault_dashes, fault_flag, fault_plain, flag_word, met_dashes, met_plain, or_else_none, plain_word, run_more, run_none, turn_of, walked_of}
+use Rattle.qaudit.proofs.Files.{check_reads, check_refuses, check_shape, check_takes, explain_more, explain_none, explain_one, explain_refuses, explain_shape, Explains}
+
+abbrev whole : App
+whole = built parser_of_arguments
+
+abbrev top : Shape
+top = whole.top
+
+abbrev subcommands : Names
+subcommands = names_of whole
+
+-- where the walk stands before the first word, and once it met `--`
+abbrev at_start : Bool → Walk
+at_start is_trailing = record { held = nothing_held; waiting = idle; position = 1; is_trailing = is_trailing; stopped = None }
+
+-- where it stands behind a subcommand
+abbrev at_stop : Text → List Text → Walk
+at_stop name words = record { held = nothing_held; waiting = idle; position = 1; is_trailing = false; stopped = Some (name, words) }
+
+-- ---- the walk
+
+no_options : HasNoOption []
+no_options = record { long = λ name. refl; short = λ c. refl }
+
+stop_goes : (name : Text) (front : List Text) (word : Text) → walked [] subcommands (at_stop name front) word ≡ at_stop name (front ++ word ∷ [])
+unfolding walked
+stop_goes name front word = refl
+
+stop_runs : (name : Text) (front words : List Text) → Runs top subcommands (at_stop name front) words (at_stop name (front ++ words))
+stop_runs name front [] = rw append-nil (run_none top subcommands (at_stop name front))
+stop_runs name front (word ∷ words) =
+    let later : Runs top subcommands (at_stop name (front ++ word ∷ [])) words (at_stop name (front ++ word ∷ words)) =
+    rw (← append_assoc front (word ∷ []) words) (stop_runs name (front ++ word ∷ []) words) in
+    run_more top subcommands (at_stop name front) (at_stop name (front ++ word ∷ [])) _ word words refl (stop_goes name front word) later
+
+check_met : (word : Text) → bytes_eq (codes "check") word ≡ true → subcommand_met subcommands idle word ≡ Some (codes "check")
+check_met word is = rw is refl
+
+explain_met : (word : Text) → bytes_eq (codes "check") word ≡ false → bytes_eq (codes "explain") word ≡ true
+    → subcommand_met subcommands idle word ≡ Some (codes "explain")
+explain_met word other is = rw (other, is) refl
+
+none_met : (word : Text) → bytes_eq (codes "check") word ≡ false → bytes_eq (codes "explain") word ≡ false → subcommand_met subcommands idle word ≡ None
+none_met word check explain = rw (check, explain) refl
+
+check_turn : (word : Text) → subcommand_met subcommands idle word ≡ Some (codes "check") → turn_fault top subcommands (at_start false) word ≡ []
+check_turn word met = rw met refl
+
+explain_turn : (word : Text) → subcommand_met subcommands idle word ≡ Some (codes "explain") → turn_fault top subcommands (at_start false) word ≡ []
+explain_turn word met = rw met refl
+
+subcommand_walk : (word name : Text) → subcommand_met subcommands idle word ≡ Some name → walked [] subcommands (at_start false) word ≡ at_stop name []
+unfolding walked
+subcommand_walk word name met = rw met refl
+
+check_runs : (word : Text) (words : List Text) → bytes_eq (codes "check") word ≡ true
+    → Runs top subcommands (at_start false) (word ∷ words) (at_stop (codes "check") words)
+check_runs word words is =
+    let met = check_met word is in
+    run_more top subcommands (at_start false) (at_stop (codes "check") []) _ word words (check_turn word met) (subcommand_walk word (codes "check") met)
+    (stop_runs (codes "check") [] words)
+
+explain_runs : (word : Text) (words : List Text) → bytes_eq (codes "check") word ≡ false → bytes_eq (codes "explain") word ≡ true
+    → Runs top subcommands (at_start false) (word ∷ words) (at_stop (codes "explain") words)
+explain_runs word words other is =
+    let met = explain_met word other is in
+    run_more top subcommands (at_start false) (at_stop (codes "explain") []) _ word words (explain_turn word met) (subcommand_walk word (codes "explain") met)
+    (stop_runs (codes "explain") [] words)
+
+-- ---- the faults
+
+-- the faults of the whole, where the walk has these and ends there
+abbrev faults_at : Kinds → Walk → Kinds
+faults_at faults w = or_else faults (or_else (entered_fault whole w.stopped)
+    (or_else (settle_fault top.rules top.args_override_self w.held)
+    (or_else (defaults_fault (settled top.rules w.held).rows top.rules)
+    (check_fault top (finished top.rules w.held) (is_some (entered whole w.stopped))))))
+
+fault_is : (program : Text) (words : List Text) → fault_of parser_of_arguments (program ∷ words)
+    ≡ faults_at (walk_fault top subcommands (at_start false) words) (fold (walked [] subcommands) (at_start false) words)
+fault_is program words = refl
+
+fault_by : (program : Text) (words : List Text) (end : Walk) → Runs top subcommands (at_start false) words end
+    → fault_of parser_of_arguments (program ∷ words) ≡ faults_at [] end
+fault_by program words end runs = fault_is program words ∙ ap₂ faults_at runs.fine runs.ends
+
+-- a walk that fails
+failed : (program : Text) (words : List Text) → Fails top subcommands (at_start false) words → fault_of parser_of_arguments (program ∷ words) ≡ [] → ⊥
+failed program words fails none = fails (or_else_none _ _ (sym (fault_is program words) ∙ none))
+
+-- no subcommand
+abbrev Missing : Kinds
+Missing = MissingSubcommand ∷ []
+
+missing : (is_trailing : Bool) → faults_at [] (at_start is_trailing) ≡ Missing
+unfolding defaults_fault
+missing is_trailing = refl
+
+no_words : fault_of parser_of_arguments [] ≡ Missing
+unfolding walk_fault defaults_fault
+no_words = refl
+
+no_command : (program : Text) → fault_of parser_of_arguments (program ∷ []) ≡ Missing
+no_command program = fault_by program [] (at_start false) (run_none top subcommands (at_start false)) ∙ missing false
+
+not_none : (k : Kinds) → k ≡ Missing → k ≡ [] → ⊥
+not_none k is none = let same : Missing ≡ [] = sym is ∙ none in cc
+
+-- another word than the name of a subcommand
+stray_trailing : (word : Text) → turn_fault top subcommands (at_start true) word ≡ UnknownArgument ∷ InvalidSubcommand ∷ []
+stray_trailing word = refl
+
+other_dashes : (program word : Text) (words : List Text) → subcommand_met subcommands idle word ≡ None → bytes_eq word (codes "--") ≡ true
+    → fault_of parser_of_arguments (program ∷ word ∷ words) ≡ [] → ⊥
+other_dashes program word [] none is =
+    let met = met_dashes [] subcommands idle 1 word nothing_held none is in
+    let goes = run_more top subcommands (at_start false) (at_start true) (at_start true) word []
+    (turn_of top subcommands (at_start false) word [] _ refl (fault_dashes top subcommands idle word nothing_held none is) met)
+    (walked_of [] subcommands (at_start false) word _ refl met) (run_none top subcommands (at_start true)) in
+    not_none _ (fault_by program (word ∷ []) (at_start true) goes ∙ missing true)
+other_dashes program word (next ∷ words) none is =
+    let met = met_dashes [] subcommands idle 1 word nothing_held none is in
+    failed program (word ∷ next ∷ words)
+    (fail_later top subcommands (at_start false) (at_start true) word (next ∷ words)
+    (turn_of top subcommands (at_start false) word [] _ refl (fault_dashes top subcommands idle word nothing_held none is) met)
+    (walked_of [] subcommands (at_start false) word _ refl met)
+    (fail_now top subcommands (at_start true) next words UnknownArgument (InvalidSubcommand ∷ []) (stray_trailing next)))
+
+other_word : (program word : Text) (words : List Text) (dashes : Bool) → bytes_eq word (codes "--") ≡ dashes → (flag : Bool) → is_option word ≡ flag
+    → subcommand_met subcommands idle word ≡ None → fault_of parser_of_arguments (program ∷ word ∷ words) ≡ [] → ⊥
+other_word program word words true is flag _ none = other_dashes program word words none is
+other_word program word words false is true named none =
+    failed program (word ∷ words)
+    (fail_now top subcommands (at_start false) word words UnknownArgument []
+    (turn_of top subcommands (at_start false) word (UnknownArgument ∷ []) _ refl
+    (fault_flag top subcommands idle word [] None no_options none (flag_word word is named)) refl))
+other_word program word words false is false named none =
+    let plain = plain_word word is named in
+    failed program (word ∷ words)
+    (fail_now top subcommands (at_start false) word words UnknownArgument (InvalidSubcommand ∷ [])
+    (turn_of top subcommands (at_start false) word [] _ refl (fault_plain top subcommands idle word [] None none plain)
+    (met_plain [] subcommands idle 1 word [] None none tt plain)))
+
+-- ---- what a parse gives
+
+is_free : is_simple_and_free parser_of_arguments ≡ true
+is_free = refl
+
+is_simple_parser : is_simple parser_of_arguments ≡ true
+is_simple_parser = refl
+
+-- the parser takes the arguments where they ask for something, and then reads this
+abbrev pub Reads : List Text → Option (Text × List Text) → Type 0
+Reads arguments None = fault_of parser_of_arguments arguments ≡ [] → ⊥
+Reads arguments (Some (command, names)) = (fault_of parser_of_arguments arguments ≡ [])
+    × ((rows : List Row) × (subcommand_of parser_of_arguments arguments ≡ Some (command, rows)) × HasFiles command names rows × IsCommand command)
+
+or_else-nil : (a : Kinds) → a ≡ [] → or_else a [] ≡ []
+or_else-nil a is = rw is refl
+
+-- behind `check`
+check_faults : (program word : Text) (words : List Text) → bytes_eq (codes "check") word ≡ true
+    → fault_of parser_of_arguments (program ∷ word ∷ words) ≡ faults_at [] (at_stop (codes "check") words)
+check_faults program word words is = fault_by program (word ∷ words) (at_stop (codes "check") words) (check_runs word words is)
+
+check_subcommand : (program word : Text) (words : List Text) → bytes_eq (codes "check") word ≡ true
+    → subcommand_of parser_of_arguments (program ∷ word ∷ words) ≡ Some (codes "check", (rows_at check_shape words).1)
+check_subcommand program word words is = ap (λ (w : Walk). entered whole w.stopped) (check_runs word words is).ends
+
+check_files : (words names : List Text) → names_in words ≡ Some names → HasFiles (codes "check") names (rows_at check_shape words).1
+check_files words names is = record {
+  all = λ _. check_reads words names is;
+  first = λ other. let same : true ≡ false = ap (bytes_eq (codes "check")) other in cc;
+}
+
+check_read : (program word : Text) (words : List Text) → bytes_eq (codes "check") word ≡ true
+    → (o : Option (List Text)) → names_in words ≡ o
+    → Reads (program ∷ word ∷ words) (option_and_then (asked_of word) o)
+unfolding defaults_fault
+check_read program word words is None names = λ none.
+    check_refuses words names (or_else_none _ _ (sym (check_faults program word words is) ∙ none))
+check_read program word words is (Some files) names =
+    rw is (
+      check_faults program word words is ∙ or_else-nil _ (check_takes words files names),
+      ((rows_at check_shape words).1, check_subcommand program word words is, check_files words files names, inl refl),
+    )
+
+-- behind `explain`
+explain_faults : (program word : Text) (words : List Text) → bytes_eq (codes "check") word ≡ false → bytes_eq (codes "explain") word ≡ true
+    → fault_of parser_of_arguments (program ∷ word ∷ words) ≡ faults_at [] (at_stop (codes "explain") words)
+explain_faults program word words other is = fault_by program (word ∷ words) (at_stop (codes "explain") words) (explain_runs word words other is)
+
+explain_subcommand : (program word : Text) (words : List Text) → bytes_eq (codes "check") word ≡ false → bytes_eq (codes "explain") word ≡ true
+    → subcommand_of parser_of_arguments (program ∷ word ∷ words) ≡ Some (codes "explain", (rows_at explain_shape words).1)
+explain_subcommand program word words other is = ap (λ (w : Walk). entered whole w.stopped) (explain_runs word words other is).ends
+
+explain_files : (words : List Text) (file : Option Text) → Explains words file → HasFiles (codes "explain") (option_to_list file) (rows_at explain_shape words).1
+explain_files words file explains = record {
+  all = λ other. let same : false ≡ true = ap (bytes_eq (codes "check")) other in cc;
+  first = λ _. explains.reads;
+}
+
+explain_by : (program word : Text) (words : List Text) → bytes_eq (codes "check") word ≡ false → bytes_eq (codes "explain") word ≡ true
+    → (file : Option Text) → Explains words file → Reads (program ∷ word ∷ words) (Some (codes "explain", option_to_list file))
+unfolding defaults_fault
+explain_by program word words other is file explains = (
+  explain_faults program word words other is ∙ or_else-nil _ explains.takes,
+  ((rows_at explain_shape words).1, explain_subcommand program word words other is, explain_files words file explains, inr refl),
+)
+
+explain_read : (program word : Text) (words : List Text) → bytes_eq (codes "check") word ≡ false → bytes_eq (codes "explain") word ≡ true
+    → (o : Option (List Text)) → names_in words ≡ o → Reads (program ∷ word ∷ words) (option_and_then (asked_of word) o)
+unfolding defaults_fault
+explain_read program word words other is None names = λ none.
+    explain_refuses words names (or_else_none _ _ (sym (explain_faults program word words other is) ∙ none))
+explain_read program word words other is (Some []) names = rw (other, is) (explain_by program word words other is None (explain_none words names))
+explain_read program word words other is (Some (file ∷ [])) names =
+    rw (other, is) (explain_by program word words other is (Some file) (explain_one words file names))
+explain_read program word words other is (Some (file ∷ next ∷ files)) names =
+    let many : nat_le (length (file ∷ next ∷ files)) 1 ≡ false = lt-leb _ _ (omega arith) in
+    rw (other, is, many) (λ none. explain_more words file next files names (or_else_none _ _ (sym (explain_faults program word words other is) ∙ none)))
+
+-- behind another word
+other_read : (program word : Text) (words : List Text) → bytes_eq (codes "check") word ≡ false → bytes_eq (codes "explain") word ≡ false
+    → (o : Option (List Text)) → Reads (program ∷ word ∷ words) (option_and_then (asked_of word) o)
+other_read program word words check explain None = other_word program word words _ refl _ refl (none_met word check explain)
+other_read program word words check explain (Some names) = rw (check, explain) (other_word program word words _ refl _ refl (none_met word check explain))
+
+by_command : (program word : Text) (words : List Text) → (check : Bool) → bytes_eq (codes "check") word ≡ check → (explain : Bool) → bytes_eq (codes "explain") word ≡ explain
+    → Reads (program ∷ word ∷ words) (option_and_then (asked_of word) (names_in words))
+by_command program word words true is explain _ = check_read program word words is (names_in words) refl
+by_command program word words false other true is = explain_read program word words other is (names_in words) refl
+by_command program word words false check false explain = other_read program word words check explain (names_in words)
+
+pub reads : (arguments : List Text) → Reads arguments (asked arguments)
+reads [] = not_none _ no_words
+reads (program ∷ []) = not_none _ (no_command program)
+reads (program ∷ word ∷ words) = by_command program word words (bytes_eq (codes "check") word) refl (bytes_eq (codes "explain") word) refl
+
+-- what a parse took
+pub record Takes (arguments : List Text) : Type 0 where
+  pub command : Text
+  pub names : List Text
+  pub rows : List Row
+  pub asks : asked arguments ≡ Some (command, names)
+  pub subcommand : subcommand_of parser_of_arguments arguments ≡ Some (command, rows)
+  pub files : HasFiles command names rows
+  pub is_command : IsCommand command
+
+takes_by : (arguments : List Text) (o : Option (Text × List Text)) → asked arguments ≡ o → Reads arguments o → fault_of parser_of_arguments arguments ≡ []
+    → Takes arguments
+takes_by arguments None is refused fine = absurd (refused fine)
+takes_by arguments (Some (command, names)) is (none, (rows, subcommand, files, is_command)) fine = record {
+  command = command;
+  names = names;
+  rows = rows;
+  asks = is;
+  subcommand = subcommand;
+  files = files;
+  is_command = is_command;
+}
+
+pub takes : (arguments : List Text) → fault_of parser_of_arguments arguments ≡ [] → Takes arguments
+takes arguments fine = takes_by arguments (asked arguments) refl (reads arguments) fine
+
+-- a fault comes only where nothing is asked for
+refuses_by : (arguments : List Text) (k : ErrorKind) (o : Option (Text × List Text)) → Reads arguments o → IsAmong k (fault_of parser_of_arguments arguments) → o ≡ None
+refuses_by arguments k None refused fault = refl
+refuses_by arguments k (Some (command, names)) (fine, rest) fault = let none : IsAmong k [] = rw fine at fault in absurd none
+
+pub refuses : (arguments : List Text) (k : ErrorKind) → IsAmong k (fault_of parser_of_arguments arguments) → asked arguments ≡ None
+refuses arguments k fault = refuses_by arguments k (asked arguments) (reads arguments) fault
+
+-- ---- what `parse` makes of it
+
+kind_or : (k : ErrorKind) → (failure_of_kind k ≡ OutOfMemory) ⊎ (failure_of_kind k ≡ Arguments)
+kind_or kinds.OutOfMemory = inl refl
+kind_or k = inr refl
+
+refused_with : (arguments : List Text) (k : ErrorKind) (failure : Failure) → failure ≡ failure_of_kind k → asked arguments ≡ None
+    → (failure ≡ OutOfMemory) ⊎ ((failure ≡ Arguments) × (asked arguments ≡ None))
+refused_with arguments k failure is none = elim (kind_or k) [ inl memory ↦ inl (is ∙ memory) | inr other ↦ inr (is ∙ other, none) ]
+
+-- the failure of a parse that is refused
+pub refusal : (app : App) (arguments : List Text) (k : ErrorKind) (failure : Failure) → app ≡ parser_of_arguments
+    → failure ≡ failure_of_kind k → (is_simple_and_free app ≡ true → (k ≡ kinds.OutOfMemory) ⊎ IsAmong k (fault_of app arguments))
+    → (failure ≡ OutOfMemory) ⊎ ((failure ≡ Arguments) × (asked arguments ≡ None))
+refusal app arguments k failure same is faults =
+    let fault : (k ≡ kinds.OutOfMemory) ⊎ IsAmong k (fault_of parser_of_arguments arguments) = rw same at (faults (ap is_simple_and_free same ∙ is_free)) in
+    elim fault [
+      | inl memory ↦ inl (is ∙ ap failure_of_kind memory)
+      | inr among ↦ refused_with arguments k failure is (refuses arguments k among)
+    ]
+
+-- a parse that is not refused
+pub parsed : (app : App) (arguments : List Text) → app ≡ parser_of_arguments
+    → (is_simple_and_free app ≡ true → fault_of app arguments ≡ []) → Takes arguments
+parsed app arguments same fine = takes arguments (rw same at (fine (ap is_simple_and_free same ∙ is_free)))
+
+module _ {Z : Type 0} where
+  name_of_rows : (o : Option (Box SubCommand Z)) → option_map (λ b. (out-SubCommand (box_value b)).name.now) o ≡ option_map (λ (p : Text × List Row). p.0) (subcommand_rows o)
+  name_of_rows None = refl
+  name_of_rows (Some b) = refl
+
+some_is : {A : Type 0} (x y : A) → Some x ≡ Some y → x ≡ y
+some_is x y same = ap (λ (o : Option _). unwrap_or o x) same
+
+-- its subcommand
+pub record Meets (arguments : List Text) (name : Text) (rows : List Row) : Type 0 where
+  pub names : List Text
+  pub asks : asked arguments ≡ Some (name, names)
+  pub files : HasFiles name names rows
+  pub is_command : IsCommand name
+
+pub meets : (app : App) (arguments : List Text) (m : ArgMatches) (name : Text) (rows : List Row) → app ≡ parser_of_arguments → Takes arguments
+    → (is_simple app ≡ true → (rows_of (found_of m) ≡ matches_of app arguments) × (subcommand_rows_of m ≡ subcommand_of app arguments))
+    → Some name ≡ subcommand_name_of m → Some rows ≡ option_map (λ (p : Text × List Row). p.1) (subcommand_rows_of m) → Meets arguments name rows
+meets app arguments m name rows same t matches named has_rows =
+    let met : subcommand_rows_of m ≡ Some (t.command, t.rows) = (matches (ap is_simple same ∙ is_simple_parser)).1 ∙ (ap (λ (a : App). subcommand_of a arguments) same ∙ t.subcommand) in
+    let name_is : name ≡ t.command = some_is name t.command (named ∙ (name_of_rows _ ∙ ap (option_map (λ (p : Text × List Row). p.0)) met)) in
+    let rows_are : rows ≡ t.rows = some_is rows t.rows (has_rows ∙ ap (option_map (λ (p : Text × List Row). p.1)) met) in
+    record {
+      names = t.names;
+      asks = t.asks ∙ ap (λ (n : Text). Some (n, t.names)) (sym name_is);
+      files = rw (name_is, rows_are) t.files;
+      is_command = rw name_is t.is_command;
+    }
+
+pub meets_none : (app : App) (arguments : List Text) (m : ArgMatches) → app ≡ parser_of_arguments → Takes arguments
+    → (is_simple app ≡ true → (rows_of (found_of m) ≡ matches_of app arguments) × (subcommand_rows_of m ≡ subcommand_of app arguments))
+    → None ≡ option_map (λ (p : Text × List Row). p.1) (subcommand_rows_of m) → ⊥
+meets_none app arguments m same t matches none =
+    let met : subcommand_rows_of m ≡ Some (t.command, t.rows) = (matches (ap is_simple same ∙ is_simple_parser)).1 ∙ (ap (λ (a : App). subcommand_of a arguments) same ∙ t.subcommand) in
+    let some : None ≡ Some t.rows = none ∙ ap (option_map (λ (p : Text × List Row). p.1)) met in
+    cc
+
+-- ---- the names that the subcommand's parser found
+
+pub files_found : (f : Found) (names : List Text) → Some names ≡ option_map raw_values (matched_of f (codes "FILE"))
+    → names ≡ unwrap_or (all_of (codes "FILE") (rows_of f)) []
+files_found f names is = ap (λ (o : Option (List Text)). unwrap_or o []) (is ∙ raw_values-rows f (codes "FILE"))
+
+pub no_files_found : (f : Found) → None ≡ option_map raw_values (matched_of f (codes "FILE")) → [] ≡ unwrap_or (all_of (codes "FILE") (rows_of f)) []
+no_files_found f is = ap (λ (o : Option (List Text)). unwrap_or o []) (is ∙ raw_values-rows f (codes "FILE"))
+
+pub file_found : (f : Found) (name : Option Text) → name ≡ first_value f (codes "FILE") → option_to_list name ≡ option_to_list (first_of (codes "FILE") (rows_of f))
+file_found f name is = ap option_to_list (is ∙ first_value-rows f (codes "FILE"))
+
+-- ---- what it returns
+
+pub request_of : (arguments : List Text) (name : Text) (rows : List Row) → Meets arguments name rows → (subcommand : Subcommand)
+    → ((names : List Text) → HasFiles name names rows → request subcommand ≡ (name, names)) → asked arguments ≡ Some (request subcommand)
+request_of arguments name rows met subcommand is = met.asks ∙ ap (λ (r : Text × List Text). Some r) (sym (is met.names met.files))
+
+pub not_a_command : (arguments : List Text) (name : Text) (rows : List Row) → Meets arguments name rows → (failure : Failure)
+    → (failure ≡ OutOfMemory) ⊎ ((failure ≡ Arguments) × (IsCommand name → ⊥)) → (failure ≡ OutOfMemory) ⊎ ((failure ≡ Arguments) × (asked arguments ≡ None))
+not_a_command arguments name rows met failure is = elim is [ inl memory ↦ inl memory | inr other ↦ absurd (other.1 met.is_command) ]
+
+-- an error that was made of another
+pub err_of : {T E : Type 0} (r : Result T E) (P Q : E → Type 0) → IsErrAnd r P → ((e : E) → P e → Q e) → IfErr r Q
+err_of (Ok x) P Q is more = tt
+err_of (Err e) P Q is more = more e is

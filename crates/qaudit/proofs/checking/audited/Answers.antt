@@ -1,0 +1,12 @@
+use Rattle.std.proofs.Common.{ap}
+use Rattle.std.specs.Prelude.{Err}
+use Rattle.qaudit.proofs.Written.{audited_ok, audited_err}
+use Rattle.qaudit.proofs.checking.audited.Goals as goal
+
+pub returns-in-Ok : goal.returns-in-Ok
+returns-in-Ok g c = audited_ok _ _ _ _ _ c.args.origin c.in-Ok.ensures.told c.in-Ok.ensures.ok
+
+pub returns-in-Err : goal.returns-in-Err
+returns-in-Err g c =
+    audited_err _ _ _ _ c.args.origin _ _ c.of_audit.ensures (λ bytes tells is. c.in-Err.ensures.told_beginning bytes tells (ap Err is))
+    (λ is. c.in-Err.ensures.beginning (ap Err is)) (λ other. c.in-Err.ensures.unwritten (λ e. other cc))

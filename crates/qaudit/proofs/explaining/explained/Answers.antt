@@ -1,0 +1,12 @@
+use Rattle.std.proofs.Common.{ap}
+use Rattle.std.specs.Prelude.{Err}
+use Rattle.qaudit.proofs.Written.{explained_ok, explained_err}
+use Rattle.qaudit.proofs.explaining.explained.Goals as goal
+
+pub returns-in-Ok : goal.returns-in-Ok
+returns-in-Ok g c = explained_ok _ _ _ _ _ c.args.origin c.in-Ok.ensures.told c.in-Ok.ensures.ok
+
+pub returns-in-Err : goal.returns-in-Err
+returns-in-Err g c =
+    explained_err _ _ _ _ c.args.origin _ _ c.of_audit.ensures (λ is. c.in-Err.ensures.rows (ap Err is)) (λ is. c.in-Err.ensures.out_of_memory (ap Err is))
+    (λ bytes tells is. c.in-Err.ensures.told_beginning bytes tells (ap Err is)) (λ is. c.in-Err.ensures.beginning (ap Err is))
