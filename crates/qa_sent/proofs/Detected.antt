@@ -1,29 +1,27 @@
 -- What a detection makes of the packets.
-use Rattle.std.proofs.Common.{◌≡◌, ◌∙◌, ℕ, zero, suc, ◌+◌, ◌-◌, ◌*◌, ◌≤◌, ◌<◌, Bool, true, false, ◌&&◌, ◌||◌, max, List, [], ◌∷◌, ◌++◌, length, get_or, set, map, take, drop, cond, count_by, sum_by, Option, Some, None, refl, sym, ap, subst, arith, inl, inr}
+use Rattle.std.proofs.Common.{◌≡◌, ◌∙◌, ℕ, ◌+◌, ◌-◌, ◌*◌, ◌≤◌, ◌<◌, Bool, true, false, ◌&&◌, ◌||◌, max, List, [], ◌∷◌, ◌++◌, length, get_or, set, map, take, drop, cond, count_by, Option, Some, None, refl, sym, ap, subst, arith, inl, inr}
 use Rattle.std.specs.Prelude.{if◌then◌else◌, nat_le, nat_lt}
 use Rattle.std.specs.List.{AllByRecursion}
-use Rattle.std.proofs.lemmas.Bool.{and_parts, and_from, both_ways, cases_Bool, false_from_ne_true, le-leb, leb-true, lt-ltb, ltb-true, or_cases, or_left, or_right}
-use Rattle.std.proofs.lemmas.List.{drop-map, drop_at, get_or_read, length-append, length-map, length-take-le, map-append, take-append-drop, take-map}
-use Rattle.std.proofs.lemmas.List.Sums.{sum_by-set, count_by-le-length}
+use Rattle.std.proofs.lemmas.Bool.{and_parts, and_from, both_ways, false_from_ne_true, le-leb, leb-true, lt-ltb, ltb-true, or_cases, or_left, or_right}
+use Rattle.std.proofs.lemmas.List.{drop_at, length-map, length-take-le, map-append, take-append-drop, take-map}
 use Rattle.qa_base.specs.declared.space.Space.{Space}
 use Rattle.qa_base.specs.machine.Loss.{is_late, is_old}
 use Rattle.qa_base.specs.machine.Packets.{Packet}
 use Rattle.qa_base.specs.machine.Rtt.{Estimate}
 use Rattle.qa_base.specs.values.Events.{is_space}
-use Rattle.qa_sent.specs.Detection.{IsEnd, IsPassed, lost_in}
+use Rattle.qa_sent.specs.Detection.{IsEnd, lost_in}
 use Rattle.qa_sent.specs.Lanes.{awaiting_count}
 use Rattle.qa_sent.specs.Fates.{flight_bytes, is_flying, is_open, is_owed, is_uncovered, is_waiting}
-use Rattle.qa_sent.specs.Held.{AreLosses, AreOrdered, FirstFlies, IsBefore, IsBehind, IsIndexed, IsLane, NoneFlies}
+use Rattle.qa_sent.specs.Held.{AreLosses, AreOrdered, IsBefore, IsIndexed, NoneFlies}
 use Rattle.qa_sent.specs.Owing.{NoneOwed}
 use Rattle.qa_sent.specs.Steps.{Lateness, found_by, is_late_by, packet_at, with_fate}
 use Rattle.qa_sent.specs.declared.fate.Fate.{Fate}
 use Rattle.qa_sent.specs.declared.fate.Fate.TheVariants.{Open, Owed, DeclaredLost, Covered, Discarded}
 use Rattle.qa_sent.specs.declared.lane.Lane.{Lane}
 use Rattle.qa_sent.specs.declared.packet.SentPacket.{SentPacket}
-use Rattle.qa_sent.specs.declared.packets.Losses.{Losses}
 use Rattle.qa_sent.proofs.Alike.{IsAlike, IsSame, alike_if, alike_other, not_other, ordered_drop, same_if, space_is}
 use Rattle.qa_sent.proofs.Entries.{same_entries}
-use Rattle.qa_sent.proofs.Parts.{each_both, each_drop, each_map, each_take, each_weaker, map_same, mapped_more}
+use Rattle.qa_sent.proofs.Parts.{each_drop, each_map, each_take, each_weaker, map_same}
 use Rattle.qa_sent.proofs.Sums.{sum_written, taken_off}
 
 -- ---- a packet in flight

@@ -1,8 +1,8 @@
 -- Of numbers that rise, a range has no gap if the first number from its least on that is missing lies above it.
-use Rattle.std.proofs.Common.{◌≡◌, ◌∙◌, ℕ, suc, ◌+◌, ◌≤◌, ◌<◌, Bool, true, false, ◌&&◌, ◌||◌, not, List, [], ◌∷◌, map, filter, refl, sym, ap, subst, arith, inl, inr, add-one}
+use Rattle.std.proofs.Common.{◌≡◌, ◌∙◌, ℕ, ◌+◌, ◌≤◌, ◌<◌, Bool, true, false, ◌&&◌, ◌||◌, not, List, [], ◌∷◌, map, refl, sym, ap, subst, arith, inl, inr}
 use Rattle.std.specs.Prelude.{if◌then◌else◌, nat_eq, nat_le, nat_lt, slice_range}
 use Rattle.std.specs.List.{AllByRecursion, list_all}
-use Rattle.std.proofs.lemmas.Bool.{and_parts, and_from, both_ways, cases_Bool, cases_lt, eqb-true, eqb-false, eq-eqb, le-leb, leb-true, lt-ltb, ltb-true, or_cases, or_left, or_right}
+use Rattle.std.proofs.lemmas.Bool.{and_parts, and_from, both_ways, cases_Bool, cases_lt, eqb-true, eqb-false, le-leb, leb-true, lt-ltb, ltb-true, or_cases, or_left, or_right}
 use Rattle.qa_base.specs.declared.space.Space.{Space}
 use Rattle.qa_base.specs.machine.Numbers.{has_all, has_range, is_in, names_exactly}
 use Rattle.qa_base.specs.values.Events.{is_named, is_space}
