@@ -54,7 +54,7 @@ stays_if p false is = refl
 
 -- ---- what becomes of all
 
-pub declared_none : (ps : List SentPacket) → NoneOwed ps → map declared ps ≡ ps
+declared_none : (ps : List SentPacket) → NoneOwed ps → map declared ps ≡ ps
 declared_none ps none = map_same declared ps (each_weaker (λ p. is_owed p.fate ≡ false) (λ p. declared p ≡ p) (λ p out. stays_if p (is_owed p.fate) out) ps none)
 
 pub declared_start : (ps : List SentPacket) (from to : ℕ) → IsOwedPart from to ps → ps ≡ map declared (take from ps) ++ drop from ps

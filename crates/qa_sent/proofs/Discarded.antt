@@ -57,7 +57,7 @@ flies_if false in_flight opens waits goes out = refl
 pub grounded : (s : Space) (p : SentPacket) → is_waiting s p ≡ false → is_flying s p ≡ false
 grounded s p out = flies_if (is_space s p.space) p.in_flight (is_open p.fate) (is_uncovered p.fate) (open_waits p.fate) out
 
-pub not_awaiting : (s : Space) (p : SentPacket) → is_waiting s p ≡ false → is_awaiting s p ≡ false
+not_awaiting : (s : Space) (p : SentPacket) → is_waiting s p ≡ false → is_awaiting s p ≡ false
 not_awaiting s p out = flies_if (is_space s p.space) p.eliciting (is_open p.fate) (is_uncovered p.fate) (open_waits p.fate) out
 
 bytes_if : (here flies : Bool) (n : ℕ) → (here && flies) ≡ false → (if here then (if flies then n else 0) else 0) ≡ 0

@@ -21,7 +21,7 @@ use Rattle.qa_sent.proofs.Sums.{closed_awaiting, closed_bytes, sum_front}
 closed_open : (p : SentPacket) → is_closed p ≡ true → is_open p.fate ≡ false
 closed_open p closed = not-true (is_open p.fate) (and_parts (not (is_open p.fate)) (not (is_owed p.fate)) closed).0
 
-pub closed_owed : (p : SentPacket) → is_closed p ≡ true → is_owed p.fate ≡ false
+closed_owed : (p : SentPacket) → is_closed p ≡ true → is_owed p.fate ≡ false
 closed_owed p closed = not-true (is_owed p.fate) (and_parts (not (is_open p.fate)) (not (is_owed p.fate)) closed).1
 
 all_off : (a b c : Bool) → c ≡ false → (a && (b && c)) ≡ false
