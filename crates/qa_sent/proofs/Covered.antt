@@ -102,6 +102,17 @@ take_more (suc i) (y ∷ xs) x within is =
     let rest = take_more i xs x (omega arith) is in
     rw (add-one (suc i)) (ap (λ zs. y ∷ zs) (rw (add-one i) at rest))
 
+-- the next of them
+pub cover_next : (s : Space) (ranges : List (ℕ × ℕ)) (i lo hi : ℕ) (range : ℕ × ℕ) (ps before after : List SentPacket) → i < length ranges → range ≡ get_or ranges i range → lo ≡ range.0 → hi ≡ range.1
+    → before ≡ map (covered_by s (take i ranges)) ps → after ≡ map (covered_in s lo hi) before → after ≡ map (covered_by s (take (i + 1) ranges)) ps
+cover_next s ranges i lo hi range ps before after within is lo_is hi_is so_far here =
+    here
+    ∙ (ap (λ n. map (covered_in s n hi) before) lo_is
+    ∙ (ap (λ n. map (covered_in s range.0 n) before) hi_is
+    ∙ (ap (map (covered_in s range.0 range.1)) so_far
+    ∙ (cover_more s (take i ranges) range ps
+    ∙ ap (λ rs. map (covered_by s rs) ps) (sym (take_more i ranges range within is))))))
+
 not_last : (a b : Bool) → (a && (b && false)) ≡ false
 not_last true true = refl
 not_last true false = refl

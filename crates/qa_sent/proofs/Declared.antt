@@ -1,15 +1,12 @@
 -- What a Lost line makes of the packets.
-use Rattle.std.proofs.Common.{◌≡◌, ◌∙◌, ℕ, ◌+◌, ◌-◌, ◌≤◌, Bool, true, false, List, [], ◌∷◌, ◌++◌, length, map, take, drop, cond, count_by, refl, sym, ap, subst, arith}
+use Rattle.std.proofs.Common.{◌≡◌, ◌∙◌, ℕ, Bool, true, false, List, [], ◌∷◌, ◌++◌, length, map, take, drop, refl, sym, ap, arith}
 use Rattle.std.specs.Prelude.{if◌then◌else◌}
-use Rattle.std.specs.List.{AllByRecursion}
 use Rattle.std.proofs.lemmas.List.{length-map, map-append, take-append-drop}
-use Rattle.std.proofs.lemmas.List.Sums.{sum_by-cons}
 use Rattle.qa_base.specs.declared.space.Space.{Space}
 use Rattle.qa_base.specs.declared.space.Space.TheVariants.{Initial, Handshake, App}
-use Rattle.qa_base.specs.values.Events.{is_space}
 use Rattle.qa_base.specs.values.Limits.{max_packet_size}
 use Rattle.qa_sent.specs.Fates.{is_open, is_owed, is_uncovered}
-use Rattle.qa_sent.specs.Held.{AreLosses, IsSound}
+use Rattle.qa_sent.specs.Held.{IsSound}
 use Rattle.qa_sent.specs.Owing.{IsOwedPart, NoneOwed}
 use Rattle.qa_sent.specs.Steps.{declared}
 use Rattle.qa_sent.specs.declared.fate.Fate.{Fate}
@@ -57,7 +54,7 @@ stays_if p false is = refl
 
 -- ---- what becomes of all
 
-pub declared_none : (ps : List SentPacket) → NoneOwed ps → map declared ps ≡ ps
+declared_none : (ps : List SentPacket) → NoneOwed ps → map declared ps ≡ ps
 declared_none ps none = map_same declared ps (each_weaker (λ p. is_owed p.fate ≡ false) (λ p. declared p ≡ p) (λ p out. stays_if p (is_owed p.fate) out) ps none)
 
 pub declared_start : (ps : List SentPacket) (from to : ℕ) → IsOwedPart from to ps → ps ≡ map declared (take from ps) ++ drop from ps

@@ -1,30 +1,28 @@
 -- What a detection makes of the packets.
-use Rattle.std.proofs.Common.{◌≡◌, ◌∙◌, ℕ, zero, suc, ◌+◌, ◌-◌, ◌*◌, ◌≤◌, ◌<◌, Bool, true, false, ◌&&◌, ◌||◌, max, List, [], ◌∷◌, ◌++◌, length, get_or, set, map, take, drop, cond, count_by, sum_by, Option, Some, None, refl, sym, ap, subst, arith, inl, inr}
+use Rattle.std.proofs.Common.{◌≡◌, ◌∙◌, ℕ, ◌+◌, ◌-◌, ◌*◌, ◌≤◌, ◌<◌, Bool, true, false, ◌&&◌, ◌||◌, max, List, [], ◌∷◌, ◌++◌, length, get_or, set, map, take, drop, count_by, Option, Some, None, refl, sym, ap, subst, arith, inl, inr}
 use Rattle.std.specs.Prelude.{if◌then◌else◌, nat_le, nat_lt}
 use Rattle.std.specs.List.{AllByRecursion}
-use Rattle.std.proofs.lemmas.Bool.{and_parts, and_from, both_ways, cases_Bool, false_from_ne_true, le-leb, leb-true, lt-ltb, ltb-true, or_cases, or_left, or_right}
-use Rattle.std.proofs.lemmas.List.{drop-map, drop_at, get_or_read, length-append, length-map, length-take-le, map-append, take-append-drop, take-map}
-use Rattle.std.proofs.lemmas.List.Sums.{sum_by-set, count_by-le-length}
+use Rattle.std.proofs.lemmas.Bool.{and_parts, and_from, both_ways, false_from_ne_true, le-leb, leb-true, lt-ltb, ltb-true, or_cases, or_left, or_right}
+use Rattle.std.proofs.lemmas.List.{drop_at, length-map, length-take-le, map-append, take-append-drop, take-map}
 use Rattle.qa_base.specs.declared.space.Space.{Space}
 use Rattle.qa_base.specs.machine.Loss.{is_late, is_old}
 use Rattle.qa_base.specs.machine.Packets.{Packet}
 use Rattle.qa_base.specs.machine.Rtt.{Estimate}
 use Rattle.qa_base.specs.values.Events.{is_space}
-use Rattle.qa_sent.specs.Detection.{IsEnd, IsPassed, lost_in}
+use Rattle.qa_sent.specs.Detection.{IsEnd, lost_in}
 use Rattle.qa_sent.specs.Lanes.{awaiting_count}
 use Rattle.qa_sent.specs.Fates.{flight_bytes, is_flying, is_open, is_owed, is_uncovered, is_waiting}
-use Rattle.qa_sent.specs.Held.{AreLosses, AreOrdered, FirstFlies, IsBefore, IsBehind, IsIndexed, IsLane, NoneFlies}
+use Rattle.qa_sent.specs.Held.{AreLosses, AreOrdered, IsBefore, IsIndexed, NoneFlies}
 use Rattle.qa_sent.specs.Owing.{NoneOwed}
 use Rattle.qa_sent.specs.Steps.{Lateness, found_by, is_late_by, packet_at, with_fate}
 use Rattle.qa_sent.specs.declared.fate.Fate.{Fate}
 use Rattle.qa_sent.specs.declared.fate.Fate.TheVariants.{Open, Owed, DeclaredLost, Covered, Discarded}
 use Rattle.qa_sent.specs.declared.lane.Lane.{Lane}
 use Rattle.qa_sent.specs.declared.packet.SentPacket.{SentPacket}
-use Rattle.qa_sent.specs.declared.packets.Losses.{Losses}
 use Rattle.qa_sent.proofs.Alike.{IsAlike, IsSame, alike_if, alike_other, not_other, ordered_drop, same_if, space_is}
 use Rattle.qa_sent.proofs.Entries.{same_entries}
-use Rattle.qa_sent.proofs.Parts.{each_both, each_drop, each_map, each_take, each_weaker, map_same, mapped_more}
-use Rattle.qa_sent.proofs.Sums.{sum_written, taken_off}
+use Rattle.qa_sent.proofs.Parts.{each_drop, each_map, each_take, each_weaker, map_same}
+use Rattle.qa_sent.proofs.Sums.{taken_off}
 
 -- ---- a packet in flight
 
@@ -33,7 +31,7 @@ flying_parts s p flies =
     let two = and_parts (is_space s p.space) (p.in_flight && is_open p.fate) flies in
     (two.0, (and_parts p.in_flight (is_open p.fate) two.1).1)
 
-pub flies_here : (s : Space) (p : SentPacket) → is_flying s p ≡ true → is_space s p.space ≡ true
+flies_here : (s : Space) (p : SentPacket) → is_flying s p ≡ true → is_space s p.space ≡ true
 flies_here s p flies = (flying_parts s p flies).0
 
 waits_open : (f : Fate) → is_open f ≡ true → is_uncovered Owed ≡ is_uncovered f
@@ -42,13 +40,6 @@ waits_open Owed e = cc
 waits_open DeclaredLost e = cc
 waits_open Covered e = cc
 waits_open Discarded e = cc
-
-pub not_owed_open : (f : Fate) → is_open f ≡ true → is_owed f ≡ false
-not_owed_open Open e = refl
-not_owed_open Owed e = cc
-not_owed_open DeclaredLost e = cc
-not_owed_open Covered e = cc
-not_owed_open Discarded e = cc
 
 all_off : (a b : Bool) → (a && (b && false)) ≡ false
 all_off true true = refl
@@ -72,14 +63,6 @@ marked s d ps before after at p indexed within is flies entries less_bytes less_
       in_flight = off.in_flight;
       awaiting = off.awaiting;
     }
-
-pub counted : (s : Space) (ps : List SentPacket) (at : ℕ) (p : SentPacket) → at < length ps → p ≡ get_or ps at p → is_flying s p ≡ true
-    → count_by (λ q. is_owed q.fate) (set ps at (with_fate Owed p)) ≡ count_by (λ q. is_owed q.fate) ps + 1
-counted s ps at p within is flies =
-    let weight : SentPacket → ℕ = λ q. cond (is_owed q.fate) 1 0 in
-    let sum = sum_written weight ps at p (with_fate Owed p) within is in
-    let none : weight p ≡ 0 = ap (λ b. cond b 1 0) (not_owed_open p.fate (flying_parts s p flies).1) in
-    omega (arith, sum, none)
 
 -- ---- what becomes of one packet
 
@@ -171,7 +154,7 @@ rest_kept s l (p ∷ ps) ordered end =
 
 -- ---- what becomes of all
 
-pub none_found : (s : Space) (l : Lateness) (ps : List SentPacket) → NoneFlies s ps → map (found_by s l) ps ≡ ps
+none_found : (s : Space) (l : Lateness) (ps : List SentPacket) → NoneFlies s ps → map (found_by s l) ps ≡ ps
 none_found s l ps none = map_same (found_by s l) ps (each_weaker (λ p. is_flying s p ≡ false) (λ p. found_by s l p ≡ p) (found_out s l) ps none)
 
 pub detected_start : (s : Space) (l : Lateness) (ps : List SentPacket) (n : ℕ) → NoneFlies s (take n ps) → ps ≡ map (found_by s l) (take n ps) ++ drop n ps

@@ -1,13 +1,11 @@
 -- What a discard makes of the packets.
-use Rattle.std.proofs.Common.{◌≡◌, ◌∙◌, ℕ, zero, suc, ◌+◌, ◌-◌, ◌≤◌, Bool, true, false, ◌&&◌, List, [], ◌∷◌, length, map, take, drop, cond, count_by, sum_by, refl, sym, ap, subst, arith}
+use Rattle.std.proofs.Common.{◌≡◌, ◌∙◌, ℕ, suc, ◌+◌, ◌-◌, Bool, true, false, ◌&&◌, List, [], ◌∷◌, length, map, drop, cond, sum_by, refl, sym, ap, subst, arith}
 use Rattle.std.specs.Prelude.{if◌then◌else◌}
-use Rattle.std.specs.List.{AllByRecursion}
-use Rattle.std.proofs.lemmas.Bool.{and_parts}
 use Rattle.std.proofs.lemmas.List.{drop_all, length-map}
 use Rattle.std.proofs.lemmas.List.Sums.{sum_by-cons}
 use Rattle.qa_base.specs.declared.space.Space.{Space}
 use Rattle.qa_base.specs.values.Events.{is_space}
-use Rattle.qa_sent.specs.Fates.{flight_bytes, flight_bytes_in, is_awaiting, is_flying, is_open, is_owed, is_uncovered, is_waiting}
+use Rattle.qa_sent.specs.Fates.{flight_bytes_in, is_awaiting, is_flying, is_open, is_owed, is_uncovered, is_waiting}
 use Rattle.qa_sent.specs.Held.{FirstFlies, IsLane, NoneFlies, uncovered_in}
 use Rattle.qa_sent.specs.Steps.{discarded_in, with_fate}
 use Rattle.qa_sent.specs.declared.fate.Fate.{Fate}
@@ -59,7 +57,7 @@ flies_if false in_flight opens waits goes out = refl
 pub grounded : (s : Space) (p : SentPacket) → is_waiting s p ≡ false → is_flying s p ≡ false
 grounded s p out = flies_if (is_space s p.space) p.in_flight (is_open p.fate) (is_uncovered p.fate) (open_waits p.fate) out
 
-pub not_awaiting : (s : Space) (p : SentPacket) → is_waiting s p ≡ false → is_awaiting s p ≡ false
+not_awaiting : (s : Space) (p : SentPacket) → is_waiting s p ≡ false → is_awaiting s p ≡ false
 not_awaiting s p out = flies_if (is_space s p.space) p.eliciting (is_open p.fate) (is_uncovered p.fate) (open_waits p.fate) out
 
 bytes_if : (here flies : Bool) (n : ℕ) → (here && flies) ≡ false → (if here then (if flies then n else 0) else 0) ≡ 0

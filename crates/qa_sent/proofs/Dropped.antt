@@ -1,16 +1,13 @@
 -- What is left once the first packet, which is closed, was dropped.
-use Rattle.std.proofs.Common.{◌≡◌, ◌∙◌, ℕ, zero, suc, ◌+◌, ◌-◌, ◌≤◌, ◌<◌, Bool, true, false, ◌&&◌, not, max, List, [], ◌∷◌, length, take, drop, cond, count_by, sum_by, refl, sym, ap, subst, arith, inl, inr, take_while, add-one}
-use Rattle.std.specs.Prelude.{if◌then◌else◌}
-use Rattle.std.specs.List.{AllByRecursion}
+use Rattle.std.proofs.Common.{◌≡◌, ◌∙◌, ℕ, zero, suc, ◌+◌, ◌-◌, ◌<◌, Bool, true, false, ◌&&◌, not, max, List, [], ◌∷◌, length, take, drop, cond, refl, sym, ap, subst, arith, inl, inr, take_while}
 use Rattle.std.proofs.lemmas.Bool.{and_parts, both_ways, not-true}
-use Rattle.std.proofs.lemmas.List.Sums.{sum_by-cons, take_while-cons}
+use Rattle.std.proofs.lemmas.List.Sums.{take_while-cons}
 use Rattle.qa_base.specs.declared.space.Space.{Space}
 use Rattle.qa_base.specs.declared.space.Space.TheVariants.{Initial, Handshake, App}
 use Rattle.qa_base.specs.values.Events.{is_space}
 use Rattle.qa_sent.specs.Dropping.{is_first_closed}
 use Rattle.qa_sent.specs.Fates.{flight_bytes_in, is_awaiting, is_closed, is_flying, is_open, is_owed}
-use Rattle.qa_sent.specs.Held.{AreLosses, FirstFlies, Held, IsBehind, IsIndexed, IsLane, IsSound, NoneFlies, uncovered_in}
-use Rattle.qa_sent.specs.Lanes.{lane_of}
+use Rattle.qa_sent.specs.Held.{AreLosses, FirstFlies, Held, IsLane, IsSound, NoneFlies, uncovered_in}
 use Rattle.qa_sent.specs.Owing.{NoneOwed}
 use Rattle.qa_sent.specs.Steps.{closed_count, trimmed}
 use Rattle.qa_sent.specs.declared.lane.Lane.{Lane}
@@ -24,7 +21,7 @@ use Rattle.qa_sent.proofs.Sums.{closed_awaiting, closed_bytes, sum_front}
 closed_open : (p : SentPacket) → is_closed p ≡ true → is_open p.fate ≡ false
 closed_open p closed = not-true (is_open p.fate) (and_parts (not (is_open p.fate)) (not (is_owed p.fate)) closed).0
 
-pub closed_owed : (p : SentPacket) → is_closed p ≡ true → is_owed p.fate ≡ false
+closed_owed : (p : SentPacket) → is_closed p ≡ true → is_owed p.fate ≡ false
 closed_owed p closed = not-true (is_owed p.fate) (and_parts (not (is_open p.fate)) (not (is_owed p.fate)) closed).1
 
 all_off : (a b c : Bool) → c ≡ false → (a && (b && c)) ≡ false

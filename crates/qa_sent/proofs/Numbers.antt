@@ -1,8 +1,8 @@
 -- Of numbers that rise, a range has no gap if the first number from its least on that is missing lies above it.
-use Rattle.std.proofs.Common.{◌≡◌, ◌∙◌, ℕ, suc, ◌+◌, ◌≤◌, ◌<◌, Bool, true, false, ◌&&◌, ◌||◌, not, List, [], ◌∷◌, map, filter, refl, sym, ap, subst, arith, inl, inr, add-one}
+use Rattle.std.proofs.Common.{◌≡◌, ◌∙◌, ℕ, ◌+◌, ◌≤◌, ◌<◌, Bool, true, false, ◌&&◌, ◌||◌, not, List, [], ◌∷◌, map, refl, sym, ap, subst, arith, inl, inr}
 use Rattle.std.specs.Prelude.{if◌then◌else◌, nat_eq, nat_le, nat_lt, slice_range}
 use Rattle.std.specs.List.{AllByRecursion, list_all}
-use Rattle.std.proofs.lemmas.Bool.{and_parts, and_from, both_ways, cases_Bool, cases_lt, eqb-true, eqb-false, eq-eqb, le-leb, leb-true, lt-ltb, ltb-true, or_cases, or_left, or_right}
+use Rattle.std.proofs.lemmas.Bool.{and_parts, and_from, both_ways, cases_Bool, cases_lt, eqb-true, eqb-false, le-leb, leb-true, lt-ltb, ltb-true, or_cases, or_left, or_right}
 use Rattle.qa_base.specs.declared.space.Space.{Space}
 use Rattle.qa_base.specs.machine.Numbers.{has_all, has_range, is_in, names_exactly}
 use Rattle.qa_base.specs.values.Events.{is_named, is_space}
@@ -26,7 +26,7 @@ never_lower [] n = omega arith
 never_lower (m ∷ ms) n = lower_if (nat_eq m n) n ms (never_lower ms)
 
 -- what lies below it is there
-pub there_below : (ms : List ℕ) (n hi : ℕ) → hi < first_missing n ms → (k : ℕ) → n ≤ k → k ≤ hi → is_in ms k ≡ true
+there_below : (ms : List ℕ) (n hi : ℕ) → hi < first_missing n ms → (k : ℕ) → n ≤ k → k ≤ hi → is_in ms k ≡ true
 there_below [] n hi past k low high = absurd (omega arith)
 there_below (m ∷ ms) n hi past k low high = elim (cases_Bool (nat_eq m n)) [
   | inl here ↦ (
@@ -49,7 +49,7 @@ above m (x ∷ ms) all n is = elim (or_cases (nat_eq x n) (is_in ms n) is) [
 ]
 
 -- and where all up to a number are there, it lies above that
-pub missing_above : (ms : List ℕ) (n hi : ℕ) → AreRising ms → ((k : ℕ) → n ≤ k → k ≤ hi → is_in ms k ≡ true) → hi < first_missing n ms
+missing_above : (ms : List ℕ) (n hi : ℕ) → AreRising ms → ((k : ℕ) → n ≤ k → k ≤ hi → is_in ms k ≡ true) → hi < first_missing n ms
 missing_above [] n hi rising each = elim (cases_lt hi n) [
   | inl below ↦ below
   | inr inside ↦ (let none : false ≡ true = each n (omega arith) inside in cc)
@@ -139,7 +139,7 @@ all_if : (ranges : List (ℕ × ℕ)) (p : SentPacket) (ps : List SentPacket) (o
 all_if ranges p ps true rest is more = ap (λ b. (not b || is_named ranges p.number) && rest) is ∙ ap (λ b. is_named ranges p.number && b) more
 all_if ranges p ps false rest is more = ap (λ b. (not b || is_named ranges p.number) && rest) is ∙ more
 
-pub all_named : (ranges : List (ℕ × ℕ)) (ps : List SentPacket) → list_all (λ p. not (is_owed p.fate) || is_named ranges p.number) ps ≡ list_all (is_named ranges) (owed_numbers ps)
+all_named : (ranges : List (ℕ × ℕ)) (ps : List SentPacket) → list_all (λ p. not (is_owed p.fate) || is_named ranges p.number) ps ≡ list_all (is_named ranges) (owed_numbers ps)
 all_named ranges [] = refl
 all_named ranges (p ∷ ps) = all_if ranges p ps (is_owed p.fate) (list_all (λ q. not (is_owed q.fate) || is_named ranges q.number) ps) refl (all_named ranges ps)
 

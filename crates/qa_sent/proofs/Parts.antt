@@ -1,5 +1,5 @@
 -- What holds of each element of a part of a list.
-use Rattle.std.proofs.Common.{◌≡◌, ◌∙◌, ℕ, zero, suc, ◌+◌, ◌≤◌, ◌<◌, List, [], ◌∷◌, ◌++◌, length, get_or, set, map, take, drop, add-one, refl, sym, ap, subst, arith}
+use Rattle.std.proofs.Common.{◌≡◌, ◌∙◌, ℕ, zero, suc, ◌+◌, ◌<◌, List, [], ◌∷◌, ◌++◌, length, get_or, set, map, take, drop, add-one, refl, sym, ap, subst, arith}
 use Rattle.std.specs.List.{AllByRecursion}
 use Rattle.std.proofs.lemmas.List.{length-append, length-map, take-append-drop}
 use Rattle.std.proofs.lemmas.List.Edits.{map_over_more}
@@ -30,12 +30,6 @@ each_suc_set P (x ∷ xs) (suc at) y within here all = (all.0, each_suc_set P xs
 pub each_more_set : {X : Type 0} (P : X → Type 0) (xs : List X) (at : ℕ) (y : X) → at < length xs → P y → AllByRecursion P (take at xs) → AllByRecursion P (take (at + 1) (set xs at y))
 each_more_set P xs at y within here all = subst (λ (n : ℕ). AllByRecursion P (take n (set xs at y))) (sym (add-one at)) (each_suc_set P xs at y within here all)
 
-pub each_shorter : {X : Type 0} (P : X → Type 0) (xs : List X) (m n : ℕ) → m ≤ n → AllByRecursion P (take n xs) → AllByRecursion P (take m xs)
-each_shorter P xs zero n order all = tt
-each_shorter P [] (suc m) n order all = tt
-each_shorter P (x ∷ xs) (suc m) zero order all = absurd (omega arith)
-each_shorter P (x ∷ xs) (suc m) (suc n) order all = (all.0, each_shorter P xs m n (omega arith) all.1)
-
 pub each_take : {X : Type 0} (P : X → Type 0) (xs : List X) (n : ℕ) → AllByRecursion P xs → AllByRecursion P (take n xs)
 each_take P xs zero all = tt
 each_take P [] (suc n) all = tt
@@ -53,10 +47,6 @@ each_drop P (x ∷ xs) (suc n) all = each_drop P xs n all.1
 pub each_map : {X : Type 0} (P Q : X → Type 0) (f : X → X) → ((x : X) → P x → Q (f x)) → (xs : List X) → AllByRecursion P xs → AllByRecursion Q (map f xs)
 each_map P Q f goes [] all = tt
 each_map P Q f goes (x ∷ xs) all = (goes x all.0, each_map P Q f goes xs all.1)
-
-pub each_both : {X : Type 0} (P Q R : X → Type 0) → ((x : X) → P x → Q x → R x) → (xs : List X) → AllByRecursion P xs → AllByRecursion Q xs → AllByRecursion R xs
-each_both P Q R goes [] all both = tt
-each_both P Q R goes (x ∷ xs) all both = (goes x all.0 both.0, each_both P Q R goes xs all.1 both.1)
 
 pub each_weaker : {X : Type 0} (P Q : X → Type 0) → ((x : X) → P x → Q x) → (xs : List X) → AllByRecursion P xs → AllByRecursion Q xs
 each_weaker P Q goes [] all = tt

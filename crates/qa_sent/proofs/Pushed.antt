@@ -68,15 +68,18 @@ entries_below d [] p before = tt
 entries_below d (q ∷ ps) p before =
     below_if (is_waiting p.space q) d q p (uncovered_in p.space (suc d) ps) (λ waits. before.0.number (waits_here p.space q waits)) (entries_below (suc d) ps p before.1)
 
-pub indexed_push : (s : Space) (d : ℕ) (ps : List SentPacket) (p : SentPacket) (before after : Lane) → is_space s p.space ≡ true → p.fate ≡ Open → IsIndexed s d ps before
-    → after.uncovered.entries ≡ before.uncovered.entries ++ (p.number, d + length ps) ∷ []
+pub indexed_push : (s : Space) (d : ℕ) (ps : List SentPacket) (p : SentPacket) (before after : Lane) (key place : ℕ) → is_space s p.space ≡ true → p.fate ≡ Open → IsIndexed s d ps before
+    → key ≡ p.number → place ≡ d + length ps → after.uncovered.entries ≡ before.uncovered.entries ++ (key, place) ∷ []
     → after.in_flight ≡ before.in_flight + flight_bytes p → after.awaiting ≡ before.awaiting + awaiting_count p
     → IsIndexed s d (ps ++ p ∷ []) after
-indexed_push s d ps p before after here is indexed entries more_bytes more_awaiting =
+indexed_push s d ps p before after key place here is indexed key_is place_is entries more_bytes more_awaiting =
     let b = sum_push (flight_bytes_in s) ps p in let b' = bytes_here s p here in
     let a = sum_push (awaiting_in s) ps p in let a' = awaiting_here s p here in
     record {
-      entries = entries ∙ (ap (λ es. es ++ (p.number, d + length ps) ∷ []) indexed.entries ∙ sym (uncovered_push s d ps p (open_waits s p here is)));
+      entries = entries
+          ∙ (ap (λ k. before.uncovered.entries ++ (k, place) ∷ []) key_is
+          ∙ (ap (λ k. before.uncovered.entries ++ (p.number, k) ∷ []) place_is
+          ∙ (ap (λ es. es ++ (p.number, d + length ps) ∷ []) indexed.entries ∙ sym (uncovered_push s d ps p (open_waits s p here is)))));
       in_flight = omega (arith, b, b', more_bytes, indexed.in_flight);
       awaiting = omega (arith, a, a', more_awaiting, indexed.awaiting);
     }

@@ -50,7 +50,7 @@ fn new_in_spans(
     Ok(found)
 }
 
-/// Adds the open packets of the space whose numbers are in the span.
+/// Adds the open packets whose numbers are in the span, by the lane of the space.
 fn push_span(
     found: &mut Vec<SentPacket>,
     packets: &VecDeque<SentPacket>,

@@ -28,8 +28,8 @@ impl SentPackets {
     }
 }
 
-/// Covers the packets of a space that some span names, and raises the lane's `next` to the first
-/// that is still in flight.
+/// Covers the packets that some span names in the lane of the space, and raises its `next` to the
+/// first that is still in flight.
 fn cover_in_lane(
     packets: &mut VecDeque<SentPacket>,
     dropped: u64,
@@ -57,7 +57,7 @@ fn first_in(map: &BTreeMap<u64, u64>, lo: u64, hi: u64) -> Option<(u64, u64)>
     }
 }
 
-/// Covers the packet at this place, which has this number.
+/// Covers the packet at this place, which has this number, in the lane of the space.
 fn cover_one(
     packets: &mut VecDeque<SentPacket>,
     dropped: u64,
@@ -83,8 +83,8 @@ fn cover_one(
     lane.uncovered.remove(&number);
 }
 
-/// Covers the packets of a space from `lo` to `hi`, one by one: each leaves the map, and one that
-/// was open leaves the sums.
+/// Covers the packets from `lo` to `hi` in the lane of the space, one by one: each leaves the map,
+/// and one that was open leaves the sums.
 fn cover_span(
     packets: &mut VecDeque<SentPacket>,
     dropped: u64,
@@ -104,7 +104,8 @@ fn cover_span(
     }
 }
 
-/// Covers the packets of a space that some span names. The spans may stand in any order and overlap.
+/// Covers the packets that some span names in the lane of the space. The spans may stand in any
+/// order and overlap.
 fn cover_spans(
     packets: &mut VecDeque<SentPacket>,
     dropped: u64,

@@ -19,6 +19,9 @@ use qa_recovery::Rtt;
 use std::collections::VecDeque;
 use std::marker::Model;
 
+// The clauses below write `.entry.now` for what a reference to a `Lateness` points to, since `.now`
+// alone is its field.
+
 /// By what a detection tells which packets are late.
 #[derive(Clone, Copy, Debug, PartialEq, Eq)]
 pub struct Lateness {

@@ -1,4 +1,4 @@
-use Rattle.std.proofs.Common.{◌≡◌, ◌∙◌, ◌+◌, ◌-◌, false, List, length, set, subst, sym, ap, take, refl, arith}
+use Rattle.std.proofs.Common.{◌≡◌, ◌∙◌, ◌+◌, ◌-◌, false, List, set, subst, sym, ap, take, refl, arith}
 use Rattle.qa_sent.specs.Held.{NoneFlies}
 use Rattle.qa_sent.specs.Fates.{is_flying}
 use Rattle.qa_sent.specs.Detection.{IsPassed, lost_in}

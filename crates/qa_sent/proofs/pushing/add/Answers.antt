@@ -1,5 +1,5 @@
-use Rattle.std.proofs.Common.{◌≡◌, ◌∙◌, ◌+◌, [], ◌∷◌, ◌++◌, length, ap}
-use Rattle.qa_sent.specs.Held.{IsIndexed}
+use Rattle.std.proofs.Common.{◌≡◌, ◌∙◌, ◌+◌, List, [], ◌∷◌, ◌++◌, length, ap}
+use Rattle.qa_sent.specs.declared.packet.SentPacket.{SentPacket}
 use Rattle.qa_sent.proofs.Pushed.{entries_below, indexed_push, space_same}
 use Rattle.qa_sent.proofs.Sums.{bytes_fit}
 use Rattle.qa_sent.proofs.pushing.add.Goals as goal
@@ -16,11 +16,9 @@ pub advance-requires-clause-indexed : goal.advance-requires-clause-indexed
 advance-requires-clause-indexed c =
     let p = c.args.packet in
     let ps = c.args.packets.now.items in
-    let items : c.push_back_reserved.new.self.items ≡ ps ++ p ∷ [] = c.push_back_reserved.ensures.items ∙ ap (λ xs. xs ++ p ∷ []) c.in_ok-reserve.ensures.items in
+    let items : c.push_back_reserved.new.self.items ≡ ps ++ p ∷ [] =
+    ◌∙◌ {A = List SentPacket} c.push_back_reserved.ensures.items (ap (λ xs. xs ++ p ∷ []) c.in_ok-reserve.ensures.items) in
     let len : c.len.result ≡ length ps = c.len.ensures ∙ c.args.packets.now.ok.0 in
-    let entries = c.put_on.ensures.entries ∙ (c.in_ok-enter.ensures.ok
-    ∙ (ap (λ k. c.args.lane.now.uncovered.entries ++ (k, c.args.dropped + c.len.result) ∷ []) c.get.ensures.value
-    ∙ ap (λ k. c.args.lane.now.uncovered.entries ++ (p.number, c.args.dropped + k) ∷ []) len)) in
-    let here : IsIndexed p.space c.args.dropped (ps ++ p ∷ []) c.put_on.new.self =
-    indexed_push p.space c.args.dropped ps p c.args.lane.now c.put_on.new.self (space_same p.space) c.requires.open c.requires.lane.indexed entries c.put_on.ensures.in_flight c.put_on.ensures.awaiting in
-    rw items here
+    rw items
+    (indexed_push p.space c.args.dropped ps p c.args.lane.now c.put_on.new.self c.get.result (c.args.dropped + c.len.result) (space_same p.space) c.requires.open c.requires.lane.indexed
+    c.get.ensures.value (ap (λ k. c.args.dropped + k) len) (c.put_on.ensures.entries ∙ c.in_ok-enter.ensures.ok) c.put_on.ensures.in_flight c.put_on.ensures.awaiting)

@@ -1,4 +1,4 @@
-use Rattle.std.proofs.Common.{◌≡◌, ◌∙◌, ap, arith, sum_by}
+use Rattle.std.proofs.Common.{◌∙◌, ap, arith, sum_by}
 use Rattle.qa_sent.specs.Fates.{flight_bytes}
 use Rattle.qa_sent.specs.Held.{Held}
 use Rattle.qa_sent.proofs.Totals.{total}

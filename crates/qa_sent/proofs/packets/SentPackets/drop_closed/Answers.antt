@@ -1,4 +1,4 @@
-use Rattle.std.proofs.Common.{◌≡◌, ◌∙◌, true, sym, ap, rules}
+use Rattle.std.proofs.Common.{◌≡◌, ◌∙◌, true, sym, ap}
 use Rattle.qa_sent.specs.Dropping.{is_first_closed}
 use Rattle.qa_sent.specs.Steps.{trimmed}
 use Rattle.qa_sent.proofs.Dropped.{trimmed_more}

@@ -1,4 +1,4 @@
-use Rattle.std.proofs.Common.{◌≡◌, ◌∙◌, ◌+◌, ◌<◌, ◌∷◌, ◌++◌, suc, true, List, Some, length, sym, ap, subst, refl, arith, add-one}
+use Rattle.std.proofs.Common.{◌≡◌, ◌∙◌, ◌+◌, ◌<◌, ◌∷◌, ◌++◌, suc, true, List, Some, length, sym, ap, subst, arith, add-one}
 use Rattle.std.specs.VecDeque.{deque_len}
 use Rattle.std.specs.Option.{option_to_list}
 use Rattle.qa_sent.specs.Dropping.{is_first_closed}

@@ -1,9 +1,8 @@
-use Rattle.std.proofs.Common.{◌≡◌, ◌∙◌, ◌-◌, ◌≤◌, ◌<◌, None, Some, length, sym, ap, arith, rules}
-use Rattle.std.specs.Prelude.{Option, find}
+use Rattle.std.proofs.Common.{◌≡◌, ◌∙◌, ◌-◌, ◌≤◌, ◌<◌, None, length, sym, ap, arith, rules}
+use Rattle.std.specs.Prelude.{find}
 use Rattle.std.specs.VecDeque.{deque_len}
 use Rattle.qa_sent.specs.Fates.{is_flying}
 use Rattle.qa_sent.specs.Held.{Held, IsLane}
-use Rattle.qa_sent.specs.declared.packet.SentPacket.{SentPacket}
 use Rattle.qa_sent.proofs.Sound.{lane_sound}
 use Rattle.qa_sent.proofs.Totals.{find_nowhere, find_not, find_there}
 use Rattle.qa_sent.proofs.packets.SentPackets.first_flying.Goals as goal

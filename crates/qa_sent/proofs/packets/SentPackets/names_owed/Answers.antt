@@ -1,4 +1,4 @@
-use Rattle.std.proofs.Common.{◌∙◌, true, false, sym, ap, subst, refl, List, ◌||◌, not}
+use Rattle.std.proofs.Common.{◌∙◌, true, false, sym, ap, subst, refl, ◌||◌, not}
 use Rattle.std.specs.Prelude.{slice_range}
 use Rattle.std.specs.List.{list_all}
 use Rattle.qa_base.specs.machine.Numbers.{has_all}
