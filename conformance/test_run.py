@@ -509,7 +509,17 @@ class LargeTest(RunnerCase):
 
     def test_right_program(self):
         self.write_reader("sys.stdin.buffer")
-        self.assert_passes(6)
+        self.more = (
+            "blank-lines", "blank-lines-explained", "longest-line-by-bytes", "too-long-line-by-bytes",
+            "long-lines-by-bytes", "many-events", "never-acknowledged",
+        )
+        self.assert_passes(7)
+
+    def test_program_whose_window_does_not_grow(self):
+        self.write_reader("sys.stdin.buffer")
+        self.more = ("acknowledged-one-by-one",)
+        failure, _last = self.lines(1)
+        self.assertTrue(failure.startswith("FAILED large/acknowledged-one-by-one: standard output"), failure)
 
     def test_no_program(self):
         self.assert_fails(str(self.program))
