@@ -11,12 +11,13 @@ program_by_one_byte := crates/one_byte/out/one_byte
 program_of_lines := crates/lines/out/lines
 example := examples/ten-packets.trace
 
-.PHONY: help build one_byte lines run test install clean
+.PHONY: help build one_byte lines run test bench install clean
 
 help:
 	@echo 'make build     proves the program and builds $(program)'
 	@echo 'make run       builds it and audits $(example)'
 	@echo 'make test      runs the merge gate, and then the program over conformance/'
+	@echo 'make bench     builds it and measures what an event costs on long traces, in about two minutes'
 	@echo 'make install   builds it and installs it in $$(DESTDIR)$$(PREFIX)/bin, and its man page; PREFIX is $(PREFIX)'
 	@echo 'make clean     removes what was built'
 
@@ -45,6 +46,10 @@ test:
 	conformance/refusals $(program)
 	conformance/run --traces $(program_by_one_byte)
 	conformance/run --lines $(program_of_lines)
+
+# No part of `test`, for no number of seconds is right on every machine.
+bench: build
+	bench/run $(program)
 
 install: build
 	install -d '$(DESTDIR)$(PREFIX)/bin'
