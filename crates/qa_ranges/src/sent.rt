@@ -1,11 +1,12 @@
 //! The numbers of the packets that were sent, as a set for each packet number space.
-ghost use Rattle.std.specs.Prelude.{◌≡◌, ◌≤◌, ◌<◌, ◌+◌, ◌^◌, ℕ, List, [], ◌∷◌, length, OnOk, OnErr};
+ghost use Rattle.std.specs.Prelude.{◌≡◌, ◌≤◌, ◌<◌, ◌+◌, ◌^◌, ℕ, List, [], ◌∷◌, length, true, OnOk, OnErr};
 ghost use Rattle.qa_base.specs.declared.event.Event.{Event as AnEvent};
 ghost use Rattle.qa_base.specs.declared.space.Space.TheVariants.{Initial, Handshake, App};
 ghost use Rattle.qa_base.specs.machine.Breaches as breaches;
 ghost use Rattle.qa_base.specs.machine.Kept as kept;
 ghost use Rattle.qa_base.specs.machine.Numbers as numbers;
 ghost use Rattle.qa_base.specs.machine.Rules.{IsRun};
+ghost use Rattle.qa_base.specs.values.Events.{is_sent};
 ghost use Rattle.qa_base.specs.values.Settings.{Settings};
 ghost use Rattle.qa_ranges.specs.Runs.{AreApart};
 ghost use Rattle.qa_ranges.specs.Sent.{AreSent, AreSentWith, runs_in};
@@ -94,10 +95,11 @@ impl SentNumbers {
     }
 
     /// Adds the number of the packet that the event sends, where it sends one. `AllocError` comes
-    /// where it is out of memory, and leaves the sets as they were.
+    /// where it is out of memory, which only such an event can be, and leaves the sets as they were.
     pub fn insert_sent(&mut self, event: &Event) -> Result<(), AllocError>
         ensures ok { OnOk result ((h : List AnEvent) → AreSent self.old h → AreSent self.new (event.now ∷ h)) }
         ensures err { OnErr result (self.new ≡ self.old) }
+        ensures memory { OnErr result (is_sent event.now ≡ true) }
     {
         match event {
             Event::Sent { space, number, .. } => self.insert(*space, *number),

@@ -1,8 +1,9 @@
 -- The steps in which an event changes the packets that are kept.
-use Rattle.std.specs.Prelude.{Bool, true, false, List, ◌∷◌}
+use Rattle.std.specs.Prelude.{Bool, ◌||◌, true, false, List, ◌∷◌}
 use Rattle.qa_base.specs.declared.event.Event.{Event}
 use Rattle.qa_base.specs.declared.event.Event.TheVariants.{Sent, Ack, Lost, Timer, Discard}
 use Rattle.qa_base.specs.declared.space.Kind.TheVariants.{Loss}
+use Rattle.qa_base.specs.values.Events.{is_sent}
 use Rattle.qa_base.specs.values.Settings.{Settings}
 use Rattle.qa_connection.specs.Known.{IsProperRun}
 use Rattle.qa_running.specs.Standing.{StandsFor}
@@ -38,3 +39,7 @@ keeps_packets e = true
 abbrev pub is_ack : Event → Bool
 is_ack (Ack time space ranges delay limited) = true
 is_ack e = false
+
+-- admitting the event takes memory: it sends a packet, or it is an acknowledgment
+abbrev pub takes_memory : Event → Bool
+takes_memory e = is_sent e || is_ack e

@@ -4,10 +4,10 @@ ghost use Rattle.qa_base.specs.declared.event.Event.{Event as AnEvent};
 ghost use Rattle.qa_base.specs.machine.Loss as loss;
 ghost use Rattle.qa_base.specs.machine.Packets.{acknowledges_new};
 ghost use Rattle.qa_base.specs.machine.Rules.{IsRun};
-ghost use Rattle.qa_base.specs.values.Events.{fits};
+ghost use Rattle.qa_base.specs.values.Events.{fits, is_sent};
 ghost use Rattle.qa_base.specs.values.Settings.{Settings};
 ghost use Rattle.qa_connection.specs.Known.{IsMeasured, IsOutcome, acknowledged_by};
-ghost use Rattle.qa_running.specs.Following.{IsNext, IsOnceSent, StandsOnceSent};
+ghost use Rattle.qa_running.specs.Following.{IsNext, IsOnceSent, StandsOnceSent, is_ack};
 ghost use Rattle.qa_running.specs.Lateness.{IsLatenessAt};
 ghost use Rattle.qa_running.specs.Standing.{StandsFor};
 ghost use Rattle.qa_sent.specs.Fates.{is_new};
@@ -19,12 +19,13 @@ use qa_sent::{Fate, Lateness, SentPacket, SentPackets};
 use std::alloc::{AllocError, Global};
 
 /// Keeps the packet that the event sends, where it sends one. `AllocError` comes where it is out of
-/// memory, and leaves the packets as they were.
+/// memory, which only such an event can be, and leaves the packets as they were.
 pub(crate) fn send(packets: &mut SentPackets, event: &Event) -> Result<(), AllocError>
     requires next { IsNext packets.old event.now }
     requires fitting { fits event.now ≡ true }
     ensures ok { OnOk result ((c : Settings) (h : List AnEvent) → StandsFor packets.old c h → IsRun c (event.now ∷ h) → StandsOnceSent packets.new c event.now h) }
     ensures err { OnErr result (packets.new ≡ packets.old) }
+    ensures memory { OnErr result (is_sent event.now ≡ true) }
 {
     match event {
         Event::Sent {
@@ -49,14 +50,15 @@ pub(crate) fn send(packets: &mut SentPackets, event: &Event) -> Result<(), Alloc
 }
 
 /// The packets that the event newly acknowledges, in the order of sending; none where it is no
-/// acknowledgment. `AllocError` comes where it is out of memory.
+/// acknowledgment. `AllocError` comes where it is out of memory, which only an acknowledgment can be.
 #[tactic(auto, using(crate::proofs::Acks::none_acknowledged))]
 pub(crate) fn acknowledged(
     alloc: Global,
     packets: &SentPackets,
     event: &Event,
 ) -> Result<Vec<SentPacket>, AllocError>
-    ensures { IfOk result (λ found. (c : Settings) (h : List AnEvent) → StandsFor packets.now c h → IsRun c (event.now ∷ h) → found.items ≡ acknowledged_by c event.now h) }
+    ensures ok { IfOk result (λ found. (c : Settings) (h : List AnEvent) → StandsFor packets.now c h → IsRun c (event.now ∷ h) → found.items ≡ acknowledged_by c event.now h) }
+    ensures memory { OnErr result (is_ack event.now ≡ true) }
 {
     match event {
         Event::Ack { space, ranges, .. } => named(alloc, packets, *space, ranges.as_slice()),

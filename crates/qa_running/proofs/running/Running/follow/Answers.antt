@@ -19,7 +19,7 @@ follows c k h after =
     let new : not c.is_empty-is_new.result ≡ nat_lt 0 (length c.in_ok-acknowledged.acknowledged.items) =
     some_left _ _ _ c.is_empty-is_new.ensures c.in_ok-acknowledged.acknowledged.ok.0 in
     followed k h c.args.event.now _ at works (c.requires.allowed k h after) timely c.requires.fitting few
-    c.in_ok-acknowledged.acknowledged.items (λ stands run. c.in_ok-acknowledged.ensures k h stands run)
+    c.in_ok-acknowledged.acknowledged.items (λ stands run. c.in_ok-acknowledged.ensures.ok k h stands run)
     c.insert_sent.new.self (λ sent. c.in_ok-insert_sent.ensures.ok h sent)
     c.send.new.packets (λ stands run. c.in_ok-send.ensures.ok k h stands run)
     c.begin.new.self (λ of is. c.begin.ensures k h of (c.deref.ensures.value ∙ is))
