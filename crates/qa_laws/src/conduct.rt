@@ -19,7 +19,7 @@ ghost use Rattle.qa_base.specs.values.Events.{is_named, time_of};
 ghost use Rattle.qa_base.specs.values.Proper.{IsProperEvent};
 ghost use Rattle.qa_base.specs.values.Settings.{Settings};
 ghost use Rattle.qa_base.specs.verdicts.Verdict.{sayings, trace_of, verdict};
-ghost use Rattle.qa_laws.specs.machine.Conduct.{HasMoment, IsAmong, IsConduct, IsLostRightly, IsSentAfter, NoCollapse, is_probe, is_pto_event, is_recovery, probe_bytes};
+ghost use Rattle.qa_laws.specs.machine.Conduct.{is_entered_by, HasMoment, IsAmong, IsConduct, IsLostRightly, IsSentAfter, NoCollapse, is_probe, is_pto_event, is_recovery, probe_bytes};
 
 /// In a run each number that a Lost line names is that of an in-flight packet of its space that was
 /// sent before an acknowledged one of the space, and whose number is lower by the packet threshold at
@@ -58,6 +58,12 @@ pub fn sends_have_leave()
 pub fn entries_need_later_losses()
     ensures { (c : Settings) (e f : Event) (between h : List Event) → IsRun c (e ∷ between ++ f ∷ h) → is_entry c (f ∷ h) ≡ true
         → is_entry c (e ∷ between ++ f ∷ h) ≡ true → NoCollapse c between (f ∷ h) → IsSentAfter (time_of f) (owed c (e ∷ between ++ f ∷ h)) }
+{}
+
+/// An event enters recovery exactly where it found packets lost, the last of which was sent after recovery
+/// began, or there was no recovery (RFC 9002, section 7.3.2, B.6).
+pub fn entries_are_losses()
+    ensures { (c : Settings) (e : Event) (h : List Event) → is_entry c (e ∷ h) ≡ is_entered_by (reno c h).recovery_start_time (owed c (e ∷ h)) }
 {}
 
 /// An event that lowers the window found a loss (RFC 9002, sections 7.3.2 and 7.6.2).

@@ -3,7 +3,7 @@ use Rattle.std.proofs.Common.{◌≡◌, ◌∙◌, ◌+◌, ◌<◌, ◌≤◌,
 use Rattle.std.proofs.lemmas.Bool.{both_ways, ltb-true, ltb-false}
 use Rattle.std.specs.Prelude.{nat_lt, if◌then◌else◌}
 use Rattle.qa_base.specs.declared.event.Event.{Event}
-use Rattle.qa_laws.specs.machine.Conduct.{NoCollapse, IsSentAfter}
+use Rattle.qa_laws.specs.machine.Conduct.{NoCollapse, IsSentAfter, is_entered_by}
 use Rattle.qa_base.specs.values.Events.{time_of}
 use Rattle.qa_base.specs.machine.Loss.{owed, is_persistent}
 use Rattle.qa_base.specs.machine.Packets.{Packet, newly_acknowledged}
@@ -164,3 +164,22 @@ halved_once c e f between h run first second calm =
     let late : is_outside_recovery (Some began_at.0) (latest_sent (owed c (e ∷ g))) ≡ true = rw began_at.1 at enter.3 in
     let after = ltb-true began_at.0 (latest_sent (owed c (e ∷ g))) late in
     some_later (time_of f) (owed c (e ∷ g)) (omega (arith, after, began_at.2))
+
+-- ---- an event enters recovery by what it found lost
+
+no_entry : (recovery : Option ℕ) (is_collapse is_limited : Bool) (ps : List Packet)
+    → enters recovery ([] ++ collapses is_collapse ++ (if is_limited then [] else growths ps)) ≡ false
+no_entry recovery true is_limited ps = refl
+no_entry recovery false true ps = refl
+no_entry recovery false false [] = refl
+no_entry recovery false false (p ∷ ps) = refl
+
+entered_by : (recovery : Option ℕ) (now : ℕ) (lost : List Packet) (is_collapse is_limited : Bool) (ps : List Packet)
+    → enters recovery (hits now lost ++ collapses is_collapse ++ (if is_limited then [] else growths ps)) ≡ is_entered_by recovery lost
+entered_by recovery now [] is_collapse is_limited ps = no_entry recovery is_collapse is_limited ps
+entered_by recovery now (p ∷ lost) is_collapse is_limited ps = refl
+
+pub entry_by_losses : (c : Settings) (e : Event) (h : List Event) → is_entry c (e ∷ h) ≡ is_entered_by (reno c h).recovery_start_time (owed c (e ∷ h))
+entry_by_losses c e h =
+    entered_by (reno c h).recovery_start_time (time_of e) (owed c (e ∷ h)) (is_persistent c (e ∷ h)) (is_limited e)
+    (reverse (filter (λ p. p.in_flight) (newly_acknowledged (e ∷ h))))

@@ -1,5 +1,5 @@
 -- What a sender does in a run, in the words of the RFC.
-use Rattle.std.specs.Prelude.{◌≡◌, ℕ, ◌+◌, ◌-◌, ◌*◌, ◌⊎◌, ◌<◌, ◌≤◌, Bool, true, false, List, ◌∷◌, ◌++◌, Some, sum_by, Contains, if◌then◌else◌}
+use Rattle.std.specs.Prelude.{◌≡◌, ℕ, ◌+◌, ◌-◌, ◌*◌, ◌⊎◌, ◌<◌, ◌≤◌, Bool, true, false, List, [], ◌∷◌, ◌++◌, Option, Some, sum_by, Contains, if◌then◌else◌}
 use Rattle.std.specs.List.{list_any}
 use Rattle.qa_base.specs.declared.event.Event.{Event}
 use Rattle.qa_base.specs.declared.event.Event.TheVariants.{Sent, Lost, Timer}
@@ -11,7 +11,7 @@ use Rattle.qa_base.specs.values.Constants.{packet_threshold, probe_datagrams}
 use Rattle.qa_base.specs.values.Events.{is_named, time_of}
 use Rattle.qa_base.specs.machine.Loss.{detection, owed, bytes_in_flight, is_persistent}
 use Rattle.qa_base.specs.machine.Packets.{Packet, packets, is_covered}
-use Rattle.qa_base.specs.machine.Reno.{reno, is_entry}
+use Rattle.qa_base.specs.machine.Reno.{reno, is_entry, is_outside_recovery, latest_sent}
 use Rattle.qa_base.specs.machine.Rtt.{rtt}
 use Rattle.qa_base.specs.values.Settings.{Settings}
 use Rattle.qa_base.specs.machine.Timer.{loss_delay}
@@ -60,6 +60,11 @@ probe_bytes _ = 0
 abbrev pub is_recovery : Event → Bool
 is_recovery (Sent time space number size eliciting in_flight Recovery) = in_flight
 is_recovery _ = false
+
+-- packets that were found lost enter recovery: the last of them was sent after recovery began, or there is no recovery
+abbrev pub is_entered_by : Option ℕ → List Packet → Bool
+is_entered_by recovery [] = false
+is_entered_by recovery (p ∷ ps) = is_outside_recovery recovery (latest_sent (p ∷ ps))
 
 -- some event of the history is the last of a moment that passes the test
 pub record HasMoment (test : List Event → Bool) (h : List Event) : Type 0 where
