@@ -12,7 +12,7 @@ use Rattle.qa_base.specs.machine.Breaches.{numbers}
 use Rattle.qa_base.specs.machine.Loss.{detection, found_at, is_after, is_end as ends, is_found, is_found_at, is_owed as owes, is_persistent, owed}
 use Rattle.qa_base.specs.machine.Numbers.{has_all, has_next, has_range, is_in, names_exactly}
 use Rattle.qa_base.specs.machine.Packets.{Packet, packets, is_covered as covers, is_of, is_some_packet}
-use Rattle.qa_base.specs.machine.Reno.{hits, latest_sent}
+use Rattle.qa_base.specs.machine.Reno.{latest_sent}
 use Rattle.qa_base.specs.machine.Rtt.{persistent_after, rtt}
 use Rattle.qa_base.specs.machine.Rules.{IsRun}
 use Rattle.qa_base.specs.values.Events.{is_named, is_space}
@@ -26,7 +26,7 @@ use Rattle.qa_running.proofs.Carrying.{dropped_free}
 use Rattle.qa_running.proofs.Events.{some_by_length}
 use Rattle.qa_running.proofs.Fates.{is_covered_told, is_owed_told}
 use Rattle.qa_running.proofs.Lists.{all_same, all_turned, and_turned, any_in_filter, any_of_map, any_same, any_turned, each_value, filter_of_map, map_fused, map_turned}
-use Rattle.qa_running.specs.Answers.{hits_by, last_sent}
+use Rattle.qa_connection.specs.Steps.{last_sent}
 use Rattle.qa_running.specs.Standing.{StandsFor}
 use Rattle.qa_sent.specs.Fates.{is_owed, is_owed_in}
 use Rattle.qa_sent.specs.Held.{Held}
@@ -139,15 +139,6 @@ last_turned c h (p ∷ ps) latest =
 pub last_owed_is_held : (c : Settings) (h : List Event) → IsRun c h → (held : Held) → StandsFor held c h → last_owed None held.packets ≡ last_sent (owed c h)
 last_owed_is_held c h run held stands =
     last_is None held.packets ∙ (ap (last_of None) (owed_stand c h run held stands) ∙ last_turned c h (owed c h) (latest_owed c h run))
-
-hits_of_last : (now : ℕ) (ps : List Packet) → hits now ps ≡ hits_by now (last_sent ps)
-hits_of_last now [] = refl
-hits_of_last now (p ∷ ps) = refl
-
--- so it decides how the loss counts for the window
-pub hits_are_held : (c : Settings) (h : List Event) → IsRun c h → (now : ℕ) → (held : Held) → StandsFor held c h
-    → hits now (owed c h) ≡ hits_by now (last_owed None held.packets)
-hits_are_held c h run now held stands = hits_of_last now (owed c h) ∙ ap (hits_by now) (sym (last_owed_is_held c h run held stands))
 
 -- ---- persistent congestion
 
