@@ -6,3 +6,6 @@ pub mod KeysWritten
 pub mod OneLine
 pub mod LinesWritten
 pub mod Compact
+pub mod AnyOrder
+pub mod KeysFound
+pub mod PlainTexts

@@ -4,3 +4,4 @@ pub mod Keys
 pub mod Tables
 pub mod Reading
 pub mod Written
+pub mod Simple

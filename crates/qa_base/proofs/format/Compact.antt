@@ -1,6 +1,6 @@
 -- A value of null, integers of 64 bits, booleans, ASCII strings, lists, and objects whose keys rise:
 -- its text without spaces is UTF-8, and is read as that very value.
-use Rattle.std.proofs.Common.{◌≡◌, ℕ, suc, ◌^◌, ◌<◌, ◌≤◌, max, List, [], ◌∷◌, Bool, true, false, Some, option_map, option_and_then, IsUtf8, decimal, Greater, Less, refl, sym, ap, ap₂, ◌∙◌, arith, append-nil}
+use Rattle.std.proofs.Common.{◌≡◌, ℕ, suc, nat_lt, ◌&&◌, ◌≤◌, max, List, [], ◌∷◌, Bool, true, false, Some, option_map, option_and_then, IsUtf8, decimal, Greater, refl, sym, ap, ap₂, ◌∙◌, arith, append-nil}
 use Rattle.std.proofs.lemmas.Cmp.{nat_list_cmp_total}
 use Rattle.std.proofs.lemmas.Fmt.{IsAscii-decimal}
 use Rattle.std.proofs.lemmas.Str.{IsUtf8-append, IsUtf8-nil, IsUtf8-from_ascii, is_utf8-from_IsUtf8}
@@ -15,44 +15,12 @@ use Rattle.json.proofs.Printed.Decimals.{IsNumber-decimal}
 use Rattle.json.proofs.Printed.Tokens.{tokens-print}
 use Rattle.json.proofs.Printed.Trees.{value-json_tokens, ArePrintable-json_tokens}
 use Rattle.json.proofs.Printed.Utf8.{are_ascii, IsUtf8-are_ascii, IsUtf8-quoted, IsUtf8-boolean}
+pub use Rattle.qa_base.specs.format.Simple.{is_ascii, IsUnsigned, IsBefore, IsSimple, AreSimple, HaveSimple}
 use Rattle.serde_json.specs.Data.{Num, unsigned, negative, float, Data, null, boolean, number, string, array, object, Items, no_items, item, Members, no_members, member, put, depth, items_depth, members_depth}
 use Rattle.serde_json.specs.Read.{number_of, of_json, of_items, of_members, read}
 use Rattle.serde_json.specs.Written.{number_text, outline, items_outline, members_outline, comma_if, compact_text, items_text, members_text}
 use Rattle.serde_json.proofs.Numbers.{number_of-decimal}
 use Rattle.serde_json.proofs.Texts.{print-outline}
-
--- ---- simple values
-
--- the number is an unsigned integer of 64 bits
-abbrev pub IsUnsigned : Num → Type 0
-IsUnsigned (unsigned n) = n < 2 ^ 64
-IsUnsigned (negative z) = ⊥
-IsUnsigned (float x) = ⊥
-
--- the key comes before each key of the members
-abbrev pub IsBefore : List ℕ → Members → Type 0
-IsBefore k no_members = ⊤
-IsBefore k (member l d ms) = (slice_cmp nat_cmp k l ≡ Less) × IsBefore k ms
-
--- a value of null, integers of 64 bits, booleans, ASCII strings, lists, and objects whose keys rise
-abbrev mutual
-  pub IsSimple : Data → Type 0
-  IsSimple null = ⊤
-  IsSimple (boolean b) = ⊤
-  IsSimple (number n) = IsUnsigned n
-  IsSimple (string s) = are_ascii s ≡ true
-  IsSimple (array ds) = AreSimple ds
-  IsSimple (object ms) = HaveSimple ms
-
-  -- each item is simple
-  pub AreSimple : Items → Type 0
-  AreSimple no_items = ⊤
-  AreSimple (item d ds) = IsSimple d × AreSimple ds
-
-  -- each member has an ASCII key before those behind it, and a simple value
-  pub HaveSimple : Members → Type 0
-  HaveSimple no_members = ⊤
-  HaveSimple (member k d ms) = (are_ascii k ≡ true) × IsBefore k ms × IsSimple d × HaveSimple ms
 
 -- ---- members behind others
 
@@ -94,7 +62,7 @@ number_is (negative z) h = absurd h
 number_is (float x) h = absurd h
 
 mutual
-  of_json-outline : (d : Data) → IsSimple d → of_json (outline d) ≡ Some d
+  pub of_json-outline : (d : Data) → IsSimple d → of_json (outline d) ≡ Some d
   of_json-outline null h = refl
   of_json-outline (boolean b) h = refl
   of_json-outline (number n) h = ap (option_map number) (number_is n h)
@@ -124,7 +92,7 @@ number_is_printable (negative z) h = absurd h
 number_is_printable (float x) h = absurd h
 
 mutual
-  HasNumbers-outline : (d : Data) → IsSimple d → tree.HasNumbers (outline d)
+  pub HasNumbers-outline : (d : Data) → IsSimple d → tree.HasNumbers (outline d)
   HasNumbers-outline null h = tt
   HasNumbers-outline (boolean b) h = tt
   HasNumbers-outline (number n) h = number_is_printable n h
@@ -141,7 +109,7 @@ mutual
   MembersHaveNumbers-outline (member k d ms) h = (HasNumbers-outline d h.2, MembersHaveNumbers-outline ms h.3)
 
 mutual
-  depth-outline : (d : Data) → tree.depth (outline d) ≡ depth d
+  pub depth-outline : (d : Data) → tree.depth (outline d) ≡ depth d
   depth-outline null = refl
   depth-outline (boolean b) = refl
   depth-outline (number n) = refl
@@ -174,25 +142,32 @@ read-compact_text d h shallow =
 
 -- ---- what is written is UTF-8
 
+ascii_is : (s : List ℕ) → is_ascii s ≡ are_ascii s
+ascii_is [] = refl
+ascii_is (x ∷ s) = ap (λ b. nat_lt x 128 && b) (ascii_is s)
+
+pub IsUtf8-is_ascii : (s : List ℕ) → is_ascii s ≡ true → IsUtf8 s
+IsUtf8-is_ascii s h = IsUtf8-are_ascii s (sym (ascii_is s) ∙ h)
+
 IsUtf8-number : (n : Num) → IsUnsigned n → IsUtf8 (number_text n)
 IsUtf8-number (unsigned n) h = IsUtf8-from_ascii (decimal n) (IsAscii-decimal n h)
 IsUtf8-number (negative z) h = absurd h
 IsUtf8-number (float x) h = absurd h
 
-IsUtf8-comma_if : (later : Bool) → IsUtf8 (comma_if later)
+pub IsUtf8-comma_if : (later : Bool) → IsUtf8 (comma_if later)
 IsUtf8-comma_if true = IsUtf8-are_ascii _ refl
 IsUtf8-comma_if false = IsUtf8-nil
 
 -- an ASCII byte before others
-byte_then : (b : ℕ) (bs : List ℕ) → are_ascii (b ∷ []) ≡ true → IsUtf8 bs → IsUtf8 (b ∷ bs)
+pub byte_then : (b : ℕ) (bs : List ℕ) → are_ascii (b ∷ []) ≡ true → IsUtf8 bs → IsUtf8 (b ∷ bs)
 byte_then b bs small u = IsUtf8-append (b ∷ []) bs (IsUtf8-are_ascii (b ∷ []) small) u
 
 mutual
-  IsUtf8-compact_text : (d : Data) → IsSimple d → IsUtf8 (compact_text d)
+  pub IsUtf8-compact_text : (d : Data) → IsSimple d → IsUtf8 (compact_text d)
   IsUtf8-compact_text null h = IsUtf8-are_ascii _ refl
   IsUtf8-compact_text (boolean b) h = IsUtf8-boolean b
   IsUtf8-compact_text (number n) h = IsUtf8-number n h
-  IsUtf8-compact_text (string s) h = IsUtf8-quoted s (IsUtf8-are_ascii s h)
+  IsUtf8-compact_text (string s) h = IsUtf8-quoted s (IsUtf8-is_ascii s h)
   IsUtf8-compact_text (array ds) h = byte_then 91 _ refl (IsUtf8-items_text false ds h)
   IsUtf8-compact_text (object ms) h = byte_then 123 _ refl (IsUtf8-members_text false ms h)
 
@@ -205,7 +180,7 @@ mutual
   IsUtf8-members_text later no_members h = IsUtf8-are_ascii _ refl
   IsUtf8-members_text later (member k d ms) h =
       IsUtf8-append _ _ (IsUtf8-comma_if later)
-      (IsUtf8-append _ _ (IsUtf8-quoted k (IsUtf8-are_ascii k h.0))
+      (IsUtf8-append _ _ (IsUtf8-quoted k (IsUtf8-is_ascii k h.0))
       (byte_then 58 _ refl (IsUtf8-append _ _ (IsUtf8-compact_text d h.2) (IsUtf8-members_text true ms h.3))))
 
 -- a simple value is written as UTF-8

@@ -6,7 +6,6 @@ use Rattle.std.specs.List.{list_all, AllByRecursion}
 use Rattle.std.specs.Ordering.{nat_cmp, match_ordering}
 use Rattle.std.proofs.lemmas.Bool.{and_from, le-leb}
 use Rattle.std.proofs.lemmas.Cmp.{nat_list_cmp_total}
-use Rattle.json.proofs.Printed.Utf8.{are_ascii}
 use Rattle.serde_json.specs.Data as json
 use Rattle.serde_json.specs.Data.{Data, Members, no_members, member, depth, items_depth, members_depth}
 use Rattle.serde_json.specs.Find.{get, get_member, as_null}
@@ -27,10 +26,11 @@ use Rattle.qa_base.specs.format.Keys.{◌>>=◌, both, Kind, ranged, integer_fro
 use Rattle.qa_base.specs.values.Limits.{max_packet_number}
 use Rattle.qa_base.specs.values.Names.{key_name, field_name, role_name, role_named, space_name, space_named, leave_name, leave_named, kind_name, kind_named}
 use Rattle.qa_base.specs.values.Proper.{IsRange, IsWord}
+pub use Rattle.qa_base.specs.format.Simple.{IsKept}
+use Rattle.qa_base.specs.format.Simple.{is_ascii, AreSimple, HaveSimple, IsBefore}
 use Rattle.qa_base.specs.format.Tables.{metric}
 use Rattle.qa_base.specs.format.Written as written
 use Rattle.qa_base.specs.format.Written.{Pairs, reported, members, object_of}
-use Rattle.qa_base.proofs.format.Compact.{IsSimple, AreSimple, HaveSimple, IsBefore}
 
 -- ---- one key
 
@@ -123,14 +123,10 @@ metric_reads f d o at = metric_at f d o (get (field_name f) d) refl at
 
 -- ---- values that can be written and read
 
-pub record IsKept (d : Data) : Type 0 where
-  pub simple : IsSimple d
-  pub shallow : depth d ≤ 2
-
 pub integer_is_kept : (n : ℕ) → n < 2 ^ 64 → IsKept (written.integer n)
 integer_is_kept n small = record { simple = small; shallow = omega arith }
 
-pub string_is_kept : (t : List ℕ) → are_ascii t ≡ true → IsKept (written.string t)
+pub string_is_kept : (t : List ℕ) → is_ascii t ≡ true → IsKept (written.string t)
 string_is_kept t ascii = record { simple = ascii; shallow = omega arith }
 
 pub boolean_is_kept : (b : Bool) → IsKept (written.boolean b)
@@ -180,18 +176,18 @@ before_more j k (member l d ms) less before = (nat_list_cmp_total.trans j k l le
 pub none_follow : (k : List ℕ) → Follow k []
 none_follow k = record { before = tt; simple = tt; shallow = omega arith }
 
-pub follow : (j : List ℕ) (k : Key) (d : Data) (ps : Pairs) → slice_cmp nat_cmp j (key_name k) ≡ Less → are_ascii (key_name k) ≡ true → IsKept d → Follow (key_name k) ps → Follow j ((k, d) ∷ ps)
+pub follow : (j : List ℕ) (k : Key) (d : Data) (ps : Pairs) → slice_cmp nat_cmp j (key_name k) ≡ Less → is_ascii (key_name k) ≡ true → IsKept d → Follow (key_name k) ps → Follow j ((k, d) ∷ ps)
 follow j k d ps less ascii kept more = record {
   before = (less, before_more j (key_name k) (members ps) less more.before);
   simple = (ascii, more.before, kept.simple, more.simple);
   shallow = omega (arith, kept.shallow, more.shallow);
 }
 
-pub follow_reported : (j : List ℕ) (f : Field) (o : Option ℕ) (ps : Pairs) → slice_cmp nat_cmp j (field_name f) ≡ Less → are_ascii (field_name f) ≡ true → IsWord o → Follow (field_name f) ps
+pub follow_reported : (j : List ℕ) (f : Field) (o : Option ℕ) (ps : Pairs) → slice_cmp nat_cmp j (field_name f) ≡ Less → is_ascii (field_name f) ≡ true → IsWord o → Follow (field_name f) ps
     → Follow j (reported f o ++ ps)
 follow_reported j f None ps less ascii small more = record { before = before_more j (field_name f) (members ps) less more.before; simple = more.simple; shallow = more.shallow }
 follow_reported j f (Some n) ps less ascii small more = follow j (key.Metric f) (written.integer n) ps less ascii (integer_is_kept n (small n refl)) more
 
-pub follow_last : (j : List ℕ) (f : Field) (o : Option ℕ) → slice_cmp nat_cmp j (field_name f) ≡ Less → are_ascii (field_name f) ≡ true → IsWord o → Follow j (reported f o)
+pub follow_last : (j : List ℕ) (f : Field) (o : Option ℕ) → slice_cmp nat_cmp j (field_name f) ≡ Less → is_ascii (field_name f) ≡ true → IsWord o → Follow j (reported f o)
 follow_last j f None less ascii small = none_follow j
 follow_last j f (Some n) less ascii small = follow j (key.Metric f) (written.integer n) [] less ascii (integer_is_kept n (small n refl)) (none_follow (field_name f))

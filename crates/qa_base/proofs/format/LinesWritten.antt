@@ -42,23 +42,23 @@ use Rattle.qa_base.proofs.format.KeysWritten.{required_reads, optional_reads, bo
 
 -- ---- keys that several kinds of line have
 
-time_reads : (d : Data) (t : ℕ) → get (codes "time") d ≡ Some (written.integer t) → t ≤ max_time → time d ≡ Ok t
+pub time_reads : (d : Data) (t : ℕ) → get (codes "time") d ≡ Some (written.integer t) → t ≤ max_time → time d ≡ Ok t
 time_reads d t at high = required_reads (integer_from 0 max_time) key.Time d (written.integer t) t at refl (integer_from_reads 0 max_time key.Time t (omega arith) high)
 
-space_stands : (d : Data) (s : Space) → get (codes "space") d ≡ Some (written.string (space_name s)) → space d ≡ Ok s
+pub space_stands : (d : Data) (s : Space) → get (codes "space") d ≡ Some (written.string (space_name s)) → space d ≡ Ok s
 space_stands d s at = required_reads (string_among space_named) key.Space d (written.string (space_name s)) s at refl (space_reads key.Space s)
 
-ranges_stand : (d : Data) (rs : List (ℕ × ℕ)) → get (codes "ranges") d ≡ Some (json.array (written.integer_pairs rs)) → ranges key.Ranges (json.array (written.integer_pairs rs)) ≡ Ok rs → required ranges key.Ranges d ≡ Ok rs
+pub ranges_stand : (d : Data) (rs : List (ℕ × ℕ)) → get (codes "ranges") d ≡ Some (json.array (written.integer_pairs rs)) → ranges key.Ranges (json.array (written.integer_pairs rs)) ≡ Ok rs → required ranges key.Ranges d ≡ Ok rs
 ranges_stand d rs at reads = required_reads ranges key.Ranges d (json.array (written.integer_pairs rs)) rs at refl reads
 
 -- ---- packets
 
-flags_pass : (eliciting in_flight : Bool) (e : Event) → (not eliciting || in_flight) ≡ true → cond (eliciting && not in_flight) (Err FlagsClash) (Ok e) ≡ Ok e
+pub flags_pass : (eliciting in_flight : Bool) (e : Event) → (not eliciting || in_flight) ≡ true → cond (eliciting && not in_flight) (Err FlagsClash) (Ok e) ≡ Ok e
 flags_pass true true e h = refl
 flags_pass true false e h = cc
 flags_pass false in_flight e h = refl
 
-then_reads : {A B : Type 0} → (r : Result A Fault) (f : A → Result B Fault) (x : A) (y : B) → r ≡ Ok x → f x ≡ Ok y → (r >>= f) ≡ Ok y
+pub then_reads : {A B : Type 0} → (r : Result A Fault) (f : A → Result B Fault) (x : A) (y : B) → r ≡ Ok x → f x ≡ Ok y → (r >>= f) ≡ Ok y
 then_reads r f x y first second = rw first second
 
 sent_reads : (t : ℕ) (s : Space) (number size : ℕ) (eliciting in_flight : Bool) (leave : Leave)
@@ -112,7 +112,7 @@ timer_reads t k s proper =
     let fields = both_reads _ _ t _ (time_reads d t refl proper.in_time) (both_reads _ _ k s kinds (space_stands d s refl)) in
     then_reads (timer_fields d) _ (t, (k, s)) _ fields refl
 
-discarded_reads : (s : Space) → not (is_space App s) ≡ true → string_among discarded_named key.Space (written.string (space_name s)) ≡ Ok s
+pub discarded_reads : (s : Space) → not (is_space App s) ≡ true → string_among discarded_named key.Space (written.string (space_name s)) ≡ Ok s
 discarded_reads Initial h = refl
 discarded_reads Handshake h = refl
 discarded_reads App h = cc
@@ -135,28 +135,28 @@ keys_read t proper = let d = object_of (event_pairs (Keys t)) in then_reads (tim
 -- ---- a report of the sender's state
 
 -- what stands behind each key of a report, in the order in which the keys are written
-abbrev behind_threshold : ℕ → MetricValues → Pairs
+abbrev pub behind_threshold : ℕ → MetricValues → Pairs
 behind_threshold t v = (key.Time, written.integer t) ∷ reported Window v.window
 
-abbrev behind_smoothed : ℕ → MetricValues → Pairs
+abbrev pub behind_smoothed : ℕ → MetricValues → Pairs
 behind_smoothed t v = reported Ssthresh v.ssthresh ++ behind_threshold t v
 
-abbrev behind_var : ℕ → MetricValues → Pairs
+abbrev pub behind_var : ℕ → MetricValues → Pairs
 behind_var t v = reported SmoothedRtt v.smoothed_rtt ++ behind_smoothed t v
 
-abbrev behind_least : ℕ → MetricValues → Pairs
+abbrev pub behind_least : ℕ → MetricValues → Pairs
 behind_least t v = reported Rttvar v.rttvar ++ behind_var t v
 
-abbrev behind_latest : ℕ → MetricValues → Pairs
+abbrev pub behind_latest : ℕ → MetricValues → Pairs
 behind_latest t v = reported MinRtt v.min_rtt ++ behind_least t v
 
-abbrev behind_event : ℕ → MetricValues → Pairs
+abbrev pub behind_event : ℕ → MetricValues → Pairs
 behind_event t v = reported LatestRtt v.latest_rtt ++ behind_latest t v
 
-abbrev behind_flight : ℕ → MetricValues → Pairs
+abbrev pub behind_flight : ℕ → MetricValues → Pairs
 behind_flight t v = (key.Event, written.string (line_kind_name kinds.Metrics)) ∷ behind_event t v
 
-abbrev metrics_pairs : ℕ → MetricValues → Pairs
+abbrev pub metrics_pairs : ℕ → MetricValues → Pairs
 metrics_pairs t v = reported BytesInFlight v.bytes_in_flight ++ behind_flight t v
 
 from_behind : (b c d f g h : Pairs) → b ++ c ++ d ++ f ++ g ++ h ≡ b ++ (c ++ (d ++ (f ++ (g ++ h))))
@@ -167,13 +167,13 @@ regroup [] e b c d f g h = ap (λ ps. e ∷ ps) (from_behind b c d f g h)
 regroup (x ∷ a) e b c d f g h = ap (λ ps. x ∷ ps) (regroup a e b c d f g h)
 
 -- the keys of a report, grouped from behind
-metrics_pairs_are : (t : ℕ) (v : MetricValues) → event_pairs (Metrics t v) ≡ metrics_pairs t v
+pub metrics_pairs_are : (t : ℕ) (v : MetricValues) → event_pairs (Metrics t v) ≡ metrics_pairs t v
 metrics_pairs_are t v =
     regroup (reported BytesInFlight v.bytes_in_flight) (key.Event, written.string (line_kind_name kinds.Metrics)) (reported LatestRtt v.latest_rtt) (reported MinRtt v.min_rtt)
     (reported Rttvar v.rttvar) (reported SmoothedRtt v.smoothed_rtt) (reported Ssthresh v.ssthresh) (behind_threshold t v)
 
 -- each value that is reported is found at its key
-bytes_in_flight_found : (t : ℕ) (v : MetricValues) → get (codes "bytes_in_flight") (object_of (metrics_pairs t v)) ≡ option_map written.integer v.bytes_in_flight
+pub bytes_in_flight_found : (t : ℕ) (v : MetricValues) → get (codes "bytes_in_flight") (object_of (metrics_pairs t v)) ≡ option_map written.integer v.bytes_in_flight
 bytes_in_flight_found t v =
     reported_stands BytesInFlight v.bytes_in_flight (behind_flight t v) refl (
     past_reported (codes "bytes_in_flight") LatestRtt v.latest_rtt (behind_latest t v) (λ e. cc)
@@ -183,7 +183,7 @@ bytes_in_flight_found t v =
     ∙ past_reported (codes "bytes_in_flight") Ssthresh v.ssthresh (behind_threshold t v) (λ e. cc)
     ∙ past_last (codes "bytes_in_flight") Window v.window (λ e. cc))
 
-latest_rtt_found : (t : ℕ) (v : MetricValues) → get (codes "latest_rtt") (object_of (metrics_pairs t v)) ≡ option_map written.integer v.latest_rtt
+pub latest_rtt_found : (t : ℕ) (v : MetricValues) → get (codes "latest_rtt") (object_of (metrics_pairs t v)) ≡ option_map written.integer v.latest_rtt
 latest_rtt_found t v =
     past_reported (codes "latest_rtt") BytesInFlight v.bytes_in_flight (behind_flight t v) (λ e. cc)
     ∙ reported_stands LatestRtt v.latest_rtt (behind_latest t v) refl (
@@ -193,7 +193,7 @@ latest_rtt_found t v =
     ∙ past_reported (codes "latest_rtt") Ssthresh v.ssthresh (behind_threshold t v) (λ e. cc)
     ∙ past_last (codes "latest_rtt") Window v.window (λ e. cc))
 
-min_rtt_found : (t : ℕ) (v : MetricValues) → get (codes "min_rtt") (object_of (metrics_pairs t v)) ≡ option_map written.integer v.min_rtt
+pub min_rtt_found : (t : ℕ) (v : MetricValues) → get (codes "min_rtt") (object_of (metrics_pairs t v)) ≡ option_map written.integer v.min_rtt
 min_rtt_found t v =
     past_reported (codes "min_rtt") BytesInFlight v.bytes_in_flight (behind_flight t v) (λ e. cc)
     ∙ past_reported (codes "min_rtt") LatestRtt v.latest_rtt (behind_latest t v) (λ e. cc)
@@ -203,7 +203,7 @@ min_rtt_found t v =
     ∙ past_reported (codes "min_rtt") Ssthresh v.ssthresh (behind_threshold t v) (λ e. cc)
     ∙ past_last (codes "min_rtt") Window v.window (λ e. cc))
 
-rttvar_found : (t : ℕ) (v : MetricValues) → get (codes "rttvar") (object_of (metrics_pairs t v)) ≡ option_map written.integer v.rttvar
+pub rttvar_found : (t : ℕ) (v : MetricValues) → get (codes "rttvar") (object_of (metrics_pairs t v)) ≡ option_map written.integer v.rttvar
 rttvar_found t v =
     past_reported (codes "rttvar") BytesInFlight v.bytes_in_flight (behind_flight t v) (λ e. cc)
     ∙ past_reported (codes "rttvar") LatestRtt v.latest_rtt (behind_latest t v) (λ e. cc)
@@ -213,7 +213,7 @@ rttvar_found t v =
     ∙ past_reported (codes "rttvar") Ssthresh v.ssthresh (behind_threshold t v) (λ e. cc)
     ∙ past_last (codes "rttvar") Window v.window (λ e. cc))
 
-smoothed_rtt_found : (t : ℕ) (v : MetricValues) → get (codes "smoothed_rtt") (object_of (metrics_pairs t v)) ≡ option_map written.integer v.smoothed_rtt
+pub smoothed_rtt_found : (t : ℕ) (v : MetricValues) → get (codes "smoothed_rtt") (object_of (metrics_pairs t v)) ≡ option_map written.integer v.smoothed_rtt
 smoothed_rtt_found t v =
     past_reported (codes "smoothed_rtt") BytesInFlight v.bytes_in_flight (behind_flight t v) (λ e. cc)
     ∙ past_reported (codes "smoothed_rtt") LatestRtt v.latest_rtt (behind_latest t v) (λ e. cc)
@@ -223,7 +223,7 @@ smoothed_rtt_found t v =
     past_reported (codes "smoothed_rtt") Ssthresh v.ssthresh (behind_threshold t v) (λ e. cc)
     ∙ past_last (codes "smoothed_rtt") Window v.window (λ e. cc))
 
-ssthresh_found : (t : ℕ) (v : MetricValues) → get (codes "ssthresh") (object_of (metrics_pairs t v)) ≡ option_map written.integer v.ssthresh
+pub ssthresh_found : (t : ℕ) (v : MetricValues) → get (codes "ssthresh") (object_of (metrics_pairs t v)) ≡ option_map written.integer v.ssthresh
 ssthresh_found t v =
     past_reported (codes "ssthresh") BytesInFlight v.bytes_in_flight (behind_flight t v) (λ e. cc)
     ∙ past_reported (codes "ssthresh") LatestRtt v.latest_rtt (behind_latest t v) (λ e. cc)
@@ -233,7 +233,7 @@ ssthresh_found t v =
     ∙ reported_stands Ssthresh v.ssthresh (behind_threshold t v) refl (
     past_last (codes "ssthresh") Window v.window (λ e. cc))
 
-window_found : (t : ℕ) (v : MetricValues) → get (codes "window") (object_of (metrics_pairs t v)) ≡ option_map written.integer v.window
+pub window_found : (t : ℕ) (v : MetricValues) → get (codes "window") (object_of (metrics_pairs t v)) ≡ option_map written.integer v.window
 window_found t v =
     past_reported (codes "window") BytesInFlight v.bytes_in_flight (behind_flight t v) (λ e. cc)
     ∙ past_reported (codes "window") LatestRtt v.latest_rtt (behind_latest t v) (λ e. cc)
@@ -243,7 +243,7 @@ window_found t v =
     ∙ past_reported (codes "window") Ssthresh v.ssthresh (behind_threshold t v) (λ e. cc)
     ∙ last_stands Window v.window refl
 
-time_found : (t : ℕ) (v : MetricValues) → get (codes "time") (object_of (metrics_pairs t v)) ≡ Some (written.integer t)
+pub time_found : (t : ℕ) (v : MetricValues) → get (codes "time") (object_of (metrics_pairs t v)) ≡ Some (written.integer t)
 time_found t v =
     past_reported (codes "time") BytesInFlight v.bytes_in_flight (behind_flight t v) (λ e. cc)
     ∙ past_reported (codes "time") LatestRtt v.latest_rtt (behind_latest t v) (λ e. cc)
@@ -252,7 +252,7 @@ time_found t v =
     ∙ past_reported (codes "time") SmoothedRtt v.smoothed_rtt (behind_smoothed t v) (λ e. cc)
     ∙ past_reported (codes "time") Ssthresh v.ssthresh (behind_threshold t v) (λ e. cc)
 
-event_found : (t : ℕ) (v : MetricValues) → get (codes "event") (object_of (metrics_pairs t v)) ≡ Some (written.string (line_kind_name kinds.Metrics))
+pub event_found : (t : ℕ) (v : MetricValues) → get (codes "event") (object_of (metrics_pairs t v)) ≡ Some (written.string (line_kind_name kinds.Metrics))
 event_found t v = past_reported (codes "event") BytesInFlight v.bytes_in_flight (behind_flight t v) (λ e. cc)
 
 values_read : (t : ℕ) (v : MetricValues) → metric_values (object_of (metrics_pairs t v)) ≡ Ok v
@@ -381,7 +381,7 @@ unfolding reading_by
 object_reads ps x kept says = ap (λ r. r >>= object_says reader_named) (json_reads (object_of ps) kept.simple (omega (arith, kept.shallow))) ∙ says
 
 -- the keys of an event rise
-event_follows : (e : Event) → IsProperEvent e → Follow [] (event_pairs e)
+pub event_follows : (e : Event) → IsProperEvent e → Follow [] (event_pairs e)
 event_follows (Sent t s number size eliciting in_flight leave) proper = sent_follows t s number size eliciting in_flight leave proper
 event_follows (Ack t s rs delay limited) proper = ack_follows t s rs delay limited proper
 event_follows (Lost t s rs) proper = lost_follows t s rs proper
@@ -391,7 +391,7 @@ event_follows (Confirmed t) proper = follow _ key.Event _ _ refl refl (string_is
 event_follows (Keys t) proper = follow _ key.Event _ _ refl refl (string_is_kept _ refl) (time_follows _ t refl proper.in_time)
 event_follows (Metrics t v) proper = subst (Follow []) (sym (metrics_pairs_are t v)) (metrics_follow t v proper)
 
-event_of : (e : Event) (r : Result Event Fault) → r ≡ Ok e → (r >>= λ f. Ok (line.Event f)) ≡ Ok (line.Event e)
+pub event_of : (e : Event) (r : Result Event Fault) → r ≡ Ok e → (r >>= λ f. Ok (line.Event f)) ≡ Ok (line.Event e)
 event_of e r h = ap (λ q. q >>= λ f. Ok (line.Event f)) h
 
 -- the object of a report says the report

@@ -3,10 +3,10 @@ use Rattle.std.proofs.Common.{◌≡◌, ℕ, zero, suc, ◌+◌, ◌%◌, ◌^�
 use Rattle.std.proofs.lemmas.Bool.{and_parts, or_parts, or_from, cases_eq, ne_eqb}
 use Rattle.std.proofs.lemmas.Fmt.{decimal_by_steps}
 use Rattle.json.specs.Print.{escape_byte, escape, quoted}
-use Rattle.json.proofs.Printed.Utf8.{are_ascii}
 use Rattle.serde_json.specs.Data.{Num, unsigned, negative, float, Data, null, boolean, number, string, array, object, Items, no_items, item, Members, no_members, member}
 use Rattle.serde_json.specs.Written.{number_text, comma_if, compact_text, items_text, members_text}
 use Rattle.qa_base.specs.format.Lines.{is_lf, has_lf}
+use Rattle.qa_base.specs.format.Simple.{is_ascii}
 use Rattle.qa_base.proofs.format.Compact.{IsUnsigned, IsSimple, AreSimple, HaveSimple}
 
 append_none : (xs ys : List ℕ) → has_lf xs ≡ false → has_lf ys ≡ false → has_lf (xs ++ ys) ≡ false
@@ -36,13 +36,13 @@ none_of_ascii : none_below 128 ≡ true
 unfolding escape_byte
 none_of_ascii = refl
 
-escape_none : (s : List ℕ) → are_ascii s ≡ true → has_lf (escape s) ≡ false
+escape_none : (s : List ℕ) → is_ascii s ≡ true → has_lf (escape s) ≡ false
 escape_none [] ascii = refl
 escape_none (x ∷ s) ascii =
-    let parts = and_parts (nat_lt x 128) (are_ascii s) ascii in
+    let parts = and_parts (nat_lt x 128) (is_ascii s) ascii in
     append_none (escape_byte x) (escape s) (below 128 none_of_ascii x (ltb-true x 128 parts.0)) (escape_none s parts.1)
 
-quoted_none : (s : List ℕ) → are_ascii s ≡ true → has_lf (quoted s) ≡ false
+quoted_none : (s : List ℕ) → is_ascii s ≡ true → has_lf (quoted s) ≡ false
 quoted_none s ascii = append_none (escape s) (34 ∷ []) (escape_none s ascii) refl
 
 -- ---- numbers

@@ -1,0 +1,196 @@
+-- An object whose keys give the values of an event says that event, whatever else it has and however its keys stand.
+use Rattle.std.proofs.Common.{◌≡◌, ℕ, List, Bool, false, Option, Some, None, Ok, refl, ap, ◌&&◌, ◌||◌, not, arith}
+use Rattle.std.proofs.lemmas.Bool.{and_parts, leb-true}
+use Rattle.std.specs.Prelude.{nat_le, codes, option_map, option_and_then, is_some, unwrap_or, if◌then◌else◌}
+use Rattle.serde_json.specs.Data as json
+use Rattle.serde_json.specs.Data.{Data, object, Members}
+use Rattle.serde_json.specs.Find.{get, get_member, as_null}
+use Rattle.qa_base.specs.declared.event.Event.TheVariants.{Sent, Ack, Lost, Timer, Discard, Confirmed, Keys, Metrics}
+use Rattle.qa_base.specs.declared.event.MetricValues.{MetricValues}
+use Rattle.qa_base.specs.declared.rule.Field.TheVariants.{Window, Ssthresh, BytesInFlight, LatestRtt, MinRtt, SmoothedRtt, Rttvar}
+use Rattle.qa_base.specs.declared.fault.Key.{Key}
+use Rattle.qa_base.specs.declared.fault.Key.TheVariants as key
+use Rattle.qa_base.specs.declared.line.Line.TheVariants as line
+use Rattle.qa_base.specs.declared.space.Kind.{Kind as TimerKind}
+use Rattle.qa_base.specs.declared.space.Leave.{Leave}
+use Rattle.qa_base.specs.declared.space.Leave.TheVariants as leaves
+use Rattle.qa_base.specs.declared.space.Space.{Space}
+use Rattle.qa_base.specs.format.Keys.{Kind, read_or, integer, integer_from, string, string_among, boolean, required, optional}
+use Rattle.qa_base.specs.values.Limits.{max_packet_number, max_packet_size}
+use Rattle.qa_base.specs.values.Names.{key_name, space_name, discarded_named, leave_name, leave_named, kind_name, kind_named}
+use Rattle.qa_base.specs.values.Proper.{IsProperEvent}
+use Rattle.qa_base.specs.format.Reading.{reader_named, object_says}
+use Rattle.qa_base.specs.format.Tables.{time, sent_fields, sent_of, ack_fields, ack_of, lost_fields, lost_of, timer_fields, timer_of, discard_fields, discard_of, confirmed_of, keys_of, metric_values, metrics_of}
+use Rattle.qa_base.specs.format.Written as written
+use Rattle.qa_base.proofs.format.KeysWritten.{required_reads, optional_reads, both_reads, integer_from_reads, leave_reads, kind_reads, ranges_read, metric_reads}
+use Rattle.qa_base.proofs.format.LinesWritten.{time_reads, space_stands, ranges_stand, flags_pass, then_reads, discarded_reads, event_of}
+
+-- a key that may be absent, and stands for this value then
+optional_found : {A : Type 0} → (kind : Kind A) (absent : A) (k : Key) (d : Data) (as_data : A → Data) (o : Option A)
+    → get (key_name k) d ≡ option_map as_data o → ((a : A) → as_null (as_data a) ≡ None) → ((a : A) → kind k (as_data a) ≡ Ok a)
+    → optional kind absent k d ≡ Ok (unwrap_or o absent)
+optional_found kind absent k d as_data None at some reads = ap (λ g. read_or kind absent k (option_and_then (λ v. if is_some (as_null v) then None else Some v) g)) at
+optional_found kind absent k d as_data (Some a) at some reads = optional_reads kind absent k d (as_data a) a at (some a) (reads a)
+
+named_found : (d : Data) (name : List ℕ) → get (codes "event") d ≡ Some (written.string name) → required string key.Event d ≡ Ok name
+named_found d name at = required_reads string key.Event d (written.string name) name at refl refl
+
+pub sent_found : (ms : Members) (t : ℕ) (s : Space) (number size : ℕ) (eliciting in_flight : Bool) (leave : Option Leave)
+    → get_member (codes "event") ms ≡ Some (written.string (codes "sent"))
+    → get_member (codes "time") ms ≡ Some (written.integer t)
+    → get_member (codes "space") ms ≡ Some (written.string (space_name s))
+    → get_member (codes "number") ms ≡ Some (written.integer number)
+    → get_member (codes "size") ms ≡ Some (written.integer size)
+    → get_member (codes "eliciting") ms ≡ Some (written.boolean eliciting)
+    → get_member (codes "in_flight") ms ≡ Some (written.boolean in_flight)
+    → get_member (codes "leave") ms ≡ option_map (λ l. written.string (leave_name l)) leave
+    → IsProperEvent (Sent t s number size eliciting in_flight (unwrap_or leave leaves.Window))
+    → object_says reader_named (object ms) ≡ Ok (line.Event (Sent t s number size eliciting in_flight (unwrap_or leave leaves.Window)))
+unfolding object_says sent_of
+sent_found ms t s number size eliciting in_flight leave named at_time at_space at_number at_size at_eliciting at_in_flight at_leave proper =
+    let d = object ms in
+    let e = Sent t s number size eliciting in_flight (unwrap_or leave leaves.Window) in
+    let parts = and_parts (nat_le 1 size && nat_le size max_packet_size) (not eliciting || in_flight) proper.fitting in
+    let bounds = and_parts (nat_le 1 size) (nat_le size max_packet_size) parts.0 in
+    let leaves_read = optional_found (string_among leave_named) leaves.Window key.Leave d (λ l. written.string (leave_name l)) leave at_leave (λ l. refl) (leave_reads key.Leave) in
+    let flags_read = both_reads _ _ eliciting _ (required_reads boolean key.Eliciting d (written.boolean eliciting) eliciting at_eliciting refl refl)
+    (both_reads _ _ in_flight (unwrap_or leave leaves.Window) (required_reads boolean key.InFlight d (written.boolean in_flight) in_flight at_in_flight refl refl) leaves_read) in
+    let size_read = required_reads (integer_from 1 max_packet_size) key.Size d (written.integer size) size at_size refl
+    (integer_from_reads 1 max_packet_size key.Size size (leb-true 1 size bounds.0) (leb-true size max_packet_size bounds.1)) in
+    let number_read = required_reads (integer_from 0 max_packet_number) key.Number d (written.integer number) number at_number refl
+    (integer_from_reads 0 max_packet_number key.Number number (omega arith) proper.numbers) in
+    let fields = both_reads _ _ t _ (time_reads d t at_time proper.in_time)
+    (both_reads _ _ s _ (space_stands d s at_space)
+    (both_reads _ _ number _ number_read
+    (both_reads _ _ size _ size_read flags_read))) in
+    let says : sent_of d ≡ Ok e = then_reads (sent_fields d) _ (t, (s, (number, (size, (eliciting, (in_flight, unwrap_or leave leaves.Window)))))) _ fields
+    (flags_pass eliciting in_flight e parts.1) in
+    then_reads (required string key.Event d) _ (codes "sent") (line.Event e) (named_found d (codes "sent") named) (event_of e _ says)
+
+pub ack_found : (ms : Members) (t : ℕ) (s : Space) (rs : List (ℕ × ℕ)) (delay : Option ℕ) (limited : Option Bool)
+    → get_member (codes "event") ms ≡ Some (written.string (codes "ack"))
+    → get_member (codes "time") ms ≡ Some (written.integer t)
+    → get_member (codes "space") ms ≡ Some (written.string (space_name s))
+    → get_member (codes "ranges") ms ≡ Some (json.array (written.integer_pairs rs))
+    → get_member (codes "delay") ms ≡ option_map written.integer delay
+    → get_member (codes "limited") ms ≡ option_map written.boolean limited
+    → IsProperEvent (Ack t s rs (unwrap_or delay 0) (unwrap_or limited false))
+    → object_says reader_named (object ms) ≡ Ok (line.Event (Ack t s rs (unwrap_or delay 0) (unwrap_or limited false)))
+unfolding object_says ack_of
+ack_found ms t s rs delay limited named at_time at_space at_ranges at_delay at_limited proper =
+    let d = object ms in
+    let e = Ack t s rs (unwrap_or delay 0) (unwrap_or limited false) in
+    let listed = ranges_stand d rs at_ranges (ranges_read key.Ranges rs proper.fitting proper.numbers.0) in
+    let rest = both_reads _ _ (unwrap_or delay 0) (unwrap_or limited false)
+    (optional_found integer 0 key.Delay d written.integer delay at_delay (λ n. refl) (λ n. refl))
+    (optional_found boolean false key.Limited d written.boolean limited at_limited (λ b. refl) (λ b. refl)) in
+    let fields = both_reads _ _ t _ (time_reads d t at_time proper.in_time) (both_reads _ _ s _ (space_stands d s at_space) (both_reads _ _ rs _ listed rest)) in
+    let says : ack_of d ≡ Ok e = then_reads (ack_fields d) _ (t, (s, (rs, (unwrap_or delay 0, unwrap_or limited false)))) _ fields refl in
+    then_reads (required string key.Event d) _ (codes "ack") (line.Event e) (named_found d (codes "ack") named) (event_of e _ says)
+
+pub lost_found : (ms : Members) (t : ℕ) (s : Space) (rs : List (ℕ × ℕ))
+    → get_member (codes "event") ms ≡ Some (written.string (codes "lost"))
+    → get_member (codes "time") ms ≡ Some (written.integer t)
+    → get_member (codes "space") ms ≡ Some (written.string (space_name s))
+    → get_member (codes "ranges") ms ≡ Some (json.array (written.integer_pairs rs))
+    → IsProperEvent (Lost t s rs)
+    → object_says reader_named (object ms) ≡ Ok (line.Event (Lost t s rs))
+unfolding object_says lost_of
+lost_found ms t s rs named at_time at_space at_ranges proper =
+    let d = object ms in
+    let e = Lost t s rs in
+    let listed = ranges_stand d rs at_ranges (ranges_read key.Ranges rs proper.fitting proper.numbers) in
+    let fields = both_reads _ _ t _ (time_reads d t at_time proper.in_time) (both_reads _ _ s rs (space_stands d s at_space) listed) in
+    let says : lost_of d ≡ Ok e = then_reads (lost_fields d) _ (t, (s, rs)) _ fields refl in
+    then_reads (required string key.Event d) _ (codes "lost") (line.Event e) (named_found d (codes "lost") named) (event_of e _ says)
+
+pub timer_found : (ms : Members) (t : ℕ) (k : TimerKind) (s : Space)
+    → get_member (codes "event") ms ≡ Some (written.string (codes "timer"))
+    → get_member (codes "time") ms ≡ Some (written.integer t)
+    → get_member (codes "kind") ms ≡ Some (written.string (kind_name k))
+    → get_member (codes "space") ms ≡ Some (written.string (space_name s))
+    → IsProperEvent (Timer t k s)
+    → object_says reader_named (object ms) ≡ Ok (line.Event (Timer t k s))
+unfolding object_says timer_of
+timer_found ms t k s named at_time at_kind at_space proper =
+    let d = object ms in
+    let e = Timer t k s in
+    let kinds = required_reads (string_among kind_named) key.Kind d (written.string (kind_name k)) k at_kind refl (kind_reads key.Kind k) in
+    let fields = both_reads _ _ t _ (time_reads d t at_time proper.in_time) (both_reads _ _ k s kinds (space_stands d s at_space)) in
+    let says : timer_of d ≡ Ok e = then_reads (timer_fields d) _ (t, (k, s)) _ fields refl in
+    then_reads (required string key.Event d) _ (codes "timer") (line.Event e) (named_found d (codes "timer") named) (event_of e _ says)
+
+pub discard_found : (ms : Members) (t : ℕ) (s : Space)
+    → get_member (codes "event") ms ≡ Some (written.string (codes "discard"))
+    → get_member (codes "time") ms ≡ Some (written.integer t)
+    → get_member (codes "space") ms ≡ Some (written.string (space_name s))
+    → IsProperEvent (Discard t s)
+    → object_says reader_named (object ms) ≡ Ok (line.Event (Discard t s))
+unfolding object_says discard_of
+discard_found ms t s named at_time at_space proper =
+    let d = object ms in
+    let e = Discard t s in
+    let spaces = required_reads (string_among discarded_named) key.Space d (written.string (space_name s)) s at_space refl (discarded_reads s proper.fitting) in
+    let fields = both_reads _ _ t s (time_reads d t at_time proper.in_time) spaces in
+    let says : discard_of d ≡ Ok e = then_reads (discard_fields d) _ (t, s) _ fields refl in
+    then_reads (required string key.Event d) _ (codes "discard") (line.Event e) (named_found d (codes "discard") named) (event_of e _ says)
+
+pub confirmed_found : (ms : Members) (t : ℕ)
+    → get_member (codes "event") ms ≡ Some (written.string (codes "confirmed"))
+    → get_member (codes "time") ms ≡ Some (written.integer t)
+    → IsProperEvent (Confirmed t)
+    → object_says reader_named (object ms) ≡ Ok (line.Event (Confirmed t))
+unfolding object_says confirmed_of
+confirmed_found ms t named at_time proper =
+    let d = object ms in
+    let e = Confirmed t in
+    let says : confirmed_of d ≡ Ok e = then_reads (time d) _ t _ (time_reads d t at_time proper.in_time) refl in
+    then_reads (required string key.Event d) _ (codes "confirmed") (line.Event e) (named_found d (codes "confirmed") named) (event_of e _ says)
+
+pub keys_found : (ms : Members) (t : ℕ)
+    → get_member (codes "event") ms ≡ Some (written.string (codes "keys"))
+    → get_member (codes "time") ms ≡ Some (written.integer t)
+    → IsProperEvent (Keys t)
+    → object_says reader_named (object ms) ≡ Ok (line.Event (Keys t))
+unfolding object_says keys_of
+keys_found ms t named at_time proper =
+    let d = object ms in
+    let e = Keys t in
+    let says : keys_of d ≡ Ok e = then_reads (time d) _ t _ (time_reads d t at_time proper.in_time) refl in
+    then_reads (required string key.Event d) _ (codes "keys") (line.Event e) (named_found d (codes "keys") named) (event_of e _ says)
+
+values_found : (d : Data) (v : MetricValues)
+    → get (codes "window") d ≡ option_map written.integer v.window
+    → get (codes "ssthresh") d ≡ option_map written.integer v.ssthresh
+    → get (codes "bytes_in_flight") d ≡ option_map written.integer v.bytes_in_flight
+    → get (codes "latest_rtt") d ≡ option_map written.integer v.latest_rtt
+    → get (codes "min_rtt") d ≡ option_map written.integer v.min_rtt
+    → get (codes "smoothed_rtt") d ≡ option_map written.integer v.smoothed_rtt
+    → get (codes "rttvar") d ≡ option_map written.integer v.rttvar
+    → metric_values d ≡ Ok v
+values_found d v at_window at_ssthresh at_bytes_in_flight at_latest_rtt at_min_rtt at_smoothed_rtt at_rttvar =
+    let windows = both_reads _ _ v.window _ (metric_reads Window d v.window at_window)
+    (both_reads _ _ v.ssthresh v.bytes_in_flight (metric_reads Ssthresh d v.ssthresh at_ssthresh) (metric_reads BytesInFlight d v.bytes_in_flight at_bytes_in_flight)) in
+    let samples = both_reads _ _ v.latest_rtt v.min_rtt (metric_reads LatestRtt d v.latest_rtt at_latest_rtt) (metric_reads MinRtt d v.min_rtt at_min_rtt) in
+    let estimates = both_reads _ _ v.smoothed_rtt v.rttvar (metric_reads SmoothedRtt d v.smoothed_rtt at_smoothed_rtt) (metric_reads Rttvar d v.rttvar at_rttvar) in
+    then_reads _ _ _ v (both_reads _ _ _ _ windows (both_reads _ _ _ _ samples estimates)) refl
+
+pub metrics_found : (ms : Members) (t : ℕ) (v : MetricValues)
+    → get_member (codes "event") ms ≡ Some (written.string (codes "metrics"))
+    → get_member (codes "time") ms ≡ Some (written.integer t)
+    → get_member (codes "window") ms ≡ option_map written.integer v.window
+    → get_member (codes "ssthresh") ms ≡ option_map written.integer v.ssthresh
+    → get_member (codes "bytes_in_flight") ms ≡ option_map written.integer v.bytes_in_flight
+    → get_member (codes "latest_rtt") ms ≡ option_map written.integer v.latest_rtt
+    → get_member (codes "min_rtt") ms ≡ option_map written.integer v.min_rtt
+    → get_member (codes "smoothed_rtt") ms ≡ option_map written.integer v.smoothed_rtt
+    → get_member (codes "rttvar") ms ≡ option_map written.integer v.rttvar
+    → IsProperEvent (Metrics t v)
+    → object_says reader_named (object ms) ≡ Ok (line.Event (Metrics t v))
+unfolding object_says metrics_of
+metrics_found ms t v named at_time at_window at_ssthresh at_bytes_in_flight at_latest_rtt at_min_rtt at_smoothed_rtt at_rttvar proper =
+    let d = object ms in
+    let e = Metrics t v in
+    let values = values_found d v at_window at_ssthresh at_bytes_in_flight at_latest_rtt at_min_rtt at_smoothed_rtt at_rttvar in
+    let says : metrics_of d ≡ Ok e = then_reads _ _ (t, v) e (both_reads _ _ t v (time_reads d t at_time proper.in_time) values) refl in
+    then_reads (required string key.Event d) _ (codes "metrics") (line.Event e) (named_found d (codes "metrics") named) (event_of e _ says)
