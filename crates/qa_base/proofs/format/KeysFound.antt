@@ -1,29 +1,40 @@
--- An object whose keys give the values of an event says that event, whatever else it has and however its keys stand.
-use Rattle.std.proofs.Common.{◌≡◌, ℕ, List, Bool, false, Option, Some, None, Ok, refl, ap, ◌&&◌, ◌||◌, not, arith}
+-- An object whose keys give the values of a line says that line, whatever else it has and however its keys stand.
+use Rattle.std.proofs.Common.{◌≡◌, ℕ, ◌≤◌, List, Bool, true, false, cond, Option, Some, None, Result, Ok, Err, refl, ap, ◌&&◌, ◌||◌, not, arith}
 use Rattle.std.proofs.lemmas.Bool.{and_parts, leb-true}
 use Rattle.std.specs.Prelude.{nat_le, codes, option_map, option_and_then, is_some, unwrap_or, if◌then◌else◌}
 use Rattle.serde_json.specs.Data as json
 use Rattle.serde_json.specs.Data.{Data, object, Members}
 use Rattle.serde_json.specs.Find.{get, get_member, as_null}
+use Rattle.qa_base.specs.declared.event.Event.{Event}
 use Rattle.qa_base.specs.declared.event.Event.TheVariants.{Sent, Ack, Lost, Timer, Discard, Confirmed, Keys, Metrics}
 use Rattle.qa_base.specs.declared.event.MetricValues.{MetricValues}
-use Rattle.qa_base.specs.declared.rule.Field.TheVariants.{Window, Ssthresh, BytesInFlight, LatestRtt, MinRtt, SmoothedRtt, Rttvar}
+use Rattle.qa_base.specs.declared.fault.Fault.{Fault}
+use Rattle.qa_base.specs.declared.fault.Fault.TheVariants.{FlagsClash}
 use Rattle.qa_base.specs.declared.fault.Key.{Key}
 use Rattle.qa_base.specs.declared.fault.Key.TheVariants as key
 use Rattle.qa_base.specs.declared.line.Line.TheVariants as line
+use Rattle.qa_base.specs.declared.rule.Field.TheVariants as field
 use Rattle.qa_base.specs.declared.space.Kind.{Kind as TimerKind}
 use Rattle.qa_base.specs.declared.space.Leave.{Leave}
 use Rattle.qa_base.specs.declared.space.Leave.TheVariants as leaves
+use Rattle.qa_base.specs.declared.space.Role.{Role}
 use Rattle.qa_base.specs.declared.space.Space.{Space}
-use Rattle.qa_base.specs.format.Keys.{Kind, read_or, integer, integer_from, string, string_among, boolean, required, optional}
-use Rattle.qa_base.specs.values.Limits.{max_packet_number, max_packet_size}
-use Rattle.qa_base.specs.values.Names.{key_name, space_name, discarded_named, leave_name, leave_named, kind_name, kind_named}
+use Rattle.qa_base.specs.declared.space.Space.TheVariants.{Initial, Handshake, App}
+use Rattle.qa_base.specs.values.Events.{is_space}
+use Rattle.qa_base.specs.values.Limits.{format_version, max_time, max_packet_number, max_packet_size}
+use Rattle.qa_base.specs.values.Names.{key_name, role_name, role_named, space_name, space_named, discarded_named, leave_name, leave_named, kind_name, kind_named}
 use Rattle.qa_base.specs.values.Proper.{IsProperEvent}
+use Rattle.qa_base.specs.values.Settings.{Settings}
+use Rattle.qa_base.specs.format.Keys.{◌>>=◌, Kind, read_or, integer, integer_from, string, string_among, boolean, ranges, required, optional}
 use Rattle.qa_base.specs.format.Reading.{reader_named, object_says}
-use Rattle.qa_base.specs.format.Tables.{time, sent_fields, sent_of, ack_fields, ack_of, lost_fields, lost_of, timer_fields, timer_of, discard_fields, discard_of, confirmed_of, keys_of, metric_values, metrics_of}
+use Rattle.qa_base.specs.format.Tables.{time, space, header_fields, header_of, settings, sent_fields, sent_of, ack_fields, ack_of, lost_fields, lost_of, timer_fields, timer_of, discard_fields, discard_of, confirmed_of, keys_of, metric_values, metrics_of}
 use Rattle.qa_base.specs.format.Written as written
-use Rattle.qa_base.proofs.format.KeysWritten.{required_reads, optional_reads, both_reads, integer_from_reads, leave_reads, kind_reads, ranges_read, metric_reads}
-use Rattle.qa_base.proofs.format.LinesWritten.{time_reads, space_stands, ranges_stand, flags_pass, then_reads, discarded_reads, event_of}
+use Rattle.qa_base.proofs.format.KeysWritten.{required_reads, optional_reads, both_reads, integer_from_reads, role_reads, space_reads, leave_reads, kind_reads, ranges_read, present_integer_reads}
+
+-- ---- several keys
+
+then_reads : {A B : Type 0} → (r : Result A Fault) (f : A → Result B Fault) (x : A) (y : B) → r ≡ Ok x → f x ≡ Ok y → (r >>= f) ≡ Ok y
+then_reads r f x y first second = rw first second
 
 -- a key that may be absent, and stands for this value then
 optional_found : {A : Type 0} → (kind : Kind A) (absent : A) (k : Key) (d : Data) (as_data : A → Data) (o : Option A)
@@ -32,8 +43,56 @@ optional_found : {A : Type 0} → (kind : Kind A) (absent : A) (k : Key) (d : Da
 optional_found kind absent k d as_data None at some reads = ap (λ g. read_or kind absent k (option_and_then (λ v. if is_some (as_null v) then None else Some v) g)) at
 optional_found kind absent k d as_data (Some a) at some reads = optional_reads kind absent k d (as_data a) a at (some a) (reads a)
 
+-- ---- keys that several kinds of line have
+
 named_found : (d : Data) (name : List ℕ) → get (codes "event") d ≡ Some (written.string name) → required string key.Event d ≡ Ok name
 named_found d name at = required_reads string key.Event d (written.string name) name at refl refl
+
+time_reads : (d : Data) (t : ℕ) → get (codes "time") d ≡ Some (written.integer t) → t ≤ max_time → time d ≡ Ok t
+time_reads d t at high = required_reads (integer_from 0 max_time) key.Time d (written.integer t) t at refl (integer_from_reads 0 max_time key.Time t (omega arith) high)
+
+space_stands : (d : Data) (s : Space) → get (codes "space") d ≡ Some (written.string (space_name s)) → space d ≡ Ok s
+space_stands d s at = required_reads (string_among space_named) key.Space d (written.string (space_name s)) s at refl (space_reads key.Space s)
+
+ranges_stand : (d : Data) (rs : List (ℕ × ℕ)) → get (codes "ranges") d ≡ Some (json.array (written.integer_pairs rs)) → ranges key.Ranges (json.array (written.integer_pairs rs)) ≡ Ok rs → required ranges key.Ranges d ≡ Ok rs
+ranges_stand d rs at reads = required_reads ranges key.Ranges d (json.array (written.integer_pairs rs)) rs at refl reads
+
+-- ---- the header
+
+-- the settings are those of the values that are there, with their defaults
+pub header_found : (ms : Members) (role : Role) (max_datagram_size : ℕ) (max_ack_delay initial_rtt initial_window : Option ℕ) (s : Settings)
+    → get_member (codes "event") ms ≡ Some (written.string (codes "header"))
+    → get_member (codes "version") ms ≡ Some (written.integer format_version)
+    → get_member (codes "role") ms ≡ Some (written.string (role_name role))
+    → get_member (codes "max_datagram_size") ms ≡ Some (written.integer max_datagram_size)
+    → get_member (codes "max_ack_delay") ms ≡ option_map written.integer max_ack_delay
+    → get_member (codes "initial_rtt") ms ≡ option_map written.integer initial_rtt
+    → get_member (codes "initial_window") ms ≡ option_map written.integer initial_window
+    → settings role max_datagram_size max_ack_delay initial_rtt initial_window ≡ Ok s
+    → object_says reader_named (object ms) ≡ Ok (line.Header s)
+unfolding object_says header_of
+header_found ms role max_datagram_size max_ack_delay initial_rtt initial_window s named at_version at_role at_size at_delay at_rtt at_window are =
+    let d = object ms in
+    let firsts = both_reads _ _ format_version role (required_reads integer key.Version d (written.integer format_version) format_version at_version refl refl)
+    (required_reads (string_among role_named) key.Role d (written.string (role_name role)) role at_role refl (role_reads key.Role role)) in
+    let sizes = both_reads _ _ max_datagram_size max_ack_delay
+    (required_reads integer key.MaxDatagramSize d (written.integer max_datagram_size) max_datagram_size at_size refl refl)
+    (present_integer_reads key.MaxAckDelay d max_ack_delay at_delay) in
+    let starts = both_reads _ _ initial_rtt initial_window (present_integer_reads key.InitialRtt d initial_rtt at_rtt) (present_integer_reads key.InitialWindow d initial_window at_window) in
+    let fields = both_reads _ _ _ _ firsts (both_reads _ _ _ _ sizes starts) in
+    let says : header_of d ≡ Ok s = then_reads (header_fields d) _ ((format_version, role), ((max_datagram_size, max_ack_delay), (initial_rtt, initial_window))) _ fields
+    (then_reads (settings role max_datagram_size max_ack_delay initial_rtt initial_window) _ s _ are refl) in
+    then_reads (required string key.Event d) _ (codes "header") (line.Header s) (named_found d (codes "header") named) (ap (λ r. r >>= λ t. Ok (line.Header t)) says)
+
+-- ---- packets
+
+event_of : (e : Event) (r : Result Event Fault) → r ≡ Ok e → (r >>= λ f. Ok (line.Event f)) ≡ Ok (line.Event e)
+event_of e r h = ap (λ q. q >>= λ f. Ok (line.Event f)) h
+
+flags_pass : (eliciting in_flight : Bool) (e : Event) → (not eliciting || in_flight) ≡ true → cond (eliciting && not in_flight) (Err FlagsClash) (Ok e) ≡ Ok e
+flags_pass true true e h = refl
+flags_pass true false e h = cc
+flags_pass false in_flight e h = refl
 
 pub sent_found : (ms : Members) (t : ℕ) (s : Space) (number size : ℕ) (eliciting in_flight : Bool) (leave : Option Leave)
     → get_member (codes "event") ms ≡ Some (written.string (codes "sent"))
@@ -104,6 +163,8 @@ lost_found ms t s rs named at_time at_space at_ranges proper =
     let says : lost_of d ≡ Ok e = then_reads (lost_fields d) _ (t, (s, rs)) _ fields refl in
     then_reads (required string key.Event d) _ (codes "lost") (line.Event e) (named_found d (codes "lost") named) (event_of e _ says)
 
+-- ---- the timer and the handshake
+
 pub timer_found : (ms : Members) (t : ℕ) (k : TimerKind) (s : Space)
     → get_member (codes "event") ms ≡ Some (written.string (codes "timer"))
     → get_member (codes "time") ms ≡ Some (written.integer t)
@@ -119,6 +180,11 @@ timer_found ms t k s named at_time at_kind at_space proper =
     let fields = both_reads _ _ t _ (time_reads d t at_time proper.in_time) (both_reads _ _ k s kinds (space_stands d s at_space)) in
     let says : timer_of d ≡ Ok e = then_reads (timer_fields d) _ (t, (k, s)) _ fields refl in
     then_reads (required string key.Event d) _ (codes "timer") (line.Event e) (named_found d (codes "timer") named) (event_of e _ says)
+
+discarded_reads : (s : Space) → not (is_space App s) ≡ true → string_among discarded_named key.Space (written.string (space_name s)) ≡ Ok s
+discarded_reads Initial h = refl
+discarded_reads Handshake h = refl
+discarded_reads App h = cc
 
 pub discard_found : (ms : Members) (t : ℕ) (s : Space)
     → get_member (codes "event") ms ≡ Some (written.string (codes "discard"))
@@ -159,6 +225,8 @@ keys_found ms t named at_time proper =
     let says : keys_of d ≡ Ok e = then_reads (time d) _ t _ (time_reads d t at_time proper.in_time) refl in
     then_reads (required string key.Event d) _ (codes "keys") (line.Event e) (named_found d (codes "keys") named) (event_of e _ says)
 
+-- ---- a report of the sender's state
+
 values_found : (d : Data) (v : MetricValues)
     → get (codes "window") d ≡ option_map written.integer v.window
     → get (codes "ssthresh") d ≡ option_map written.integer v.ssthresh
@@ -169,10 +237,10 @@ values_found : (d : Data) (v : MetricValues)
     → get (codes "rttvar") d ≡ option_map written.integer v.rttvar
     → metric_values d ≡ Ok v
 values_found d v at_window at_ssthresh at_bytes_in_flight at_latest_rtt at_min_rtt at_smoothed_rtt at_rttvar =
-    let windows = both_reads _ _ v.window _ (metric_reads Window d v.window at_window)
-    (both_reads _ _ v.ssthresh v.bytes_in_flight (metric_reads Ssthresh d v.ssthresh at_ssthresh) (metric_reads BytesInFlight d v.bytes_in_flight at_bytes_in_flight)) in
-    let samples = both_reads _ _ v.latest_rtt v.min_rtt (metric_reads LatestRtt d v.latest_rtt at_latest_rtt) (metric_reads MinRtt d v.min_rtt at_min_rtt) in
-    let estimates = both_reads _ _ v.smoothed_rtt v.rttvar (metric_reads SmoothedRtt d v.smoothed_rtt at_smoothed_rtt) (metric_reads Rttvar d v.rttvar at_rttvar) in
+    let windows = both_reads _ _ v.window _ (present_integer_reads (key.Metric field.Window) d v.window at_window)
+    (both_reads _ _ v.ssthresh v.bytes_in_flight (present_integer_reads (key.Metric field.Ssthresh) d v.ssthresh at_ssthresh) (present_integer_reads (key.Metric field.BytesInFlight) d v.bytes_in_flight at_bytes_in_flight)) in
+    let samples = both_reads _ _ v.latest_rtt v.min_rtt (present_integer_reads (key.Metric field.LatestRtt) d v.latest_rtt at_latest_rtt) (present_integer_reads (key.Metric field.MinRtt) d v.min_rtt at_min_rtt) in
+    let estimates = both_reads _ _ v.smoothed_rtt v.rttvar (present_integer_reads (key.Metric field.SmoothedRtt) d v.smoothed_rtt at_smoothed_rtt) (present_integer_reads (key.Metric field.Rttvar) d v.rttvar at_rttvar) in
     then_reads _ _ _ v (both_reads _ _ _ _ windows (both_reads _ _ _ _ samples estimates)) refl
 
 pub metrics_found : (ms : Members) (t : ℕ) (v : MetricValues)

@@ -22,13 +22,12 @@ use Rattle.qa_base.specs.declared.space.Role.TheVariants.{Client, Server}
 use Rattle.qa_base.specs.declared.space.Space.{Space}
 use Rattle.qa_base.specs.declared.space.Space.TheVariants.{Initial, Handshake, App}
 use Rattle.qa_base.specs.values.Events.{has_ranges}
-use Rattle.qa_base.specs.format.Keys.{◌>>=◌, both, Kind, ranged, integer_from, string_among, pairs_of, is_range, ranges, present, required, read_or, optional}
+use Rattle.qa_base.specs.format.Keys.{◌>>=◌, both, Kind, ranged, integer, integer_from, string_among, pairs_of, is_range, ranges, present, required, read_or, optional, if_present}
 use Rattle.qa_base.specs.values.Limits.{max_packet_number}
 use Rattle.qa_base.specs.values.Names.{key_name, field_name, role_name, role_named, space_name, space_named, leave_name, leave_named, kind_name, kind_named}
 use Rattle.qa_base.specs.values.Proper.{IsRange, IsWord}
 pub use Rattle.qa_base.specs.format.Simple.{IsKept}
 use Rattle.qa_base.specs.format.Simple.{is_ascii, AreSimple, HaveSimple, IsBefore}
-use Rattle.qa_base.specs.format.Tables.{metric}
 use Rattle.qa_base.specs.format.Written as written
 use Rattle.qa_base.specs.format.Written.{Pairs, reported, members, object_of}
 
@@ -86,6 +85,14 @@ ranges_read k rs some each =
     ap (λ o. ok_or o (Fault.WrongKind k) >>= λ ps. ranged k (cond (has_ranges ps && list_all is_range ps) (Some ps) None)) (pairs_read rs)
     ∙ ap (λ b. ranged k (cond b (Some rs) None)) (and_from (has_ranges rs) (list_all is_range rs) some (all_ranges rs each))
 
+integer_at : (k : Key) (d : Data) (o : Option ℕ) (v : Option Data) → get (key_name k) d ≡ v → v ≡ option_map written.integer o → if_present integer k d ≡ Ok o
+integer_at k d None v at is = rw (at, is) refl
+integer_at k d (Some n) v at is = rw (at, is) refl
+
+-- an integer that may be absent
+pub present_integer_reads : (k : Key) (d : Data) (o : Option ℕ) → get (key_name k) d ≡ option_map written.integer o → if_present integer k d ≡ Ok o
+present_integer_reads k d o at = integer_at k d o (get (key_name k) d) refl at
+
 -- ---- values that are reported
 
 other_key : (o : Ordering) (a b : Option Data) → (o ≡ Equal → ⊥) → match_ordering o a b a ≡ a
@@ -113,13 +120,6 @@ past_last k f (Some n) other = other_key (slice_cmp nat_cmp k (field_name f)) No
 pub last_stands : (f : Field) (o : Option ℕ) → slice_cmp nat_cmp (field_name f) (field_name f) ≡ Equal → get_member (field_name f) (members (reported f o)) ≡ option_map written.integer o
 last_stands f None same = refl
 last_stands f (Some n) same = rw same refl
-
-metric_at : (f : Field) (d : Data) (o : Option ℕ) (v : Option Data) → get (field_name f) d ≡ v → v ≡ option_map written.integer o → metric f d ≡ Ok o
-metric_at f d None v at is = rw (at, is) refl
-metric_at f d (Some n) v at is = rw (at, is) refl
-
-pub metric_reads : (f : Field) (d : Data) (o : Option ℕ) → get (field_name f) d ≡ option_map written.integer o → metric f d ≡ Ok o
-metric_reads f d o at = metric_at f d o (get (field_name f) d) refl at
 
 -- ---- values that can be written and read
 

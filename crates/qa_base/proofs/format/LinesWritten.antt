@@ -1,19 +1,17 @@
 -- A line that was written is one line, and is read as itself.
-use Rattle.std.proofs.Common.{◌≡◌, ◌∙◌, ℕ, ◌≤◌, ◌*◌, List, [], ◌∷◌, ◌++◌, Bool, true, false, cond, Some, None, Result, Ok, Err, refl, ap, append_assoc, Less, ◌&&◌, ◌||◌, not, arith, subst, sym}
+use Rattle.std.proofs.Common.{◌≡◌, ◌∙◌, ℕ, ◌≤◌, ◌*◌, List, [], ◌∷◌, ◌++◌, Bool, false, Some, Ok, refl, ap, append_assoc, Less, ◌&&◌, ◌||◌, not, arith, subst, sym}
 use Rattle.std.proofs.lemmas.Bool.{and_parts, leb-true, or_from, le-ltb}
 use Rattle.std.specs.Prelude.{nat_lt, nat_le, codes, option_map}
 use Rattle.std.specs.Cmp.Lexicographic.{slice_cmp}
 use Rattle.std.specs.Ordering.{nat_cmp}
 use Rattle.std.specs.Result.{result_map_both}
-use Rattle.serde_json.specs.Data as json
 use Rattle.serde_json.specs.Data.{Data, depth}
 use Rattle.serde_json.specs.Find.{get}
 use Rattle.serde_json.specs.Written.{compact_text}
 use Rattle.qa_base.specs.declared.event.Event.{Event}
 use Rattle.qa_base.specs.declared.event.Event.TheVariants.{Sent, Ack, Lost, Timer, Discard, Confirmed, Keys, Metrics}
 use Rattle.qa_base.specs.declared.event.MetricValues.{MetricValues}
-use Rattle.qa_base.specs.declared.fault.Fault.{Fault}
-use Rattle.qa_base.specs.declared.fault.Fault.TheVariants.{FlagsClash, OutOfRange}
+use Rattle.qa_base.specs.declared.fault.Fault.TheVariants.{OutOfRange}
 use Rattle.qa_base.specs.declared.fault.Key.{Key}
 use Rattle.qa_base.specs.declared.fault.Key.TheVariants as key
 use Rattle.qa_base.specs.declared.line.Line.{Line}
@@ -22,115 +20,21 @@ use Rattle.qa_base.specs.declared.line.LineKind.TheVariants as kinds
 use Rattle.qa_base.specs.declared.rule.Field.TheVariants.{Window, Ssthresh, BytesInFlight, LatestRtt, MinRtt, SmoothedRtt, Rttvar}
 use Rattle.qa_base.specs.declared.space.Kind.{Kind as TimerKind}
 use Rattle.qa_base.specs.declared.space.Leave.{Leave}
-use Rattle.qa_base.specs.declared.space.Leave.TheVariants as leaves
 use Rattle.qa_base.specs.declared.space.Space.{Space}
-use Rattle.qa_base.specs.declared.space.Space.TheVariants.{Initial, Handshake, App}
-use Rattle.qa_base.specs.values.Events.{is_space}
-use Rattle.qa_base.specs.format.Keys.{◌>>=◌, integer, integer_from, string, string_among, boolean, ranges, required, if_present}
+use Rattle.qa_base.specs.format.Keys.{◌>>=◌}
 use Rattle.qa_base.specs.format.Lines.{has_lf}
-use Rattle.qa_base.specs.values.Limits.{format_version, max_time, max_packet_number, max_packet_size}
-use Rattle.qa_base.specs.values.Names.{key_name, line_kind_name, role_name, role_named, space_name, space_named, discarded_named, leave_name, leave_named, kind_name, kind_named}
+use Rattle.qa_base.specs.values.Limits.{format_version, max_time, max_packet_size}
+use Rattle.qa_base.specs.values.Names.{line_kind_name, space_name}
 use Rattle.qa_base.specs.values.Proper.{IsProperEvent, IsProperLine}
 use Rattle.qa_base.specs.format.Reading.{reader_named, object_says, json_of, reading_by, reading}
 use Rattle.qa_base.specs.values.Settings.{Settings, AreInRange, is_outside, checked}
-use Rattle.qa_base.specs.format.Tables.{time, space, header_fields, header_of, settings, sent_fields, sent_of, ack_fields, ack_of, lost_fields, lost_of, timer_fields, timer_of, discard_fields, discard_of, confirmed_of, keys_of, metric_values, metrics_of}
+use Rattle.qa_base.specs.format.Tables.{settings}
 use Rattle.qa_base.specs.format.Written as written
 use Rattle.qa_base.specs.format.Written.{Pairs, reported, header_pairs, event_pairs, members, object_of, written as text_of}
 use Rattle.qa_base.proofs.format.Compact.{IsSimple, read-compact_text, is_utf8-compact_text}
 use Rattle.qa_base.proofs.format.OneLine.{has_lf-compact_text}
-use Rattle.qa_base.proofs.format.KeysWritten.{required_reads, optional_reads, both_reads, integer_from_reads, role_reads, space_reads, leave_reads, kind_reads, ranges_read, past_reported, reported_stands, metric_reads, past_last, last_stands, IsKept, integer_is_kept, string_is_kept, boolean_is_kept, role_is_kept, space_is_kept, leave_is_kept, kind_is_kept, ranges_are_kept, Follow, none_follow, follow, follow_reported, follow_last}
-
--- ---- keys that several kinds of line have
-
-pub time_reads : (d : Data) (t : ℕ) → get (codes "time") d ≡ Some (written.integer t) → t ≤ max_time → time d ≡ Ok t
-time_reads d t at high = required_reads (integer_from 0 max_time) key.Time d (written.integer t) t at refl (integer_from_reads 0 max_time key.Time t (omega arith) high)
-
-pub space_stands : (d : Data) (s : Space) → get (codes "space") d ≡ Some (written.string (space_name s)) → space d ≡ Ok s
-space_stands d s at = required_reads (string_among space_named) key.Space d (written.string (space_name s)) s at refl (space_reads key.Space s)
-
-pub ranges_stand : (d : Data) (rs : List (ℕ × ℕ)) → get (codes "ranges") d ≡ Some (json.array (written.integer_pairs rs)) → ranges key.Ranges (json.array (written.integer_pairs rs)) ≡ Ok rs → required ranges key.Ranges d ≡ Ok rs
-ranges_stand d rs at reads = required_reads ranges key.Ranges d (json.array (written.integer_pairs rs)) rs at refl reads
-
--- ---- packets
-
-pub flags_pass : (eliciting in_flight : Bool) (e : Event) → (not eliciting || in_flight) ≡ true → cond (eliciting && not in_flight) (Err FlagsClash) (Ok e) ≡ Ok e
-flags_pass true true e h = refl
-flags_pass true false e h = cc
-flags_pass false in_flight e h = refl
-
-pub then_reads : {A B : Type 0} → (r : Result A Fault) (f : A → Result B Fault) (x : A) (y : B) → r ≡ Ok x → f x ≡ Ok y → (r >>= f) ≡ Ok y
-then_reads r f x y first second = rw first second
-
-sent_reads : (t : ℕ) (s : Space) (number size : ℕ) (eliciting in_flight : Bool) (leave : Leave)
-    → IsProperEvent (Sent t s number size eliciting in_flight leave)
-    → sent_of (object_of (event_pairs (Sent t s number size eliciting in_flight leave))) ≡ Ok (Sent t s number size eliciting in_flight leave)
-unfolding sent_of
-sent_reads t s number size eliciting in_flight leave proper =
-    let d = object_of (event_pairs (Sent t s number size eliciting in_flight leave)) in
-    let parts = and_parts (nat_le 1 size && nat_le size max_packet_size) (not eliciting || in_flight) proper.fitting in
-    let bounds = and_parts (nat_le 1 size) (nat_le size max_packet_size) parts.0 in
-    let leaves_read = optional_reads (string_among leave_named) leaves.Window key.Leave d (written.string (leave_name leave)) leave refl refl (leave_reads key.Leave leave) in
-    let flags_read = both_reads _ _ eliciting _ (required_reads boolean key.Eliciting d (written.boolean eliciting) eliciting refl refl refl)
-    (both_reads _ _ in_flight leave (required_reads boolean key.InFlight d (written.boolean in_flight) in_flight refl refl refl) leaves_read) in
-    let size_read = required_reads (integer_from 1 max_packet_size) key.Size d (written.integer size) size refl refl
-    (integer_from_reads 1 max_packet_size key.Size size (leb-true 1 size bounds.0) (leb-true size max_packet_size bounds.1)) in
-    let number_read = required_reads (integer_from 0 max_packet_number) key.Number d (written.integer number) number refl refl
-    (integer_from_reads 0 max_packet_number key.Number number (omega arith) proper.numbers) in
-    let fields = both_reads _ _ t _ (time_reads d t refl proper.in_time)
-    (both_reads _ _ s _ (space_stands d s refl)
-    (both_reads _ _ number _ number_read
-    (both_reads _ _ size _ size_read flags_read))) in
-    then_reads (sent_fields d) _ (t, (s, (number, (size, (eliciting, (in_flight, leave)))))) _ fields
-    (flags_pass eliciting in_flight (Sent t s number size eliciting in_flight leave) parts.1)
-
-ack_reads : (t : ℕ) (s : Space) (rs : List (ℕ × ℕ)) (delay : ℕ) (limited : Bool) → IsProperEvent (Ack t s rs delay limited)
-    → ack_of (object_of (event_pairs (Ack t s rs delay limited))) ≡ Ok (Ack t s rs delay limited)
-unfolding ack_of
-ack_reads t s rs delay limited proper =
-    let d = object_of (event_pairs (Ack t s rs delay limited)) in
-    let listed = ranges_stand d rs refl (ranges_read key.Ranges rs proper.fitting proper.numbers.0) in
-    let rest = both_reads _ _ delay limited (optional_reads integer 0 key.Delay d (written.integer delay) delay refl refl refl)
-    (optional_reads boolean false key.Limited d (written.boolean limited) limited refl refl refl) in
-    let fields = both_reads _ _ t _ (time_reads d t refl proper.in_time) (both_reads _ _ s _ (space_stands d s refl) (both_reads _ _ rs _ listed rest)) in
-    then_reads (ack_fields d) _ (t, (s, (rs, (delay, limited)))) _ fields refl
-
-lost_reads : (t : ℕ) (s : Space) (rs : List (ℕ × ℕ)) → IsProperEvent (Lost t s rs) → lost_of (object_of (event_pairs (Lost t s rs))) ≡ Ok (Lost t s rs)
-unfolding lost_of
-lost_reads t s rs proper =
-    let d = object_of (event_pairs (Lost t s rs)) in
-    let listed = ranges_stand d rs refl (ranges_read key.Ranges rs proper.fitting proper.numbers) in
-    let fields = both_reads _ _ t _ (time_reads d t refl proper.in_time) (both_reads _ _ s rs (space_stands d s refl) listed) in
-    then_reads (lost_fields d) _ (t, (s, rs)) _ fields refl
-
--- ---- the timer and the handshake
-
-timer_reads : (t : ℕ) (k : TimerKind) (s : Space) → IsProperEvent (Timer t k s) → timer_of (object_of (event_pairs (Timer t k s))) ≡ Ok (Timer t k s)
-unfolding timer_of
-timer_reads t k s proper =
-    let d = object_of (event_pairs (Timer t k s)) in
-    let kinds = required_reads (string_among kind_named) key.Kind d (written.string (kind_name k)) k refl refl (kind_reads key.Kind k) in
-    let fields = both_reads _ _ t _ (time_reads d t refl proper.in_time) (both_reads _ _ k s kinds (space_stands d s refl)) in
-    then_reads (timer_fields d) _ (t, (k, s)) _ fields refl
-
-pub discarded_reads : (s : Space) → not (is_space App s) ≡ true → string_among discarded_named key.Space (written.string (space_name s)) ≡ Ok s
-discarded_reads Initial h = refl
-discarded_reads Handshake h = refl
-discarded_reads App h = cc
-
-discard_reads : (t : ℕ) (s : Space) → IsProperEvent (Discard t s) → discard_of (object_of (event_pairs (Discard t s))) ≡ Ok (Discard t s)
-unfolding discard_of
-discard_reads t s proper =
-    let d = object_of (event_pairs (Discard t s)) in
-    let spaces = required_reads (string_among discarded_named) key.Space d (written.string (space_name s)) s refl refl (discarded_reads s proper.fitting) in
-    then_reads (discard_fields d) _ (t, s) _ (both_reads _ _ t s (time_reads d t refl proper.in_time) spaces) refl
-
-confirmed_reads : (t : ℕ) → IsProperEvent (Confirmed t) → confirmed_of (object_of (event_pairs (Confirmed t))) ≡ Ok (Confirmed t)
-unfolding confirmed_of
-confirmed_reads t proper = let d = object_of (event_pairs (Confirmed t)) in then_reads (time d) _ t _ (time_reads d t refl proper.in_time) refl
-
-keys_read : (t : ℕ) → IsProperEvent (Keys t) → keys_of (object_of (event_pairs (Keys t))) ≡ Ok (Keys t)
-unfolding keys_of
-keys_read t proper = let d = object_of (event_pairs (Keys t)) in then_reads (time d) _ t _ (time_reads d t refl proper.in_time) refl
+use Rattle.qa_base.proofs.format.KeysFound.{header_found, sent_found, ack_found, lost_found, timer_found, discard_found, confirmed_found, keys_found, metrics_found}
+use Rattle.qa_base.proofs.format.KeysWritten.{past_reported, reported_stands, past_last, last_stands, IsKept, integer_is_kept, string_is_kept, boolean_is_kept, role_is_kept, space_is_kept, leave_is_kept, kind_is_kept, ranges_are_kept, Follow, none_follow, follow, follow_reported, follow_last}
 
 -- ---- a report of the sender's state
 
@@ -255,23 +159,6 @@ time_found t v =
 pub event_found : (t : ℕ) (v : MetricValues) → get (codes "event") (object_of (metrics_pairs t v)) ≡ Some (written.string (line_kind_name kinds.Metrics))
 event_found t v = past_reported (codes "event") BytesInFlight v.bytes_in_flight (behind_flight t v) (λ e. cc)
 
-values_read : (t : ℕ) (v : MetricValues) → metric_values (object_of (metrics_pairs t v)) ≡ Ok v
-values_read t v =
-    let d = object_of (metrics_pairs t v) in
-    let windows = both_reads _ _ v.window _ (metric_reads Window d v.window (window_found t v))
-    (both_reads _ _ v.ssthresh v.bytes_in_flight (metric_reads Ssthresh d v.ssthresh (ssthresh_found t v))
-    (metric_reads BytesInFlight d v.bytes_in_flight (bytes_in_flight_found t v))) in
-    let samples = both_reads _ _ v.latest_rtt v.min_rtt (metric_reads LatestRtt d v.latest_rtt (latest_rtt_found t v)) (metric_reads MinRtt d v.min_rtt (min_rtt_found t v)) in
-    let estimates = both_reads _ _ v.smoothed_rtt v.rttvar (metric_reads SmoothedRtt d v.smoothed_rtt (smoothed_rtt_found t v))
-    (metric_reads Rttvar d v.rttvar (rttvar_found t v)) in
-    then_reads _ _ _ v (both_reads _ _ _ _ windows (both_reads _ _ _ _ samples estimates)) refl
-
-metrics_read : (t : ℕ) (v : MetricValues) → IsProperEvent (Metrics t v) → metrics_of (object_of (metrics_pairs t v)) ≡ Ok (Metrics t v)
-unfolding metrics_of
-metrics_read t v proper =
-    let d = object_of (metrics_pairs t v) in
-    then_reads _ _ (t, v) (Metrics t v) (both_reads _ _ t v (time_reads d t (time_found t v) proper.in_time) (values_read t v)) refl
-
 -- ---- the header
 
 inside : (lo hi n : ℕ) → lo ≤ n → n ≤ hi → is_outside lo hi n ≡ false
@@ -288,23 +175,6 @@ checked_passes s are = rw (
 
 settings_read : (s : Settings) → AreInRange s → settings s.role s.max_datagram_size (Some s.max_ack_delay) (Some s.initial_rtt) (Some s.initial_window) ≡ Ok s
 settings_read s are = ap (result_map_both (λ t. t) (λ e. OutOfRange e.0)) (checked_passes s are)
-
-present_integer : (k : Key) (d : Data) (n : ℕ) → get (key_name k) d ≡ Some (written.integer n) → if_present integer k d ≡ Ok (Some n)
-present_integer k d n at = optional_reads (λ j v. integer j v >>= λ m. Ok (Some m)) None k d (written.integer n) (Some n) at refl refl
-
-header_reads : (s : Settings) → AreInRange s → header_of (object_of (header_pairs s)) ≡ Ok s
-unfolding header_of
-header_reads s are =
-    let d = object_of (header_pairs s) in
-    let named = both_reads _ _ format_version s.role (required_reads integer key.Version d (written.integer format_version) format_version refl refl refl)
-    (required_reads (string_among role_named) key.Role d (written.string (role_name s.role)) s.role refl refl (role_reads key.Role s.role)) in
-    let sizes = both_reads _ _ s.max_datagram_size (Some s.max_ack_delay)
-    (required_reads integer key.MaxDatagramSize d (written.integer s.max_datagram_size) s.max_datagram_size refl refl refl)
-    (present_integer key.MaxAckDelay d s.max_ack_delay refl) in
-    let starts = both_reads _ _ (Some s.initial_rtt) (Some s.initial_window) (present_integer key.InitialRtt d s.initial_rtt refl) (present_integer key.InitialWindow d s.initial_window refl) in
-    let fields = both_reads _ _ _ _ named (both_reads _ _ _ _ sizes starts) in
-    then_reads (header_fields d) _ ((format_version, s.role), ((s.max_datagram_size, Some s.max_ack_delay), (Some s.initial_rtt, Some s.initial_window))) _ fields
-    (then_reads (settings s.role s.max_datagram_size (Some s.max_ack_delay) (Some s.initial_rtt) (Some s.initial_window)) _ s _ (settings_read s are) refl)
 
 -- ---- keys rise, and values can be written and read
 
@@ -391,33 +261,27 @@ event_follows (Confirmed t) proper = follow _ key.Event _ _ refl refl (string_is
 event_follows (Keys t) proper = follow _ key.Event _ _ refl refl (string_is_kept _ refl) (time_follows _ t refl proper.in_time)
 event_follows (Metrics t v) proper = subst (Follow []) (sym (metrics_pairs_are t v)) (metrics_follow t v proper)
 
-pub event_of : (e : Event) (r : Result Event Fault) → r ≡ Ok e → (r >>= λ f. Ok (line.Event f)) ≡ Ok (line.Event e)
-event_of e r h = ap (λ q. q >>= λ f. Ok (line.Event f)) h
-
 -- the object of a report says the report
 metrics_are_said : (t : ℕ) (v : MetricValues) → IsProperEvent (Metrics t v) → object_says reader_named (object_of (metrics_pairs t v)) ≡ Ok (line.Event (Metrics t v))
-unfolding object_says
 metrics_are_said t v proper =
-    let d = object_of (metrics_pairs t v) in
-    let named = required_reads string key.Event d (written.string (line_kind_name kinds.Metrics)) (line_kind_name kinds.Metrics) (event_found t v) refl refl in
-    then_reads (required string key.Event d) _ (line_kind_name kinds.Metrics) (line.Event (Metrics t v)) named (event_of (Metrics t v) _ (metrics_read t v proper))
+    metrics_found (members (metrics_pairs t v)) t v (event_found t v) (time_found t v) (window_found t v) (ssthresh_found t v) (bytes_in_flight_found t v)
+    (latest_rtt_found t v) (min_rtt_found t v) (smoothed_rtt_found t v) (rttvar_found t v) proper
 
 -- the object of an event says the event
 event_is_said : (e : Event) → IsProperEvent e → object_says reader_named (object_of (event_pairs e)) ≡ Ok (line.Event e)
-unfolding object_says
-event_is_said (Sent t s number size eliciting in_flight leave) proper = event_of _ _ (sent_reads t s number size eliciting in_flight leave proper)
-event_is_said (Ack t s rs delay limited) proper = event_of _ _ (ack_reads t s rs delay limited proper)
-event_is_said (Lost t s rs) proper = event_of _ _ (lost_reads t s rs proper)
-event_is_said (Timer t k s) proper = event_of _ _ (timer_reads t k s proper)
-event_is_said (Discard t s) proper = event_of _ _ (discard_reads t s proper)
-event_is_said (Confirmed t) proper = event_of _ _ (confirmed_reads t proper)
-event_is_said (Keys t) proper = event_of _ _ (keys_read t proper)
+event_is_said (Sent t s number size eliciting in_flight leave) proper = sent_found _ t s number size eliciting in_flight (Some leave) refl refl refl refl refl refl refl refl proper
+event_is_said (Ack t s rs delay limited) proper = ack_found _ t s rs (Some delay) (Some limited) refl refl refl refl refl refl proper
+event_is_said (Lost t s rs) proper = lost_found _ t s rs refl refl refl refl proper
+event_is_said (Timer t k s) proper = timer_found _ t k s refl refl refl refl proper
+event_is_said (Discard t s) proper = discard_found _ t s refl refl refl proper
+event_is_said (Confirmed t) proper = confirmed_found _ t refl refl proper
+event_is_said (Keys t) proper = keys_found _ t refl refl proper
 event_is_said (Metrics t v) proper = ap (λ ps. object_says reader_named (object_of ps)) (metrics_pairs_are t v) ∙ metrics_are_said t v proper
 
 -- the object of a header says the header
 header_is_said : (s : Settings) → AreInRange s → object_says reader_named (object_of (header_pairs s)) ≡ Ok (line.Header s)
-unfolding object_says
-header_is_said s are = ap (λ r. r >>= λ t. Ok (line.Header t)) (header_reads s are)
+header_is_said s are =
+    header_found _ s.role s.max_datagram_size (Some s.max_ack_delay) (Some s.initial_rtt) (Some s.initial_window) s refl refl refl refl refl refl refl (settings_read s are)
 
 -- what was written is read as itself
 pub written_reads : (x : Line) → IsProperLine x → reading (text_of x) ≡ Ok x
