@@ -9,3 +9,4 @@ pub mod Compact
 pub mod AnyOrder
 pub mod KeysFound
 pub mod PlainTexts
+pub mod OrdersRead

@@ -5,3 +5,4 @@ pub mod Tables
 pub mod Reading
 pub mod Written
 pub mod Simple
+pub mod AnyOrder

@@ -9,12 +9,13 @@ ghost use Rattle.qa_base.specs.declared.space.Space.{Space};
 ghost use Rattle.qa_base.specs.declared.verdict.Totals.{Totals};
 ghost use Rattle.qa_base.specs.declared.verdict.Verdict.TheVariants as verdicts;
 ghost use Rattle.qa_base.specs.values.Events.{fits, is_quiet};
+ghost use Rattle.qa_base.specs.format.AnyOrder.{AreOf, AreOfHeader, text_of};
 ghost use Rattle.qa_base.specs.format.Lines.{has_lf, lines};
 ghost use Rattle.qa_base.specs.machine.Loss.{bytes_in_flight, is_old, owed};
 ghost use Rattle.qa_base.specs.machine.Numbers.{AreRanges, Names, NamesOnly, has_all, names_exactly};
 ghost use Rattle.qa_base.specs.machine.Order.{NumbersFall};
 ghost use Rattle.qa_base.specs.machine.Packets.{Packet, packets, is_gone, newly_acknowledged};
-ghost use Rattle.qa_base.specs.values.Proper.{IsProperLine};
+ghost use Rattle.qa_base.specs.values.Proper.{IsProperEvent, IsProperLine};
 ghost use Rattle.qa_base.specs.format.Reading.{reading};
 ghost use Rattle.qa_base.specs.machine.Reno.{moves, reno};
 ghost use Rattle.qa_base.specs.machine.Rtt.{Estimate, rtt};
@@ -24,7 +25,7 @@ ghost use Rattle.qa_base.specs.values.Limits.{max_packet_size};
 ghost use Rattle.qa_base.specs.values.Settings.{Settings, AreInRange};
 ghost use Rattle.qa_base.specs.machine.Timer.{backoff, loss_delay};
 ghost use Rattle.qa_base.specs.verdicts.Verdict.{Reading, IsFixed, IsTraceOfRun, verdict};
-ghost use Rattle.qa_base.specs.format.Written.{written};
+ghost use Rattle.qa_base.specs.format.Written.{Pairs, written};
 ghost use Rattle.qa_base.specs.machine.Widths.{Fits, IsTimely, covered_count};
 ghost use Rattle.std.specs.List.{AllByRecursion};
 
@@ -44,6 +45,15 @@ pub fn reading_is_proper()
 pub fn written_is_read()
     ensures one_line { (x : Line) → IsProperLine x → has_lf (written x) ≡ false }
     ensures read { (x : Line) → IsProperLine x → reading (written x) ≡ Ok x }
+{}
+
+/// An object without white space that has the keys and values of an event is read as that event,
+/// in whatever order its keys stand, and so is that of a header, where the values are in their
+/// ranges. Keys that have their default may be left out. (The text may be longer than a line of a
+/// trace may be.)
+pub fn any_order_is_read()
+    ensures event { (e : Event) (ps : Pairs) → IsProperEvent e → AreOf e ps → reading (text_of ps) ≡ Ok (line.Event e) }
+    ensures header { (s : Settings) (ps : Pairs) → AreInRange s → AreOfHeader s ps → reading (text_of ps) ≡ Ok (line.Header s) }
 {}
 
 /// Bytes are accepted with some totals exactly where their lines say a header and the events of a

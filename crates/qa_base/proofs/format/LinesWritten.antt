@@ -173,7 +173,7 @@ checked_passes s are = rw (
   inside (2 * s.max_datagram_size) 4294967295 s.initial_window are.window_low are.window_high,
 ) refl
 
-settings_read : (s : Settings) → AreInRange s → settings s.role s.max_datagram_size (Some s.max_ack_delay) (Some s.initial_rtt) (Some s.initial_window) ≡ Ok s
+pub settings_read : (s : Settings) → AreInRange s → settings s.role s.max_datagram_size (Some s.max_ack_delay) (Some s.initial_rtt) (Some s.initial_window) ≡ Ok s
 settings_read s are = ap (result_map_both (λ t. t) (λ e. OutOfRange e.0)) (checked_passes s are)
 
 -- ---- keys rise, and values can be written and read
@@ -229,7 +229,7 @@ metrics_follow t v proper =
     (follow_reported _ Ssthresh v.ssthresh _ refl refl words.1
     (follow _ key.Time _ _ refl refl (time_is_kept t proper.in_time) (follow_last _ Window v.window refl refl words.0))))))))
 
-header_follows : (s : Settings) → AreInRange s → Follow [] (header_pairs s)
+pub header_follows : (s : Settings) → AreInRange s → Follow [] (header_pairs s)
 header_follows s are =
     follow _ key.Event _ _ refl refl (string_is_kept _ refl)
     (follow _ key.InitialRtt _ _ refl refl (integer_is_kept s.initial_rtt (omega (arith, are.rtt_high)))
