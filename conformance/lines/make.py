@@ -1,12 +1,13 @@
 #!/usr/bin/env python3
-"""Writes the files of this folder that go by kind of line.
+"""Writes the files of this folder that go by kind of line, and orders.lines with orders.said.
 
     conformance/lines/make.py            writes them
     conformance/lines/make.py --check    fails where a file is not what would be written
 
-For each kind of line, NAME.lines holds lines and NAME.said the answer to each. Both follow from
-TABLES, which has the tables of docs/format.md row by row, and from the order in which that page
-says that faults are judged. No program that reads lines has a part in it.
+For each kind of line, NAME.lines holds lines and NAME.said the answer to each; orders.lines has
+good lines of every kind with their keys in several orders. All follow from TABLES, which has the
+tables of docs/format.md row by row, and from the order in which that page says that faults are
+judged. No program that reads lines has a part in it.
 
 A lone byte XX that is no UTF-8 is written \\udcXX here.
 """
@@ -322,18 +323,47 @@ def fault_cases(kind):
                 yield object_text(changed_at_the_end(kind, {fault.name: fault.value for fault in pair})), said
 
 
+def orders_of(members):
+    """All orders of up to four members; of more, those that go round from each member, forwards and backwards."""
+    if len(members) <= 4:
+        return [list(order) for order in itertools.permutations(members)]
+    return [line[at:] + line[:at] for line in (members, members[::-1]) for at in range(len(members))]
+
+
+def order_cases(kind):
+    """Good lines in several orders. The keys that may be absent have another value than an absent
+    key stands for, or that very value; or they are left out, all of them or one."""
+    optional = [key for key in TABLES[kind] if key.absent != FAULT]
+    choices = (
+        {},
+        {key.name: key.absent for key in optional if key.absent != LEFT_OUT},
+        {key.name: None for key in optional},
+        *({key.name: None} for key in optional),
+    )
+    for changes in choices:
+        for members in orders_of(changed(kind, changes)):
+            yield object_text(members), written(kind, members)
+
+
 # Files.
+
+
+def cases_by_file():
+    """The cases of each file, by its name."""
+    for kind in TABLES:
+        yield kind, (*good_cases(kind), *json_cases(kind), *fault_cases(kind))
+    yield "orders", itertools.chain.from_iterable(map(order_cases, TABLES))
 
 
 def files():
     """Each file that is written, with its bytes. A line that comes up twice stands there once."""
-    for kind in TABLES:
-        cases = {}
-        for line, said in (*good_cases(kind), *json_cases(kind), *fault_cases(kind)):
-            assert cases.setdefault(line, said) == said, line
-        for suffix, texts in (("lines", cases.keys()), ("said", cases.values())):
+    for name, cases in cases_by_file():
+        answers = {}
+        for line, said in cases:
+            assert answers.setdefault(line, said) == said, line
+        for suffix, texts in (("lines", answers.keys()), ("said", answers.values())):
             text = "".join(f"{text}\n" for text in texts)
-            yield FOLDER / f"{kind}.{suffix}", text.encode("utf-8", "surrogateescape")
+            yield FOLDER / f"{name}.{suffix}", text.encode("utf-8", "surrogateescape")
 
 
 def main(arguments):
