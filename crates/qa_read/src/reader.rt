@@ -11,6 +11,7 @@ use crate::fault::LineFault;
 use crate::json::{is_blank, json_of};
 use crate::{fields, tables};
 use qa_base::{Fault, Key, Line, LineKind};
+use qa_quick::quick_line;
 use serde_json::Value;
 use std::alloc::Global;
 
@@ -55,6 +56,9 @@ pub fn read_line(alloc: Global, bytes: &[u8]) -> Result<Line, LineFault>
 {
     if is_blank(bytes) {
         return Ok(Line::Blank);
+    }
+    if let Some(line) = quick_line(alloc, bytes) {
+        return Ok(line);
     }
     let value = json_of(alloc, bytes)?;
     object_says(alloc, &value)

@@ -32,6 +32,9 @@ fits : (bytes : List ℕ) (r : Result Line LineFault) → Gives (λ x. x) r (rea
 fits bytes (Ok x) h = reading_fits bytes x h
 fits bytes (Err e) h = tt
 
+pub returns-in-Some-clause-fitting : goal.returns-in-Some-clause-fitting
+returns-in-Some-clause-fitting c = c.in-Some.ensures.fitting
+
 pub returns-clause-fitting : goal.returns-clause-fitting
 returns-clause-fitting c =
     let bytes = c.args.bytes.now in

@@ -1,0 +1,493 @@
+-- A value that is put at a key of an event is found of this key, and nothing else changes.
+use Rattle.std.proofs.Common.{◌≡◌, ◌∙◌, ◌<◌, ◌^◌, ℕ, List, Bool, true, Some, codes}
+use Rattle.std.specs.List.{AllByRecursion}
+use Rattle.qa_base.specs.declared.line.LineKind.{LineKind}
+use Rattle.qa_base.specs.declared.space.Kind.{Kind}
+use Rattle.qa_base.specs.declared.space.Leave.{Leave}
+use Rattle.qa_base.specs.declared.space.Space.{Space}
+use Rattle.qa_base.specs.values.Events.{has_ranges}
+use Rattle.qa_base.specs.values.Proper.{IsRange, IsWord}
+use Rattle.qa_base.specs.format.Written.{integer, boolean}
+use Rattle.qa_base.proofs.format.AnyOrder.{get_put, get_put_other}
+use Rattle.qa_quick.specs.declared.found.Found.{Found}
+use Rattle.qa_quick.specs.Found.{Holds, Keeps, line_kind_data, space_data, leave_data, kind_data}
+use Rattle.qa_quick.specs.Ranges.{Spans, ranges_data}
+
+pub put_event : (f : Found) (x : LineKind) → Keeps (codes "event") (line_kind_data x) f (record f { event = Some x })
+put_event f x ms h = record {
+  event = get_put (codes "event") (line_kind_data x) ms;
+  time = get_put_other (codes "time") (codes "event") (line_kind_data x) ms (λ e. cc) ∙ h.time;
+  space = get_put_other (codes "space") (codes "event") (line_kind_data x) ms (λ e. cc) ∙ h.space;
+  number = get_put_other (codes "number") (codes "event") (line_kind_data x) ms (λ e. cc) ∙ h.number;
+  size = get_put_other (codes "size") (codes "event") (line_kind_data x) ms (λ e. cc) ∙ h.size;
+  eliciting = get_put_other (codes "eliciting") (codes "event") (line_kind_data x) ms (λ e. cc) ∙ h.eliciting;
+  in_flight = get_put_other (codes "in_flight") (codes "event") (line_kind_data x) ms (λ e. cc) ∙ h.in_flight;
+  leave = get_put_other (codes "leave") (codes "event") (line_kind_data x) ms (λ e. cc) ∙ h.leave;
+  ranges = get_put_other (codes "ranges") (codes "event") (line_kind_data x) ms (λ e. cc) ∙ h.ranges;
+  delay = get_put_other (codes "delay") (codes "event") (line_kind_data x) ms (λ e. cc) ∙ h.delay;
+  limited = get_put_other (codes "limited") (codes "event") (line_kind_data x) ms (λ e. cc) ∙ h.limited;
+  kind = get_put_other (codes "kind") (codes "event") (line_kind_data x) ms (λ e. cc) ∙ h.kind;
+  window = get_put_other (codes "window") (codes "event") (line_kind_data x) ms (λ e. cc) ∙ h.window;
+  ssthresh = get_put_other (codes "ssthresh") (codes "event") (line_kind_data x) ms (λ e. cc) ∙ h.ssthresh;
+  bytes_in_flight = get_put_other (codes "bytes_in_flight") (codes "event") (line_kind_data x) ms (λ e. cc) ∙ h.bytes_in_flight;
+  latest_rtt = get_put_other (codes "latest_rtt") (codes "event") (line_kind_data x) ms (λ e. cc) ∙ h.latest_rtt;
+  min_rtt = get_put_other (codes "min_rtt") (codes "event") (line_kind_data x) ms (λ e. cc) ∙ h.min_rtt;
+  smoothed_rtt = get_put_other (codes "smoothed_rtt") (codes "event") (line_kind_data x) ms (λ e. cc) ∙ h.smoothed_rtt;
+  rttvar = get_put_other (codes "rttvar") (codes "event") (line_kind_data x) ms (λ e. cc) ∙ h.rttvar;
+  are_words = h.are_words;
+  are_ranges = h.are_ranges;
+}
+
+pub put_time : (f : Found) (x : ℕ) → Keeps (codes "time") (integer x) f (record f { time = Some x })
+put_time f x ms h = record {
+  event = get_put_other (codes "event") (codes "time") (integer x) ms (λ e. cc) ∙ h.event;
+  time = get_put (codes "time") (integer x) ms;
+  space = get_put_other (codes "space") (codes "time") (integer x) ms (λ e. cc) ∙ h.space;
+  number = get_put_other (codes "number") (codes "time") (integer x) ms (λ e. cc) ∙ h.number;
+  size = get_put_other (codes "size") (codes "time") (integer x) ms (λ e. cc) ∙ h.size;
+  eliciting = get_put_other (codes "eliciting") (codes "time") (integer x) ms (λ e. cc) ∙ h.eliciting;
+  in_flight = get_put_other (codes "in_flight") (codes "time") (integer x) ms (λ e. cc) ∙ h.in_flight;
+  leave = get_put_other (codes "leave") (codes "time") (integer x) ms (λ e. cc) ∙ h.leave;
+  ranges = get_put_other (codes "ranges") (codes "time") (integer x) ms (λ e. cc) ∙ h.ranges;
+  delay = get_put_other (codes "delay") (codes "time") (integer x) ms (λ e. cc) ∙ h.delay;
+  limited = get_put_other (codes "limited") (codes "time") (integer x) ms (λ e. cc) ∙ h.limited;
+  kind = get_put_other (codes "kind") (codes "time") (integer x) ms (λ e. cc) ∙ h.kind;
+  window = get_put_other (codes "window") (codes "time") (integer x) ms (λ e. cc) ∙ h.window;
+  ssthresh = get_put_other (codes "ssthresh") (codes "time") (integer x) ms (λ e. cc) ∙ h.ssthresh;
+  bytes_in_flight = get_put_other (codes "bytes_in_flight") (codes "time") (integer x) ms (λ e. cc) ∙ h.bytes_in_flight;
+  latest_rtt = get_put_other (codes "latest_rtt") (codes "time") (integer x) ms (λ e. cc) ∙ h.latest_rtt;
+  min_rtt = get_put_other (codes "min_rtt") (codes "time") (integer x) ms (λ e. cc) ∙ h.min_rtt;
+  smoothed_rtt = get_put_other (codes "smoothed_rtt") (codes "time") (integer x) ms (λ e. cc) ∙ h.smoothed_rtt;
+  rttvar = get_put_other (codes "rttvar") (codes "time") (integer x) ms (λ e. cc) ∙ h.rttvar;
+  are_words = h.are_words;
+  are_ranges = h.are_ranges;
+}
+
+pub put_space : (f : Found) (x : Space) → Keeps (codes "space") (space_data x) f (record f { space = Some x })
+put_space f x ms h = record {
+  event = get_put_other (codes "event") (codes "space") (space_data x) ms (λ e. cc) ∙ h.event;
+  time = get_put_other (codes "time") (codes "space") (space_data x) ms (λ e. cc) ∙ h.time;
+  space = get_put (codes "space") (space_data x) ms;
+  number = get_put_other (codes "number") (codes "space") (space_data x) ms (λ e. cc) ∙ h.number;
+  size = get_put_other (codes "size") (codes "space") (space_data x) ms (λ e. cc) ∙ h.size;
+  eliciting = get_put_other (codes "eliciting") (codes "space") (space_data x) ms (λ e. cc) ∙ h.eliciting;
+  in_flight = get_put_other (codes "in_flight") (codes "space") (space_data x) ms (λ e. cc) ∙ h.in_flight;
+  leave = get_put_other (codes "leave") (codes "space") (space_data x) ms (λ e. cc) ∙ h.leave;
+  ranges = get_put_other (codes "ranges") (codes "space") (space_data x) ms (λ e. cc) ∙ h.ranges;
+  delay = get_put_other (codes "delay") (codes "space") (space_data x) ms (λ e. cc) ∙ h.delay;
+  limited = get_put_other (codes "limited") (codes "space") (space_data x) ms (λ e. cc) ∙ h.limited;
+  kind = get_put_other (codes "kind") (codes "space") (space_data x) ms (λ e. cc) ∙ h.kind;
+  window = get_put_other (codes "window") (codes "space") (space_data x) ms (λ e. cc) ∙ h.window;
+  ssthresh = get_put_other (codes "ssthresh") (codes "space") (space_data x) ms (λ e. cc) ∙ h.ssthresh;
+  bytes_in_flight = get_put_other (codes "bytes_in_flight") (codes "space") (space_data x) ms (λ e. cc) ∙ h.bytes_in_flight;
+  latest_rtt = get_put_other (codes "latest_rtt") (codes "space") (space_data x) ms (λ e. cc) ∙ h.latest_rtt;
+  min_rtt = get_put_other (codes "min_rtt") (codes "space") (space_data x) ms (λ e. cc) ∙ h.min_rtt;
+  smoothed_rtt = get_put_other (codes "smoothed_rtt") (codes "space") (space_data x) ms (λ e. cc) ∙ h.smoothed_rtt;
+  rttvar = get_put_other (codes "rttvar") (codes "space") (space_data x) ms (λ e. cc) ∙ h.rttvar;
+  are_words = h.are_words;
+  are_ranges = h.are_ranges;
+}
+
+pub put_number : (f : Found) (x : ℕ) → Keeps (codes "number") (integer x) f (record f { number = Some x })
+put_number f x ms h = record {
+  event = get_put_other (codes "event") (codes "number") (integer x) ms (λ e. cc) ∙ h.event;
+  time = get_put_other (codes "time") (codes "number") (integer x) ms (λ e. cc) ∙ h.time;
+  space = get_put_other (codes "space") (codes "number") (integer x) ms (λ e. cc) ∙ h.space;
+  number = get_put (codes "number") (integer x) ms;
+  size = get_put_other (codes "size") (codes "number") (integer x) ms (λ e. cc) ∙ h.size;
+  eliciting = get_put_other (codes "eliciting") (codes "number") (integer x) ms (λ e. cc) ∙ h.eliciting;
+  in_flight = get_put_other (codes "in_flight") (codes "number") (integer x) ms (λ e. cc) ∙ h.in_flight;
+  leave = get_put_other (codes "leave") (codes "number") (integer x) ms (λ e. cc) ∙ h.leave;
+  ranges = get_put_other (codes "ranges") (codes "number") (integer x) ms (λ e. cc) ∙ h.ranges;
+  delay = get_put_other (codes "delay") (codes "number") (integer x) ms (λ e. cc) ∙ h.delay;
+  limited = get_put_other (codes "limited") (codes "number") (integer x) ms (λ e. cc) ∙ h.limited;
+  kind = get_put_other (codes "kind") (codes "number") (integer x) ms (λ e. cc) ∙ h.kind;
+  window = get_put_other (codes "window") (codes "number") (integer x) ms (λ e. cc) ∙ h.window;
+  ssthresh = get_put_other (codes "ssthresh") (codes "number") (integer x) ms (λ e. cc) ∙ h.ssthresh;
+  bytes_in_flight = get_put_other (codes "bytes_in_flight") (codes "number") (integer x) ms (λ e. cc) ∙ h.bytes_in_flight;
+  latest_rtt = get_put_other (codes "latest_rtt") (codes "number") (integer x) ms (λ e. cc) ∙ h.latest_rtt;
+  min_rtt = get_put_other (codes "min_rtt") (codes "number") (integer x) ms (λ e. cc) ∙ h.min_rtt;
+  smoothed_rtt = get_put_other (codes "smoothed_rtt") (codes "number") (integer x) ms (λ e. cc) ∙ h.smoothed_rtt;
+  rttvar = get_put_other (codes "rttvar") (codes "number") (integer x) ms (λ e. cc) ∙ h.rttvar;
+  are_words = h.are_words;
+  are_ranges = h.are_ranges;
+}
+
+pub put_size : (f : Found) (x : ℕ) → Keeps (codes "size") (integer x) f (record f { size = Some x })
+put_size f x ms h = record {
+  event = get_put_other (codes "event") (codes "size") (integer x) ms (λ e. cc) ∙ h.event;
+  time = get_put_other (codes "time") (codes "size") (integer x) ms (λ e. cc) ∙ h.time;
+  space = get_put_other (codes "space") (codes "size") (integer x) ms (λ e. cc) ∙ h.space;
+  number = get_put_other (codes "number") (codes "size") (integer x) ms (λ e. cc) ∙ h.number;
+  size = get_put (codes "size") (integer x) ms;
+  eliciting = get_put_other (codes "eliciting") (codes "size") (integer x) ms (λ e. cc) ∙ h.eliciting;
+  in_flight = get_put_other (codes "in_flight") (codes "size") (integer x) ms (λ e. cc) ∙ h.in_flight;
+  leave = get_put_other (codes "leave") (codes "size") (integer x) ms (λ e. cc) ∙ h.leave;
+  ranges = get_put_other (codes "ranges") (codes "size") (integer x) ms (λ e. cc) ∙ h.ranges;
+  delay = get_put_other (codes "delay") (codes "size") (integer x) ms (λ e. cc) ∙ h.delay;
+  limited = get_put_other (codes "limited") (codes "size") (integer x) ms (λ e. cc) ∙ h.limited;
+  kind = get_put_other (codes "kind") (codes "size") (integer x) ms (λ e. cc) ∙ h.kind;
+  window = get_put_other (codes "window") (codes "size") (integer x) ms (λ e. cc) ∙ h.window;
+  ssthresh = get_put_other (codes "ssthresh") (codes "size") (integer x) ms (λ e. cc) ∙ h.ssthresh;
+  bytes_in_flight = get_put_other (codes "bytes_in_flight") (codes "size") (integer x) ms (λ e. cc) ∙ h.bytes_in_flight;
+  latest_rtt = get_put_other (codes "latest_rtt") (codes "size") (integer x) ms (λ e. cc) ∙ h.latest_rtt;
+  min_rtt = get_put_other (codes "min_rtt") (codes "size") (integer x) ms (λ e. cc) ∙ h.min_rtt;
+  smoothed_rtt = get_put_other (codes "smoothed_rtt") (codes "size") (integer x) ms (λ e. cc) ∙ h.smoothed_rtt;
+  rttvar = get_put_other (codes "rttvar") (codes "size") (integer x) ms (λ e. cc) ∙ h.rttvar;
+  are_words = h.are_words;
+  are_ranges = h.are_ranges;
+}
+
+pub put_eliciting : (f : Found) (x : Bool) → Keeps (codes "eliciting") (boolean x) f (record f { eliciting = Some x })
+put_eliciting f x ms h = record {
+  event = get_put_other (codes "event") (codes "eliciting") (boolean x) ms (λ e. cc) ∙ h.event;
+  time = get_put_other (codes "time") (codes "eliciting") (boolean x) ms (λ e. cc) ∙ h.time;
+  space = get_put_other (codes "space") (codes "eliciting") (boolean x) ms (λ e. cc) ∙ h.space;
+  number = get_put_other (codes "number") (codes "eliciting") (boolean x) ms (λ e. cc) ∙ h.number;
+  size = get_put_other (codes "size") (codes "eliciting") (boolean x) ms (λ e. cc) ∙ h.size;
+  eliciting = get_put (codes "eliciting") (boolean x) ms;
+  in_flight = get_put_other (codes "in_flight") (codes "eliciting") (boolean x) ms (λ e. cc) ∙ h.in_flight;
+  leave = get_put_other (codes "leave") (codes "eliciting") (boolean x) ms (λ e. cc) ∙ h.leave;
+  ranges = get_put_other (codes "ranges") (codes "eliciting") (boolean x) ms (λ e. cc) ∙ h.ranges;
+  delay = get_put_other (codes "delay") (codes "eliciting") (boolean x) ms (λ e. cc) ∙ h.delay;
+  limited = get_put_other (codes "limited") (codes "eliciting") (boolean x) ms (λ e. cc) ∙ h.limited;
+  kind = get_put_other (codes "kind") (codes "eliciting") (boolean x) ms (λ e. cc) ∙ h.kind;
+  window = get_put_other (codes "window") (codes "eliciting") (boolean x) ms (λ e. cc) ∙ h.window;
+  ssthresh = get_put_other (codes "ssthresh") (codes "eliciting") (boolean x) ms (λ e. cc) ∙ h.ssthresh;
+  bytes_in_flight = get_put_other (codes "bytes_in_flight") (codes "eliciting") (boolean x) ms (λ e. cc) ∙ h.bytes_in_flight;
+  latest_rtt = get_put_other (codes "latest_rtt") (codes "eliciting") (boolean x) ms (λ e. cc) ∙ h.latest_rtt;
+  min_rtt = get_put_other (codes "min_rtt") (codes "eliciting") (boolean x) ms (λ e. cc) ∙ h.min_rtt;
+  smoothed_rtt = get_put_other (codes "smoothed_rtt") (codes "eliciting") (boolean x) ms (λ e. cc) ∙ h.smoothed_rtt;
+  rttvar = get_put_other (codes "rttvar") (codes "eliciting") (boolean x) ms (λ e. cc) ∙ h.rttvar;
+  are_words = h.are_words;
+  are_ranges = h.are_ranges;
+}
+
+pub put_in_flight : (f : Found) (x : Bool) → Keeps (codes "in_flight") (boolean x) f (record f { in_flight = Some x })
+put_in_flight f x ms h = record {
+  event = get_put_other (codes "event") (codes "in_flight") (boolean x) ms (λ e. cc) ∙ h.event;
+  time = get_put_other (codes "time") (codes "in_flight") (boolean x) ms (λ e. cc) ∙ h.time;
+  space = get_put_other (codes "space") (codes "in_flight") (boolean x) ms (λ e. cc) ∙ h.space;
+  number = get_put_other (codes "number") (codes "in_flight") (boolean x) ms (λ e. cc) ∙ h.number;
+  size = get_put_other (codes "size") (codes "in_flight") (boolean x) ms (λ e. cc) ∙ h.size;
+  eliciting = get_put_other (codes "eliciting") (codes "in_flight") (boolean x) ms (λ e. cc) ∙ h.eliciting;
+  in_flight = get_put (codes "in_flight") (boolean x) ms;
+  leave = get_put_other (codes "leave") (codes "in_flight") (boolean x) ms (λ e. cc) ∙ h.leave;
+  ranges = get_put_other (codes "ranges") (codes "in_flight") (boolean x) ms (λ e. cc) ∙ h.ranges;
+  delay = get_put_other (codes "delay") (codes "in_flight") (boolean x) ms (λ e. cc) ∙ h.delay;
+  limited = get_put_other (codes "limited") (codes "in_flight") (boolean x) ms (λ e. cc) ∙ h.limited;
+  kind = get_put_other (codes "kind") (codes "in_flight") (boolean x) ms (λ e. cc) ∙ h.kind;
+  window = get_put_other (codes "window") (codes "in_flight") (boolean x) ms (λ e. cc) ∙ h.window;
+  ssthresh = get_put_other (codes "ssthresh") (codes "in_flight") (boolean x) ms (λ e. cc) ∙ h.ssthresh;
+  bytes_in_flight = get_put_other (codes "bytes_in_flight") (codes "in_flight") (boolean x) ms (λ e. cc) ∙ h.bytes_in_flight;
+  latest_rtt = get_put_other (codes "latest_rtt") (codes "in_flight") (boolean x) ms (λ e. cc) ∙ h.latest_rtt;
+  min_rtt = get_put_other (codes "min_rtt") (codes "in_flight") (boolean x) ms (λ e. cc) ∙ h.min_rtt;
+  smoothed_rtt = get_put_other (codes "smoothed_rtt") (codes "in_flight") (boolean x) ms (λ e. cc) ∙ h.smoothed_rtt;
+  rttvar = get_put_other (codes "rttvar") (codes "in_flight") (boolean x) ms (λ e. cc) ∙ h.rttvar;
+  are_words = h.are_words;
+  are_ranges = h.are_ranges;
+}
+
+pub put_leave : (f : Found) (x : Leave) → Keeps (codes "leave") (leave_data x) f (record f { leave = Some x })
+put_leave f x ms h = record {
+  event = get_put_other (codes "event") (codes "leave") (leave_data x) ms (λ e. cc) ∙ h.event;
+  time = get_put_other (codes "time") (codes "leave") (leave_data x) ms (λ e. cc) ∙ h.time;
+  space = get_put_other (codes "space") (codes "leave") (leave_data x) ms (λ e. cc) ∙ h.space;
+  number = get_put_other (codes "number") (codes "leave") (leave_data x) ms (λ e. cc) ∙ h.number;
+  size = get_put_other (codes "size") (codes "leave") (leave_data x) ms (λ e. cc) ∙ h.size;
+  eliciting = get_put_other (codes "eliciting") (codes "leave") (leave_data x) ms (λ e. cc) ∙ h.eliciting;
+  in_flight = get_put_other (codes "in_flight") (codes "leave") (leave_data x) ms (λ e. cc) ∙ h.in_flight;
+  leave = get_put (codes "leave") (leave_data x) ms;
+  ranges = get_put_other (codes "ranges") (codes "leave") (leave_data x) ms (λ e. cc) ∙ h.ranges;
+  delay = get_put_other (codes "delay") (codes "leave") (leave_data x) ms (λ e. cc) ∙ h.delay;
+  limited = get_put_other (codes "limited") (codes "leave") (leave_data x) ms (λ e. cc) ∙ h.limited;
+  kind = get_put_other (codes "kind") (codes "leave") (leave_data x) ms (λ e. cc) ∙ h.kind;
+  window = get_put_other (codes "window") (codes "leave") (leave_data x) ms (λ e. cc) ∙ h.window;
+  ssthresh = get_put_other (codes "ssthresh") (codes "leave") (leave_data x) ms (λ e. cc) ∙ h.ssthresh;
+  bytes_in_flight = get_put_other (codes "bytes_in_flight") (codes "leave") (leave_data x) ms (λ e. cc) ∙ h.bytes_in_flight;
+  latest_rtt = get_put_other (codes "latest_rtt") (codes "leave") (leave_data x) ms (λ e. cc) ∙ h.latest_rtt;
+  min_rtt = get_put_other (codes "min_rtt") (codes "leave") (leave_data x) ms (λ e. cc) ∙ h.min_rtt;
+  smoothed_rtt = get_put_other (codes "smoothed_rtt") (codes "leave") (leave_data x) ms (λ e. cc) ∙ h.smoothed_rtt;
+  rttvar = get_put_other (codes "rttvar") (codes "leave") (leave_data x) ms (λ e. cc) ∙ h.rttvar;
+  are_words = h.are_words;
+  are_ranges = h.are_ranges;
+}
+
+pub put_ranges : (f : Found) (x : Spans) → has_ranges x ≡ true → AllByRecursion IsRange x → Keeps (codes "ranges") (ranges_data x) f (record f { ranges = Some x })
+put_ranges f x some are ms h = record {
+  event = get_put_other (codes "event") (codes "ranges") (ranges_data x) ms (λ e. cc) ∙ h.event;
+  time = get_put_other (codes "time") (codes "ranges") (ranges_data x) ms (λ e. cc) ∙ h.time;
+  space = get_put_other (codes "space") (codes "ranges") (ranges_data x) ms (λ e. cc) ∙ h.space;
+  number = get_put_other (codes "number") (codes "ranges") (ranges_data x) ms (λ e. cc) ∙ h.number;
+  size = get_put_other (codes "size") (codes "ranges") (ranges_data x) ms (λ e. cc) ∙ h.size;
+  eliciting = get_put_other (codes "eliciting") (codes "ranges") (ranges_data x) ms (λ e. cc) ∙ h.eliciting;
+  in_flight = get_put_other (codes "in_flight") (codes "ranges") (ranges_data x) ms (λ e. cc) ∙ h.in_flight;
+  leave = get_put_other (codes "leave") (codes "ranges") (ranges_data x) ms (λ e. cc) ∙ h.leave;
+  ranges = get_put (codes "ranges") (ranges_data x) ms;
+  delay = get_put_other (codes "delay") (codes "ranges") (ranges_data x) ms (λ e. cc) ∙ h.delay;
+  limited = get_put_other (codes "limited") (codes "ranges") (ranges_data x) ms (λ e. cc) ∙ h.limited;
+  kind = get_put_other (codes "kind") (codes "ranges") (ranges_data x) ms (λ e. cc) ∙ h.kind;
+  window = get_put_other (codes "window") (codes "ranges") (ranges_data x) ms (λ e. cc) ∙ h.window;
+  ssthresh = get_put_other (codes "ssthresh") (codes "ranges") (ranges_data x) ms (λ e. cc) ∙ h.ssthresh;
+  bytes_in_flight = get_put_other (codes "bytes_in_flight") (codes "ranges") (ranges_data x) ms (λ e. cc) ∙ h.bytes_in_flight;
+  latest_rtt = get_put_other (codes "latest_rtt") (codes "ranges") (ranges_data x) ms (λ e. cc) ∙ h.latest_rtt;
+  min_rtt = get_put_other (codes "min_rtt") (codes "ranges") (ranges_data x) ms (λ e. cc) ∙ h.min_rtt;
+  smoothed_rtt = get_put_other (codes "smoothed_rtt") (codes "ranges") (ranges_data x) ms (λ e. cc) ∙ h.smoothed_rtt;
+  rttvar = get_put_other (codes "rttvar") (codes "ranges") (ranges_data x) ms (λ e. cc) ∙ h.rttvar;
+  are_words = h.are_words;
+  are_ranges = (some, are);
+}
+
+pub put_delay : (f : Found) (x : ℕ) → Keeps (codes "delay") (integer x) f (record f { delay = Some x })
+put_delay f x ms h = record {
+  event = get_put_other (codes "event") (codes "delay") (integer x) ms (λ e. cc) ∙ h.event;
+  time = get_put_other (codes "time") (codes "delay") (integer x) ms (λ e. cc) ∙ h.time;
+  space = get_put_other (codes "space") (codes "delay") (integer x) ms (λ e. cc) ∙ h.space;
+  number = get_put_other (codes "number") (codes "delay") (integer x) ms (λ e. cc) ∙ h.number;
+  size = get_put_other (codes "size") (codes "delay") (integer x) ms (λ e. cc) ∙ h.size;
+  eliciting = get_put_other (codes "eliciting") (codes "delay") (integer x) ms (λ e. cc) ∙ h.eliciting;
+  in_flight = get_put_other (codes "in_flight") (codes "delay") (integer x) ms (λ e. cc) ∙ h.in_flight;
+  leave = get_put_other (codes "leave") (codes "delay") (integer x) ms (λ e. cc) ∙ h.leave;
+  ranges = get_put_other (codes "ranges") (codes "delay") (integer x) ms (λ e. cc) ∙ h.ranges;
+  delay = get_put (codes "delay") (integer x) ms;
+  limited = get_put_other (codes "limited") (codes "delay") (integer x) ms (λ e. cc) ∙ h.limited;
+  kind = get_put_other (codes "kind") (codes "delay") (integer x) ms (λ e. cc) ∙ h.kind;
+  window = get_put_other (codes "window") (codes "delay") (integer x) ms (λ e. cc) ∙ h.window;
+  ssthresh = get_put_other (codes "ssthresh") (codes "delay") (integer x) ms (λ e. cc) ∙ h.ssthresh;
+  bytes_in_flight = get_put_other (codes "bytes_in_flight") (codes "delay") (integer x) ms (λ e. cc) ∙ h.bytes_in_flight;
+  latest_rtt = get_put_other (codes "latest_rtt") (codes "delay") (integer x) ms (λ e. cc) ∙ h.latest_rtt;
+  min_rtt = get_put_other (codes "min_rtt") (codes "delay") (integer x) ms (λ e. cc) ∙ h.min_rtt;
+  smoothed_rtt = get_put_other (codes "smoothed_rtt") (codes "delay") (integer x) ms (λ e. cc) ∙ h.smoothed_rtt;
+  rttvar = get_put_other (codes "rttvar") (codes "delay") (integer x) ms (λ e. cc) ∙ h.rttvar;
+  are_words = h.are_words;
+  are_ranges = h.are_ranges;
+}
+
+pub put_limited : (f : Found) (x : Bool) → Keeps (codes "limited") (boolean x) f (record f { limited = Some x })
+put_limited f x ms h = record {
+  event = get_put_other (codes "event") (codes "limited") (boolean x) ms (λ e. cc) ∙ h.event;
+  time = get_put_other (codes "time") (codes "limited") (boolean x) ms (λ e. cc) ∙ h.time;
+  space = get_put_other (codes "space") (codes "limited") (boolean x) ms (λ e. cc) ∙ h.space;
+  number = get_put_other (codes "number") (codes "limited") (boolean x) ms (λ e. cc) ∙ h.number;
+  size = get_put_other (codes "size") (codes "limited") (boolean x) ms (λ e. cc) ∙ h.size;
+  eliciting = get_put_other (codes "eliciting") (codes "limited") (boolean x) ms (λ e. cc) ∙ h.eliciting;
+  in_flight = get_put_other (codes "in_flight") (codes "limited") (boolean x) ms (λ e. cc) ∙ h.in_flight;
+  leave = get_put_other (codes "leave") (codes "limited") (boolean x) ms (λ e. cc) ∙ h.leave;
+  ranges = get_put_other (codes "ranges") (codes "limited") (boolean x) ms (λ e. cc) ∙ h.ranges;
+  delay = get_put_other (codes "delay") (codes "limited") (boolean x) ms (λ e. cc) ∙ h.delay;
+  limited = get_put (codes "limited") (boolean x) ms;
+  kind = get_put_other (codes "kind") (codes "limited") (boolean x) ms (λ e. cc) ∙ h.kind;
+  window = get_put_other (codes "window") (codes "limited") (boolean x) ms (λ e. cc) ∙ h.window;
+  ssthresh = get_put_other (codes "ssthresh") (codes "limited") (boolean x) ms (λ e. cc) ∙ h.ssthresh;
+  bytes_in_flight = get_put_other (codes "bytes_in_flight") (codes "limited") (boolean x) ms (λ e. cc) ∙ h.bytes_in_flight;
+  latest_rtt = get_put_other (codes "latest_rtt") (codes "limited") (boolean x) ms (λ e. cc) ∙ h.latest_rtt;
+  min_rtt = get_put_other (codes "min_rtt") (codes "limited") (boolean x) ms (λ e. cc) ∙ h.min_rtt;
+  smoothed_rtt = get_put_other (codes "smoothed_rtt") (codes "limited") (boolean x) ms (λ e. cc) ∙ h.smoothed_rtt;
+  rttvar = get_put_other (codes "rttvar") (codes "limited") (boolean x) ms (λ e. cc) ∙ h.rttvar;
+  are_words = h.are_words;
+  are_ranges = h.are_ranges;
+}
+
+pub put_kind : (f : Found) (x : Kind) → Keeps (codes "kind") (kind_data x) f (record f { kind = Some x })
+put_kind f x ms h = record {
+  event = get_put_other (codes "event") (codes "kind") (kind_data x) ms (λ e. cc) ∙ h.event;
+  time = get_put_other (codes "time") (codes "kind") (kind_data x) ms (λ e. cc) ∙ h.time;
+  space = get_put_other (codes "space") (codes "kind") (kind_data x) ms (λ e. cc) ∙ h.space;
+  number = get_put_other (codes "number") (codes "kind") (kind_data x) ms (λ e. cc) ∙ h.number;
+  size = get_put_other (codes "size") (codes "kind") (kind_data x) ms (λ e. cc) ∙ h.size;
+  eliciting = get_put_other (codes "eliciting") (codes "kind") (kind_data x) ms (λ e. cc) ∙ h.eliciting;
+  in_flight = get_put_other (codes "in_flight") (codes "kind") (kind_data x) ms (λ e. cc) ∙ h.in_flight;
+  leave = get_put_other (codes "leave") (codes "kind") (kind_data x) ms (λ e. cc) ∙ h.leave;
+  ranges = get_put_other (codes "ranges") (codes "kind") (kind_data x) ms (λ e. cc) ∙ h.ranges;
+  delay = get_put_other (codes "delay") (codes "kind") (kind_data x) ms (λ e. cc) ∙ h.delay;
+  limited = get_put_other (codes "limited") (codes "kind") (kind_data x) ms (λ e. cc) ∙ h.limited;
+  kind = get_put (codes "kind") (kind_data x) ms;
+  window = get_put_other (codes "window") (codes "kind") (kind_data x) ms (λ e. cc) ∙ h.window;
+  ssthresh = get_put_other (codes "ssthresh") (codes "kind") (kind_data x) ms (λ e. cc) ∙ h.ssthresh;
+  bytes_in_flight = get_put_other (codes "bytes_in_flight") (codes "kind") (kind_data x) ms (λ e. cc) ∙ h.bytes_in_flight;
+  latest_rtt = get_put_other (codes "latest_rtt") (codes "kind") (kind_data x) ms (λ e. cc) ∙ h.latest_rtt;
+  min_rtt = get_put_other (codes "min_rtt") (codes "kind") (kind_data x) ms (λ e. cc) ∙ h.min_rtt;
+  smoothed_rtt = get_put_other (codes "smoothed_rtt") (codes "kind") (kind_data x) ms (λ e. cc) ∙ h.smoothed_rtt;
+  rttvar = get_put_other (codes "rttvar") (codes "kind") (kind_data x) ms (λ e. cc) ∙ h.rttvar;
+  are_words = h.are_words;
+  are_ranges = h.are_ranges;
+}
+
+-- a value of 64 bits
+is_word : (x : ℕ) → x < 2 ^ 64 → IsWord (Some x)
+is_word x small n is = let same : x ≡ n = cc in rw (← same) small
+
+pub put_window : (f : Found) (x : ℕ) → x < 2 ^ 64 → Keeps (codes "window") (integer x) f (record f { values = record f.values { window = Some x } })
+put_window f x small ms h = record {
+  event = get_put_other (codes "event") (codes "window") (integer x) ms (λ e. cc) ∙ h.event;
+  time = get_put_other (codes "time") (codes "window") (integer x) ms (λ e. cc) ∙ h.time;
+  space = get_put_other (codes "space") (codes "window") (integer x) ms (λ e. cc) ∙ h.space;
+  number = get_put_other (codes "number") (codes "window") (integer x) ms (λ e. cc) ∙ h.number;
+  size = get_put_other (codes "size") (codes "window") (integer x) ms (λ e. cc) ∙ h.size;
+  eliciting = get_put_other (codes "eliciting") (codes "window") (integer x) ms (λ e. cc) ∙ h.eliciting;
+  in_flight = get_put_other (codes "in_flight") (codes "window") (integer x) ms (λ e. cc) ∙ h.in_flight;
+  leave = get_put_other (codes "leave") (codes "window") (integer x) ms (λ e. cc) ∙ h.leave;
+  ranges = get_put_other (codes "ranges") (codes "window") (integer x) ms (λ e. cc) ∙ h.ranges;
+  delay = get_put_other (codes "delay") (codes "window") (integer x) ms (λ e. cc) ∙ h.delay;
+  limited = get_put_other (codes "limited") (codes "window") (integer x) ms (λ e. cc) ∙ h.limited;
+  kind = get_put_other (codes "kind") (codes "window") (integer x) ms (λ e. cc) ∙ h.kind;
+  window = get_put (codes "window") (integer x) ms;
+  ssthresh = get_put_other (codes "ssthresh") (codes "window") (integer x) ms (λ e. cc) ∙ h.ssthresh;
+  bytes_in_flight = get_put_other (codes "bytes_in_flight") (codes "window") (integer x) ms (λ e. cc) ∙ h.bytes_in_flight;
+  latest_rtt = get_put_other (codes "latest_rtt") (codes "window") (integer x) ms (λ e. cc) ∙ h.latest_rtt;
+  min_rtt = get_put_other (codes "min_rtt") (codes "window") (integer x) ms (λ e. cc) ∙ h.min_rtt;
+  smoothed_rtt = get_put_other (codes "smoothed_rtt") (codes "window") (integer x) ms (λ e. cc) ∙ h.smoothed_rtt;
+  rttvar = get_put_other (codes "rttvar") (codes "window") (integer x) ms (λ e. cc) ∙ h.rttvar;
+  are_words = (is_word x small, h.are_words.1, h.are_words.2, h.are_words.3, h.are_words.4, h.are_words.5, h.are_words.6);
+  are_ranges = h.are_ranges;
+}
+
+pub put_ssthresh : (f : Found) (x : ℕ) → x < 2 ^ 64 → Keeps (codes "ssthresh") (integer x) f (record f { values = record f.values { ssthresh = Some x } })
+put_ssthresh f x small ms h = record {
+  event = get_put_other (codes "event") (codes "ssthresh") (integer x) ms (λ e. cc) ∙ h.event;
+  time = get_put_other (codes "time") (codes "ssthresh") (integer x) ms (λ e. cc) ∙ h.time;
+  space = get_put_other (codes "space") (codes "ssthresh") (integer x) ms (λ e. cc) ∙ h.space;
+  number = get_put_other (codes "number") (codes "ssthresh") (integer x) ms (λ e. cc) ∙ h.number;
+  size = get_put_other (codes "size") (codes "ssthresh") (integer x) ms (λ e. cc) ∙ h.size;
+  eliciting = get_put_other (codes "eliciting") (codes "ssthresh") (integer x) ms (λ e. cc) ∙ h.eliciting;
+  in_flight = get_put_other (codes "in_flight") (codes "ssthresh") (integer x) ms (λ e. cc) ∙ h.in_flight;
+  leave = get_put_other (codes "leave") (codes "ssthresh") (integer x) ms (λ e. cc) ∙ h.leave;
+  ranges = get_put_other (codes "ranges") (codes "ssthresh") (integer x) ms (λ e. cc) ∙ h.ranges;
+  delay = get_put_other (codes "delay") (codes "ssthresh") (integer x) ms (λ e. cc) ∙ h.delay;
+  limited = get_put_other (codes "limited") (codes "ssthresh") (integer x) ms (λ e. cc) ∙ h.limited;
+  kind = get_put_other (codes "kind") (codes "ssthresh") (integer x) ms (λ e. cc) ∙ h.kind;
+  window = get_put_other (codes "window") (codes "ssthresh") (integer x) ms (λ e. cc) ∙ h.window;
+  ssthresh = get_put (codes "ssthresh") (integer x) ms;
+  bytes_in_flight = get_put_other (codes "bytes_in_flight") (codes "ssthresh") (integer x) ms (λ e. cc) ∙ h.bytes_in_flight;
+  latest_rtt = get_put_other (codes "latest_rtt") (codes "ssthresh") (integer x) ms (λ e. cc) ∙ h.latest_rtt;
+  min_rtt = get_put_other (codes "min_rtt") (codes "ssthresh") (integer x) ms (λ e. cc) ∙ h.min_rtt;
+  smoothed_rtt = get_put_other (codes "smoothed_rtt") (codes "ssthresh") (integer x) ms (λ e. cc) ∙ h.smoothed_rtt;
+  rttvar = get_put_other (codes "rttvar") (codes "ssthresh") (integer x) ms (λ e. cc) ∙ h.rttvar;
+  are_words = (h.are_words.0, is_word x small, h.are_words.2, h.are_words.3, h.are_words.4, h.are_words.5, h.are_words.6);
+  are_ranges = h.are_ranges;
+}
+
+pub put_bytes_in_flight : (f : Found) (x : ℕ) → x < 2 ^ 64 → Keeps (codes "bytes_in_flight") (integer x) f (record f { values = record f.values { bytes_in_flight = Some x } })
+put_bytes_in_flight f x small ms h = record {
+  event = get_put_other (codes "event") (codes "bytes_in_flight") (integer x) ms (λ e. cc) ∙ h.event;
+  time = get_put_other (codes "time") (codes "bytes_in_flight") (integer x) ms (λ e. cc) ∙ h.time;
+  space = get_put_other (codes "space") (codes "bytes_in_flight") (integer x) ms (λ e. cc) ∙ h.space;
+  number = get_put_other (codes "number") (codes "bytes_in_flight") (integer x) ms (λ e. cc) ∙ h.number;
+  size = get_put_other (codes "size") (codes "bytes_in_flight") (integer x) ms (λ e. cc) ∙ h.size;
+  eliciting = get_put_other (codes "eliciting") (codes "bytes_in_flight") (integer x) ms (λ e. cc) ∙ h.eliciting;
+  in_flight = get_put_other (codes "in_flight") (codes "bytes_in_flight") (integer x) ms (λ e. cc) ∙ h.in_flight;
+  leave = get_put_other (codes "leave") (codes "bytes_in_flight") (integer x) ms (λ e. cc) ∙ h.leave;
+  ranges = get_put_other (codes "ranges") (codes "bytes_in_flight") (integer x) ms (λ e. cc) ∙ h.ranges;
+  delay = get_put_other (codes "delay") (codes "bytes_in_flight") (integer x) ms (λ e. cc) ∙ h.delay;
+  limited = get_put_other (codes "limited") (codes "bytes_in_flight") (integer x) ms (λ e. cc) ∙ h.limited;
+  kind = get_put_other (codes "kind") (codes "bytes_in_flight") (integer x) ms (λ e. cc) ∙ h.kind;
+  window = get_put_other (codes "window") (codes "bytes_in_flight") (integer x) ms (λ e. cc) ∙ h.window;
+  ssthresh = get_put_other (codes "ssthresh") (codes "bytes_in_flight") (integer x) ms (λ e. cc) ∙ h.ssthresh;
+  bytes_in_flight = get_put (codes "bytes_in_flight") (integer x) ms;
+  latest_rtt = get_put_other (codes "latest_rtt") (codes "bytes_in_flight") (integer x) ms (λ e. cc) ∙ h.latest_rtt;
+  min_rtt = get_put_other (codes "min_rtt") (codes "bytes_in_flight") (integer x) ms (λ e. cc) ∙ h.min_rtt;
+  smoothed_rtt = get_put_other (codes "smoothed_rtt") (codes "bytes_in_flight") (integer x) ms (λ e. cc) ∙ h.smoothed_rtt;
+  rttvar = get_put_other (codes "rttvar") (codes "bytes_in_flight") (integer x) ms (λ e. cc) ∙ h.rttvar;
+  are_words = (h.are_words.0, h.are_words.1, is_word x small, h.are_words.3, h.are_words.4, h.are_words.5, h.are_words.6);
+  are_ranges = h.are_ranges;
+}
+
+pub put_latest_rtt : (f : Found) (x : ℕ) → x < 2 ^ 64 → Keeps (codes "latest_rtt") (integer x) f (record f { values = record f.values { latest_rtt = Some x } })
+put_latest_rtt f x small ms h = record {
+  event = get_put_other (codes "event") (codes "latest_rtt") (integer x) ms (λ e. cc) ∙ h.event;
+  time = get_put_other (codes "time") (codes "latest_rtt") (integer x) ms (λ e. cc) ∙ h.time;
+  space = get_put_other (codes "space") (codes "latest_rtt") (integer x) ms (λ e. cc) ∙ h.space;
+  number = get_put_other (codes "number") (codes "latest_rtt") (integer x) ms (λ e. cc) ∙ h.number;
+  size = get_put_other (codes "size") (codes "latest_rtt") (integer x) ms (λ e. cc) ∙ h.size;
+  eliciting = get_put_other (codes "eliciting") (codes "latest_rtt") (integer x) ms (λ e. cc) ∙ h.eliciting;
+  in_flight = get_put_other (codes "in_flight") (codes "latest_rtt") (integer x) ms (λ e. cc) ∙ h.in_flight;
+  leave = get_put_other (codes "leave") (codes "latest_rtt") (integer x) ms (λ e. cc) ∙ h.leave;
+  ranges = get_put_other (codes "ranges") (codes "latest_rtt") (integer x) ms (λ e. cc) ∙ h.ranges;
+  delay = get_put_other (codes "delay") (codes "latest_rtt") (integer x) ms (λ e. cc) ∙ h.delay;
+  limited = get_put_other (codes "limited") (codes "latest_rtt") (integer x) ms (λ e. cc) ∙ h.limited;
+  kind = get_put_other (codes "kind") (codes "latest_rtt") (integer x) ms (λ e. cc) ∙ h.kind;
+  window = get_put_other (codes "window") (codes "latest_rtt") (integer x) ms (λ e. cc) ∙ h.window;
+  ssthresh = get_put_other (codes "ssthresh") (codes "latest_rtt") (integer x) ms (λ e. cc) ∙ h.ssthresh;
+  bytes_in_flight = get_put_other (codes "bytes_in_flight") (codes "latest_rtt") (integer x) ms (λ e. cc) ∙ h.bytes_in_flight;
+  latest_rtt = get_put (codes "latest_rtt") (integer x) ms;
+  min_rtt = get_put_other (codes "min_rtt") (codes "latest_rtt") (integer x) ms (λ e. cc) ∙ h.min_rtt;
+  smoothed_rtt = get_put_other (codes "smoothed_rtt") (codes "latest_rtt") (integer x) ms (λ e. cc) ∙ h.smoothed_rtt;
+  rttvar = get_put_other (codes "rttvar") (codes "latest_rtt") (integer x) ms (λ e. cc) ∙ h.rttvar;
+  are_words = (h.are_words.0, h.are_words.1, h.are_words.2, is_word x small, h.are_words.4, h.are_words.5, h.are_words.6);
+  are_ranges = h.are_ranges;
+}
+
+pub put_min_rtt : (f : Found) (x : ℕ) → x < 2 ^ 64 → Keeps (codes "min_rtt") (integer x) f (record f { values = record f.values { min_rtt = Some x } })
+put_min_rtt f x small ms h = record {
+  event = get_put_other (codes "event") (codes "min_rtt") (integer x) ms (λ e. cc) ∙ h.event;
+  time = get_put_other (codes "time") (codes "min_rtt") (integer x) ms (λ e. cc) ∙ h.time;
+  space = get_put_other (codes "space") (codes "min_rtt") (integer x) ms (λ e. cc) ∙ h.space;
+  number = get_put_other (codes "number") (codes "min_rtt") (integer x) ms (λ e. cc) ∙ h.number;
+  size = get_put_other (codes "size") (codes "min_rtt") (integer x) ms (λ e. cc) ∙ h.size;
+  eliciting = get_put_other (codes "eliciting") (codes "min_rtt") (integer x) ms (λ e. cc) ∙ h.eliciting;
+  in_flight = get_put_other (codes "in_flight") (codes "min_rtt") (integer x) ms (λ e. cc) ∙ h.in_flight;
+  leave = get_put_other (codes "leave") (codes "min_rtt") (integer x) ms (λ e. cc) ∙ h.leave;
+  ranges = get_put_other (codes "ranges") (codes "min_rtt") (integer x) ms (λ e. cc) ∙ h.ranges;
+  delay = get_put_other (codes "delay") (codes "min_rtt") (integer x) ms (λ e. cc) ∙ h.delay;
+  limited = get_put_other (codes "limited") (codes "min_rtt") (integer x) ms (λ e. cc) ∙ h.limited;
+  kind = get_put_other (codes "kind") (codes "min_rtt") (integer x) ms (λ e. cc) ∙ h.kind;
+  window = get_put_other (codes "window") (codes "min_rtt") (integer x) ms (λ e. cc) ∙ h.window;
+  ssthresh = get_put_other (codes "ssthresh") (codes "min_rtt") (integer x) ms (λ e. cc) ∙ h.ssthresh;
+  bytes_in_flight = get_put_other (codes "bytes_in_flight") (codes "min_rtt") (integer x) ms (λ e. cc) ∙ h.bytes_in_flight;
+  latest_rtt = get_put_other (codes "latest_rtt") (codes "min_rtt") (integer x) ms (λ e. cc) ∙ h.latest_rtt;
+  min_rtt = get_put (codes "min_rtt") (integer x) ms;
+  smoothed_rtt = get_put_other (codes "smoothed_rtt") (codes "min_rtt") (integer x) ms (λ e. cc) ∙ h.smoothed_rtt;
+  rttvar = get_put_other (codes "rttvar") (codes "min_rtt") (integer x) ms (λ e. cc) ∙ h.rttvar;
+  are_words = (h.are_words.0, h.are_words.1, h.are_words.2, h.are_words.3, is_word x small, h.are_words.5, h.are_words.6);
+  are_ranges = h.are_ranges;
+}
+
+pub put_smoothed_rtt : (f : Found) (x : ℕ) → x < 2 ^ 64 → Keeps (codes "smoothed_rtt") (integer x) f (record f { values = record f.values { smoothed_rtt = Some x } })
+put_smoothed_rtt f x small ms h = record {
+  event = get_put_other (codes "event") (codes "smoothed_rtt") (integer x) ms (λ e. cc) ∙ h.event;
+  time = get_put_other (codes "time") (codes "smoothed_rtt") (integer x) ms (λ e. cc) ∙ h.time;
+  space = get_put_other (codes "space") (codes "smoothed_rtt") (integer x) ms (λ e. cc) ∙ h.space;
+  number = get_put_other (codes "number") (codes "smoothed_rtt") (integer x) ms (λ e. cc) ∙ h.number;
+  size = get_put_other (codes "size") (codes "smoothed_rtt") (integer x) ms (λ e. cc) ∙ h.size;
+  eliciting = get_put_other (codes "eliciting") (codes "smoothed_rtt") (integer x) ms (λ e. cc) ∙ h.eliciting;
+  in_flight = get_put_other (codes "in_flight") (codes "smoothed_rtt") (integer x) ms (λ e. cc) ∙ h.in_flight;
+  leave = get_put_other (codes "leave") (codes "smoothed_rtt") (integer x) ms (λ e. cc) ∙ h.leave;
+  ranges = get_put_other (codes "ranges") (codes "smoothed_rtt") (integer x) ms (λ e. cc) ∙ h.ranges;
+  delay = get_put_other (codes "delay") (codes "smoothed_rtt") (integer x) ms (λ e. cc) ∙ h.delay;
+  limited = get_put_other (codes "limited") (codes "smoothed_rtt") (integer x) ms (λ e. cc) ∙ h.limited;
+  kind = get_put_other (codes "kind") (codes "smoothed_rtt") (integer x) ms (λ e. cc) ∙ h.kind;
+  window = get_put_other (codes "window") (codes "smoothed_rtt") (integer x) ms (λ e. cc) ∙ h.window;
+  ssthresh = get_put_other (codes "ssthresh") (codes "smoothed_rtt") (integer x) ms (λ e. cc) ∙ h.ssthresh;
+  bytes_in_flight = get_put_other (codes "bytes_in_flight") (codes "smoothed_rtt") (integer x) ms (λ e. cc) ∙ h.bytes_in_flight;
+  latest_rtt = get_put_other (codes "latest_rtt") (codes "smoothed_rtt") (integer x) ms (λ e. cc) ∙ h.latest_rtt;
+  min_rtt = get_put_other (codes "min_rtt") (codes "smoothed_rtt") (integer x) ms (λ e. cc) ∙ h.min_rtt;
+  smoothed_rtt = get_put (codes "smoothed_rtt") (integer x) ms;
+  rttvar = get_put_other (codes "rttvar") (codes "smoothed_rtt") (integer x) ms (λ e. cc) ∙ h.rttvar;
+  are_words = (h.are_words.0, h.are_words.1, h.are_words.2, h.are_words.3, h.are_words.4, is_word x small, h.are_words.6);
+  are_ranges = h.are_ranges;
+}
+
+pub put_rttvar : (f : Found) (x : ℕ) → x < 2 ^ 64 → Keeps (codes "rttvar") (integer x) f (record f { values = record f.values { rttvar = Some x } })
+put_rttvar f x small ms h = record {
+  event = get_put_other (codes "event") (codes "rttvar") (integer x) ms (λ e. cc) ∙ h.event;
+  time = get_put_other (codes "time") (codes "rttvar") (integer x) ms (λ e. cc) ∙ h.time;
+  space = get_put_other (codes "space") (codes "rttvar") (integer x) ms (λ e. cc) ∙ h.space;
+  number = get_put_other (codes "number") (codes "rttvar") (integer x) ms (λ e. cc) ∙ h.number;
+  size = get_put_other (codes "size") (codes "rttvar") (integer x) ms (λ e. cc) ∙ h.size;
+  eliciting = get_put_other (codes "eliciting") (codes "rttvar") (integer x) ms (λ e. cc) ∙ h.eliciting;
+  in_flight = get_put_other (codes "in_flight") (codes "rttvar") (integer x) ms (λ e. cc) ∙ h.in_flight;
+  leave = get_put_other (codes "leave") (codes "rttvar") (integer x) ms (λ e. cc) ∙ h.leave;
+  ranges = get_put_other (codes "ranges") (codes "rttvar") (integer x) ms (λ e. cc) ∙ h.ranges;
+  delay = get_put_other (codes "delay") (codes "rttvar") (integer x) ms (λ e. cc) ∙ h.delay;
+  limited = get_put_other (codes "limited") (codes "rttvar") (integer x) ms (λ e. cc) ∙ h.limited;
+  kind = get_put_other (codes "kind") (codes "rttvar") (integer x) ms (λ e. cc) ∙ h.kind;
+  window = get_put_other (codes "window") (codes "rttvar") (integer x) ms (λ e. cc) ∙ h.window;
+  ssthresh = get_put_other (codes "ssthresh") (codes "rttvar") (integer x) ms (λ e. cc) ∙ h.ssthresh;
+  bytes_in_flight = get_put_other (codes "bytes_in_flight") (codes "rttvar") (integer x) ms (λ e. cc) ∙ h.bytes_in_flight;
+  latest_rtt = get_put_other (codes "latest_rtt") (codes "rttvar") (integer x) ms (λ e. cc) ∙ h.latest_rtt;
+  min_rtt = get_put_other (codes "min_rtt") (codes "rttvar") (integer x) ms (λ e. cc) ∙ h.min_rtt;
+  smoothed_rtt = get_put_other (codes "smoothed_rtt") (codes "rttvar") (integer x) ms (λ e. cc) ∙ h.smoothed_rtt;
+  rttvar = get_put (codes "rttvar") (integer x) ms;
+  are_words = (h.are_words.0, h.are_words.1, h.are_words.2, h.are_words.3, h.are_words.4, h.are_words.5, is_word x small);
+  are_ranges = h.are_ranges;
+}

@@ -1,0 +1,9 @@
+-- Lemmas of the quick reader.
+pub mod Numerals
+pub mod Lexing
+pub mod Reading
+pub mod Spelling
+pub mod Finding
+pub mod Taking
+pub mod Saying
+pub mod Listing

@@ -1,0 +1,95 @@
+-- Ranges that are found one after another, up to the end of their list.
+use Rattle.std.proofs.Common.{◌≡◌, ◌∙◌, ◌≤◌, ◌<◌, ◌^◌, ℕ, List, [], ◌∷◌, ◌++◌, Bool, true, false, cond, Option, Some, None, decimal, refl, sym, ap, subst, arith, append_assoc, max}
+use Rattle.std.specs.Prelude.{nat_le}
+use Rattle.std.specs.List.{AllByRecursion}
+use Rattle.std.proofs.lemmas.Bool.{leb-true, and_parts}
+use Rattle.json.specs.Lex.{Lexeme, token, comma, between, lex}
+use Rattle.json.specs.Token as tokens
+use Rattle.json.specs.Tree as tree
+use Rattle.serde_json.specs.Data.{depth, items_depth}
+use Rattle.serde_json.specs.Written.{outline, items_outline}
+use Rattle.qa_base.specs.format.Written.{integer_pair, integer_pairs}
+use Rattle.qa_base.specs.values.Events.{has_ranges}
+use Rattle.qa_base.specs.values.Limits.{max_packet_number, in_range}
+use Rattle.qa_base.specs.values.Proper.{IsRange}
+use Rattle.qa_base.proofs.format.Compact.{of_json-outline, depth-outline}
+use Rattle.qa_base.proofs.format.KeysWritten.{ranges_are_kept}
+use Rattle.qa_quick.specs.Lexes.{Lexes, lexemes, items_lexemes, IsValueOf}
+use Rattle.qa_quick.specs.Ranges.{Spans, ranges_data, TakesRange, TakesRanges, FollowsRanges}
+use Rattle.qa_quick.proofs.Lexing.{then}
+use Rattle.qa_quick.proofs.Saying.{range_is}
+
+-- ---- a range
+
+ordered : (b : Bool) (range span : ℕ × ℕ) → cond b (Some range) None ≡ Some span → (b ≡ true) × (range ≡ span)
+ordered true range span is = (refl, cc)
+ordered false range span is = cc
+
+pub takes_range : (old new : Spans) (l h lo hi : ℕ) (span : ℕ × ℕ) (bytes a b c d rest : List ℕ)
+    → Lexes bytes a (token tokens.begin_array ∷ []) → Lexes a b (token (tokens.number (decimal l)) ∷ []) → Lexes b c (comma ∷ []) → Lexes c d (token (tokens.number (decimal h)) ∷ [])
+    → Lexes d rest (token tokens.end_array ∷ []) → in_range 0 max_packet_number l ≡ Some lo → in_range 0 max_packet_number h ≡ Some hi
+    → cond (nat_le lo hi) (Some (lo, hi)) None ≡ Some span → new ≡ old ++ span ∷ [] → TakesRange old new bytes rest
+takes_range old new l h lo hi span bytes a b c d rest opened first parted second closed in_lo in_hi in_order is_new =
+    let low = range_is max_packet_number l lo in_lo in
+    let high = range_is max_packet_number h hi in_hi in
+    let order = ordered (nat_le lo hi) (lo, hi) span in_order in
+    let are : (l, h) ≡ span = (λ i. (low.0 i, high.0 i)) ∙ order.1 in
+    let below : lo ≤ hi = leb-true lo hi order.0 in
+    let is_lo : lo ≡ span.0 = ap (λ p. p.0) order.1 in
+    let is_hi : hi ≡ span.1 = ap (λ p. p.1) order.1 in
+    let P : ℕ × ℕ → Type 0 = λ p. Lexes bytes rest (lexemes (outline (integer_pair p))) in
+    record {
+      range = span;
+      is_new = is_new;
+      is_range = (omega (arith, is_lo, is_hi), omega (arith, is_hi, high.1));
+      lexed = subst P are (then opened (then first (then parted (then second closed))));
+    }
+
+-- ---- the list
+
+are_more : (rs : Spans) (r : ℕ × ℕ) → AllByRecursion IsRange rs → IsRange r → AllByRecursion IsRange (rs ++ r ∷ [])
+are_more [] r are one = (one, tt)
+are_more (q ∷ rs) r are one = (are.0, are_more rs r are.1 one)
+
+have_more : (rs : Spans) (r : ℕ × ℕ) → has_ranges (rs ++ r ∷ []) ≡ true
+have_more [] r = refl
+have_more (q ∷ rs) r = refl
+
+pub ranges_begin : (bytes rest : List ℕ) → Lexes bytes rest (token tokens.begin_array ∷ []) → FollowsRanges [] bytes rest
+ranges_begin bytes rest opened = record { are = tt; utf8 = opened.utf8; lexes = λ r more behind lexed. opened.lexes ∙ ap (λ ls. token tokens.begin_array ∷ ls) lexed }
+
+pub ranges_go_on : (old new : Spans) (bytes rest behind more : List ℕ) → FollowsRanges old bytes rest → TakesRange old new rest behind → Lexes behind more (comma ∷ [])
+    → FollowsRanges new bytes more
+ranges_go_on old new bytes rest behind more before one parted =
+    let P : Spans → Type 0 = λ rs. FollowsRanges rs bytes more in
+    subst P (sym one.is_new) (record {
+      are = are_more old one.range before.are one.is_range;
+      utf8 = λ u. before.utf8 (one.lexed.utf8 (parted.utf8 u));
+      lexes = λ r later end is.
+          before.lexes one.range (r ∷ later) end
+          (one.lexed.lexes ∙ ap (λ ls. lexemes (outline (integer_pair one.range)) ++ ls) (parted.lexes ∙ ap (λ ls. comma ∷ ls) is))
+          ∙ ap (λ rs. lexemes (outline (ranges_data rs)) ++ end) (sym (append_assoc old (one.range ∷ []) (r ∷ later)));
+    })
+
+pub ranges_end : (old new : Spans) (bytes rest behind more : List ℕ) → FollowsRanges old bytes rest → TakesRange old new rest behind → Lexes behind more (token tokens.end_array ∷ [])
+    → TakesRanges new bytes more
+ranges_end old new bytes rest behind more before one closed =
+    let P : Spans → Type 0 = λ rs. TakesRanges rs bytes more in
+    subst P (sym one.is_new) (record {
+      some = have_more old one.range;
+      are = are_more old one.range before.are one.is_range;
+      lexed = record {
+        lexes = before.lexes one.range [] (lex between more) (one.lexed.lexes ∙ ap (λ ls. lexemes (outline (integer_pair one.range)) ++ ls) closed.lexes);
+        utf8 = λ u. before.utf8 (one.lexed.utf8 (closed.utf8 u));
+      };
+    })
+
+pub ranges_value : (rs : Spans) (bytes rest : List ℕ) → TakesRanges rs bytes rest → IsValueOf (ranges_data rs) bytes rest
+ranges_value rs bytes rest found =
+    let kept = ranges_are_kept rs found.are in
+    record {
+      form = outline (ranges_data rs);
+      reads = of_json-outline (ranges_data rs) kept.simple;
+      shallow = omega (arith, depth-outline (ranges_data rs), kept.shallow);
+      lexed = found.lexed;
+    }

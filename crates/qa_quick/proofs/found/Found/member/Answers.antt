@@ -1,0 +1,12 @@
+use Rattle.qa_base.specs.values.Names.{key_name}
+use Rattle.qa_quick.proofs.Spelling.{key_is_plain}
+use Rattle.qa_quick.proofs.Taking.{takes}
+use Rattle.qa_quick.proofs.found.Found.member.Goals as goal
+
+pub returns-in_default : goal.returns-in_default
+returns-in_default c = c.in_ok-rest.ensures c.args.self.now
+
+pub returns : goal.returns
+returns c =
+    takes (key_name c.in-Some.key) c.args.self.now c.value.new.self c.args.bytes.now c.in-Some.rest.now c.in_ok-colon.field-0.now c.in_ok-rest-2.rest.now
+    (key_is_plain c.in-Some.key) c.in-Some.ensures c.in_ok-colon.ensures c.in_ok-rest-2.ensures

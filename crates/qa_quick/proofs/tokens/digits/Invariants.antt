@@ -1,0 +1,13 @@
+use Rattle.std.proofs.Common.{◌-◌, ◌≡◌, ◌<◌, ◌≤◌, ◌^◌, length, take, decimal}
+use Rattle.qa_quick.proofs.tokens.digits.Given as goal
+
+abbrev pub invariant-loop-i : goal.invariant-loop-i
+invariant-loop-i l = record {
+  within : l.i ≤ length l.bytes;
+  some : 0 < l.n;
+  small : l.n < 2 ^ 64;
+  is_text : take l.i l.bytes ≡ decimal l.n;
+}
+
+abbrev pub decreases-loop-i : goal.decreases-loop-i
+decreases-loop-i l = length l.bytes - l.i

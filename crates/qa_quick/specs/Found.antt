@@ -1,0 +1,134 @@
+-- What was found of an object's keys so far, and what a line's bytes then still have to be.
+use Rattle.std.specs.Prelude.{◌≡◌, ◌≤◌, ◌∷◌, ℕ, List, Bool, true, false, ◌||◌, bytes_eq, codes, option_map, IfSome, Ok, Some}
+use Rattle.std.specs.List.{AllByRecursion}
+use Rattle.std.specs.Str.{IsUtf8}
+use Rattle.json.specs.Json as form
+use Rattle.json.specs.Json.{Json}
+use Rattle.json.specs.Lex.{token, colon, between, lex}
+use Rattle.json.specs.Token as tokens
+use Rattle.json.specs.Tree.{depth, members_depth}
+use Rattle.serde_json.specs.Data as json
+use Rattle.serde_json.specs.Data.{Data, Members, put}
+use Rattle.serde_json.specs.Find.{get_member}
+use Rattle.serde_json.specs.Read.{of_json, of_members}
+use Rattle.qa_base.specs.declared.event.Event.{Event}
+use Rattle.qa_base.specs.declared.line.Line.TheVariants as line
+use Rattle.qa_base.specs.declared.line.LineKind.{LineKind}
+use Rattle.qa_base.specs.declared.space.Kind.{Kind}
+use Rattle.qa_base.specs.declared.space.Leave.{Leave}
+use Rattle.qa_base.specs.declared.space.Space.{Space}
+use Rattle.qa_base.specs.values.Events.{has_ranges}
+use Rattle.qa_base.specs.values.Names.{line_kind_name, space_name, leave_name, kind_name}
+use Rattle.qa_base.specs.values.Proper.{IsRange, AreWords}
+use Rattle.qa_base.specs.format.Reading.{json_of, object_says, reader_named}
+use Rattle.qa_base.specs.format.Written.{integer, string, boolean}
+use Rattle.qa_quick.specs.declared.found.Found.{Found}
+use Rattle.qa_quick.specs.Lexes.{Lexes, lexemes, members_lexemes, IsValueOf}
+use Rattle.qa_quick.specs.Ranges.{ranges_data}
+
+-- ---- values
+
+abbrev pub line_kind_data : LineKind → Data
+line_kind_data kind = string (line_kind_name kind)
+
+abbrev pub space_data : Space → Data
+space_data space = string (space_name space)
+
+abbrev pub leave_data : Leave → Data
+leave_data leave = string (leave_name leave)
+
+abbrev pub kind_data : Kind → Data
+kind_data kind = string (kind_name kind)
+
+-- ---- keys
+
+-- the keys of an event, but those of reported values
+abbrev pub is_known_word : List ℕ → Bool
+is_known_word key =
+    bytes_eq (codes "event") key
+    || bytes_eq (codes "time") key
+    || bytes_eq (codes "space") key
+    || bytes_eq (codes "number") key
+    || bytes_eq (codes "size") key
+    || bytes_eq (codes "eliciting") key
+    || bytes_eq (codes "in_flight") key
+    || bytes_eq (codes "leave") key
+    || bytes_eq (codes "ranges") key
+    || bytes_eq (codes "delay") key
+    || bytes_eq (codes "limited") key
+    || bytes_eq (codes "kind") key
+
+-- the keys of reported values
+abbrev pub is_known_metric : List ℕ → Bool
+is_known_metric key =
+    bytes_eq (codes "window") key
+    || bytes_eq (codes "ssthresh") key
+    || bytes_eq (codes "bytes_in_flight") key
+    || bytes_eq (codes "latest_rtt") key
+    || bytes_eq (codes "min_rtt") key
+    || bytes_eq (codes "smoothed_rtt") key
+    || bytes_eq (codes "rttvar") key
+
+abbrev pub is_known : List ℕ → Bool
+is_known key = is_known_word key || is_known_metric key
+
+-- each key of the members gives what was found of it, and nothing where nothing was
+pub record Holds (f : Found) (ms : Members) : Type 0 where
+  pub event : get_member (codes "event") ms ≡ option_map line_kind_data f.event
+  pub time : get_member (codes "time") ms ≡ option_map integer f.time
+  pub space : get_member (codes "space") ms ≡ option_map space_data f.space
+  pub number : get_member (codes "number") ms ≡ option_map integer f.number
+  pub size : get_member (codes "size") ms ≡ option_map integer f.size
+  pub eliciting : get_member (codes "eliciting") ms ≡ option_map boolean f.eliciting
+  pub in_flight : get_member (codes "in_flight") ms ≡ option_map boolean f.in_flight
+  pub leave : get_member (codes "leave") ms ≡ option_map leave_data f.leave
+  pub ranges : get_member (codes "ranges") ms ≡ option_map ranges_data f.ranges
+  pub delay : get_member (codes "delay") ms ≡ option_map integer f.delay
+  pub limited : get_member (codes "limited") ms ≡ option_map boolean f.limited
+  pub kind : get_member (codes "kind") ms ≡ option_map kind_data f.kind
+  pub window : get_member (codes "window") ms ≡ option_map integer f.values.window
+  pub ssthresh : get_member (codes "ssthresh") ms ≡ option_map integer f.values.ssthresh
+  pub bytes_in_flight : get_member (codes "bytes_in_flight") ms ≡ option_map integer f.values.bytes_in_flight
+  pub latest_rtt : get_member (codes "latest_rtt") ms ≡ option_map integer f.values.latest_rtt
+  pub min_rtt : get_member (codes "min_rtt") ms ≡ option_map integer f.values.min_rtt
+  pub smoothed_rtt : get_member (codes "smoothed_rtt") ms ≡ option_map integer f.values.smoothed_rtt
+  pub rttvar : get_member (codes "rttvar") ms ≡ option_map integer f.values.rttvar
+  pub are_words : AreWords f.values
+  pub are_ranges : IfSome f.ranges (λ ranges. (has_ranges ranges ≡ true) × AllByRecursion IsRange ranges)
+
+-- where members hold what was found, they hold what is found then once this value is put at this key
+abbrev pub Keeps : List ℕ → Data → Found → Found → Type 0
+Keeps key value old new = (ms : Members) → Holds old ms → Holds new (put key value ms)
+
+-- the bytes are a value of this key and the rest, and the value is found
+pub record Puts (key : List ℕ) (old new : Found) (bytes rest : List ℕ) : Type 0 where
+  pub value : Data
+  pub is : IsValueOf value bytes rest
+  pub keeps : Keeps key value old new
+
+-- the bytes are a key, its value and the rest, and what was found is then found of this key too
+pub record Takes (old new : Found) (bytes rest : List ℕ) : Type 0 where
+  pub key : List ℕ
+  pub value : Data
+  pub form : Json
+  pub reads : of_json form ≡ Some value
+  pub shallow : depth form ≤ 2
+  pub lexed : Lexes bytes rest (token (tokens.string key) ∷ colon ∷ lexemes form)
+  pub keeps : Keeps key value old new
+
+-- the bytes are a key, its value and the rest, and nothing that an event asks for
+abbrev pub TakesNothing : List ℕ → List ℕ → Type 0
+TakesNothing bytes rest = (f : Found) → Takes f f bytes rest
+
+-- ---- the line
+
+-- the members before the rest gave what was found: if the rest is more members, then the bytes read as all of them
+pub record Follows (f : Found) (bytes rest : List ℕ) : Type 0 where
+  pub before : Members
+  pub holds : Holds f before
+  pub reads : (key : List ℕ) (j : Json) (ms : form.Members) (all : Members) → members_depth (form.member key j ms) ≤ 2 → of_members (form.member key j ms) before ≡ Some all
+      → lex between rest ≡ members_lexemes false (form.member key j ms) → IsUtf8 rest → json_of bytes ≡ Ok (json.object all)
+
+-- what was found says this event
+abbrev pub Says : Found → Event → Type 0
+Says f e = (ms : Members) → Holds f ms → object_says reader_named (json.object ms) ≡ Ok (line.Event e)

@@ -1,0 +1,3 @@
+pub mod Lexes
+pub mod Ranges
+pub mod Found

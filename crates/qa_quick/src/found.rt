@@ -1,0 +1,183 @@
+//! What was found at the keys of an object.
+ghost use Rattle.std.specs.Prelude.{IfSome, codes};
+ghost use Rattle.qa_base.specs.values.Names.{field_name, key_name};
+ghost use Rattle.qa_base.specs.format.Written as written;
+ghost use Rattle.qa_quick.specs.Found.{Keeps, Puts, Takes};
+
+use crate::keys::event_key;
+use crate::names::{leave, line_kind, space, timer_kind};
+use crate::ranges::ranges;
+use crate::tokens::{boolean, colon, integer};
+use crate::unknown::unknown_member;
+use qa_base::{Field, Key, Kind, Leave, LineKind, MetricValues, Space, Spans};
+use std::alloc::Global;
+
+/// What was found at the keys of an object.
+#[derive(Drop)]
+pub struct Found {
+    pub event: Option<LineKind>,
+    pub time: Option<u64>,
+    pub space: Option<Space>,
+    pub number: Option<u64>,
+    pub size: Option<u64>,
+    pub eliciting: Option<bool>,
+    pub in_flight: Option<bool>,
+    pub leave: Option<Leave>,
+    pub ranges: Option<Spans>,
+    pub delay: Option<u64>,
+    pub limited: Option<bool>,
+    pub kind: Option<Kind>,
+    pub values: MetricValues,
+}
+
+impl Found {
+    /// A key and its value are found; gives what follows them. A key that no event has is passed over.
+    #[inline(always)]
+    pub fn member<'a>(&mut self, alloc: Global, bytes: &'a [u8]) -> Option<&'a [u8]>
+        ensures { IfSome result (λ rest. Takes self.old self.new bytes.now rest.now) }
+    {
+        let Some((key, rest)) = event_key(bytes) else {
+            let rest = unknown_member(bytes)?;
+            return Some(rest);
+        };
+        let rest = self.value(alloc, key, colon(rest)?)?;
+        Some(rest)
+    }
+
+    /// The value of a key is found; gives what follows it.
+    #[inline(always)]
+    fn value<'a>(&mut self, alloc: Global, key: Key, bytes: &'a [u8]) -> Option<&'a [u8]>
+        ensures { IfSome result (λ rest. Puts (key_name key) self.old self.new bytes.now rest.now) }
+    {
+        match key {
+            Key::Event => self.event(bytes),
+            Key::Space => self.space(bytes),
+            Key::Leave => self.leave(bytes),
+            Key::Kind => self.kind(bytes),
+            Key::Ranges => self.ranges(alloc, bytes),
+            Key::Eliciting | Key::InFlight | Key::Limited => self.boolean(key, bytes),
+            _ => self.integer(key, bytes),
+        }
+    }
+
+    /// The kind of the event is found.
+    #[inline(always)]
+    fn event<'a>(&mut self, bytes: &'a [u8]) -> Option<&'a [u8]>
+        ensures { IfSome result (λ rest. Puts (codes "event") self.old self.new bytes.now rest.now) }
+    {
+        let (kind, rest) = line_kind(bytes)?;
+        self.event = Some(kind);
+        Some(rest)
+    }
+
+    /// The packet number space is found.
+    #[inline(always)]
+    fn space<'a>(&mut self, bytes: &'a [u8]) -> Option<&'a [u8]>
+        ensures { IfSome result (λ rest. Puts (codes "space") self.old self.new bytes.now rest.now) }
+    {
+        let (found, rest) = space(bytes)?;
+        self.space = Some(found);
+        Some(rest)
+    }
+
+    /// Why the packet was allowed to leave is found.
+    #[inline(always)]
+    fn leave<'a>(&mut self, bytes: &'a [u8]) -> Option<&'a [u8]>
+        ensures { IfSome result (λ rest. Puts (codes "leave") self.old self.new bytes.now rest.now) }
+    {
+        let (found, rest) = leave(bytes)?;
+        self.leave = Some(found);
+        Some(rest)
+    }
+
+    /// The kind of the timer is found.
+    #[inline(always)]
+    fn kind<'a>(&mut self, bytes: &'a [u8]) -> Option<&'a [u8]>
+        ensures { IfSome result (λ rest. Puts (codes "kind") self.old self.new bytes.now rest.now) }
+    {
+        let (found, rest) = timer_kind(bytes)?;
+        self.kind = Some(found);
+        Some(rest)
+    }
+
+    /// The ranges are found.
+    #[inline(always)]
+    fn ranges<'a>(&mut self, alloc: Global, bytes: &'a [u8]) -> Option<&'a [u8]>
+        ensures { IfSome result (λ rest. Puts (codes "ranges") self.old self.new bytes.now rest.now) }
+    {
+        let mut spans = Spans::new(alloc);
+        let rest = ranges(&mut spans, bytes)?;
+        self.ranges = Some(spans);
+        Some(rest)
+    }
+
+    /// The boolean of a key is found.
+    #[inline(always)]
+    fn boolean<'a>(&mut self, key: Key, bytes: &'a [u8]) -> Option<&'a [u8]>
+        ensures { IfSome result (λ rest. Puts (key_name key) self.old self.new bytes.now rest.now) }
+    {
+        let (value, rest) = boolean(bytes)?;
+        match key {
+            Key::Eliciting => {
+                self.eliciting = Some(value);
+                Some(rest)
+            }
+            Key::InFlight => {
+                self.in_flight = Some(value);
+                Some(rest)
+            }
+            Key::Limited => {
+                self.limited = Some(value);
+                Some(rest)
+            }
+            _ => None,
+        }
+    }
+
+    /// The integer of a key is found.
+    #[inline(always)]
+    fn integer<'a>(&mut self, key: Key, bytes: &'a [u8]) -> Option<&'a [u8]>
+        ensures { IfSome result (λ rest. Puts (key_name key) self.old self.new bytes.now rest.now) }
+    {
+        let (value, rest) = integer(bytes)?;
+        match key {
+            Key::Time => {
+                self.time = Some(value);
+                Some(rest)
+            }
+            Key::Number => {
+                self.number = Some(value);
+                Some(rest)
+            }
+            Key::Size => {
+                self.size = Some(value);
+                Some(rest)
+            }
+            Key::Delay => {
+                self.delay = Some(value);
+                Some(rest)
+            }
+            Key::Metric(field) => {
+                self.metric(field, value);
+                Some(rest)
+            }
+            _ => None,
+        }
+    }
+
+    /// A reported value is found.
+    #[inline(always)]
+    fn metric(&mut self, field: Field, value: u64)
+        ensures { Keeps (field_name field) (written.integer value) self.old self.new }
+    {
+        match field {
+            Field::Window => self.values.window = Some(value),
+            Field::Ssthresh => self.values.ssthresh = Some(value),
+            Field::BytesInFlight => self.values.bytes_in_flight = Some(value),
+            Field::LatestRtt => self.values.latest_rtt = Some(value),
+            Field::MinRtt => self.values.min_rtt = Some(value),
+            Field::SmoothedRtt => self.values.smoothed_rtt = Some(value),
+            Field::Rttvar => self.values.rttvar = Some(value),
+        }
+    }
+}

@@ -1,0 +1,99 @@
+//! The keys of events.
+ghost use Rattle.std.specs.Prelude.{◌≡◌, ◌++◌, ◌∷◌, [], bytes_eq, IfSome};
+ghost use Rattle.qa_base.specs.values.Names.{key_name};
+ghost use Rattle.qa_quick.specs.Lexes.{IsQuoted};
+ghost use Rattle.qa_quick.specs.Found as found;
+
+use crate::tokens::after;
+use qa_base::{Field, Key};
+
+/// The key, where the bytes begin with its name in quotes, and what follows it.
+#[inline(always)]
+fn key_if<'a>(key: Key, bytes: &'a [u8], quoted: &[u8]) -> Option<(Key, &'a [u8])>
+    requires { quoted.now ≡ 34 ∷ (key_name key ++ 34 ∷ []) }
+    ensures { IfSome result (λ found. IsQuoted (key_name found.0) bytes.now found.1.now) }
+{
+    let rest = after(bytes, quoted)?;
+    Some((key, rest))
+}
+
+/// The key of an event that the bytes begin with, and what follows it.
+#[inline(always)]
+pub fn event_key(bytes: &[u8]) -> Option<(Key, &[u8])>
+    ensures { IfSome result (λ found. IsQuoted (key_name found.0) bytes.now found.1.now) }
+{
+    let [_, first, second, ..] = bytes else {
+        return None;
+    };
+    // The first two letters tell the keys apart.
+    match (*first, *second) {
+        (b't', b'i') => key_if(Key::Time, bytes, b"\"time\""),
+        (b's', b'p') => key_if(Key::Space, bytes, b"\"space\""),
+        (b'n', b'u') => key_if(Key::Number, bytes, b"\"number\""),
+        (b's', b'i') => key_if(Key::Size, bytes, b"\"size\""),
+        (b'e', b'v') => key_if(Key::Event, bytes, b"\"event\""),
+        (b'e', b'l') => key_if(Key::Eliciting, bytes, b"\"eliciting\""),
+        (b'i', b'n') => key_if(Key::InFlight, bytes, b"\"in_flight\""),
+        (b'l', b'e') => key_if(Key::Leave, bytes, b"\"leave\""),
+        (b'r', b'a') => key_if(Key::Ranges, bytes, b"\"ranges\""),
+        (b'd', b'e') => key_if(Key::Delay, bytes, b"\"delay\""),
+        (b'l', b'i') => key_if(Key::Limited, bytes, b"\"limited\""),
+        (b'k', b'i') => key_if(Key::Kind, bytes, b"\"kind\""),
+        (b'w', b'i') => key_if(Key::Metric(Field::Window), bytes, b"\"window\""),
+        (b's', b's') => key_if(Key::Metric(Field::Ssthresh), bytes, b"\"ssthresh\""),
+        (b'b', b'y') => key_if(
+            Key::Metric(Field::BytesInFlight),
+            bytes,
+            b"\"bytes_in_flight\"",
+        ),
+        (b'l', b'a') => key_if(Key::Metric(Field::LatestRtt), bytes, b"\"latest_rtt\""),
+        (b'm', b'i') => key_if(Key::Metric(Field::MinRtt), bytes, b"\"min_rtt\""),
+        (b's', b'm') => key_if(Key::Metric(Field::SmoothedRtt), bytes, b"\"smoothed_rtt\""),
+        (b'r', b't') => key_if(Key::Metric(Field::Rttvar), bytes, b"\"rttvar\""),
+        _ => None,
+    }
+}
+
+/// Whether the key has this name.
+#[inline(always)]
+fn is(key: &[u8], name: &[u8]) -> bool
+    ensures { result ≡ bytes_eq name.now key.now }
+{
+    name == key
+}
+
+/// Whether an event has this key.
+pub fn is_known(key: &[u8]) -> bool
+    ensures { result ≡ found.is_known key.now }
+{
+    is_known_word(key) || is_known_metric(key)
+}
+
+fn is_known_word(key: &[u8]) -> bool
+    ensures { result ≡ found.is_known_word key.now }
+{
+    is(key, b"event")
+        || is(key, b"time")
+        || is(key, b"space")
+        || is(key, b"number")
+        || is(key, b"size")
+        || is(key, b"eliciting")
+        || is(key, b"in_flight")
+        || is(key, b"leave")
+        || is(key, b"ranges")
+        || is(key, b"delay")
+        || is(key, b"limited")
+        || is(key, b"kind")
+}
+
+fn is_known_metric(key: &[u8]) -> bool
+    ensures { result ≡ found.is_known_metric key.now }
+{
+    is(key, b"window")
+        || is(key, b"ssthresh")
+        || is(key, b"bytes_in_flight")
+        || is(key, b"latest_rtt")
+        || is(key, b"min_rtt")
+        || is(key, b"smoothed_rtt")
+        || is(key, b"rttvar")
+}

@@ -1,0 +1,17 @@
+//! A quick reader of lines in the form that most loggers write.
+//!
+//! It reads the lines of events: their keys in any order, white space between the tokens, and keys that no table has
+//! where their values are simple. It leaves every other line to `serde_json`: headers, escapes, fractions, and each line
+//! with a fault. Nothing here says that a line has a fault.
+#![tactic(auto)]
+
+mod events;
+mod found;
+mod keys;
+mod line;
+mod names;
+mod ranges;
+mod tokens;
+mod unknown;
+
+pub use line::quick_line;

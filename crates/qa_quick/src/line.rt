@@ -1,0 +1,60 @@
+//! A line.
+ghost use Rattle.std.specs.Prelude.{◌≡◌, true, Ok, IfSome};
+ghost use Rattle.qa_base.specs.format.Reading as reading;
+ghost use Rattle.qa_base.specs.format.Written.{line_fits};
+
+use crate::found::Found;
+use crate::tokens::{begin_object, comma, end_object};
+use qa_base::{Line, MetricValues};
+use std::alloc::Global;
+
+#[cfg(test)]
+mod tests;
+
+/// The event that the bytes of a line say, where the line has the form that most loggers write; None for any other line.
+///
+/// The form is one object with the keys of an event, each with a value of its kind, and any other keys: their values are
+/// integers without sign of at most 19 digits, strings of printable ASCII without an escape, booleans or null. A line with
+/// a fault is never of this form, and neither are a header and a blank line. Only ranges take memory, and None comes where
+/// it was refused.
+pub fn quick_line(alloc: Global, bytes: &[u8]) -> Option<Line>
+    ensures read { IfSome result (λ line. reading.reading bytes.now ≡ Ok line) }
+    ensures fitting { IfSome result (λ line. line_fits line ≡ true) }
+{
+    let mut rest = begin_object(bytes)?;
+    let mut found = Found {
+        event: None,
+        time: None,
+        space: None,
+        number: None,
+        size: None,
+        eliciting: None,
+        in_flight: None,
+        leave: None,
+        ranges: None,
+        delay: None,
+        limited: None,
+        kind: None,
+        values: MetricValues {
+            window: None,
+            ssthresh: None,
+            bytes_in_flight: None,
+            latest_rtt: None,
+            min_rtt: None,
+            smoothed_rtt: None,
+            rttvar: None,
+        },
+    };
+    for i in 0..u64::MAX {
+        let behind = found.member(alloc, rest)?;
+        let Some(more) = comma(behind) else {
+            let end = end_object(behind)?;
+            if !end.is_empty() {
+                return None;
+            }
+            return Some(Line::Event(found.event_of()?));
+        };
+        rest = more;
+    }
+    None
+}

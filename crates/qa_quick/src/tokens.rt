@@ -1,0 +1,213 @@
+//! White space, operators, integers, booleans and strings.
+ghost use Rattle.std.specs.Prelude.{◌≡◌, ◌<◌, ◌^◌, ◌++◌, ◌∷◌, [], true, decimal, IfSome};
+ghost use Rattle.std.specs.List.{list_all};
+ghost use Rattle.json.specs.Lex.{token, colon as colon_lexeme, comma as comma_lexeme};
+ghost use Rattle.json.specs.Token as tokens;
+ghost use Rattle.json.specs.Word as word;
+ghost use Rattle.serde_json.specs.Written.{compact_text};
+ghost use Rattle.qa_base.specs.format.Written as written;
+ghost use Rattle.qa_quick.specs.Lexes.{Lexes, IsQuoted, is_plain as is_plain_byte};
+
+/// An integer below this has room for one more digit.
+const SHORT: u64 = 1_000_000_000_000_000_000;
+
+/// What follows the word, where the bytes begin with it.
+#[inline(always)]
+pub fn after<'a>(bytes: &'a [u8], word: &[u8]) -> Option<&'a [u8]>
+    ensures { IfSome result (λ rest. bytes.now ≡ word.now ++ rest.now) }
+{
+    bytes.strip_prefix(word)
+}
+
+/// White space of JSON.
+#[inline(always)]
+fn is_space(byte: u8) -> bool
+    ensures { result ≡ word.is_space byte }
+{
+    byte == b' ' || byte == b'\t' || byte == b'\n' || byte == b'\r'
+}
+
+/// One of the brackets, the colon and the comma.
+#[inline(always)]
+fn is_operator(byte: u8) -> bool
+    ensures { result ≡ word.is_operator byte }
+{
+    byte == b'{' || byte == b'}' || byte == b'[' || byte == b']' || byte == b':' || byte == b','
+}
+
+/// The bytes behind the white space that they begin with.
+#[inline(always)]
+fn skip_space(bytes: &[u8]) -> &[u8]
+    ensures { Lexes bytes.now result.now [] }
+{
+    let mut i = 0;
+    while i < bytes.len() {
+        if !is_space(bytes[i]) {
+            break;
+        }
+        i += 1;
+    }
+    &bytes[i..]
+}
+
+/// What follows the brace that opens an object and the white space round it.
+#[inline(always)]
+pub fn begin_object(bytes: &[u8]) -> Option<&[u8]>
+    ensures { IfSome result (λ rest. Lexes bytes.now rest.now (token tokens.begin_object ∷ [])) }
+{
+    let behind = after(skip_space(bytes), b"{")?;
+    Some(skip_space(behind))
+}
+
+/// What follows the brace that closes an object and the white space round it.
+#[inline(always)]
+pub fn end_object(bytes: &[u8]) -> Option<&[u8]>
+    ensures { IfSome result (λ rest. Lexes bytes.now rest.now (token tokens.end_object ∷ [])) }
+{
+    let behind = after(skip_space(bytes), b"}")?;
+    Some(skip_space(behind))
+}
+
+/// What follows the bracket that opens a list and the white space behind it.
+#[inline(always)]
+pub fn begin_array(bytes: &[u8]) -> Option<&[u8]>
+    ensures { IfSome result (λ rest. Lexes bytes.now rest.now (token tokens.begin_array ∷ [])) }
+{
+    let behind = after(bytes, b"[")?;
+    Some(skip_space(behind))
+}
+
+/// What follows the bracket that closes a list; white space may stand before it.
+#[inline(always)]
+pub fn end_array(bytes: &[u8]) -> Option<&[u8]>
+    ensures { IfSome result (λ rest. Lexes bytes.now rest.now (token tokens.end_array ∷ [])) }
+{
+    let behind = after(skip_space(bytes), b"]")?;
+    Some(behind)
+}
+
+/// What follows a colon and the white space round it.
+#[inline(always)]
+pub fn colon(bytes: &[u8]) -> Option<&[u8]>
+    ensures { IfSome result (λ rest. Lexes bytes.now rest.now (colon_lexeme ∷ [])) }
+{
+    let behind = after(skip_space(bytes), b":")?;
+    Some(skip_space(behind))
+}
+
+/// What follows a comma and the white space round it.
+#[inline(always)]
+pub fn comma(bytes: &[u8]) -> Option<&[u8]>
+    ensures { IfSome result (λ rest. Lexes bytes.now rest.now (comma_lexeme ∷ [])) }
+{
+    let behind = after(skip_space(bytes), b",")?;
+    Some(skip_space(behind))
+}
+
+/// Whether an integer or a literal ends before these bytes.
+#[inline(always)]
+fn ends_word(bytes: &[u8]) -> bool
+    ensures { result ≡ true → word.ends_word bytes.now ≡ true }
+{
+    let [next, ..] = bytes else {
+        return true;
+    };
+    is_operator(*next) || is_space(*next)
+}
+
+/// The digits of an integer, and what follows them. Of more than 19 digits some are left.
+#[inline(always)]
+fn digits(bytes: &[u8]) -> Option<(u64, &[u8])>
+    ensures { IfSome result (λ found. (bytes.now ≡ decimal found.0 ++ found.1.now) × (found.0 < 2 ^ 64)) }
+{
+    let [first, rest @ ..] = bytes else {
+        return None;
+    };
+    if *first == b'0' {
+        return Some((0, rest));
+    }
+    if *first < b'1' || b'9' < *first {
+        return None;
+    }
+    let mut n = u64::from(*first - b'0');
+    let mut i = 1;
+    while i < bytes.len() {
+        let digit = bytes[i];
+        if digit < b'0' || b'9' < digit || SHORT <= n {
+            break;
+        }
+        n = n * 10 + u64::from(digit - b'0');
+        i += 1;
+    }
+    Some((n, &bytes[i..]))
+}
+
+/// An integer of at most 19 digits, and what follows it.
+#[inline(always)]
+pub fn integer(bytes: &[u8]) -> Option<(u64, &[u8])>
+    ensures { IfSome result (λ found. (found.0 < 2 ^ 64) × Lexes bytes.now found.1.now (token (tokens.number (decimal found.0)) ∷ [])) }
+{
+    let (n, rest) = digits(bytes)?;
+    if ends_word(rest) {
+        Some((n, rest))
+    } else {
+        None
+    }
+}
+
+/// One of the literals `true` and `false`, and what follows it.
+#[inline(always)]
+fn literal(bytes: &[u8]) -> Option<(bool, &[u8])>
+    ensures { IfSome result (λ found. bytes.now ≡ compact_text (written.boolean found.0) ++ found.1.now) }
+{
+    if let Some(rest) = after(bytes, b"true") {
+        return Some((true, rest));
+    }
+    Some((false, after(bytes, b"false")?))
+}
+
+/// A boolean, and what follows it.
+#[inline(always)]
+pub fn boolean(bytes: &[u8]) -> Option<(bool, &[u8])>
+    ensures { IfSome result (λ found. Lexes bytes.now found.1.now (token (tokens.boolean found.0) ∷ [])) }
+{
+    let (value, rest) = literal(bytes)?;
+    if ends_word(rest) {
+        Some((value, rest))
+    } else {
+        None
+    }
+}
+
+/// What follows the literal `null`.
+pub fn null(bytes: &[u8]) -> Option<&[u8]>
+    ensures { IfSome result (λ rest. Lexes bytes.now rest.now (token tokens.null ∷ [])) }
+{
+    let rest = after(bytes, b"null")?;
+    if ends_word(rest) { Some(rest) } else { None }
+}
+
+/// A byte that stands for itself in a string, and is printable ASCII.
+#[inline(always)]
+fn is_plain(byte: u8) -> bool
+    ensures { result ≡ is_plain_byte byte }
+{
+    b' ' <= byte && byte <= b'~' && byte != b'"' && byte != b'\\'
+}
+
+/// What stands in a string of printable ASCII without an escape, and what follows the string.
+#[inline(always)]
+pub fn string(bytes: &[u8]) -> Option<(&[u8], &[u8])>
+    ensures { IfSome result (λ found. (list_all is_plain_byte found.0.now ≡ true) × IsQuoted found.0.now bytes.now found.1.now) }
+{
+    let inside = after(bytes, b"\"")?;
+    let mut i = 0;
+    while i < inside.len() {
+        if !is_plain(inside[i]) {
+            break;
+        }
+        i += 1;
+    }
+    let rest = after(&inside[i..], b"\"")?;
+    Some((&inside[..i], rest))
+}
