@@ -105,7 +105,7 @@ fn answer_ready<W: Write>(
 {
     'lines: loop {
         match splitter.next_line() {
-            Ok(Some(line)) => answer(alloc, &line, answers)?,
+            Ok(Some(line)) => answer(alloc, line, answers)?,
             Ok(None) => return Ok(Answers::GoOn),
             Err(SplitFault::TooLong) => {
                 write_answer(answers, Fault::LineTooLong)?;

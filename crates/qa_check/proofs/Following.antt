@@ -32,23 +32,23 @@ taken_last bytes line rest closed taken h =
 -- ---- a line
 
 -- a good line
-pub follow_line : (P Q : List (List ℕ) → Type 0) (rest rest' l l' : List ℕ) (closed : Bool)
+pub follow_line : (P Q : List (List ℕ) → Type 0) (rest rest' l : List ℕ) (closed : Bool)
     → IsShortLine l → Taken rest l rest' closed → closed ≡ false
-    → l' ≡ l → ((ls : List (List ℕ)) → P ls → Q (ls ++ l' ∷ []) × AreGood reading (ls ++ l' ∷ []))
+    → ((ls : List (List ℕ)) → P ls → Q (ls ++ l ∷ []) × AreGood reading (ls ++ l ∷ []))
     → (bytes : List ℕ) → FollowsBy P rest bytes → FollowsBy Q rest' bytes
-follow_line P Q rest rest' l l' closed is_line t h same adds bytes f =
+follow_line P Q rest rest' l closed is_line t h adds bytes f =
     let taken = taken_open rest l rest' closed t h in
-    let q : Q (f.0 ++ l ∷ []) × AreGood reading (f.0 ++ l ∷ []) = rw same at (adds f.0 f.1) in
+    let q = adds f.0 f.1 in
     (f.0 ++ l ∷ [], q.0, q.1, short_snoc f.0 l f.3 is_line, ended_snoc f.0 l rest' bytes (f.4 ∙ ap (λ k. ended f.0 ++ k) taken))
 
 -- a line that is not good
-pub decide_line : (P Q : List (List ℕ) → Type 0) (rest rest' l l' : List ℕ) (closed : Bool)
+pub decide_line : (P Q : List (List ℕ) → Type 0) (rest rest' l : List ℕ) (closed : Bool)
     → IsShortLine l → Taken rest l rest' closed → closed ≡ false
-    → l' ≡ l → ((ls : List (List ℕ)) → P ls → Q (ls ++ l' ∷ []) × AreDecided reading (ls ++ l' ∷ []))
+    → ((ls : List (List ℕ)) → P ls → Q (ls ++ l ∷ []) × AreDecided reading (ls ++ l ∷ []))
     → (bytes : List ℕ) → FollowsBy P rest bytes → IsFixed reading bytes × AnswersBy Q bytes
-decide_line P Q rest rest' l l' closed is_line t h same adds bytes f =
+decide_line P Q rest rest' l closed is_line t h adds bytes f =
     let taken = taken_open rest l rest' closed t h in
-    let q : Q (f.0 ++ l ∷ []) × AreDecided reading (f.0 ++ l ∷ []) = rw same at (adds f.0 f.1) in
+    let q = adds f.0 f.1 in
     let fixed = fixed_by_line reading (f.0 ++ l ∷ []) rest' bytes (short_snoc f.0 l f.3 is_line) q.1 (ended_snoc f.0 l rest' bytes (f.4 ∙ ap (λ k. ended f.0 ++ k) taken)) in
     (fixed.0, (f.0 ++ l ∷ [], q.0, fixed.1, rows_by reading (f.0 ++ l ∷ []) bytes q.1 fixed))
 
@@ -65,13 +65,13 @@ decide_long P Q rest b adds bytes f =
 -- ---- the end
 
 -- the last line, which no LF ends
-pub answer_line : (P Q : List (List ℕ) → Type 0) (rest rest' l l' : List ℕ) (closed : Bool)
+pub answer_line : (P Q : List (List ℕ) → Type 0) (rest rest' l : List ℕ) (closed : Bool)
     → IsShortLine l → Taken rest l rest' closed → has_lf rest ≡ false
-    → l' ≡ l → ((ls : List (List ℕ)) → P ls → Q (ls ++ l' ∷ []))
+    → ((ls : List (List ℕ)) → P ls → Q (ls ++ l ∷ []))
     → (bytes : List ℕ) → FollowsBy P rest bytes → AnswersBy Q bytes
-answer_line P Q rest rest' l l' closed is_line t h same adds bytes f =
+answer_line P Q rest rest' l closed is_line t h adds bytes f =
     let last = taken_last rest l rest' closed t h in
-    let q : Q (f.0 ++ l ∷ []) = rw same at (adds f.0 f.1) in
+    let q = adds f.0 f.1 in
     let all : lines bytes ≡ f.0 ++ l ∷ [] = lines_at_end f.0 l bytes f.3 (f.4 ∙ ap (λ k. ended f.0 ++ k) last.1) is_line.0 last.0 in
     (f.0 ++ l ∷ [], q, ap (verdict_of reading) (sym all), ap (rows_of reading) (sym all))
 

@@ -176,24 +176,24 @@ show_follows stands held start now rest bytes short f =
     rw same f.1.1
 
 -- the rows of one more line, which an LF ends, were begun
-pub begin_line : (P : List (List ℕ) → Type 0) (start now : Option (List ℕ)) (rest rest' l l' : List ℕ) (closed : Bool)
+pub begin_line : (P : List (List ℕ) → Type 0) (start now : Option (List ℕ)) (rest rest' l : List ℕ) (closed : Bool)
     → IsShortLine l → Taken rest l rest' closed → closed ≡ false
-    → l' ≡ l → ((ls : List (List ℕ)) → P ls → Begins start now (rows_of reading (ls ++ l' ∷ [])))
+    → ((ls : List (List ℕ)) → P ls → Begins start now (rows_of reading (ls ++ l ∷ [])))
     → (bytes : List ℕ) → FollowsBy P rest bytes → Begins start now (ended_rows bytes)
-begin_line P start now rest rest' l l' closed is_line t h same begins bytes f =
+begin_line P start now rest rest' l closed is_line t h begins bytes f =
     let taken = taken_open rest l rest' closed t h in
-    let begun : Begins start now (rows_of reading (f.0 ++ l ∷ [])) = rw same at (begins f.0 f.1) in
+    let begun = begins f.0 f.1 in
     let parts : bytes ≡ ended (f.0 ++ l ∷ []) ++ rest' = ended_snoc f.0 l rest' bytes (f.4 ∙ ap (λ k. ended f.0 ++ k) taken) in
     rows_begin_at start now (f.0 ++ l ∷ []) (ended_lines rest') _ (ended_are (f.0 ++ l ∷ []) rest' bytes parts (short_snoc f.0 l f.3 is_line)) begun
 
 -- the rows of the last line were begun, which no LF ends
-pub begin_last : (P : List (List ℕ) → Type 0) (start now : Option (List ℕ)) (rest rest' l l' : List ℕ) (closed : Bool)
+pub begin_last : (P : List (List ℕ) → Type 0) (start now : Option (List ℕ)) (rest rest' l : List ℕ) (closed : Bool)
     → IsShortLine l → Taken rest l rest' closed → has_lf rest ≡ false
-    → l' ≡ l → ((ls : List (List ℕ)) → P ls → Begins start now (rows_of reading (ls ++ l' ∷ [])))
+    → ((ls : List (List ℕ)) → P ls → Begins start now (rows_of reading (ls ++ l ∷ [])))
     → (bytes : List ℕ) → FollowsBy P rest bytes → Begins start now (rows reading bytes)
-begin_last P start now rest rest' l l' closed is_line t h same begins bytes f =
+begin_last P start now rest rest' l closed is_line t h begins bytes f =
     let last = taken_last rest l rest' closed t h in
-    let begun : Begins start now (rows_of reading (f.0 ++ l ∷ [])) = rw same at (begins f.0 f.1) in
+    let begun = begins f.0 f.1 in
     let all : lines bytes ≡ f.0 ++ l ∷ [] = lines_at_end f.0 l bytes f.3 (f.4 ∙ ap (λ k. ended f.0 ++ k) last.1) is_line.0 last.0 in
     rw all begun
 

@@ -162,7 +162,7 @@ fn drain<L: Ledger + Drop>(splitter: &mut Splitter, checker: &mut Checker<L>) ->
 {
     'lines: loop {
         match splitter.next_line() {
-            Ok(Some(line)) => checker.line(line.as_slice())?,
+            Ok(Some(line)) => checker.line(line)?,
             Ok(None) => return Ok(()),
             Err(SplitFault::TooLong) => return Err(checker.too_long()),
             Err(SplitFault::OutOfMemory) => return Err(Stop::OutOfMemory),
@@ -198,7 +198,7 @@ fn finish<L: Ledger + Drop>(splitter: &mut Splitter, checker: &mut Checker<L>) -
 {
     splitter.close();
     match splitter.next_line() {
-        Ok(Some(line)) => checker.line(line.as_slice()),
+        Ok(Some(line)) => checker.line(line),
         Ok(None) => Ok(()),
         Err(SplitFault::TooLong) => Err(checker.too_long()),
         Err(SplitFault::OutOfMemory) => Err(Stop::OutOfMemory),

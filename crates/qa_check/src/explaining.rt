@@ -187,7 +187,7 @@ fn show_lines<L: Ledger + Drop, W: Sink>(
 {
     'lines: loop {
         match splitter.next_line() {
-            Ok(Some(line)) => match show_line(alloc, checker, writer, line.as_slice()) {
+            Ok(Some(line)) => match show_line(alloc, checker, writer, line) {
                 Ok(Progress::Open) => {}
                 Ok(Progress::Fixed) => return Ok(Progress::Fixed),
                 Err(fault) => return Err(fault),
@@ -246,7 +246,7 @@ fn show_last<L: Ledger + Drop, W: Sink>(
 {
     splitter.close();
     match splitter.next_line() {
-        Ok(Some(line)) => show_line(alloc, checker, writer, line.as_slice()),
+        Ok(Some(line)) => show_line(alloc, checker, writer, line),
         Ok(None) => Ok(Progress::Open),
         Err(SplitFault::TooLong) => stopped(checker.too_long()),
         Err(SplitFault::OutOfMemory) => Err(AuditFault::OutOfMemory),

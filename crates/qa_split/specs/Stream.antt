@@ -28,10 +28,6 @@ pub record TakesLine (old new : Stream) (line : List ℕ) : Type 0 where
 abbrev pub BeginsTooLong : List ℕ → Type 0
 BeginsTooLong bytes = (front : List ℕ) × (rest : List ℕ) × (has_lf front ≡ false) × (line_limit < length front) × (bytes ≡ front ++ rest)
 
--- a line stands ready, which an LF or the close ends
-abbrev pub HasLine : Stream → Type 0
-HasLine s = (line : List ℕ) × (rest : List ℕ) × IsShortLine line × (IsFirstLine s.bytes line rest ⊎ ((s.closed ≡ true) × IsLastLine s.bytes line rest))
-
 -- no line stands ready
 abbrev pub HasNoLine : Stream → Type 0
 HasNoLine s = IsShortLine s.bytes × (s.closed ≡ true → s.bytes ≡ [])

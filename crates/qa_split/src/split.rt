@@ -1,5 +1,5 @@
 //! Lines out of bytes that come in pieces.
-ghost use Rattle.std.specs.Prelude.{◌≡◌, ◌++◌, false, MatchOption, IfOk};
+ghost use Rattle.std.specs.Prelude.{◌≡◌, ◌≤◌, drop, length, false, MatchOption};
 ghost use Rattle.qa_base.specs.format.Lines.{has_lf};
 ghost use Rattle.qa_split.specs.Stream.{AreSearched, IsFirstLf};
 
@@ -27,12 +27,14 @@ pub const LINE_LIMIT: usize = 65536;
 
 /// Bytes that come in pieces, returned as lines.
 ///
-/// Lines are cut at LF, however the pieces are cut. Feeding a piece copies the piece and at most
-/// the bytes that were not returned yet. No byte is looked at twice in the search for an LF.
+/// Lines are cut at LF, however the pieces are cut. It lends each line out of a buffer that holds
+/// the last piece and the line that was unfinished before it: only feeding a piece takes memory,
+/// and copies the piece and what is unfinished. No byte is looked at twice in the search for an LF.
 #[derive(Drop)]
 pub struct Splitter {
-    alloc: Global,
+    /// The bytes that were returned since the last piece came, and behind them those that were not.
     bytes: Vec<u8>,
+    /// How many of the bytes were returned.
     start: usize,
     /// How many of the bytes from `start` on were looked at and have no LF.
     searched: usize,
@@ -56,15 +58,16 @@ impl Model for Splitter {
 }
 
 impl Splitter {
-    ghost use Rattle.std.specs.Prelude.{[], true, Some, None, Err, OnOk, OnErr, IfSome, IfNone, IsErrOf, IfErr};
-    ghost use Rattle.qa_split.specs.Stream.{TakesLine, HasLine, HasNoLine, BeginsTooLong};
+    ghost use Rattle.std.specs.Borrow.{sem};
+    ghost use Rattle.std.specs.Prelude.{[], ◌++◌, true, Some, None, OnOk, OnErr, IsErrOf};
+    ghost use Rattle.qa_split.specs.Lending.{EndsAs};
+    ghost use Rattle.qa_split.specs.Stream.{BeginsTooLong};
 
     /// A splitter that holds no bytes. Takes no memory.
     pub fn new(alloc: Global) -> Splitter
         ensures { result ≡ record { bytes = []; closed = false; refused = None } }
     {
         Splitter {
-            alloc,
             bytes: Vec::new(alloc),
             start: 0,
             searched: 0,
@@ -82,25 +85,22 @@ impl Splitter {
         ensures ok { OnOk result (self.new ≡ record self.old { bytes = self.old.bytes ++ piece.now }) }
         ensures err { OnErr result (self.new ≡ record self.old { refused = Some SplitFault.OutOfMemory }) }
     {
-        let fed = if self.start == 0 {
-            self.bytes.extend_from_slice(piece)
-        } else {
-            self.refill(piece)
-        };
+        self.drop_returned();
+        let fed = self.bytes.extend_from_slice(piece);
         if fed.is_err() {
             self.refused = Some(SplitFault::OutOfMemory);
         }
         fed
     }
 
-    /// Puts the piece behind the bytes that were not returned yet, and drops those that were.
-    fn refill(&mut self, piece: &[u8]) -> Result<(), AllocError>
-        ensures ok { OnOk result (self.new ≡ record self.old { bytes = self.old.bytes ++ piece.now }) }
-        ensures err { OnErr result (self.new ≡ self.old) }
+    /// Moves what was not returned yet to the front of the buffer.
+    fn drop_returned(&mut self)
+        ensures { self.new ≡ self.old }
     {
-        self.bytes = joined(self.alloc, &self.bytes[self.start..], piece)?;
-        self.start = 0;
-        Ok(())
+        if 0 < self.start {
+            remove_front(&mut self.bytes, self.start);
+            self.start = 0;
+        }
     }
 
     /// Says that no more pieces come: what stands after the last LF is a line, where it has a byte.
@@ -110,18 +110,15 @@ impl Splitter {
         self.closed = true;
     }
 
-    /// The next line without its LF, or None where no whole line stands ready.
+    /// The next line without its LF, or None where no whole line stands ready. Takes no memory.
     ///
     /// `SplitFault::TooLong` comes as soon as the next line has more than 65,536 bytes, whether
-    /// its end is there or not, and `SplitFault::OutOfMemory` only where a line stands ready. After
-    /// an error the splitter has failed, and returns that error from then on.
-    pub fn next_line(&mut self) -> Result<Option<Vec<u8>>, SplitFault>
-        ensures refused { IfSome self.old.refused (λ fault. (result ≡ Err fault) × (self.new ≡ self.old)) }
-        ensures line { IfOk result (λ found. IfSome found (λ line. TakesLine self.old self.new line.items)) }
-        ensures none { IfOk result (λ found. IfNone found (HasNoLine self.old × (self.new ≡ self.old))) }
+    /// its end is there or not. After an error, here or of `feed`, the splitter has failed, and
+    /// returns that error from then on.
+    pub fn next_line(&mut self) -> Result<Option<&[u8]>, SplitFault>
+        ensures* after_borrow { sem 𝓛 (EndsAs self.entry result) }
         ensures too_long { self.old.refused ≡ None → IsErrOf result SplitFault.TooLong → BeginsTooLong self.old.bytes }
-        ensures memory { self.old.refused ≡ None → IsErrOf result SplitFault.OutOfMemory → HasLine self.old }
-        ensures err { IfErr result (λ fault. self.new ≡ record self.old { refused = Some fault }) }
+        ensures memory { self.old.refused ≡ None → IsErrOf result SplitFault.OutOfMemory → ⊥ }
     {
         if let Some(fault) = self.refused {
             return Err(fault);
@@ -139,23 +136,20 @@ impl Splitter {
             self.searched = len;
             return Ok(None);
         }
-        let Ok(line) = Vec::from_slice(self.alloc, &rest[..len]) else {
-            self.refused = Some(SplitFault::OutOfMemory);
-            return Err(SplitFault::OutOfMemory);
-        };
         self.start += taken;
         self.searched = 0;
-        Ok(Some(line))
+        Ok(Some(&rest[..len]))
     }
 }
 
-/// The bytes of both.
-fn joined(alloc: Global, front: &[u8], back: &[u8]) -> Result<Vec<u8>, AllocError>
-    ensures { IfOk result (λ bytes. bytes.items ≡ front.now ++ back.now) }
+/// Removes the first n bytes.
+fn remove_front(bytes: &mut Vec<u8>, n: usize)
+    requires { n ≤ length bytes.old.items }
+    ensures { bytes.new.items ≡ drop n bytes.old.items }
 {
-    let mut bytes = Vec::from_slice(alloc, front)?;
-    bytes.extend_from_slice(back)?;
-    Ok(bytes)
+    let len = bytes.len();
+    bytes.copy_within(n..len, 0);
+    bytes.truncate(len - n);
 }
 
 /// Where the first LF stands. Asks that the bytes before `searched` have none.

@@ -13,7 +13,7 @@ fn drain(splitter: &mut Splitter, lines: &mut Vec<u8>) -> Result<(), Fail>
     'lines: for _ in 0..1000 {
         match splitter.next_line()? {
             Some(line) => {
-                lines.extend_from_slice(line.as_slice())?;
+                lines.extend_from_slice(line)?;
                 lines.push(b'|')?;
             }
             None => return Ok(()),

@@ -7,28 +7,28 @@ use Rattle.qa_check.proofs.auditing.drain.Goals as goal
 
 pub returns-in_err-line-in-Ok-Some-clause-decided : goal.returns-in_err-line-in-Ok-Some-clause-decided
 returns-in_err-line-in-Ok-Some-clause-decided g c = λ h bytes f.
-    let t = rw c.in-Ok-Some.field-0-is at c.in-Ok-Some.ensures.line in
+    let t = rw (c.in-Ok-Some.is, c.in-Ok-Some.field-0-is) at c.next_line.follows.holds-at-none.line in
     let p = err_from_is_err_and c.from_residual.result c.from_residual.ensures.1 in
     let is : c.line.result ≡ Err Decided = cc in
     let bad = c.line.ensures.decided is in
-    let d = decide_line (StandsFor g.L.Ledger.stands c.lines.checker) (StandsFor g.L.Ledger.stands c.line.new.self) _ _ _ _ _ t.is_line t.taken c.lines.invariant.ready.0 c.as_slice.ensures.value bad.1 bytes (c.lines.invariant.follows bytes f) in
+    let d = decide_line (StandsFor g.L.Ledger.stands c.lines.checker) (StandsFor g.L.Ledger.stands c.line.new.self) _ _ _ _ t.is_line t.taken c.lines.invariant.ready.0 bad.1 bytes (c.lines.invariant.follows bytes f) in
     (d.0, (bad.0, d.1))
 
 pub lines-preserved : goal.lines-preserved
 lines-preserved g c =
-    let t = rw c.in-Ok-Some.field-0-is at c.in-Ok-Some.ensures.line in
+    let t = rw (c.in-Ok-Some.is, c.in-Ok-Some.field-0-is) at c.next_line.follows.holds-at-none.line in
     let good = c.in_ok-line-in-Ok-Some.ensures.good in
     record {
       ready = (t.closed ∙ c.lines.invariant.ready.0, t.whole);
       whole = good.0;
       follows = λ bytes f.
-          follow_line (StandsFor g.L.Ledger.stands c.lines.checker) (StandsFor g.L.Ledger.stands c.line.new.self) _ _ _ _ _ t.is_line t.taken c.lines.invariant.ready.0 c.as_slice.ensures.value good.1 bytes
+          follow_line (StandsFor g.L.Ledger.stands c.lines.checker) (StandsFor g.L.Ledger.stands c.line.new.self) _ _ _ _ t.is_line t.taken c.lines.invariant.ready.0 good.1 bytes
           (c.lines.invariant.follows bytes f);
     }
 
 pub returns-in-Ok-None-clause-good : goal.returns-in-Ok-None-clause-good
 returns-in-Ok-None-clause-good g c = λ bytes f.
-    let n = rw c.in-Ok-None.field-0-is at c.in-Ok-None.ensures.none in
+    let n = rw (c.in-Ok-None.is, c.in-Ok-None.field-0-is) at c.next_line.follows.holds-at-none.none in
     rw n.1 (c.lines.invariant.follows bytes f)
 
 pub returns-in-Err-TooLong-clause-decided : goal.returns-in-Err-TooLong-clause-decided
