@@ -68,12 +68,18 @@ def built(folder: Path, crates: str) -> str:
     shutil.copytree(FOLDER / "serde", folder)
     sources = ['source.crates-io.replace-with="installed"', f'source.installed.directory="{crates}"']
     options = [word for it in sources for word in ("--config", it)]
-    done = subprocess.run(["cargo", "build", "--release", "--offline", *options], cwd=folder, capture_output=True,
-                          text=True, check=False)
+    build = ["cargo", "build", "--release", "--offline", "--target-dir", "target", *options]
+    done = subprocess.run(build, cwd=folder, capture_output=True, text=True, check=False)
     if done.returncode != 0:
         last = done.stderr.strip().splitlines()[-LINES_OF_A_BUILD_FAILURE:]
         raise Missing("\n    ".join(["cargo did not build its program:", *last]))
     return str(folder / "target" / "release" / "read")
+
+
+def versions(crates: str) -> str:
+    """What the program on `serde_json` is built of and by."""
+    compiler = subprocess.run(["rustc", "--version"], capture_output=True, text=True, check=False).stdout.strip()
+    return ", ".join([compiler, *sorted(it.name for it in Path(crates).glob("serde_json-*"))])
 
 
 def ran(reader: Reader, trace: Trace) -> Run:
