@@ -1,5 +1,6 @@
 # What this repository is built, tested and installed with.
-# It needs `rt`, which proves and builds Rattle crates, and Python 3; `make test` also needs a C compiler.
+# It needs `rt`, which proves and builds Rattle crates, and Python 3; `make test` also needs a C compiler, and
+# `make bench` compares with a program in Rust too where `cargo` and the crate `serde_json` are installed.
 
 PREFIX ?= /usr/local
 DESTDIR ?=

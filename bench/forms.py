@@ -48,7 +48,8 @@ class Template:
         self.texts: Iterator[bytes] = itertools.cycle([b"{" + text + it + b"}\n" for it in form.extras])
         # Where the values stand that come in the order of the template.
         differing = [it for it in fields if b"%" in it[1]]
-        self.picked: Callable[[Tuple[Any, ...]], Any] = itemgetter(*(differing.index(it) for it in order if it in differing))
+        places = [differing.index(it) for it in order if it in differing]
+        self.picked: Callable[[Tuple[Any, ...]], Any] = itemgetter(*places)
 
     def filled(self, values: Tuple[Any, ...]) -> bytes:
         """The line with these values."""

@@ -73,12 +73,13 @@ class Traces(unittest.TestCase):
         for shape in ALL_SHAPES:
             by_form = {form.name: lines_of(shape, form) for form in FORMS}
             for line in by_form["sorted"]:
-                self.assertEqual(json.dumps(json.loads(line), sort_keys=True, separators=(",", ":")) + "\n", line.decode())
+                compact = json.dumps(json.loads(line), sort_keys=True, separators=(",", ":"))
+                self.assertEqual(line.decode(), f"{compact}\n")
             for line in by_form["format"]:
                 keys = list(json.loads(line))
                 self.assertEqual(keys, [key for key in ORDER if key in keys])
             for line in by_form["spaces"]:
-                self.assertEqual(json.dumps(json.loads(line)) + "\n", line.decode())
+                self.assertEqual(line.decode(), json.dumps(json.loads(line)) + "\n")
             kinds = {known(line)["event"] for line in by_form["unknown"]}
             for kind in kinds - {"header"}:
                 unknown = [[key for key in json.loads(line) if key in UNKNOWN]
@@ -124,7 +125,8 @@ class Readers(unittest.TestCase):
 
     def test_answers(self):
         trace = Trace(self.path, 3, 1)
-        for words, is_right in (("accepted\nevents 3", True), ("accepted\nevents 2", False), ("refused\nevents 3", False)):
+        for words, is_right in (("accepted\nevents 3", True), ("accepted\nevents 2", False),
+                                ("accepted\nevents 30", False), ("refused\nevents 3", False)):
             program = self.path.with_name("program")
             program.write_text(f"#!/bin/sh\necho '{words}'\n", encoding="ascii")
             program.chmod(0o755)
@@ -144,7 +146,8 @@ class Readers(unittest.TestCase):
 
 def row(shape="steady", form="sorted", lines=1001, kibibytes=1000, **seconds):
     """A row, with a second round in which all is slower."""
-    rounds = [{name: Usage(it * slower, 2 * it * slower, kibibytes) for name, it in seconds.items()} for slower in (1, 3)]
+    rounds = [{name: Usage(slower * it, 2 * slower * it, kibibytes) for name, it in seconds.items()}
+              for slower in (1, 3)]
     return Row(shape, form, 100_100, lines, rounds)
 
 
@@ -200,7 +203,8 @@ class Arguments(unittest.TestCase):
         kinds = list(peers.kinds_of_traces([it.name for it in COMPARED], 7))
         self.assertEqual(len(kinds), len(COMPARED) * len(FORMS) + 1)
         self.assertEqual([least for _shape, _form, least in kinds].count(PACKETS), 1)
-        self.assertEqual({form.name for _shape, form, _least in peers.kinds_of_traces(["mixed"], 7)}, {it.name for it in FORMS})
+        names = [form.name for _shape, form, _least in peers.kinds_of_traces(["mixed"], 7)]
+        self.assertEqual(names, [it.name for it in FORMS])
 
 
 if __name__ == "__main__":

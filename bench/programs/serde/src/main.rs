@@ -18,11 +18,19 @@ struct Field {
 }
 
 const fn required(key: &'static str, is_kind: fn(&Value) -> bool) -> Field {
-    Field { key, is_optional: false, is_kind }
+    Field {
+        key,
+        is_optional: false,
+        is_kind,
+    }
 }
 
 const fn optional(key: &'static str, is_kind: fn(&Value) -> bool) -> Field {
-    Field { key, is_optional: true, is_kind }
+    Field {
+        key,
+        is_optional: true,
+        is_kind,
+    }
 }
 
 const HEADER: &[Field] = &[
@@ -49,11 +57,20 @@ const ACK: &[Field] = &[
     optional("delay", Value::is_u64),
     optional("limited", Value::is_boolean),
 ];
-const LOST: &[Field] =
-    &[required("time", Value::is_u64), required("space", Value::is_string), required("ranges", are_ranges)];
-const TIMER: &[Field] =
-    &[required("time", Value::is_u64), required("kind", Value::is_string), required("space", Value::is_string)];
-const DISCARD: &[Field] = &[required("time", Value::is_u64), required("space", Value::is_string)];
+const LOST: &[Field] = &[
+    required("time", Value::is_u64),
+    required("space", Value::is_string),
+    required("ranges", are_ranges),
+];
+const TIMER: &[Field] = &[
+    required("time", Value::is_u64),
+    required("kind", Value::is_string),
+    required("space", Value::is_string),
+];
+const DISCARD: &[Field] = &[
+    required("time", Value::is_u64),
+    required("space", Value::is_string),
+];
 const MOMENT: &[Field] = &[required("time", Value::is_u64)];
 const METRICS: &[Field] = &[
     required("time", Value::is_u64),
@@ -83,7 +100,9 @@ fn fields_of(event: &str) -> Option<&'static [Field]> {
 
 /// Whether a value is a list of lists of two integers.
 fn are_ranges(value: &Value) -> bool {
-    value.as_array().is_some_and(|ranges| ranges.iter().all(is_range))
+    value
+        .as_array()
+        .is_some_and(|ranges| ranges.iter().all(is_range))
 }
 
 fn is_range(value: &Value) -> bool {
@@ -92,9 +111,14 @@ fn is_range(value: &Value) -> bool {
 
 /// Whether the values of a line are of the kinds that its event asks for.
 fn has_kinds(line: &Map<String, Value>) -> bool {
-    let fields = line.get("event").and_then(Value::as_str).and_then(fields_of);
+    let fields = line
+        .get("event")
+        .and_then(Value::as_str)
+        .and_then(fields_of);
     fields.is_some_and(|fields| {
-        fields.iter().all(|field| line.get(field.key).map_or(field.is_optional, field.is_kind))
+        fields
+            .iter()
+            .all(|field| line.get(field.key).map_or(field.is_optional, field.is_kind))
     })
 }
 
