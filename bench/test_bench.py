@@ -125,10 +125,11 @@ class Readers(unittest.TestCase):
 
     def test_answers(self):
         trace = Trace(self.path, 3, 1)
-        for words, is_right in (("accepted\nevents 3", True), ("accepted\nevents 2", False),
-                                ("accepted\nevents 30", False), ("refused\nevents 3", False)):
+        cases = (("accepted\nevents 3", 0, True), ("accepted\nevents 3", 1, False), ("accepted\nevents 2", 0, False),
+                 ("accepted\nevents 30", 0, False), ("refused\nevents 3", 0, False))
+        for words, status, is_right in cases:
             program = self.path.with_name("program")
-            program.write_text(f"#!/bin/sh\necho '{words}'\n", encoding="ascii")
+            program.write_text(f"#!/bin/sh\necho '{words}'\nexit {status}\n", encoding="ascii")
             program.chmod(0o755)
             with contextlib.nullcontext() if is_right else self.assertRaises(WrongAnswer):
                 ran(auditor(str(program)), trace)
