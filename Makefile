@@ -1,5 +1,6 @@
 # What this repository is built, tested and installed with.
-# It needs `rt`, which proves and builds Rattle crates, and Python 3; `make test` also needs a C compiler.
+# It needs `rt`, which proves and builds Rattle crates, and Python 3; `make test` also needs a C compiler, and
+# `make bench` compares with a program in Rust too where `cargo` and the crate `serde_json` are installed.
 
 PREFIX ?= /usr/local
 DESTDIR ?=
@@ -17,7 +18,7 @@ help:
 	@echo 'make build     proves the program and builds $(program)'
 	@echo 'make run       builds it and audits $(example)'
 	@echo 'make test      runs the merge gate, and then the program over conformance/'
-	@echo 'make bench     builds it and measures what an event costs on long traces, in about two minutes'
+	@echo 'make bench     builds it, measures it on long traces and compares it with others, in about five minutes'
 	@echo 'make install   builds it and installs it in $$(DESTDIR)$$(PREFIX)/bin, and its man page; PREFIX is $(PREFIX)'
 	@echo 'make clean     removes what was built'
 
@@ -49,7 +50,9 @@ test:
 
 # No part of `test`, for no number of seconds is right on every machine.
 bench: build
+	python3 bench/test_bench.py
 	bench/run $(program)
+	bench/peers $(program)
 
 install: build
 	install -d '$(DESTDIR)$(PREFIX)/bin'

@@ -7,9 +7,10 @@ not grow, and what grows is the auditor's.
 
 import itertools
 from collections import deque
-from typing import Callable, Deque, Iterable, Iterator, List, NamedTuple, Tuple
+from typing import Any, Callable, Deque, Dict, Iterable, Iterator, List, NamedTuple
 
-Span = Tuple[int, int]
+from forms import Form, Span, Writer
+
 Round = List[bytes]
 
 FIRST_TIME = 1_000_000_000
@@ -19,57 +20,70 @@ STEP = 50
 SIZE = 1200
 # Of packets that have to fit many times into a window of two datagrams.
 SMALL = 100
+DEFAULT_WINDOW = 12_000
+# A window into which all packets of a trace fit.
+WIDE_WINDOW = 4_294_967_295
 RANGES = 32
 SPACES = (b"initial", b"handshake", b"app")
 
-HEADER = b'{"event":"header","version":1,"role":"server","max_datagram_size":1200}\n'
-WIDE_HEADER = (
-    b'{"event":"header","version":1,"role":"server","max_datagram_size":1200,"initial_window":4294967295}\n'
+HEADER = b'{"event":"header","version":1,"role":"server","max_datagram_size":1200,"initial_window":%d}'
+SENT = b'{"event":"sent","time":%d,"space":"%s","number":%d,"size":%d,"eliciting":true,"in_flight":true}'
+SENT_ALONE = b'{"event":"sent","time":%d,"space":"%s","number":%d,"size":%d,"eliciting":false,"in_flight":false}'
+BY_WINDOW = SENT[:-1] + b',"leave":"window"}'
+PROBE = SENT[:-1] + b',"leave":"probe"}'
+ACK = b'{"event":"ack","time":%d,"space":"%s","ranges":%s}'
+DELAYED = ACK[:-1] + b',"delay":25}'
+LIMITED = ACK[:-1] + b',"delay":0,"limited":true}'
+LOST = b'{"event":"lost","time":%d,"space":"app","ranges":%s}'
+LOSS_TIMER = b'{"event":"timer","time":%d,"kind":"loss","space":"app"}'
+PTO = b'{"event":"timer","time":%d,"kind":"pto","space":"%s"}'
+DISCARD = b'{"event":"discard","time":%d,"space":"%s"}'
+CONFIRMED = b'{"event":"confirmed","time":%d}'
+KEYS = b'{"event":"keys","time":%d}'
+METRICS = (
+    b'{"event":"metrics","time":%d,"window":%d,"bytes_in_flight":%d,"latest_rtt":%d,"min_rtt":%d,"smoothed_rtt":%d}'
 )
-SENT = b'{"event":"sent","time":%d,"space":"%s","number":%d,"size":%d,%s}\n'
-ACK = b'{"event":"ack","time":%d,"space":"%s","ranges":[%s]}\n'
-LOST = b'{"event":"lost","time":%d,"space":"app","ranges":[%s]}\n'
-ELICITING = b'"eliciting":true,"in_flight":true'
-NOT_IN_FLIGHT = b'"eliciting":false,"in_flight":false'
-
-
-def text_of(ranges: Iterable[Span]) -> bytes:
-    """Ranges as a line has them."""
-    return b",".join(b"[%d,%d]" % span for span in ranges)
 
 
 class Log:
     """Makes the lines of events, each a step later than the one before."""
 
-    def __init__(self) -> None:
+    def __init__(self, form: Form) -> None:
+        self.writer = Writer(form)
         self.time = FIRST_TIME
 
-    def sent(self, number: int, size: int = SIZE, space: bytes = b"app", flags: bytes = ELICITING) -> bytes:
-        """A packet is sent."""
+    def event(self, template: bytes, *values: Any) -> bytes:
+        """An event with these values behind its time."""
         self.time += STEP
-        return SENT % (self.time, space, number, size, flags)
+        return self.writer.line(template, self.time, *values)
 
-    def ack(self, ranges: Iterable[Span], space: bytes = b"app") -> bytes:
+    def sent(self, number: int, size: int = SIZE, space: bytes = b"app", template: bytes = SENT) -> bytes:
+        """A packet is sent."""
+        return self.event(template, space, number, size)
+
+    def ack(self, ranges: Iterable[Span], space: bytes = b"app", template: bytes = ACK) -> bytes:
         """An acknowledgment comes."""
-        self.time += STEP
-        return ACK % (self.time, space, text_of(ranges))
+        return self.event(template, space, self.writer.ranges(ranges))
 
     def lost(self, ranges: Iterable[Span]) -> bytes:
         """Packets of application data are declared lost."""
-        self.time += STEP
-        return LOST % (self.time, text_of(ranges))
+        return self.event(LOST, self.writer.ranges(ranges))
+
+    def until(self, time: int) -> None:
+        """Nothing happens before this time, which is when the next event is."""
+        self.time = time - STEP
 
 
-def steady(log: Log) -> Iterator[Round]:
+def plain(log: Log) -> Iterator[Round]:
     """An acknowledgment for every two packets, which names all packets so far."""
     for number in itertools.count(FIRST_NUMBER, 2):
         yield [log.sent(number), log.sent(number + 1), log.ack([(FIRST_NUMBER, number + 1)])]
 
 
 def one_open(log: Log) -> Iterator[Round]:
-    """The steady shape behind a packet that is not in flight and never acknowledged."""
-    yield [log.sent(FIRST_NUMBER - 1, flags=NOT_IN_FLIGHT)]
-    yield from steady(log)
+    """The plain shape behind a packet that is not in flight and never acknowledged."""
+    yield [log.sent(FIRST_NUMBER - 1, template=SENT_ALONE)]
+    yield from plain(log)
 
 
 def unacknowledged(log: Log) -> Iterator[Round]:
@@ -81,7 +95,7 @@ def unacknowledged(log: Log) -> Iterator[Round]:
 def not_in_flight(log: Log) -> Iterator[Round]:
     """Packets that are not in flight, and no acknowledgment ever."""
     for number in itertools.count(FIRST_NUMBER):
-        yield [log.sent(number, flags=NOT_IN_FLIGHT)]
+        yield [log.sent(number, template=SENT_ALONE)]
 
 
 def many_ranges(log: Log) -> Iterator[Round]:
@@ -102,14 +116,25 @@ def skipped(log: Log) -> Iterator[Round]:
         yield [log.sent(number), log.sent(number + 2), log.ack(ranges)]
 
 
-def lost(log: Log) -> Iterator[Round]:
-    """Of four packets the last is acknowledged. The first is three below it and lost, and so are those between the
-    last two acknowledgments."""
+def last_of(log: Log, count: int) -> Iterator[Round]:
+    """Of so many packets the last is acknowledged. Those that are three or more below it are lost, and the two between
+    are lost at the next acknowledgment."""
     owed: List[Span] = []
-    for number in itertools.count(FIRST_NUMBER, 4):
-        packets = [log.sent(number + place, SMALL) for place in range(4)]
-        yield [*packets, log.ack([(number + 3, number + 3)]), log.lost([*owed, (number, number)])]
-        owed = [(number + 1, number + 2)]
+    for number in itertools.count(FIRST_NUMBER, count):
+        last = number + count - 1
+        packets = [log.sent(it, SMALL) for it in range(number, number + count)]
+        yield [*packets, log.ack([(last, last)]), log.lost([*owed, (number, last - 3)])]
+        owed = [(last - 2, last - 1)]
+
+
+def lost(log: Log) -> Iterator[Round]:
+    """Of four packets three are lost."""
+    return last_of(log, 4)
+
+
+def all_lost(log: Log) -> Iterator[Round]:
+    """All packets are lost but one of sixteen, without which no loss would be seen."""
+    return last_of(log, 16)
 
 
 def three_spaces(log: Log) -> Iterator[Round]:
@@ -119,26 +144,155 @@ def three_spaces(log: Log) -> Iterator[Round]:
         yield packets + [log.ack([(FIRST_NUMBER, number + 1)], space) for space in SPACES]
 
 
+# A transfer in which all goes well but for a loss now and then.
+
+# So many packets go well between two losses.
+PACKETS_BETWEEN_LOSSES = 40
+# The least age at which a packet is lost, and a part of a probe timeout (RFC 9002, kGranularity).
+GRANULARITY = 1000
+MAX_ACK_DELAY = 25_000
+
+
+def smooth(log: Log, number: int, since: int) -> Round:
+    """Two packets are acknowledged, with all since the last loss."""
+    return [log.sent(number), log.sent(number + 1), log.ack([(since, number + 1)], template=DELAYED)]
+
+
+def late_by_number(log: Log, number: int) -> Round:
+    """The first of four packets is lost, since it is three below the last."""
+    return [log.sent(number), log.sent(number + 1), log.ack([(number + 1, number + 1)], template=DELAYED),
+            log.sent(number + 2), log.sent(number + 3), log.ack([(number + 1, number + 3)], template=DELAYED),
+            log.lost([(number, number)])]
+
+
+def late_by_time(log: Log, number: int) -> Round:
+    """The first of two packets is lost, since its timer fires."""
+    packets = [log.sent(number), log.sent(number + 1)]
+    due = log.time - STEP + GRANULARITY
+    ack = log.ack([(number + 1, number + 1)], template=DELAYED)
+    log.until(due)
+    return [*packets, ack, log.event(LOSS_TIMER), log.lost([(number, number)])]
+
+
+def lost_at_the_end(log: Log, number: int) -> Round:
+    """Two packets are lost and nothing follows them, so that a probe timeout fires. The acknowledgment of its two
+    probes shows both losses."""
+    packets = [log.sent(number), log.sent(number + 1)]
+    log.until(log.time + STEP + GRANULARITY + MAX_ACK_DELAY)
+    return [*packets, log.event(PTO, b"app"), log.sent(number + 2, template=PROBE),
+            log.sent(number + 3, template=PROBE), log.ack([(number + 2, number + 3)], template=DELAYED),
+            log.lost([(number, number + 1)])]
+
+
+def steady(log: Log) -> Iterator[Round]:
+    """An acknowledgment for every two packets, and now and then a loss: by number, by time, at the end of a flight."""
+    yield [log.event(CONFIRMED)]
+    number = FIRST_NUMBER
+    for losing, packets in itertools.cycle([(late_by_number, 4), (late_by_time, 2), (lost_at_the_end, 4)]):
+        end = number + PACKETS_BETWEEN_LOSSES
+        for it in range(number, end, 2):
+            yield smooth(log, it, number)
+        yield losing(log, end)
+        number = end + packets
+
+
+# A handshake that goes on and on, with all kinds of lines but losses.
+
+ROUNDS_BETWEEN_TIMEOUTS = 8
+# From the last packet of a space to its acknowledgment.
+ROUND_TRIP = 3 * STEP
+
+
+class Numbers(Dict[bytes, int]):
+    """The next number of each space."""
+
+    def take(self, space: bytes) -> int:
+        """The next number of a space, which is taken by that."""
+        self[space] += 1
+        return self[space] - 1
+
+    def taken(self, space: bytes) -> List[Span]:
+        """All numbers of a space that were taken."""
+        return [(FIRST_NUMBER, self[space] - 1)]
+
+
+def in_turn(log: Log, numbers: Numbers) -> Round:
+    """Two packets of each space, their acknowledgments, and a report."""
+    packets = [log.sent(numbers.take(space), space=space, template=BY_WINDOW) for _ in range(2) for space in SPACES]
+    acks = [log.ack(numbers.taken(space), space, LIMITED) for space in SPACES]
+    return [*packets, *acks, log.event(METRICS, DEFAULT_WINDOW, 0, ROUND_TRIP, ROUND_TRIP, ROUND_TRIP)]
+
+
+def probed(log: Log, numbers: Numbers) -> Round:
+    """Two Initial packets are not acknowledged before a probe was sent. Then the keys of the Handshake space are said
+    to be there."""
+    packets = [log.sent(numbers.take(b"initial"), space=b"initial") for _ in range(2)]
+    log.until(log.time + ROUND_TRIP + GRANULARITY)
+    timer = log.event(PTO, b"initial")
+    probe = log.sent(numbers.take(b"initial"), space=b"initial", template=PROBE)
+    log.until(log.time + ROUND_TRIP)
+    return [*packets, timer, probe, log.ack(numbers.taken(b"initial"), b"initial", LIMITED), log.event(KEYS)]
+
+
+def mixed(log: Log) -> Iterator[Round]:
+    """The three spaces in turn, with reports, probe timeouts, and lines of the handshake."""
+    numbers = Numbers((space, FIRST_NUMBER) for space in SPACES)
+    while True:
+        for _ in range(ROUNDS_BETWEEN_TIMEOUTS):
+            yield in_turn(log, numbers)
+        yield probed(log, numbers)
+
+
+def end_of_handshake(log: Log) -> Round:
+    """The handshake is confirmed, and its keys are discarded."""
+    return [log.event(CONFIRMED), log.event(DISCARD, b"initial"), log.event(DISCARD, b"handshake")]
+
+
+def no_ending(_log: Log) -> Round:
+    """A trace ends behind any round."""
+    return []
+
+
 class Shape(NamedTuple):
-    """A name, the line of the header, and what makes the rounds."""
+    """A name, what makes the rounds, the window at the start, and the last round of a trace."""
 
     name: str
-    header: bytes
     rounds: Callable[[Log], Iterator[Round]]
+    initial_window: int = DEFAULT_WINDOW
+    ending: Callable[[Log], Round] = no_ending
 
 
+UNACKNOWLEDGED = Shape("unacknowledged", unacknowledged, WIDE_WINDOW)
+MANY_RANGES = Shape("32-ranges", many_ranges)
+# Whose growth is measured.
 SHAPES = (
-    Shape("steady", HEADER, steady),
-    Shape("one-open", HEADER, one_open),
-    Shape("unacknowledged", WIDE_HEADER, unacknowledged),
-    Shape("not-in-flight", HEADER, not_in_flight),
-    Shape("32-ranges", HEADER, many_ranges),
-    Shape("skipped", HEADER, skipped),
-    Shape("lost", HEADER, lost),
-    Shape("three-spaces", HEADER, three_spaces),
+    Shape("plain", plain),
+    Shape("one-open", one_open),
+    UNACKNOWLEDGED,
+    Shape("not-in-flight", not_in_flight),
+    MANY_RANGES,
+    Shape("skipped", skipped),
+    Shape("lost", lost),
+    Shape("three-spaces", three_spaces),
 )
+# Which are compared with other readers.
+STEADY = Shape("steady", steady)
+MIXED = Shape("mixed", mixed, ending=end_of_handshake)
+ALL_LOST = Shape("all-lost", all_lost)
+COMPARED = (STEADY, MIXED, MANY_RANGES, UNACKNOWLEDGED, ALL_LOST)
 
 
-def rounds_of(shape: Shape) -> Iterator[Round]:
-    """The rounds of a shape, from its beginning."""
-    return shape.rounds(Log())
+def header_of(shape: Shape, form: Form) -> bytes:
+    """The line of the header."""
+    return Writer(form).line(HEADER, shape.initial_window)
+
+
+def rounds_of(shape: Shape, form: Form, least: int) -> Iterator[Round]:
+    """The rounds of a shape until there are at least so many events, and the ending."""
+    log, events = Log(form), 0
+    for lines in shape.rounds(log):
+        yield lines
+        events += len(lines)
+        if events >= least:
+            break
+    yield shape.ending(log)

@@ -1,0 +1,66 @@
+"""What the comparison aims at. The ratios are those of processor time."""
+
+from typing import Callable, List, NamedTuple, Optional, Tuple
+
+from comparing import PACKETS, Row, processor
+
+BYTES_OF_A_PACKET = 200
+BYTES = 8_000_000
+QUICK_FORMS = ("sorted", "format")
+OTHER_FORMS = ("spaces", "unknown")
+
+
+def is_million(row: Row) -> bool:
+    """The trace of a million packets, of which none is acknowledged."""
+    return row.shape == "unacknowledged" and row.lines == PACKETS + 1
+
+
+def ratio(row: Row) -> Optional[float]:
+    """How many times as fast as `serde_json` the auditor is."""
+    return row.ratio(processor)
+
+
+def bytes_of_a_packet(row: Row) -> float:
+    """The auditor's memory for each packet of a trace of packets alone."""
+    return row.peak / (row.lines - 1)
+
+
+class Aim(NamedTuple):
+    """What is to hold, of which rows, of which value, and its bound, which the value reaches or stays under."""
+
+    text: str
+    is_asked: Callable[[Row], bool]
+    value: Callable[[Row], Optional[float]]
+    bound: float
+    is_least: bool = True
+
+
+AIMS = (
+    Aim("at least 5 times as fast as serde_json: steady, mixed, unacknowledged and all-lost, sorted and format",
+        lambda it: it.shape != "32-ranges" and it.form in QUICK_FORMS and not is_million(it), ratio, 5),
+    Aim("at least 3 times as fast: 32-ranges, sorted and format",
+        lambda it: it.shape == "32-ranges" and it.form in QUICK_FORMS, ratio, 3),
+    Aim("at least 3 times as fast: all shapes, spaces and unknown", lambda it: it.form in OTHER_FORMS, ratio, 3),
+    Aim("at least 4 times as fast: unacknowledged with a million packets", is_million, ratio, 4),
+    Aim("under 200 bytes a packet: unacknowledged with a million packets", is_million, bytes_of_a_packet,
+        BYTES_OF_A_PACKET, False),
+    Aim("under 8 MB: steady, mixed and 32-ranges", lambda it: it.shape in ("steady", "mixed", "32-ranges"),
+        lambda it: it.peak / 1e6, BYTES / 1e6, False),
+)
+
+
+def worst_of(aim: Aim, rows: List[Row]) -> Optional[Tuple[float, Row]]:
+    """The value that is farthest from being within the bound, and its row; none where nothing was measured."""
+    values = [(value, row) for row in rows if aim.is_asked(row) for value in [aim.value(row)] if value is not None]
+    choice = min if aim.is_least else max
+    return choice(values, key=lambda it: it[0], default=None)
+
+
+def said_of(aim: Aim, rows: List[Row]) -> str:
+    """Whether an aim is met, and by what."""
+    worst = worst_of(aim, rows)
+    if worst is None:
+        return f"not measured: {aim.text}"
+    value, row = worst
+    is_met = value >= aim.bound if aim.is_least else value < aim.bound
+    return f"{'met' if is_met else 'missed'}: {aim.text} ({value:.2f}, {row.shape} {row.form})"
