@@ -39,11 +39,14 @@ test:
 	rt ci
 	python3 conformance/test_run.py
 	python3 conformance/test_trials.py
+	python3 conformance/test_mutations.py
 	python3 conformance/test_simulate.py
 	python3 conformance/lines/make.py --check
 	conformance/run $(program)
 	conformance/simulate $(program) $(program_by_one_byte)
+	conformance/mutations $(program) $(program_by_one_byte)
 	conformance/large $(program)
+	conformance/malicious $(program)
 	conformance/refusals $(program)
 	conformance/refusals --traces $(program_by_one_byte)
 	conformance/failing $(program)
