@@ -134,6 +134,11 @@ class MaliciousTest(unittest.TestCase):
         self.assertEqual(self.failure(slow, case), "")
         self.assertIn("seconds of processor time", self.failure(slow, case, seconds=0.4))
 
+    def test_program_that_needs_a_larger_stack(self):
+        case = malicious.Case([b""], b"accepted\n")
+        limit = "import resource\nprint('accepted' if resource.getrlimit(resource.RLIMIT_STACK)[0] == 1 << 20 else '')"
+        self.assertEqual(self.failure(limit, case), "")
+
     def test_lines_are_of_the_greatest_length(self):
         for name, case in malicious.cases_of_lines():
             longest = max(len(line) for line in b"".join(case.pieces).split(b"\n"))
