@@ -39,12 +39,20 @@ run: build
 test:
 	rt ci
 	python3 conformance/test_run.py
+	python3 conformance/test_trials.py
+	python3 conformance/test_mutations.py
 	python3 conformance/test_simulate.py
 	python3 conformance/lines/make.py --check
 	conformance/run $(program)
 	conformance/simulate $(program) $(program_by_one_byte)
+	conformance/mutations $(program) $(program_by_one_byte)
 	conformance/large $(program)
+	conformance/malicious $(program)
 	conformance/refusals $(program)
+	conformance/refusals --traces $(program_by_one_byte)
+	conformance/failing $(program)
+	conformance/failing --traces $(program_by_one_byte)
+	conformance/cuts $(program)
 	conformance/run --traces $(program_by_one_byte)
 	conformance/run --lines $(program_of_lines)
 

@@ -78,13 +78,13 @@ def is_program(path: str) -> bool:
 
 def start(
     command, stdin, stdout=subprocess.PIPE, stderr=subprocess.PIPE, closed=(), folder=None, reads_every_file=True,
-    memory: Optional[int] = None, data_limit: Optional[int] = None, environment: Optional[dict] = None,
+    memory: Optional[int] = None, data_limit: Optional[int] = None, stack: Optional[int] = None,
 ) -> subprocess.Popen:
     """Starts a program in a folder, with these streams; those whose numbers are in `closed` are closed.
 
     Where it is not to read every file it loses root's right to do so, if it has it and the system lets it.
-    Where `memory` is given it has no more bytes of memory, and no more than `data_limit` for what it allocates, and where
-    `environment` is given these variables alone."""
+    Where `memory` is given it has no more bytes of memory, no more than `data_limit` for what it allocates, and no more
+    than `stack` for its stack."""
 
     def prepare():
         for stream in closed:
@@ -96,10 +96,10 @@ def start(
             resource.setrlimit(resource.RLIMIT_AS, (memory, memory))
         if data_limit is not None:
             resource.setrlimit(resource.RLIMIT_DATA, (data_limit, data_limit))
+        if stack is not None:
+            resource.setrlimit(resource.RLIMIT_STACK, (stack, stack))
 
-    return subprocess.Popen(
-        command, stdin=stdin, stdout=stdout, stderr=stderr, cwd=folder, env=environment, preexec_fn=prepare
-    )
+    return subprocess.Popen(command, stdin=stdin, stdout=stdout, stderr=stderr, cwd=folder, preexec_fn=prepare)
 
 
 def ended(child: subprocess.Popen, seconds: float = SECONDS) -> Outcome:

@@ -1,5 +1,5 @@
 #!/usr/bin/env python3
-"""Shows that conformance/run, large and refusals pass what is right and fail what is not.
+"""Shows that conformance/run and large pass what is right and fail what is not.
 
 Each test gives a runner a small corpus of its own and a fake program, both
 in a temporary folder.
@@ -83,46 +83,6 @@ ANSWERS = """
 text, status = verdict({lines})
 sys.stdout.write(text)
 sys.exit(status)
-"""
-# Allocates as often as it is told to, and ends as it is told to where an allocation is refused. Else it writes what
-# the subcommand is to write, for one trace or two.
-ALLOCATES = """
-#include <stdlib.h>
-#include <unistd.h>
-static int put(int stream, const char *text)
-{
-    size_t length = 0;
-    while (text[length])
-        length++;
-    return write(stream, text, length) == (ssize_t)length;
-}
-static int without_memory(void)
-{
-    put(2, "qaudit: out of memory\\n");
-    return 3;
-}
-static int report(void)
-{
-    return put(1, "accepted\\nevents 0\\n");
-}
-int main(int count, char **arguments)
-{
-    for (int i = 0; i < %(allocations)d; i++) {
-        if (i == 5 && arguments[1][0] == 'e')
-            put(1, "line 1 header\\n");
-        volatile char *block = malloc(16);
-        if (!block) {
-            %(refused)s;
-        }
-    }
-    if (arguments[1][0] == 'a') {
-        put(2, "usage: qaudit check [FILE...] or qaudit explain [FILE]\\n");
-        return 64;
-    }
-    if (count == 4)
-        return !(put(1, "file a\\n") && report() && put(1, "file b\\n") && report());
-    return !report();
-}
 """
 USAGE_CASE = {
     "name": "no-arguments", "arguments": [], "input": {"file": ""}, "status": 64, "stdout": "", "stderr": "usage\n"
@@ -561,57 +521,6 @@ def slowly(lines):
         self.more = ("many-events",)
         failure, _last = self.lines(1)
         self.assertTrue(failure.startswith("FAILED large/many-events: standard output"), failure)
-
-
-class RefusalsTest(RunnerCase):
-    runner = "refusals"
-    more = ("12",)
-
-    def setUp(self):
-        super().setUp()
-        (self.corpus / "traces").mkdir()
-        self.write_files("traces", "first-loss", {"trace": TRACE, "report": REPORT, "explain": EXPLANATION})
-
-    def compile_program(self, refused, allocations=10):
-        """A program that ends so where an allocation is refused."""
-        source = self.corpus / "program.c"
-        source.write_text(ALLOCATES % {"allocations": allocations, "refused": refused})
-        subprocess.run([os.environ.get("CC", "cc"), "-o", self.program, source], check=True)
-
-    def assert_first_failure(self, text):
-        failure, *_others = self.lines(1)
-        self.assertTrue(failure.startswith(f"FAILED refusals: check{text}"), failure)
-
-    def test_right_program(self):
-        self.compile_program("return without_memory()")
-        self.assert_passes(96)
-
-    def test_no_program(self):
-        self.assert_fails(str(self.program))
-
-    def test_program_that_allocates_nothing(self):
-        self.compile_program("return without_memory()", allocations=0)
-        self.assert_first_failure(": no run was out of memory")
-
-    def test_program_that_allocates_more_often_than_was_tried(self):
-        self.compile_program("return without_memory()", allocations=13)
-        self.assert_first_failure(": it has more than 12 allocations")
-
-    def test_program_that_ignores_a_refusal(self):
-        self.compile_program('return put(1, "unreadable\\n")')
-        self.assert_first_failure(" without allocation 1: status 1, wanted 0; standard output b'unreadable\\n', wanted ")
-
-    def test_program_that_crashes(self):
-        self.compile_program("*block = 1")
-        self.assert_first_failure(" without allocation 1: status -11, wanted 0")
-
-    def test_program_that_writes_a_part_of_its_report(self):
-        self.compile_program('put(1, "accepted\\n"); return without_memory()')
-        self.assert_first_failure(" without allocation 1: status 3")
-
-    def test_program_that_says_nothing(self):
-        self.compile_program("return 3")
-        self.assert_first_failure(" without allocation 1: status 3, wanted 0")
 
 
 if __name__ == "__main__":

@@ -1,0 +1,262 @@
+#!/usr/bin/env python3
+"""Shows that conformance/refusals, failing and cuts pass what is right and fail what is not.
+
+Each test gives a runner a small corpus of its own and a fake auditor in C, both in a temporary folder.
+"""
+
+import os
+import subprocess
+import unittest
+
+from test_run import RunnerCase
+
+TRACE = b"a line\nanother line\n"
+REPORT = b"accepted\nevents 0\n"
+EXPLANATION = b"line 1 row\nline 2 row\n" + REPORT
+BAD_TRACE = b"a line\nbad\na third line\n"
+BAD_REPORT = b"refused line 2 V1 time-back\n"
+BAD_EXPLANATION = b"line 1 row\n" + BAD_REPORT
+
+# Reads lines, to the end or to one that says `bad`, and writes a row for each where it is to explain them. What it
+# does where something fails is set by macros.
+AUDITOR = r"""
+#include <errno.h>
+#include <stdio.h>
+#include <stdlib.h>
+#include <string.h>
+#include <unistd.h>
+static int put(int stream, const char *text)
+{
+    size_t left = strlen(text);
+    while (left) {
+        ssize_t count = write(stream, text, left < WRITES ? left : WRITES);
+        if (count <= 0 && !(GOES_ON_WRITING))
+            return 0;
+        if (count > 0) {
+            text += count;
+            left -= count;
+        }
+    }
+    return 1;
+}
+static int fault(const char *message)
+{
+    put(2, message);
+    return 3;
+}
+static int report(const char *text, int status)
+{
+    return put(1, text) ? status : fault("qaudit: write fault\n");
+}
+static int row(int line)
+{
+    char text[30];
+    snprintf(text, sizeof text, "line %d row\n", line);
+    return put(1, text);
+}
+int main(int count, char **arguments)
+{
+    int explains = arguments[1][0] == 'e', lines = 0;
+    for (int i = 0; i < ALLOCATIONS; i++) {
+        volatile char *block = malloc(16);
+        if (!block) {
+            REFUSED;
+        }
+    }
+    if (arguments[1][0] == 'a') {
+        put(2, "usage: qaudit check [FILE...] or qaudit explain [FILE]\n");
+        return 64;
+    }
+    if (count == 4)
+        return report("file a\naccepted\nevents 0\nfile b\naccepted\nevents 0\n", 0);
+    char line[100], piece[4096];
+    size_t length = 0;
+    for (;;) {
+        ssize_t read_now = read(0, piece, READS);
+        if (read_now < 0 && (GOES_ON_READING))
+            continue;
+        if (read_now < 0 && !IGNORES_FAULTS)
+            return fault("qaudit: read fault: standard input\n");
+        if (read_now <= 0)
+            break;
+        for (ssize_t i = 0; i < read_now; i++) {
+            if (piece[i] != '\n') {
+                line[length++] = piece[i];
+                continue;
+            }
+            lines++;
+            if (length == 3 && !memcmp(line, "bad", 3)) {
+                READS_ON;
+                return report("refused line 2 V1 time-back\n", 1);
+            }
+            if (explains && !row(lines))
+                return fault("qaudit: write fault\n");
+            length = 0;
+        }
+        AT_EACH_PIECE;
+    }
+    return report("accepted\nevents 0\n", 0);
+}
+"""
+RIGHT = {
+    "ALLOCATIONS": "5", "REFUSED": 'return fault("qaudit: out of memory\\n")', "WRITES": "4096", "READS": "4096",
+    "GOES_ON_WRITING": "0", "GOES_ON_READING": "0", "IGNORES_FAULTS": "0", "READS_ON": "", "AT_EACH_PIECE": "",
+}
+
+
+class TrialCase(RunnerCase):
+    """A runner over two traces, of which the second is refused before its end."""
+
+    def setUp(self):
+        super().setUp()
+        (self.corpus / "traces").mkdir()
+        self.write_files("traces", "first-loss", {"trace": TRACE, "report": REPORT, "explain": EXPLANATION})
+        self.write_files("traces", "bad", {"trace": BAD_TRACE, "report": BAD_REPORT, "explain": BAD_EXPLANATION})
+
+    def compile_program(self, flags=(), **other):
+        """The right auditor, but for these macros."""
+        source = self.corpus / "program.c"
+        source.write_text(AUDITOR)
+        macros = [f"-D{name}={value}" for name, value in {**RIGHT, **other}.items()]
+        subprocess.run([os.environ.get("CC", "cc"), *macros, *flags, "-o", self.program, source], check=True)
+
+    def assert_first_failure(self, text):
+        failure, *_others = self.lines(1)
+        self.assertTrue(failure.startswith(f"FAILED {self.runner}: {text}"), failure)
+
+
+class RefusalsTest(TrialCase):
+    runner = "refusals"
+
+    def test_right_program(self):
+        self.compile_program()
+        # Of 5 allocations and none, with all after them, on two traces to two subcommands, files, and a usage.
+        self.assert_passes((2 * 5 + 1) * 6)
+
+    def test_program_without_arguments(self):
+        self.part = ("--traces",)
+        self.compile_program(REFUSED="return 3")
+        self.assert_passes((2 * 5 + 1) * 2)
+
+    def test_program_with_a_message_of_which_there_is_to_be_none(self):
+        self.part = ("--traces",)
+        self.compile_program()
+        self.assert_first_failure("check bad without allocation 1: status 3, wanted 1; standard error")
+
+    def test_no_program(self):
+        self.assert_fails(str(self.program))
+
+    def test_program_that_is_not_linked_with_the_library_at_run_time(self):
+        self.compile_program(flags=["-static"])
+        self.assertEqual(self.lines(1), [
+            f"FAILED {self.program}: the program is not linked with the C library at run time", "0 passed, 1 failed",
+        ])
+
+    def test_program_that_allocates_nothing(self):
+        self.compile_program(ALLOCATIONS="0")
+        self.assert_first_failure("check bad: no run was out of memory")
+
+    def test_program_that_ignores_a_refusal(self):
+        self.compile_program(REFUSED='return report("unreadable\\n", 2)')
+        self.assert_first_failure("check bad without allocation 1: status 2, wanted 1; standard output b'unreadable\\n', wanted ")
+
+    def test_program_that_crashes(self):
+        self.compile_program(REFUSED="*block = 1")
+        self.assert_first_failure("check bad without allocation 1: status -11, wanted 1")
+
+    def test_program_that_writes_a_part_of_its_report(self):
+        self.compile_program(REFUSED='put(1, "refused\\n"); return fault("qaudit: out of memory\\n")')
+        self.assert_first_failure("check bad without allocation 1: status 3")
+
+    def test_program_that_explains_a_part_of_a_row(self):
+        part = 'put(1, explains ? "line 1" : ""); return fault("qaudit: out of memory\\n")'
+        self.compile_program(REFUSED=part)
+        self.assert_first_failure("explain bad without allocation 1: status 3")
+
+    def test_program_that_says_nothing(self):
+        self.compile_program(REFUSED="return 3")
+        self.assert_first_failure("check bad without allocation 1: status 3, wanted 1")
+
+
+class FailingTest(TrialCase):
+    runner = "failing"
+    more = ("all",)
+
+    def test_right_program(self):
+        self.compile_program()
+        # The last read of the first trace meets its end, and the second is read no further than its second line.
+        reads = (len(TRACE) + 2) * 2 + (len(b"a line\nbad\n") + 1) * 2
+        writes = sum(len(text) + 1 for text in (REPORT, EXPLANATION, BAD_REPORT, BAD_EXPLANATION))
+        self.assert_passes(2 * reads + 3 * writes)
+
+    def test_program_without_arguments(self):
+        self.part = ("--traces",)
+        self.compile_program()
+        self.assert_first_failure("check bad where write 1 fails: standard error b'qaudit: write fault\\n', wanted b''")
+
+    def test_program_that_writes_on(self):
+        self.compile_program(GOES_ON_WRITING="1")
+        self.assert_first_failure("check bad where write 1 fails: status 1, wanted 3")
+
+    def test_program_that_writes_again_after_an_interruption(self):
+        self.compile_program(GOES_ON_WRITING="count < 0 && errno == EINTR")
+        self.assert_first_failure("check bad where write 1 is interrupted: status 1, wanted 3")
+
+    def test_program_that_writes_again_where_no_byte_was_taken(self):
+        self.compile_program(GOES_ON_WRITING="count == 0")
+        self.assert_first_failure("check bad where write 1 takes no byte: status 1, wanted 3")
+
+    def test_program_that_reads_again_after_an_interruption(self):
+        self.compile_program(GOES_ON_READING="errno == EINTR")
+        self.assert_first_failure("check bad where read 1 is interrupted: status 1, wanted 3")
+
+    def test_program_that_takes_a_fault_for_the_end(self):
+        self.compile_program(IGNORES_FAULTS="1")
+        self.assert_first_failure("check bad where read 1 fails: status 0, wanted 3")
+
+    def test_program_that_reads_on_after_the_verdict(self):
+        self.compile_program(READS_ON="read(0, piece, 1)")
+        self.assert_first_failure("check bad where read 12 fails: status 1, wanted 3")
+
+    def test_program_that_takes_a_last_line_without_lf(self):
+        self.compile_program(AT_EACH_PIECE='if (explains && length == 5 && !memcmp(line, "a lin", 5)) row(9)')
+        self.assert_first_failure("explain bad where write 1 fails: ")
+
+
+class CutsTest(TrialCase):
+    runner = "cuts"
+
+    def test_right_program(self):
+        self.compile_program()
+        self.assert_passes(len(TRACE) - 1 + 2 + len(BAD_TRACE) - 1 + 2)
+
+    def test_right_program_on_named_traces(self):
+        self.more = ("bad",)
+        self.compile_program()
+        self.assert_passes(2 * (len(BAD_TRACE) - 1 + 2))
+
+    def test_long_trace_is_cut_around_each_lf(self):
+        self.write_files("traces", "long", {"trace": b"a line\n" + b"\n" * 4096 + b"b\nc", "report": REPORT})
+        self.more = ("long",)
+        self.compile_program()
+        self.assert_passes(2 * (len(b"\n" * 4096 + b"b\n") + 4))
+
+    def test_program_that_loses_what_stood_before_a_cut(self):
+        self.compile_program(AT_EACH_PIECE="length = 0")
+        self.assert_first_failure("check bad byte by byte: status 0, wanted 1")
+
+    def test_program_that_loses_it_at_one_place(self):
+        self.compile_program(AT_EACH_PIECE="if (read_now == 9) length = 0")
+        self.assert_first_failure("check bad at 9: status 0, wanted 1")
+
+    def test_program_that_reads_on_after_the_verdict(self):
+        self.compile_program(READS_ON="read(0, piece, 1)")
+        self.assert_first_failure("check bad uncut: 2 reads, wanted 1")
+
+    def test_program_that_writes_in_parts(self):
+        self.compile_program(WRITES="20")
+        self.assert_first_failure("check bad uncut: 2 writes, wanted 1")
+
+
+if __name__ == "__main__":
+    unittest.main()
