@@ -10,13 +10,19 @@ use std::alloc::{AllocError, Global};
 impl Ranges {
     /// The numbers that some span names. The spans may overlap and stand in any order.
     /// `AllocError` comes where it is out of memory.
+    ///
+    /// Takes time and memory that grow with the number of spans where they rise or fall, and else
+    /// the time of a sort.
     pub fn of_spans(alloc: Global, spans: &[Span]) -> Result<Ranges, AllocError>
         ensures { IfOk result (λ set. (n : ℕ) → is_named set n ≡ is_named spans.now n) }
     {
+        // In rising order each span goes to the end of the set. Those of an acknowledgment fall, and
+        // the sort turns spans that fall in one pass.
+        let mut rising = spans.to_vec(alloc)?;
+        rising.sort_unstable_by_key(|span| span.lo());
         let mut set = Ranges::new(alloc);
-        // Those of an acknowledgment fall, so that from the last on each goes behind the others.
-        for place in (0..spans.len()).rev() {
-            set.insert_range(spans[place])?;
+        for span in &rising {
+            set.insert_range(*span)?;
         }
         Ok(set)
     }

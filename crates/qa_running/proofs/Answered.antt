@@ -16,7 +16,6 @@ use Rattle.qa_ledger.proofs.Totals.{totals_are}
 use Rattle.qa_ledger.specs.Tests.{totals_of}
 use Rattle.qa_running.proofs.Losses.{owed_are_counted}
 use Rattle.qa_running.proofs.Queries.{awaiting_are_held, bytes_are_held, loss_due_is_held}
-use Rattle.qa_running.specs.Answers.{loss_due_by}
 use Rattle.qa_running.specs.Running.{IsAfter, State}
 use Rattle.qa_running.specs.Standing.{StandsFor}
 use Rattle.qa_sent.specs.Fates.{flight_bytes, is_awaiting, is_flying, is_owed}
@@ -25,17 +24,12 @@ use Rattle.qa_sent.specs.declared.packet.SentPacket.{SentPacket}
 
 -- ---- what the timer asks
 
-due_is : (r : Estimate) (largest : Option ℕ) (s : Space) (o : Option SentPacket) → loss_due r largest s o ≡ loss_due_by s r largest o
-due_is r largest s None = refl
-due_is r largest s (Some p) = refl
-
 -- in a run the packets held tell it of a space
 pub open_in_is : (told : OpenInSpace) (c : Settings) (h : List Event) (s : Space) (held : Held) → told.awaits ≡ list_any (is_awaiting s) held.packets → told.oldest ≡ find (is_flying s) held.packets
     → IsRun c h → StandsFor held c h → IsOpenIn told c h s
 open_in_is told c h s held awaits oldest run stands = record {
   awaits = awaits ∙ sym (awaiting_are_held c h s held stands);
-  oldest = due_is (rtt c h) (largest_acknowledged h s) s told.oldest
-      ∙ (ap (loss_due_by s (rtt c h) (largest_acknowledged h s)) oldest ∙ sym (loss_due_is_held c h run s held stands));
+  oldest = ap (loss_due (rtt c h) (largest_acknowledged h s) s) oldest ∙ sym (loss_due_is_held c h run s held stands);
 }
 
 each_open : (told : OpenPackets) (c : Settings) (h : List Event) → IsOpenIn told.initial c h Initial → IsOpenIn told.handshake c h Handshake → IsOpenIn told.app c h App

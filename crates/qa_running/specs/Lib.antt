@@ -1,6 +1,5 @@
 pub mod Standing
 pub mod Lateness
 pub mod Trimmed
-pub mod Answers
 pub mod Running
 pub mod Following

@@ -1,106 +1,20 @@
--- Of numbers that rise, a range has no gap if the first number from its least on that is missing lies above it.
-use Rattle.std.proofs.Common.{◌≡◌, ◌∙◌, ℕ, ◌+◌, ◌≤◌, ◌<◌, Bool, true, false, ◌&&◌, ◌||◌, not, List, [], ◌∷◌, map, refl, sym, ap, subst, arith, inl, inr}
-use Rattle.std.specs.Prelude.{if◌then◌else◌, nat_eq, nat_le, nat_lt, slice_range}
-use Rattle.std.specs.List.{AllByRecursion, list_all}
-use Rattle.std.proofs.lemmas.Bool.{and_parts, and_from, both_ways, cases_Bool, cases_lt, eqb-true, eqb-false, le-leb, leb-true, lt-ltb, ltb-true, or_cases, or_left, or_right}
+-- The numbers of what is owed rise, and a walk along the numbers that ranges name finds whether those are the same.
+use Rattle.std.proofs.Common.{◌≡◌, ◌∙◌, ℕ, ◌+◌, ◌≤◌, ◌<◌, Bool, true, false, ◌||◌, List, [], ◌∷◌, map, refl, sym, ap, subst, arith, inl, inr}
+use Rattle.std.specs.Prelude.{if◌then◌else◌, ◌↔◌, IsTrue, nat_eq, slice_range}
+use Rattle.std.specs.List.{AllByRecursion}
+use Rattle.std.proofs.lemmas.Bool.{cases_order, eq-eqb, eqb-true, false_from_ne_true, ne_eqb, or_cases, or_from, or_left}
 use Rattle.qa_base.specs.declared.space.Space.{Space}
-use Rattle.qa_base.specs.machine.Numbers.{has_all, has_range, is_in, names_exactly}
+use Rattle.qa_base.specs.machine.Numbers.{AreRanges, is_in, names_exactly}
 use Rattle.qa_base.specs.values.Events.{is_named, is_space}
-use Rattle.qa_base.proofs.machine.Ranges.{has_all_names, names_has_all}
+use Rattle.qa_base.proofs.machine.Ranges.{names_exactly_is}
 use Rattle.qa_sent.specs.Fates.{is_owed}
 use Rattle.qa_sent.specs.Held.{AreOrdered, IsBefore}
-use Rattle.qa_sent.specs.Owing.{AreRising, IsOwedPart, first_missing}
+use Rattle.qa_sent.specs.Naming.{AreNext}
+use Rattle.qa_sent.specs.Owing.{AreRising, IsOwedPart}
 use Rattle.qa_sent.specs.Walks.{owed_numbers, owed_of}
 use Rattle.qa_sent.specs.declared.packet.SentPacket.{SentPacket}
 use Rattle.qa_sent.proofs.Alike.{space_is}
 use Rattle.qa_sent.proofs.Owed.{numbers_of_part}
-
--- ---- the first that is missing
-
-lower_if : (b : Bool) (n : ℕ) (ms : List ℕ) → ((k : ℕ) → k ≤ first_missing k ms) → n ≤ first_missing (if b then n + 1 else n) ms
-lower_if true n ms rest = let more = rest (n + 1) in omega (arith, more)
-lower_if false n ms rest = rest n
-
-never_lower : (ms : List ℕ) (n : ℕ) → n ≤ first_missing n ms
-never_lower [] n = omega arith
-never_lower (m ∷ ms) n = lower_if (nat_eq m n) n ms (never_lower ms)
-
--- what lies below it is there
-there_below : (ms : List ℕ) (n hi : ℕ) → hi < first_missing n ms → (k : ℕ) → n ≤ k → k ≤ hi → is_in ms k ≡ true
-there_below [] n hi past k low high = absurd (omega arith)
-there_below (m ∷ ms) n hi past k low high = elim (cases_Bool (nat_eq m n)) [
-  | inl here ↦ (
-      let at : m ≡ n = eqb-true m n here in
-      let rest : hi < first_missing (n + 1) ms = rw here at past in
-      elim (cases_Bool (nat_eq m k)) [
-        | inl first ↦ or_left (nat_eq m k) (is_in ms k) first
-        | inr later ↦ (
-            let other : m ≡ k → ⊥ = eqb-false m k later in
-            or_right (nat_eq m k) (is_in ms k) (there_below ms (n + 1) hi rest k (omega (arith, at, low, other)) high))
-      ])
-  | inr out ↦ or_right (nat_eq m k) (is_in ms k) (there_below ms n hi (rw out at past) k low high)
-]
-
-above : (m : ℕ) (ms : List ℕ) → AllByRecursion (λ x. m < x) ms → (n : ℕ) → is_in ms n ≡ true → m < n
-above m [] all n is = cc
-above m (x ∷ ms) all n is = elim (or_cases (nat_eq x n) (is_in ms n) is) [
-  | inl here ↦ (let at = eqb-true x n here in let less = all.0 in omega (arith, at, less))
-  | inr later ↦ above m ms all.1 n later
-]
-
--- and where all up to a number are there, it lies above that
-missing_above : (ms : List ℕ) (n hi : ℕ) → AreRising ms → ((k : ℕ) → n ≤ k → k ≤ hi → is_in ms k ≡ true) → hi < first_missing n ms
-missing_above [] n hi rising each = elim (cases_lt hi n) [
-  | inl below ↦ below
-  | inr inside ↦ (let none : false ≡ true = each n (omega arith) inside in cc)
-]
-missing_above (m ∷ ms) n hi rising each = elim (cases_lt hi n) [
-  | inl below ↦ (let more = never_lower (m ∷ ms) n in omega (arith, below, more))
-  | inr inside ↦ elim (cases_Bool (nat_eq m n)) [
-    | inl here ↦ (
-        let at : m ≡ n = eqb-true m n here in
-        rw here (missing_above ms (n + 1) hi rising.1 (λ k low high. elim (or_cases (nat_eq m k) (is_in ms k) (each k (omega (arith, low)) high)) [
-          | inl first ↦ (let same = eqb-true m k first in absurd (omega (arith, at, same, low)))
-          | inr later ↦ later
-        ])))
-    | inr out ↦ (
-        let there : is_in ms n ≡ true = elim (or_cases (nat_eq m n) (is_in ms n) (each n (omega arith) inside)) [
-          | inl here ↦ absurd (both_ways (nat_eq m n) out here)
-          | inr later ↦ later
-        ] in
-        let less : m < n = above m ms rising.0 n there in
-        rw out (missing_above ms n hi rising.1 (λ k low high. elim (or_cases (nat_eq m k) (is_in ms k) (each k low high)) [
-          | inl first ↦ (let same = eqb-true m k first in absurd (omega (arith, same, low, less)))
-          | inr later ↦ later
-        ])))
-  ]
-]
-
-same_tests : (a b : Bool) → (a ≡ true → b ≡ true) → (b ≡ true → a ≡ true) → a ≡ b
-same_tests true b to from = sym (to refl)
-same_tests false true to from = from refl
-same_tests false false to from = refl
-
-named_alone : (range : ℕ × ℕ) (k : ℕ) → range.0 ≤ k → k ≤ range.1 → is_named (range ∷ []) k ≡ true
-named_alone range k low high =
-    or_left (nat_le range.0 k && nat_le k range.1) false (and_from (nat_le range.0 k) (nat_le k range.1) (le-leb range.0 k low) (le-leb k range.1 high))
-
-inside_alone : (range : ℕ × ℕ) (k : ℕ) → is_named (range ∷ []) k ≡ true → (range.0 ≤ k) × (k ≤ range.1)
-inside_alone range k is = elim (or_cases (nat_le range.0 k && nat_le k range.1) false is) [
-  | inl here ↦ (let both = and_parts (nat_le range.0 k) (nat_le k range.1) here in (leb-true range.0 k both.0, leb-true k range.1 both.1))
-  | inr later ↦ cc
-]
-
--- the range has no gap
-pub range_by_missing : (ns : List ℕ) (range : ℕ × ℕ) → AreRising ns → range.0 ≤ range.1 → has_range ns range ≡ nat_lt range.1 (first_missing range.0 ns)
-range_by_missing ns range rising order =
-    same_tests (has_range ns range) (nat_lt range.1 (first_missing range.0 ns))
-    (λ all.
-    let each = has_all_names ns (range ∷ []) (and_from (has_range ns range) true all refl) in
-    lt-ltb range.1 (first_missing range.0 ns) (missing_above ns range.0 range.1 rising (λ k low high. each k (named_alone range k low high))))
-    (λ past.
-    let each = there_below ns range.0 range.1 (ltb-true range.1 (first_missing range.0 ns) past) in
-    (and_parts (has_range ns range) true (names_has_all ns (range ∷ []) (order, tt) (λ k is. let inside = inside_alone range k is in each k inside.0 inside.1))).0)
 
 -- ---- the numbers of what is owed rise
 
@@ -132,21 +46,63 @@ pub part_rises : (t : Space) (ps : List SentPacket) (from to : ℕ) → IsOwedPa
     → AreRising (owed_numbers (slice_range ps from to))
 part_rises t ps from to part ordered of_space = subst AreRising (numbers_of_part ps from to part) (owed_rise t ps ordered of_space)
 
--- ---- each of them is named
+-- ---- the two are the same
 
-all_if : (ranges : List (ℕ × ℕ)) (p : SentPacket) (ps : List SentPacket) (owed rest : Bool) → is_owed p.fate ≡ owed → rest ≡ list_all (is_named ranges) (owed_numbers ps)
-    → ((not (is_owed p.fate) || is_named ranges p.number) && rest) ≡ list_all (is_named ranges) (map (λ (x : SentPacket). x.number) (if owed then p ∷ owed_of ps else owed_of ps))
-all_if ranges p ps true rest is more = ap (λ b. (not b || is_named ranges p.number) && rest) is ∙ ap (λ b. is_named ranges p.number && b) more
-all_if ranges p ps false rest is more = ap (λ b. (not b || is_named ranges p.number) && rest) is ∙ more
+above : (m : ℕ) (ms : List ℕ) → AllByRecursion (λ x. m < x) ms → (n : ℕ) → is_in ms n ≡ true → m < n
+above m [] all n is = cc
+above m (x ∷ ms) all n is = elim (or_cases (nat_eq x n) (is_in ms n) is) [
+  | inl here ↦ (let at = eqb-true x n here in let less = all.0 in omega (arith, at, less))
+  | inr later ↦ above m ms all.1 n later
+]
 
-all_named : (ranges : List (ℕ × ℕ)) (ps : List SentPacket) → list_all (λ p. not (is_owed p.fate) || is_named ranges p.number) ps ≡ list_all (is_named ranges) (owed_numbers ps)
-all_named ranges [] = refl
-all_named ranges (p ∷ ps) = all_if ranges p ps (is_owed p.fate) (list_all (λ q. not (is_owed q.fate) || is_named ranges q.number) ps) refl (all_named ranges ps)
+same_tests : (a b : Bool) → (a ≡ true → b ≡ true) → (b ≡ true → a ≡ true) → a ≡ b
+same_tests true b to from = sym (to refl)
+same_tests false true to from = from refl
+same_tests false false to from = refl
 
--- the two tests over the part in which they stand
-pub names_by_part : (ranges : List (ℕ × ℕ)) (ps : List SentPacket) (from to : ℕ) → IsOwedPart from to ps → (all named : Bool) → all ≡ has_all (owed_numbers (slice_range ps from to)) ranges
-    → named ≡ list_all (λ p. not (is_owed p.fate) || is_named ranges p.number) (slice_range ps from to) → (all && named) ≡ names_exactly ranges (owed_numbers ps)
-names_by_part ranges ps from to part all named is_all is_named' =
-    ap (λ b. b && named) is_all
-    ∙ (ap (λ b. has_all (owed_numbers (slice_range ps from to)) ranges && b) (is_named' ∙ all_named ranges (slice_range ps from to))
-    ∙ ap (names_exactly ranges) (sym (numbers_of_part ps from to part)))
+-- what of the numbers from one on are those that pass a test
+not_below : (test : ℕ → Bool) (ns : List ℕ) (from n : ℕ) → AreNext test from ns → is_in ns n ≡ true → from ≤ n
+not_below test [] from n next is = cc
+not_below test (m ∷ ms) from n next is = elim (or_cases (nat_eq m n) (is_in ms n) is) [
+  | inl here ↦ (let at = eqb-true m n here in let low = next.0.low in omega (arith, at, low))
+  | inr later ↦ (let low = next.0.low in let more = not_below test ms (m + 1) n next.1 later in omega (arith, low, more))
+]
+
+alike_from : (test : ℕ → Bool) (ns : List ℕ) (from : ℕ) → AreNext test from ns → (n : ℕ) → from ≤ n → test n ≡ is_in ns n
+alike_from test [] from next n low = next n low
+alike_from test (m ∷ ms) from next n low = elim (cases_order n m) [
+  | inl here ↦ ap test here ∙ (next.0.here ∙ sym (or_left (nat_eq m n) (is_in ms n) (eq-eqb m n (sym here))))
+  | inr (inl below) ↦ (
+      next.0.before n low below
+      ∙ sym (or_from (nat_eq m n) (is_in ms n) (ne_eqb m n (λ at. omega (arith, at, below)))
+      (false_from_ne_true (is_in ms n) (λ is. let more = not_below test ms (m + 1) n next.1 is in omega (arith, more, below)))))
+  | inr (inr above) ↦ (
+      alike_from test ms (m + 1) next.1 n (omega (arith, above))
+      ∙ sym (ap (λ b. b || is_in ms n) (ne_eqb m n (λ at. omega (arith, at, above)))))
+]
+
+next_from : (test : ℕ → Bool) (ns : List ℕ) (from : ℕ) → AreRising ns → ((n : ℕ) → is_in ns n ≡ true → from ≤ n) → ((n : ℕ) → from ≤ n → test n ≡ is_in ns n) → AreNext test from ns
+next_from test [] from rising low is = is
+next_from test (m ∷ ms) from rising low is =
+    let first : from ≤ m = low m (or_left (nat_eq m m) (is_in ms m) (eq-eqb m m refl)) in (
+      record {
+        low = first;
+        before = λ n from_n below. is n from_n ∙ or_from (nat_eq m n) (is_in ms n) (ne_eqb m n (λ at. omega (arith, at, below)))
+            (false_from_ne_true (is_in ms n) (λ there. let more = above m ms rising.0 n there in omega (arith, more, below)));
+        here = is m first ∙ or_left (nat_eq m m) (is_in ms m) (eq-eqb m m refl);
+      },
+      next_from test ms (m + 1) rising.1 (λ n there. let more = above m ms rising.0 n there in omega (arith, more))
+          (λ n low_n. is n (omega (arith, first, low_n)) ∙ ap (λ b. b || is_in ms n) (ne_eqb m n (λ at. omega (arith, at, low_n)))),
+    )
+
+-- a walk along the numbers that ranges name finds whether those are the numbers that rise
+pub exactly_by_walk : (ranges : List (ℕ × ℕ)) (ns : List ℕ) (all : Bool) → AreRanges ranges → AreRising ns → (IsTrue all ↔ AreNext (is_named ranges) 0 ns) → all ≡ names_exactly ranges ns
+exactly_by_walk ranges ns all order rising by =
+    let law = names_exactly_is ranges ns order in
+    same_tests all (names_exactly ranges ns)
+    (λ is. let next = by.0 is in law.1 (record {
+      only = λ n named. sym (alike_from (is_named ranges) ns 0 next n (omega arith)) ∙ named;
+      each = λ n there. alike_from (is_named ranges) ns 0 next n (omega arith) ∙ there;
+    }))
+    (λ is. let names = law.0 is in by.1 (next_from (is_named ranges) ns 0 rising (λ n there. omega arith)
+    (λ n low. same_tests (is_named ranges n) (is_in ns n) (names.only n) (names.each n))))

@@ -1,5 +1,5 @@
 -- Where the packets stand that are owed, and which numbers they have.
-use Rattle.std.specs.Prelude.{◌≡◌, ◌≤◌, ◌<◌, ◌+◌, ◌==◌, ℕ, false, List, [], ◌∷◌, drop, length, take, if◌then◌else◌}
+use Rattle.std.specs.Prelude.{◌≡◌, ◌≤◌, ◌<◌, ℕ, false, List, [], ◌∷◌, drop, length, take}
 use Rattle.std.specs.List.{AllByRecursion}
 use Rattle.qa_sent.specs.Fates.{is_owed}
 use Rattle.qa_sent.specs.declared.packet.SentPacket.{SentPacket}
@@ -19,8 +19,3 @@ pub record IsOwedPart (from to : ℕ) (ps : List SentPacket) : Type 0 where
 abbrev pub AreRising : List ℕ → Type 0
 AreRising [] = Unit {0}
 AreRising (n ∷ ns) = AllByRecursion (λ m. n < m) ns × AreRising ns
-
--- the first number from this one on that is not among these, which rise
-abbrev pub first_missing : ℕ → List ℕ → ℕ
-first_missing n [] = n
-first_missing n (m ∷ ms) = first_missing (if m == n then n + 1 else n) ms

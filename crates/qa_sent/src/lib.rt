@@ -11,6 +11,7 @@ mod discarding;
 mod dropping;
 mod fate;
 mod lane;
+mod named;
 mod naming;
 mod owing;
 mod packet;

@@ -1,0 +1,156 @@
+//! The numbers that spans name, one after another in rising order. It takes no memory.
+use qa_base::Span;
+
+/// Numbers one after another, from `start` to below `end`.
+#[derive(Clone, Copy)]
+pub(crate) struct Stretch {
+    pub(crate) start: u64,
+    pub(crate) end: u64,
+}
+
+impl Stretch {
+    ghost use Rattle.std.specs.Prelude.{◌≤◌, ◌||◌, ℕ, Bool, IsSome};
+    ghost use Rattle.qa_sent.specs.Covering.{is_between};
+    ghost use Rattle.qa_sent.specs.Naming.{IsStretch};
+
+    /// What of the span does not lie below the number.
+    fn from(span: Span, from: u64) -> Option<Stretch>
+        ensures stretch { IsStretch (is_between span.0 span.1) from result }
+        ensures some { from ≤ span.1 → IsSome result }
+    {
+        let start = span.lo().get().max(from);
+        let end = span.hi().get() + 1;
+        if start < end {
+            Some(Stretch { start, end })
+        } else {
+            None
+        }
+    }
+
+    /// The one of two that begins first, and the longer one where they begin together.
+    fn first_of(a: Option<Stretch>, b: Option<Stretch>) -> Option<Stretch>
+        ensures { (p q : ℕ → Bool) (from : ℕ) → IsStretch p from a → IsStretch q from b → IsStretch (λ n. p n || q n) from result }
+    {
+        let Some(x) = a else {
+            return b;
+        };
+        let Some(y) = b else {
+            return a;
+        };
+        if y.start < x.start || (y.start == x.start && x.end < y.end) {
+            return b;
+        }
+        a
+    }
+}
+
+/// A walk along the numbers that spans name, in rising order.
+#[derive(Clone, Copy)]
+pub(crate) struct NamedNumbers {
+    /// The numbers below this one were passed.
+    pub(crate) from: u64,
+    /// Those from there to below this one are all named.
+    pub(crate) to: u64,
+    /// So many spans at the front have no number that was not passed.
+    pub(crate) passed: usize,
+    /// Whether no span begins below the one before it.
+    pub(crate) rising: bool,
+}
+
+impl NamedNumbers {
+    ghost use Rattle.std.specs.Prelude.{◌≡◌, ◌≤◌, ◌+◌, ℕ, true, List, ◌∷◌, drop, length, IfSome};
+    ghost use Rattle.qa_base.specs.machine.Numbers.{AreRanges};
+    ghost use Rattle.qa_base.specs.values.Events.{is_named};
+    ghost use Rattle.qa_sent.specs.Naming.{AreRisingFrom, IsNext, IsStretch, IsWalk};
+
+    /// A walk from the least number on.
+    pub(crate) fn start(spans: &[Span]) -> NamedNumbers
+        ensures from { result.from ≡ 0 }
+        ensures ranges { AreRanges spans.now }
+        ensures walk { IsWalk spans.now result }
+    {
+        NamedNumbers {
+            from: 0,
+            to: 0,
+            passed: 0,
+            rising: NamedNumbers::are_rising(spans),
+        }
+    }
+
+    /// The next number that the spans name.
+    ///
+    /// All calls of a walk together take as much time as there are numbers and spans, where the
+    /// spans rise. Else each stretch of numbers takes a look at all spans.
+    pub(crate) fn next(&mut self, spans: &[Span]) -> Option<u64>
+        requires { IsWalk spans.now self.old }
+        ensures next { IsNext (is_named spans.now) self.old.from result }
+        ensures from { IfSome result (λ n. self.new.from ≡ n + 1) }
+        ensures walk { IsWalk spans.now self.new }
+    {
+        if self.to <= self.from {
+            let stretch = self.next_stretch(spans)?;
+            self.from = stretch.start;
+            self.to = stretch.end;
+        }
+        let number = self.from;
+        self.from += 1;
+        Some(number)
+    }
+
+    /// The first numbers that are not passed, one after another.
+    fn next_stretch(&mut self, spans: &[Span]) -> Option<Stretch>
+        requires { IsWalk spans.now self.old }
+        ensures stretch { IsStretch (is_named spans.now) self.old.from result }
+        ensures from { self.new.from ≡ self.old.from }
+        ensures to { self.new.to ≡ self.old.to }
+        ensures walk { IsWalk spans.now self.new }
+    {
+        self.passed = NamedNumbers::first_left(spans, self.passed, self.from);
+        if self.rising {
+            let first = *spans.get(self.passed)?;
+            return Stretch::from(first, self.from);
+        }
+        NamedNumbers::first_of_all(&spans[self.passed..], self.from)
+    }
+
+    /// The first span, from a place on, that does not end below the number.
+    fn first_left(spans: &[Span], passed: usize, from: u64) -> usize
+        requires { passed ≤ length spans.now }
+        ensures within { result ≤ length spans.now }
+        ensures left { (n : ℕ) → from ≤ n → is_named (drop passed spans.now) n ≡ is_named (drop result spans.now) n }
+        ensures order { AreRisingFrom 0 (drop passed spans.now) → AreRisingFrom 0 (drop result spans.now) }
+        ensures reached { (span : ℕ × ℕ) (rest : List (ℕ × ℕ)) → drop result spans.now ≡ span ∷ rest → from ≤ span.1 }
+    {
+        let mut at = passed;
+        while at < spans.len() && spans[at].hi().get() < from {
+            at += 1;
+        }
+        at
+    }
+
+    /// The first numbers from a number on that the spans name, whatever their order.
+    fn first_of_all(spans: &[Span], from: u64) -> Option<Stretch>
+        ensures { IsStretch (is_named spans.now) from result }
+    {
+        let mut first = None;
+        for span in spans {
+            first = Stretch::first_of(first, Stretch::from(*span, from));
+        }
+        first
+    }
+
+    /// Whether no span begins below the one before it.
+    fn are_rising(spans: &[Span]) -> bool
+        ensures ranges { AreRanges spans.now }
+        ensures order { result ≡ true → AreRisingFrom 0 spans.now }
+    {
+        let mut rising = true;
+        let mut last = 0;
+        for span in spans {
+            let lo = span.lo().get();
+            rising = rising && last <= lo;
+            last = lo;
+        }
+        rising
+    }
+}
