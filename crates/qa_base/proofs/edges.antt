@@ -3,6 +3,7 @@ pub mod Deadlines
 pub mod anti_deadlock
 pub mod between
 pub mod declared
+pub mod fitting
 pub mod handshake
 pub mod kept
 pub mod leave

@@ -15,8 +15,6 @@ mod line;
 mod number;
 mod rule;
 mod space;
-#[cfg(test)]
-mod tests;
 mod verdict;
 
 pub use due::Due;

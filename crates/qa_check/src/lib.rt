@@ -5,8 +5,6 @@ mod auditing;
 mod checker;
 mod explaining;
 mod streams;
-#[cfg(test)]
-mod tests;
 mod text;
 
 pub use auditing::{AuditFault, Outcome, audit, write_whole};

@@ -12,8 +12,6 @@ mod event;
 mod handshake;
 mod sampling;
 mod spaces;
-#[cfg(test)]
-mod tests;
 mod timeouts;
 
 pub use congestion::Outcome;

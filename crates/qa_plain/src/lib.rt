@@ -21,8 +21,6 @@ mod packet;
 mod questions;
 mod sampling;
 mod settled;
-#[cfg(test)]
-mod tests;
 mod timer;
 mod window;
 

@@ -15,9 +15,6 @@ use qa_quick::quick_line;
 use serde_json::Value;
 use std::alloc::Global;
 
-#[cfg(test)]
-mod tests;
-
 /// What an object says, by its key `event`.
 #[tactic(auto, unfolding(qa_base::specs::format::Reading::object_says))]
 fn object_says(alloc: Global, value: &Value) -> Result<Line, LineFault>

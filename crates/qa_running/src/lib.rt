@@ -6,7 +6,5 @@ mod following;
 mod kept;
 mod ledger;
 mod running;
-#[cfg(test)]
-mod tests;
 
 pub use running::Running;

@@ -1,0 +1,4 @@
+//! What neither a clause nor a trace shows.
+mod keeping;
+mod streams;
+mod values;

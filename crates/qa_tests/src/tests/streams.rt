@@ -1,0 +1,142 @@
+//! Readers, writers and ledgers that fail.
+ghost use Rattle.std.specs.Prelude.{◌≤◌, IfOk};
+
+use qa_base::{Event, Header, Totals};
+use qa_check::{AuditFault, Metered, audit, explain};
+use qa_ledger::{Ledger, LedgerFault, Whole};
+use std::alloc::Global;
+use std::io;
+use std::io::{ErrorKind, Read, Write};
+
+/// A header and a packet.
+const TRACE: &str =
+    "{\"event\":\"header\",\"version\":1,\"role\":\"client\",\"max_datagram_size\":1200}\n{\"event\":\"sent\",\"time\":0,\"space\":\"app\",\"number\":0,\"size\":1200,\"eliciting\":true,\"in_flight\":true}\n";
+
+/// Its first row.
+const ROW: &str =
+    "line 1 header window 12000 bytes_in_flight 0 smoothed_rtt 333000 rttvar 166500 pto_count 0 owed 0\n";
+
+/// A reader or a writer over memory: it moves at most so many bytes a call, fails once at the call of that
+/// number, counted from 0, and goes on afterwards.
+#[derive(Drop)]
+struct Faulty<T> {
+    inner: T,
+    calls: u64,
+    most: usize,
+    fails_at: u64,
+}
+
+impl<T> Faulty<T> {
+    fn metered(inner: T, most: usize, fails_at: u64) -> Metered<Faulty<T>> {
+        Metered::new(Faulty {
+            inner,
+            calls: 0,
+            most,
+            fails_at,
+        })
+    }
+
+    /// Counts a call, and returns how many of these bytes it may move. It fails by the error that readers
+    /// and writers are most often asked again after.
+    fn turn(&mut self, len: usize) -> io::Result<usize>
+        ensures { IfOk result (λ n. n ≤ len) }
+    {
+        let call = self.calls;
+        self.calls = call.wrapping_add(1);
+        if call == self.fails_at {
+            return Err(io::Error::from(ErrorKind::Interrupted));
+        }
+        Ok(self.most.min(len))
+    }
+}
+
+impl<T: Read> Read for Faulty<T> {
+    fn read(&mut self, piece: &mut [u8]) -> io::Result<usize> {
+        let most = self.turn(piece.len())?;
+        self.inner.read(&mut piece[..most])
+    }
+}
+
+impl<T: Write> Write for Faulty<T> {
+    fn write(&mut self, piece: &[u8]) -> io::Result<usize> {
+        let most = self.turn(piece.len())?;
+        self.inner.write(&piece[..most])
+    }
+
+    fn flush(&mut self) -> io::Result<()> {
+        Ok(())
+    }
+}
+
+/// The header is read, and the next read fails.
+#[test]
+fn a_read_fails(rt: HostRuntime) {
+    let mut reader = Faulty::metered(TRACE.as_bytes(), 80, 1);
+    let mut writer = Metered::new(Vec::new(rt.alloc()));
+    let ended = explain::<Whole, _, _>(rt.alloc(), &mut reader, &mut writer);
+    assert_eq!(rt; ended, Err(AuditFault::Read));
+    assert_eq!(rt; writer.into_inner().as_slice(), ROW.as_bytes());
+    assert_eq!(rt; reader.into_inner().calls, 2);
+}
+
+/// Five bytes are written, and the next write fails.
+#[test]
+fn a_write_fails(rt: HostRuntime) {
+    let mut reader = Metered::new(TRACE.as_bytes());
+    let mut writer = Faulty::metered(Vec::new(rt.alloc()), 1, 5);
+    let ended = audit::<Whole, _, _>(rt.alloc(), &mut reader, &mut writer);
+    let writer = writer.into_inner();
+    assert_eq!(rt; ended, Err(AuditFault::Write));
+    assert_eq!(rt; writer.inner.as_slice(), b"accep".as_slice());
+    assert_eq!(rt; writer.calls, 6);
+}
+
+/// A ledger that is out of memory at each event.
+#[derive(Drop)]
+struct Exhausted {
+    whole: Whole,
+    failed: bool,
+}
+
+impl Ledger for Exhausted {
+    ghost use Rattle.std.specs.Prelude.{length};
+    ghost use Rattle.qa_ledger.specs.Holding.{StandsFor};
+
+    ghost stands = { λ l. StandsFor l.whole };
+
+    ghost has_failed = { λ l. l.failed };
+
+    ghost admitted = { λ l. length l.whole.events };
+
+    fn start(alloc: Global, header: Header) -> Exhausted {
+        Exhausted {
+            whole: Whole::start(alloc, header),
+            failed: false,
+        }
+    }
+
+    fn admit(&mut self, _event: &Event) -> Result<(), LedgerFault> {
+        if !self.failed {
+            self.failed = true;
+        }
+        Err(LedgerFault::OutOfMemory)
+    }
+
+    fn totals(&self) -> Totals {
+        self.whole.totals()
+    }
+
+    fn owes(&self) -> bool {
+        self.whole.owes()
+    }
+}
+
+/// The header is taken in, and the packet is not.
+#[test]
+fn a_ledger_is_out_of_memory(rt: HostRuntime) {
+    let mut reader = Metered::new(TRACE.as_bytes());
+    let mut writer = Metered::new(Vec::new(rt.alloc()));
+    let ended = explain::<Exhausted, _, _>(rt.alloc(), &mut reader, &mut writer);
+    assert_eq!(rt; ended, Err(AuditFault::OutOfMemory));
+    assert_eq!(rt; writer.into_inner().as_slice(), ROW.as_bytes());
+}

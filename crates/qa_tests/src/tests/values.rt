@@ -1,0 +1,27 @@
+//! Values by themselves.
+use qa_base::{Fault, Micros, PacketNumber, Space, Verdict};
+use qa_check::report;
+use std::test::Fail;
+
+#[test]
+fn spaces_and_numbers_are_ordered(rt: HostRuntime) -> Result<(), Fail> {
+    assert!(rt; Space::Initial < Space::Handshake && Space::Handshake < Space::App);
+    let low = Micros::new(999).ok_or("a time")?;
+    let high = Micros::new(1000).ok_or("a time")?;
+    assert!(rt; low < high);
+    let first = PacketNumber::new(999).ok_or("a packet number")?;
+    let second = PacketNumber::new(1000).ok_or("a packet number")?;
+    assert!(rt; first < second);
+    Ok(())
+}
+
+/// A trace with that many lines is too long for the corpus.
+#[test]
+fn a_line_too_many(rt: HostRuntime) -> Result<(), Fail> {
+    let verdict = Verdict::Unreadable(4_294_967_296, Fault::TooManyLines, None);
+    assert_eq!(rt;
+        report(rt.alloc(), &verdict)?.as_str(),
+        "unreadable line 4294967296 F11 too-many-lines\n"
+    );
+    Ok(())
+}
