@@ -48,6 +48,7 @@ test:
 	conformance/mutations $(program) $(program_by_one_byte)
 	conformance/large $(program)
 	conformance/malicious $(program)
+	conformance/malicious --few $(program_by_one_byte)
 	conformance/refusals $(program)
 	conformance/refusals --traces $(program_by_one_byte)
 	conformance/failing $(program)

@@ -15,6 +15,7 @@ import time
 from typing import Iterable, NamedTuple, Optional
 
 SECONDS = 60
+STATUS_OF_VERDICT = {b"accepted": 0, b"refused": 1, b"unreadable": 2}
 # Of Linux: linux/prctl.h and linux/capability.h.
 PR_CAPBSET_DROP = 24
 CAP_DAC_OVERRIDE = 1
@@ -30,6 +31,11 @@ class Outcome(NamedTuple):
     status: Optional[int]
     output: Optional[bytes]
     error: Optional[bytes]
+
+
+def status_of(report: bytes) -> Optional[int]:
+    """The exit status for a report, by its first word; None where that is no verdict."""
+    return STATUS_OF_VERDICT.get(report.split(None, 1)[0] if report.strip() else b"")
 
 
 def differences(outcome: Outcome, wanted: Outcome) -> str:

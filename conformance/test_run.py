@@ -6,7 +6,6 @@ in a temporary folder.
 """
 
 import json
-import os
 import subprocess
 import sys
 import tempfile

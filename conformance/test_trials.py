@@ -21,17 +21,21 @@ BAD_EXPLANATION = b"line 1 row\n" + BAD_REPORT
 # does where something fails is set by macros.
 AUDITOR = r"""
 #include <errno.h>
+#include <fcntl.h>
 #include <stdio.h>
 #include <stdlib.h>
 #include <string.h>
 #include <unistd.h>
+static int write_failed;
 static int put(int stream, const char *text)
 {
     size_t left = strlen(text);
     while (left) {
         ssize_t count = write(stream, text, left < WRITES ? left : WRITES);
-        if (count <= 0 && !(GOES_ON_WRITING))
+        if (count <= 0 && !(GOES_ON_WRITING)) {
+            write_failed = 1;
             return 0;
+        }
         if (count > 0) {
             text += count;
             left -= count;
@@ -39,14 +43,16 @@ static int put(int stream, const char *text)
     }
     return 1;
 }
-static int fault(const char *message)
+static int fault(const char *message, const char *name)
 {
     put(2, message);
+    put(2, name);
+    put(2, "\n");
     return 3;
 }
 static int report(const char *text, int status)
 {
-    return put(1, text) ? status : fault("qaudit: write fault\n");
+    return put(1, text) ? status : fault("qaudit: write fault", "");
 }
 static int row(int line)
 {
@@ -54,29 +60,17 @@ static int row(int line)
     snprintf(text, sizeof text, "line %d row\n", line);
     return put(1, text);
 }
-int main(int count, char **arguments)
+static int audit(int file, const char *name, int explains)
 {
-    int explains = arguments[1][0] == 'e', lines = 0;
-    for (int i = 0; i < ALLOCATIONS; i++) {
-        volatile char *block = malloc(16);
-        if (!block) {
-            REFUSED;
-        }
-    }
-    if (arguments[1][0] == 'a') {
-        put(2, "usage: qaudit check [FILE...] or qaudit explain [FILE]\n");
-        return 64;
-    }
-    if (count == 4)
-        return report("file a\naccepted\nevents 0\nfile b\naccepted\nevents 0\n", 0);
+    int lines = 0;
     char line[100], piece[4096];
     size_t length = 0;
     for (;;) {
-        ssize_t read_now = read(0, piece, READS);
+        ssize_t read_now = read(file, piece, READS);
         if (read_now < 0 && (GOES_ON_READING))
             continue;
         if (read_now < 0 && !IGNORES_FAULTS)
-            return fault("qaudit: read fault: standard input\n");
+            return fault("qaudit: read fault: ", name);
         if (read_now <= 0)
             break;
         for (ssize_t i = 0; i < read_now; i++) {
@@ -90,17 +84,44 @@ int main(int count, char **arguments)
                 return report("refused line 2 V1 time-back\n", 1);
             }
             if (explains && !row(lines))
-                return fault("qaudit: write fault\n");
+                return fault("qaudit: write fault", "");
             length = 0;
         }
         AT_EACH_PIECE;
     }
     return report("accepted\nevents 0\n", 0);
 }
+int main(int count, char **arguments)
+{
+    int explains = arguments[1][0] == 'e', status = 0;
+    for (int i = 0; i < ALLOCATIONS; i++) {
+        volatile char *block = malloc(16);
+        if (!block) {
+            REFUSED;
+        }
+    }
+    if (arguments[1][0] == 'a') {
+        put(2, "usage: qaudit check [FILE...] or qaudit explain [FILE]\n");
+        return 64;
+    }
+    if (count == 2)
+        return audit(0, "standard input", explains);
+    for (int i = 2; i < count; i++) {
+        if (!(put(1, "file ") && put(1, arguments[i]) && put(1, "\n")))
+            return fault("qaudit: write fault", "");
+        int ended = audit(open(arguments[i], O_RDONLY), arguments[i], 0);
+        if (ended > status)
+            status = ended;
+        if (ended == 3 && STOPS)
+            break;
+    }
+    return status;
+}
 """
 RIGHT = {
-    "ALLOCATIONS": "5", "REFUSED": 'return fault("qaudit: out of memory\\n")', "WRITES": "4096", "READS": "4096",
+    "ALLOCATIONS": "5", "REFUSED": 'return fault("qaudit: out of memory", "")', "WRITES": "4096", "READS": "4096",
     "GOES_ON_WRITING": "0", "GOES_ON_READING": "0", "IGNORES_FAULTS": "0", "READS_ON": "", "AT_EACH_PIECE": "",
+    "STOPS": "write_failed",
 }
 
 
@@ -165,11 +186,11 @@ class RefusalsTest(TrialCase):
         self.assert_first_failure("check bad without allocation 1: status -11, wanted 1")
 
     def test_program_that_writes_a_part_of_its_report(self):
-        self.compile_program(REFUSED='put(1, "refused\\n"); return fault("qaudit: out of memory\\n")')
+        self.compile_program(REFUSED='put(1, "refused\\n"); return fault("qaudit: out of memory", "")')
         self.assert_first_failure("check bad without allocation 1: status 3")
 
     def test_program_that_explains_a_part_of_a_row(self):
-        part = 'put(1, explains ? "line 1" : ""); return fault("qaudit: out of memory\\n")'
+        part = 'put(1, explains ? "line 1" : ""); return fault("qaudit: out of memory", "")'
         self.compile_program(REFUSED=part)
         self.assert_first_failure("explain bad without allocation 1: status 3")
 
@@ -187,7 +208,9 @@ class FailingTest(TrialCase):
         # The last read of the first trace meets its end, and the second is read no further than its second line.
         reads = (len(TRACE) + 2) * 2 + (len(b"a line\nbad\n") + 1) * 2
         writes = sum(len(text) + 1 for text in (REPORT, EXPLANATION, BAD_REPORT, BAD_EXPLANATION))
-        self.assert_passes(2 * reads + 3 * writes)
+        # Of two files each read fails once, and each write.
+        files = 2 * (len(TRACE) + 1) + 2 * len(b"file a\n" + REPORT) + 1
+        self.assert_passes(2 * reads + 3 * writes + files)
 
     def test_program_without_arguments(self):
         self.part = ("--traces",)
@@ -218,9 +241,17 @@ class FailingTest(TrialCase):
         self.compile_program(READS_ON="read(0, piece, 1)")
         self.assert_first_failure("check bad where read 12 fails: status 1, wanted 3")
 
-    def test_program_that_takes_a_last_line_without_lf(self):
-        self.compile_program(AT_EACH_PIECE='if (explains && length == 5 && !memcmp(line, "a lin", 5)) row(9)')
-        self.assert_first_failure("explain bad where write 1 fails: ")
+    def test_program_that_explains_a_line_before_its_end(self):
+        self.compile_program(AT_EACH_PIECE='if (explains && length == 5 && !memcmp(line, "a lin", 5)) row(1)')
+        self.assert_first_failure("explain bad where write ")
+
+    def test_program_that_stops_at_a_file(self):
+        self.compile_program(STOPS="1")
+        self.assert_first_failure("check a b where read 1 fails: standard output b'file a\\n', wanted b'file a\\nfile b\\n")
+
+    def test_program_that_goes_on_to_another_file_after_a_failed_write(self):
+        self.compile_program(STOPS="0")
+        self.assert_first_failure("check a b where write 8 fails: standard output b'file a\\nfile b\\n")
 
 
 class CutsTest(TrialCase):

@@ -12,14 +12,13 @@ from concurrent.futures import ThreadPoolExecutor
 from pathlib import Path
 from typing import Callable, Iterable, Iterator, NamedTuple, Optional
 
-from processes import Outcome, differences, is_program, tell
+from processes import Outcome, differences, is_program, status_of, tell
 
 ALL = 2**62
 # The traces that are tried at each place: as long as those that `run` gives byte by byte.
 LONGEST = 4096
 PIECE = 4096
 LINE_LIMIT = 65536
-STATUS_OF_VERDICT = {b"accepted": 0, b"refused": 1, b"unreadable": 2}
 ANSWER = struct.Struct("4l")
 
 # Yields (name, failure) for each try; failure is empty where it passed.
@@ -158,11 +157,6 @@ class Auditor(NamedTuple):
 def silent(program: str, library: Path) -> Auditor:
     """An auditor that takes no arguments and writes no messages."""
     return Auditor(program, library, ("check",), b"", b"", b"")
-
-
-def status_of(report: bytes) -> Optional[int]:
-    """The exit status for a report, by its first word; None where that is no verdict."""
-    return STATUS_OF_VERDICT.get(report.split(None, 1)[0] if report.strip() else b"")
 
 
 def reads_wanted(command: Command, most: int = PIECE) -> int:

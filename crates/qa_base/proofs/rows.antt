@@ -37,6 +37,7 @@ pub mod late_ack_of_lost
 pub mod loss_set_partial
 pub mod loss_timer
 pub mod loss_timer_early
+pub mod lost_of_all_numbers
 pub mod metric_window
 pub mod metrics_after_samples
 pub mod metrics_of_the_start
@@ -65,6 +66,7 @@ pub mod server_has_no_anti_deadlock
 pub mod ssthresh_alone_where_none
 pub mod ssthresh_where_none
 pub mod time_back
+pub mod times_at_the_limit
 pub mod two_loss_timers
 pub mod two_probes
 pub mod two_samples
