@@ -1,9 +1,6 @@
-//! Lists of events that are judged, worked out by hand from RFC 9002.
+//! A list of events that is judged, worked out by hand from RFC 9002.
 use super::*;
-use qa_base::{
-    Event, Header, Kind, Leave, MetricValues, Micros, PacketNumber, Role, Rule, Space, Span, Spans,
-    Totals,
-};
+use qa_base::{Event, Header, Leave, Micros, PacketNumber, Role, Rule, Space, Span, Spans};
 use std::alloc::Global;
 use std::test::Fail;
 
@@ -45,14 +42,6 @@ fn ack(time: u64, space: Space, ranges: Spans) -> Result<Event, Fail> {
     })
 }
 
-fn lost(time: u64, space: Space, ranges: Spans) -> Result<Event, Fail> {
-    Ok(Event::Lost {
-        time: micros(time)?,
-        space,
-        ranges,
-    })
-}
-
 /// A ledger that admitted all of these, or the place of the first that it did not admit, and why.
 fn judged(alloc: Global, header: Header, events: &[Event]) -> Result<Whole, (usize, LedgerFault)> {
     let mut ledger = Whole::start(alloc, header);
@@ -84,63 +73,5 @@ fn a_loss(rt: HostRuntime) -> Result<(), Fail> {
     let (place, fault) = judged(rt.alloc(), header, &events).err().ok_or("admitted")?;
     assert_eq!(rt; (place, fault), (11, LedgerFault::Broken(Rule::LossOwed)));
     assert_eq!(rt; format!(in rt.alloc(); "{fault}")?.as_str(), "V2 loss-owed");
-    Ok(())
-}
-
-/// A client's handshake: its first packet is lost, and a probe is acknowledged after 100 ms.
-#[test]
-fn each_kind_of_event(rt: HostRuntime) -> Result<(), Fail> {
-    let header = Header::new(Role::Client, 1200, None, None, None)?;
-    let space = Space::Initial;
-    let events = [
-        sent(0, space, 0, Leave::Window)?,
-        Event::Timer {
-            time: micros(999_000)?,
-            kind: Kind::Pto,
-            space,
-        },
-        sent(999_000, space, 1, Leave::Probe)?,
-        ack(1_099_000, space, range(rt.alloc(), 1, 1)?)?,
-        lost(1_099_000, space, range(rt.alloc(), 0, 0)?)?,
-        Event::Keys {
-            time: micros(1_099_000)?,
-        },
-        Event::Discard {
-            time: micros(1_099_000)?,
-            space,
-        },
-        Event::Confirmed {
-            time: micros(1_100_000)?,
-        },
-        Event::Metrics {
-            time: micros(1_100_000)?,
-            values: MetricValues {
-                window: Some(6000),
-                ssthresh: Some(6000),
-                bytes_in_flight: Some(0),
-                latest_rtt: Some(100_000),
-                min_rtt: Some(100_000),
-                smoothed_rtt: Some(100_000),
-                rttvar: Some(50_000),
-            },
-        },
-    ];
-    let ledger = judged(rt.alloc(), header, &events).map_err(|_| "refused")?;
-    assert!(rt; !ledger.owes());
-    assert_eq!(rt;
-        ledger.totals(),
-        Totals {
-            events: 9,
-            window: 6000,
-            ssthresh: Some(6000),
-            bytes_in_flight: 0,
-            latest_rtt: 100_000,
-            min_rtt: 100_000,
-            smoothed_rtt: 100_000,
-            rttvar: 50_000,
-            pto_count: 0,
-            owed: 0,
-        }
-    );
     Ok(())
 }

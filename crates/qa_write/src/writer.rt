@@ -20,9 +20,6 @@ use qa_base::{
 use serde_json::{Map, Value, json};
 use std::alloc::{AllocError, Global};
 
-#[cfg(test)]
-mod tests;
-
 /// The text of a line: one JSON object without white space and without LF, or no byte for a blank
 /// line.
 ///
