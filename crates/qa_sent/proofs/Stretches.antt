@@ -1,11 +1,13 @@
 -- A walk along the numbers that spans name, in rising order.
-use Rattle.std.proofs.Common.{◌≡◌, ◌∙◌, ℕ, ◌≤◌, ◌<◌, Bool, true, false, ◌&&◌, ◌||◌, List, [], ◌∷◌, ◌++◌, Option, Some, None, refl, sym, ap, arith, inl, inr}
+use Rattle.std.proofs.Common.{◌≡◌, ◌∙◌, ℕ, ◌+◌, ◌≤◌, ◌<◌, Bool, true, false, ◌&&◌, ◌||◌, drop, List, [], ◌∷◌, ◌++◌, length, reverse, get_or, Option, Some, None, refl, sym, ap, subst, arith, inl, inr}
 use Rattle.std.specs.Prelude.{nat_le, IsSome}
 use Rattle.std.proofs.lemmas.Bool.{and_cases, and_left, and_parts, and_right, leb-false, leb-true, lt-leb, or_from, or_left}
+use Rattle.std.proofs.lemmas.List.{drop_more, length-reverse}
 use Rattle.std.proofs.lemmas.List.Folds.{list_any-append}
+use Rattle.std.proofs.lemmas.List.Sorted.{IsPermutation-reverse, list_any-IsPermutation}
 use Rattle.qa_base.specs.values.Events.{is_named}
 use Rattle.qa_sent.specs.Covering.{is_between}
-use Rattle.qa_sent.specs.Naming.{AreRisingFrom, IsStretch}
+use Rattle.qa_sent.specs.Naming.{AreRisingFrom, IsStretch, turned}
 use Rattle.qa_sent.specs.declared.named.Stretch.{Stretch}
 
 -- ---- spans that rise
@@ -67,3 +69,20 @@ begins_first span spans from (Some s) rising some is =
       ]);
       within = λ n low less. or_left (is_between span.0 span.1 n) (is_named spans n) (is.within n low less);
     }
+
+-- ---- spans from the last to the first
+
+pub length_turned : (falling : Bool) (spans : List (ℕ × ℕ)) → length (turned falling spans) ≡ length spans
+length_turned true spans = length-reverse spans
+length_turned false spans = refl
+
+pub named_turned : (falling : Bool) (spans : List (ℕ × ℕ)) (n : ℕ) → is_named spans n ≡ is_named (turned falling spans) n
+named_turned true spans n = list_any-IsPermutation (λ (range : ℕ × ℕ). nat_le range.0 n && nat_le n range.1) spans (reverse spans) (IsPermutation-reverse spans)
+named_turned false spans n = refl
+
+-- those that are left at a place
+pub left_from : (falling : Bool) (spans : List (ℕ × ℕ)) (at : ℕ) (span : ℕ × ℕ) → at < length spans → span ≡ get_or (turned falling spans) at span
+    → drop at (turned falling spans) ≡ span ∷ drop (at + 1) (turned falling spans)
+left_from falling spans at span within is =
+    let there : at < length (turned falling spans) = subst (λ count. at < count) (sym (length_turned falling spans)) within in
+    drop_more (turned falling spans) at span there ∙ ap (λ (s : ℕ × ℕ). s ∷ drop (at + 1) (turned falling spans)) (sym is)

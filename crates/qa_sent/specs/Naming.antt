@@ -1,9 +1,14 @@
 -- The numbers that spans name, one after another in rising order.
-use Rattle.std.specs.Prelude.{◌≡◌, ◌≤◌, ◌<◌, ◌+◌, ℕ, Bool, true, false, List, [], ◌∷◌, drop, length, Option, Some, None}
+use Rattle.std.specs.Prelude.{◌≡◌, ◌≤◌, ◌<◌, ◌+◌, ℕ, Bool, true, false, List, [], ◌∷◌, drop, length, reverse, Option, Some, None}
 use Rattle.qa_base.specs.values.Events.{is_named}
 use Rattle.qa_base.specs.values.Limits.{max_packet_number}
 use Rattle.qa_sent.specs.declared.named.NamedNumbers.{NamedNumbers}
 use Rattle.qa_sent.specs.declared.named.Stretch.{Stretch}
+
+-- the spans from the last to the first, or as they stand
+abbrev pub turned : Bool → List (ℕ × ℕ) → List (ℕ × ℕ)
+turned true spans = reverse spans
+turned false spans = spans
 
 -- each span begins no lower than the one before it, and the first no lower than this number
 abbrev pub AreRisingFrom : ℕ → List (ℕ × ℕ) → Type 0
@@ -50,5 +55,5 @@ pub record IsWalk (spans : List (ℕ × ℕ)) (walk : NamedNumbers) : Type 0 whe
   pub within : walk.passed ≤ length spans
   pub high : walk.to ≤ max_packet_number + 1
   pub stretch : (n : ℕ) → walk.from ≤ n → n < walk.to → is_named spans n ≡ true
-  pub left : (n : ℕ) → walk.from ≤ n → is_named spans n ≡ is_named (drop walk.passed spans) n
-  pub order : walk.rising ≡ true → AreRisingFrom 0 (drop walk.passed spans)
+  pub left : (n : ℕ) → walk.from ≤ n → is_named spans n ≡ is_named (drop walk.passed (turned walk.falling spans)) n
+  pub order : walk.in_order ≡ true → AreRisingFrom 0 (drop walk.passed (turned walk.falling spans))

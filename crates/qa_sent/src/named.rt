@@ -51,17 +51,20 @@ pub(crate) struct NamedNumbers {
     pub(crate) from: u64,
     /// Those from there to below this one are all named.
     pub(crate) to: u64,
-    /// So many spans at the front have no number that was not passed.
+    /// Whether the spans are taken from the last to the first.
+    pub(crate) falling: bool,
+    /// Whether none of them, so taken, begins below the one before it.
+    pub(crate) in_order: bool,
+    /// So many of them have no number that was not passed. None are counted where they are not in
+    /// order.
     pub(crate) passed: usize,
-    /// Whether no span begins below the one before it.
-    pub(crate) rising: bool,
 }
 
 impl NamedNumbers {
-    ghost use Rattle.std.specs.Prelude.{◌≡◌, ◌≤◌, ◌+◌, ℕ, true, List, ◌∷◌, drop, length, IfSome};
+    ghost use Rattle.std.specs.Prelude.{◌≡◌, ◌≤◌, ◌<◌, ◌+◌, ℕ, true, List, ◌∷◌, drop, length, slice_index_or, IfSome};
     ghost use Rattle.qa_base.specs.machine.Numbers.{AreRanges};
     ghost use Rattle.qa_base.specs.values.Events.{is_named};
-    ghost use Rattle.qa_sent.specs.Naming.{AreRisingFrom, IsNext, IsStretch, IsWalk};
+    ghost use Rattle.qa_sent.specs.Naming.{AreRisingFrom, IsNext, IsStretch, IsWalk, turned};
 
     /// A walk from the least number on.
     pub(crate) fn start(spans: &[Span]) -> NamedNumbers
@@ -69,18 +72,21 @@ impl NamedNumbers {
         ensures ranges { AreRanges spans.now }
         ensures walk { IsWalk spans.now result }
     {
+        let rising = NamedNumbers::are_rising(spans, false);
+        let falling = !rising && NamedNumbers::are_rising(spans, true);
         NamedNumbers {
             from: 0,
             to: 0,
+            falling,
+            in_order: rising || falling,
             passed: 0,
-            rising: NamedNumbers::are_rising(spans),
         }
     }
 
     /// The next number that the spans name.
     ///
     /// All calls of a walk together take as much time as there are numbers and spans, where the
-    /// spans rise. Else each stretch of numbers takes a look at all spans.
+    /// spans rise or fall. Else each stretch of numbers takes a look at all spans.
     pub(crate) fn next(&mut self, spans: &[Span]) -> Option<u64>
         requires { IsWalk spans.now self.old }
         ensures next { IsNext (is_named spans.now) self.old.from result }
@@ -105,24 +111,39 @@ impl NamedNumbers {
         ensures to { self.new.to ≡ self.old.to }
         ensures walk { IsWalk spans.now self.new }
     {
-        self.passed = NamedNumbers::first_left(spans, self.passed, self.from);
-        if self.rising {
-            let first = *spans.get(self.passed)?;
-            return Stretch::from(first, self.from);
+        if !self.in_order {
+            return NamedNumbers::first_of_all(spans, self.from);
         }
-        NamedNumbers::first_of_all(&spans[self.passed..], self.from)
+        self.passed = NamedNumbers::first_left(spans, self.falling, self.passed, self.from);
+        if self.passed == spans.len() {
+            return None;
+        }
+        let first = NamedNumbers::nth(spans, self.falling, self.passed);
+        Stretch::from(first, self.from)
+    }
+
+    /// The span at this place, counted from the end where they are taken from the last to the first.
+    fn nth(spans: &[Span], falling: bool, at: usize) -> Span
+        requires { at < length spans.now }
+        ensures { result ≡ slice_index_or (turned falling spans.now) at result }
+    {
+        if falling {
+            spans[spans.len() - 1 - at]
+        } else {
+            spans[at]
+        }
     }
 
     /// The first span, from a place on, that does not end below the number.
-    fn first_left(spans: &[Span], passed: usize, from: u64) -> usize
+    fn first_left(spans: &[Span], falling: bool, passed: usize, from: u64) -> usize
         requires { passed ≤ length spans.now }
         ensures within { result ≤ length spans.now }
-        ensures left { (n : ℕ) → from ≤ n → is_named (drop passed spans.now) n ≡ is_named (drop result spans.now) n }
-        ensures order { AreRisingFrom 0 (drop passed spans.now) → AreRisingFrom 0 (drop result spans.now) }
-        ensures reached { (span : ℕ × ℕ) (rest : List (ℕ × ℕ)) → drop result spans.now ≡ span ∷ rest → from ≤ span.1 }
+        ensures left { (n : ℕ) → from ≤ n → is_named (drop passed (turned falling spans.now)) n ≡ is_named (drop result (turned falling spans.now)) n }
+        ensures order { AreRisingFrom 0 (drop passed (turned falling spans.now)) → AreRisingFrom 0 (drop result (turned falling spans.now)) }
+        ensures reached { (span : ℕ × ℕ) (rest : List (ℕ × ℕ)) → drop result (turned falling spans.now) ≡ span ∷ rest → from ≤ span.1 }
     {
         let mut at = passed;
-        while at < spans.len() && spans[at].hi().get() < from {
+        while at < spans.len() && NamedNumbers::nth(spans, falling, at).hi().get() < from {
             at += 1;
         }
         at
@@ -139,15 +160,15 @@ impl NamedNumbers {
         first
     }
 
-    /// Whether no span begins below the one before it.
-    fn are_rising(spans: &[Span]) -> bool
-        ensures ranges { AreRanges spans.now }
-        ensures order { result ≡ true → AreRisingFrom 0 spans.now }
+    /// Whether no span begins below the one before it, as they are taken.
+    fn are_rising(spans: &[Span], falling: bool) -> bool
+        ensures ranges { AreRanges (turned falling spans.now) }
+        ensures order { result ≡ true → AreRisingFrom 0 (turned falling spans.now) }
     {
         let mut rising = true;
         let mut last = 0;
-        for span in spans {
-            let lo = span.lo().get();
+        for at in 0..spans.len() {
+            let lo = NamedNumbers::nth(spans, falling, at).lo().get();
             rising = rising && last <= lo;
             last = lo;
         }

@@ -18,8 +18,8 @@ impl SentPackets {
     /// order.
     ///
     /// Takes no memory, and one walk along the packets that were passed by the detection that found
-    /// these losses. Where the spans rise it takes one walk along them too, however many numbers
-    /// they have. In another order each run of numbers that are owed takes a walk along the spans.
+    /// these losses. Where the spans rise or fall it walks along them once too, however many numbers
+    /// they have; else once for each stretch of numbers that it finds to be owed.
     pub fn names_owed(&self, spans: &[Span]) -> bool
         ensures { result ≡ names_exactly spans.now (owed_numbers self.now.packets) }
     {

@@ -1,17 +1,15 @@
-use Rattle.std.proofs.Common.{◌≡◌, ◌∙◌, ◌<◌, ◌+◌, ℕ, List, ◌∷◌, drop, sym, ap, subst, arith}
-use Rattle.std.proofs.lemmas.List.{drop_more}
+use Rattle.std.proofs.Common.{◌∙◌, ◌<◌, ◌+◌, ℕ, List, drop, ap, subst, arith}
 use Rattle.qa_base.specs.values.Events.{is_named}
-use Rattle.qa_sent.specs.Naming.{AreRisingFrom}
-use Rattle.qa_sent.proofs.Stretches.{ends_below, without_first}
+use Rattle.qa_sent.specs.Naming.{AreRisingFrom, turned}
+use Rattle.qa_sent.proofs.Stretches.{ends_below, left_from, without_first}
 use Rattle.qa_sent.proofs.named.NamedNumbers.first_left.Goals as goal
 
 pub loop-at-preserved : goal.loop-at-preserved
 loop-at-preserved c =
-    let spans = c.args.spans.now in
     let at = c.loop-at.at in
-    let span = c.index-spans-at.result in
-    let rest = drop (at + 1) spans in
-    let first : drop at spans ≡ span ∷ rest = drop_more spans at span c.loop-at-test.true ∙ ap (λ (s : ℕ × ℕ). s ∷ rest) (sym c.index-spans-at.is) in
+    let span = c.nth.result in
+    let rest = drop (at + 1) (turned c.args.falling c.args.spans.now) in
+    let first = left_from c.args.falling c.args.spans.now at span c.loop-at-test.true c.nth.ensures in
     let less : span.1 < c.args.from = omega arith in
     record {
       within = omega arith;
