@@ -6,14 +6,15 @@ use Rattle.qa_base.specs.declared.space.Kind.TheVariants as kind
 use Rattle.qa_base.specs.declared.space.Leave.TheVariants as leave
 use Rattle.qa_base.specs.declared.space.Role.TheVariants as role
 use Rattle.qa_base.specs.declared.space.Space.{Space}
-use Rattle.qa_base.specs.values.Settings.{Settings}
+use Rattle.qa_base.specs.declared.header.Version.TheVariants.{One}
+use Rattle.qa_base.specs.values.Settings.{Settings, no_options}
 
 -- a client or a server with this datagram size and initial window, and the other defaults
 abbrev pub client : ℕ → ℕ → Settings
-client datagram window = record { role = role.Client; max_datagram_size = datagram; max_ack_delay = 25000; initial_rtt = 333000; initial_window = window }
+client datagram window = record { role = role.Client; max_datagram_size = datagram; max_ack_delay = 25000; initial_rtt = 333000; initial_window = window; version = One; options = no_options }
 
 abbrev pub server : ℕ → ℕ → Settings
-server datagram window = record { role = role.Server; max_datagram_size = datagram; max_ack_delay = 25000; initial_rtt = 333000; initial_window = window }
+server datagram window = record { role = role.Server; max_datagram_size = datagram; max_ack_delay = 25000; initial_rtt = 333000; initial_window = window; version = One; options = no_options }
 
 -- ---- packets of a space and a number, sent at a time, with a size
 

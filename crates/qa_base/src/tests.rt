@@ -174,6 +174,7 @@ fn rules_have_names_and_numbers(rt: HostRuntime) {
         (Rule::ProbeOwed, 14, "probe-owed"),
         (Rule::NotConfirmed, 15, "not-confirmed"),
         (Rule::OwedAtEnd, 17, "owed-at-end"),
+        (Rule::TimerLate, 18, "timer-late"),
     ] {
         assert_eq!(rt; (rule.number(), rule.name()), (number, name));
         assert_eq!(rt; rule.field(), None, "{name}");

@@ -1,10 +1,10 @@
 -- A line that was written is one line, and is read as itself.
-use Rattle.std.proofs.Common.{◌≡◌, ◌∙◌, ℕ, ◌≤◌, ◌*◌, List, [], ◌∷◌, ◌++◌, Bool, true, false, cond, Some, None, Result, Ok, Err, refl, ap, append_assoc, Less, ◌&&◌, ◌||◌, not, arith, subst, sym}
+use Rattle.std.proofs.Common.{◌≡◌, ◌∙◌, ℕ, ◌≤◌, ◌*◌, List, [], ◌∷◌, ◌++◌, Bool, true, false, cond, Option, Some, None, Result, Ok, Err, refl, ap, ap₂, append_assoc, Less, ◌&&◌, ◌||◌, not, arith, subst, sym}
 use Rattle.std.proofs.lemmas.Bool.{and_parts, leb-true, or_from, le-ltb}
-use Rattle.std.specs.Prelude.{nat_lt, nat_le, codes, option_map}
+use Rattle.std.specs.Prelude.{nat_lt, nat_le, codes, option_map, unwrap_or}
 use Rattle.std.specs.Cmp.Lexicographic.{slice_cmp}
 use Rattle.std.specs.Ordering.{nat_cmp}
-use Rattle.std.specs.Result.{result_map_both}
+use Rattle.std.specs.Option.{ForSome}
 use Rattle.serde_json.specs.Data as json
 use Rattle.serde_json.specs.Data.{Data, depth}
 use Rattle.serde_json.specs.Find.{get}
@@ -13,9 +13,12 @@ use Rattle.qa_base.specs.declared.event.Event.{Event}
 use Rattle.qa_base.specs.declared.event.Event.TheVariants.{Sent, Ack, Lost, Timer, Discard, Confirmed, Keys, Metrics}
 use Rattle.qa_base.specs.declared.event.MetricValues.{MetricValues}
 use Rattle.qa_base.specs.declared.fault.Fault.{Fault}
-use Rattle.qa_base.specs.declared.fault.Fault.TheVariants.{FlagsClash, OutOfRange}
+use Rattle.qa_base.specs.declared.fault.Fault.TheVariants.{FlagsClash}
 use Rattle.qa_base.specs.declared.fault.Key.{Key}
 use Rattle.qa_base.specs.declared.fault.Key.TheVariants as key
+use Rattle.qa_base.specs.declared.header.Options.{Options}
+use Rattle.qa_base.specs.declared.header.Version.{Version}
+use Rattle.qa_base.specs.declared.header.Version.TheVariants.{One, Two}
 use Rattle.qa_base.specs.declared.line.Line.{Line}
 use Rattle.qa_base.specs.declared.line.Line.TheVariants as line
 use Rattle.qa_base.specs.declared.line.LineKind.TheVariants as kinds
@@ -26,16 +29,16 @@ use Rattle.qa_base.specs.declared.space.Leave.TheVariants as leaves
 use Rattle.qa_base.specs.declared.space.Space.{Space}
 use Rattle.qa_base.specs.declared.space.Space.TheVariants.{Initial, Handshake, App}
 use Rattle.qa_base.specs.values.Events.{is_space}
-use Rattle.qa_base.specs.format.Keys.{◌>>=◌, integer, integer_from, string, string_among, boolean, ranges, required, if_present}
+use Rattle.qa_base.specs.format.Keys.{◌>>=◌, both, integer, integer_from, string, string_among, boolean, ranges, required, if_present}
 use Rattle.qa_base.specs.format.Lines.{has_lf}
-use Rattle.qa_base.specs.values.Limits.{format_version, max_time, max_packet_number, max_packet_size}
+use Rattle.qa_base.specs.values.Limits.{max_time, max_packet_number, max_packet_size, greatest_timer_late, greatest_report_slack_us, greatest_report_slack_bytes}
 use Rattle.qa_base.specs.values.Names.{key_name, line_kind_name, role_name, role_named, space_name, space_named, discarded_named, leave_name, leave_named, kind_name, kind_named}
 use Rattle.qa_base.specs.values.Proper.{IsProperEvent, IsProperLine}
 use Rattle.qa_base.specs.format.Reading.{reader_named, object_says, json_of, reading_by, reading}
-use Rattle.qa_base.specs.values.Settings.{Settings, AreInRange, is_outside, checked}
-use Rattle.qa_base.specs.format.Tables.{time, space, header_fields, header_of, settings, sent_fields, sent_of, ack_fields, ack_of, lost_fields, lost_of, timer_fields, timer_of, discard_fields, discard_of, confirmed_of, keys_of, metric_values, metrics_of}
+use Rattle.qa_base.specs.values.Settings.{Settings, AreInRange, is_outside, no_options}
+use Rattle.qa_base.specs.format.Tables.{time, space, header_fields, option_values, options, settings, of_version, header_of, sent_fields, sent_of, ack_fields, ack_of, lost_fields, lost_of, timer_fields, timer_of, discard_fields, discard_of, confirmed_of, keys_of, metric_values, metrics_of}
 use Rattle.qa_base.specs.format.Written as written
-use Rattle.qa_base.specs.format.Written.{Pairs, reported, header_pairs, event_pairs, members, object_of, written as text_of}
+use Rattle.qa_base.specs.format.Written.{Pairs, reported, limit_pairs, header_pairs, event_pairs, members, object_of, written as text_of}
 use Rattle.qa_base.proofs.format.Compact.{IsSimple, read-compact_text, is_utf8-compact_text}
 use Rattle.qa_base.proofs.format.OneLine.{has_lf-compact_text}
 use Rattle.qa_base.proofs.format.KeysWritten.{required_reads, optional_reads, both_reads, integer_from_reads, role_reads, space_reads, leave_reads, kind_reads, ranges_read, past_reported, reported_stands, metric_reads, past_last, last_stands, IsKept, integer_is_kept, string_is_kept, boolean_is_kept, role_is_kept, space_is_kept, leave_is_kept, kind_is_kept, ranges_are_kept, Follow, none_follow, follow, follow_reported, follow_last}
@@ -277,34 +280,141 @@ metrics_read t v proper =
 inside : (lo hi n : ℕ) → lo ≤ n → n ≤ hi → is_outside lo hi n ≡ false
 inside lo hi n low high = or_from (nat_lt n lo) (nat_lt hi n) (le-ltb n lo low) (le-ltb hi n high)
 
--- values in their ranges pass the test of ranges
-checked_passes : (s : Settings) → AreInRange s → checked s ≡ Ok s
-checked_passes s are = rw (
+-- ---- a header of version 1
+
+-- these values in version 1
+abbrev first : Settings → Settings
+first s = record {
+  role = s.role;
+  max_datagram_size = s.max_datagram_size;
+  max_ack_delay = s.max_ack_delay;
+  initial_rtt = s.initial_rtt;
+  initial_window = s.initial_window;
+  version = One;
+  options = no_options;
+}
+
+settings_read : (s : Settings) → AreInRange s → settings s.role s.max_datagram_size (Some s.max_ack_delay) (Some s.initial_rtt) (Some s.initial_window) ≡ Ok (first s)
+settings_read s are = rw (
   inside 1200 65527 s.max_datagram_size are.datagram_low are.datagram_high,
   inside 0 16383000 s.max_ack_delay (omega arith) are.delay_high,
   inside 1 1000000000 s.initial_rtt are.rtt_low are.rtt_high,
   inside (2 * s.max_datagram_size) 4294967295 s.initial_window are.window_low are.window_high,
 ) refl
 
-settings_read : (s : Settings) → AreInRange s → settings s.role s.max_datagram_size (Some s.max_ack_delay) (Some s.initial_rtt) (Some s.initial_window) ≡ Ok s
-settings_read s are = ap (result_map_both (λ t. t) (λ e. OutOfRange e.0)) (checked_passes s are)
-
 present_integer : (k : Key) (d : Data) (n : ℕ) → get (key_name k) d ≡ Some (written.integer n) → if_present integer k d ≡ Ok (Some n)
 present_integer k d n at = optional_reads (λ j v. integer j v >>= λ m. Ok (Some m)) None k d (written.integer n) (Some n) at refl refl
 
-header_reads : (s : Settings) → AreInRange s → header_of (object_of (header_pairs s)) ≡ Ok s
-unfolding header_of
-header_reads s are =
-    let d = object_of (header_pairs s) in
-    let named = both_reads _ _ format_version s.role (required_reads integer key.Version d (written.integer format_version) format_version refl refl refl)
-    (required_reads (string_among role_named) key.Role d (written.string (role_name s.role)) s.role refl refl (role_reads key.Role s.role)) in
+-- the keys that both versions have
+fields_read : (d : Data) (n : ℕ) (s : Settings)
+    → get (codes "version") d ≡ Some (written.integer n) → get (codes "role") d ≡ Some (written.string (role_name s.role))
+    → get (codes "max_datagram_size") d ≡ Some (written.integer s.max_datagram_size) → get (codes "max_ack_delay") d ≡ Some (written.integer s.max_ack_delay)
+    → get (codes "initial_rtt") d ≡ Some (written.integer s.initial_rtt) → get (codes "initial_window") d ≡ Some (written.integer s.initial_window)
+    → header_fields d ≡ Ok ((n, s.role), ((s.max_datagram_size, Some s.max_ack_delay), (Some s.initial_rtt, Some s.initial_window)))
+fields_read d n s version role datagram delay rtt window =
+    let named = both_reads _ _ n s.role (required_reads integer key.Version d (written.integer n) n version refl refl)
+    (required_reads (string_among role_named) key.Role d (written.string (role_name s.role)) s.role role refl (role_reads key.Role s.role)) in
     let sizes = both_reads _ _ s.max_datagram_size (Some s.max_ack_delay)
-    (required_reads integer key.MaxDatagramSize d (written.integer s.max_datagram_size) s.max_datagram_size refl refl refl)
-    (present_integer key.MaxAckDelay d s.max_ack_delay refl) in
-    let starts = both_reads _ _ (Some s.initial_rtt) (Some s.initial_window) (present_integer key.InitialRtt d s.initial_rtt refl) (present_integer key.InitialWindow d s.initial_window refl) in
-    let fields = both_reads _ _ _ _ named (both_reads _ _ _ _ sizes starts) in
-    then_reads (header_fields d) _ ((format_version, s.role), ((s.max_datagram_size, Some s.max_ack_delay), (Some s.initial_rtt, Some s.initial_window))) _ fields
-    (then_reads (settings s.role s.max_datagram_size (Some s.max_ack_delay) (Some s.initial_rtt) (Some s.initial_window)) _ s _ (settings_read s are) refl)
+    (required_reads integer key.MaxDatagramSize d (written.integer s.max_datagram_size) s.max_datagram_size datagram refl refl)
+    (present_integer key.MaxAckDelay d s.max_ack_delay delay) in
+    let starts = both_reads _ _ (Some s.initial_rtt) (Some s.initial_window) (present_integer key.InitialRtt d s.initial_rtt rtt) (present_integer key.InitialWindow d s.initial_window window) in
+    both_reads _ _ _ _ named (both_reads _ _ _ _ sizes starts)
+
+-- an object of such keys and options
+header_by : (d : Data) (n : ℕ) (o : Options) (s t : Settings) → AreInRange s
+    → header_fields d ≡ Ok ((n, s.role), ((s.max_datagram_size, Some s.max_ack_delay), (Some s.initial_rtt, Some s.initial_window)))
+    → options d ≡ Ok o → of_version n o (first s) ≡ Ok t → header_of d ≡ Ok t
+unfolding header_of
+header_by d n o s t are fields asked of =
+    then_reads (both (header_fields d) (options d)) _ (((n, s.role), ((s.max_datagram_size, Some s.max_ack_delay), (Some s.initial_rtt, Some s.initial_window))), o) t
+    (both_reads _ _ _ o fields asked)
+    (then_reads (settings s.role s.max_datagram_size (Some s.max_ack_delay) (Some s.initial_rtt) (Some s.initial_window)) (of_version n o) (first s) t (settings_read s are) of)
+
+first_reads : (s : Settings) → AreInRange s → header_of (object_of (header_pairs (first s))) ≡ Ok (first s)
+first_reads s are = let d = object_of (header_pairs (first s)) in header_by d 1 no_options s (first s) are (fields_read d 1 s refl refl refl refl refl refl) refl refl
+
+-- ---- a header of version 2
+
+-- these values with these options in version 2
+abbrev second : Settings → Option ℕ → Bool → ℕ → ℕ → Settings
+second s limit refresh slack_us slack_bytes = record {
+  role = s.role;
+  max_datagram_size = s.max_datagram_size;
+  max_ack_delay = s.max_ack_delay;
+  initial_rtt = s.initial_rtt;
+  initial_window = s.initial_window;
+  version = Two;
+  options = record { timer_late = limit; refresh_min_rtt = refresh; report_slack_us = slack_us; report_slack_bytes = slack_bytes };
+}
+
+limit_is : (limit : Option ℕ) (hi : ℕ) → ForSome limit (λ n. n ≤ hi) → unwrap_or limit 0 ≤ hi
+limit_is None hi high = omega arith
+limit_is (Some n) hi high = high n refl
+
+-- options in their ranges pass the test of ranges
+options_pass : (s : Settings) → AreInRange s → of_version 2 s.options (first s) ≡ Ok (second s s.options.timer_late s.options.refresh_min_rtt s.options.report_slack_us s.options.report_slack_bytes)
+options_pass s are = rw (
+  inside 0 greatest_timer_late (unwrap_or s.options.timer_late 0) (omega arith) (limit_is s.options.timer_late greatest_timer_late are.late_high),
+  inside 0 greatest_report_slack_us s.options.report_slack_us (omega arith) are.slack_us_high,
+  inside 0 greatest_report_slack_bytes s.options.report_slack_bytes (omega arith) are.slack_bytes_high,
+) refl
+
+options_read : (d : Data) (limit : Option ℕ) (refresh : Bool) (slack_us slack_bytes : ℕ) → if_present integer key.TimerLateUs d ≡ Ok limit
+    → get (codes "refresh_min_rtt") d ≡ Some (written.boolean refresh) → get (codes "report_slack_us") d ≡ Some (written.integer slack_us)
+    → get (codes "report_slack_bytes") d ≡ Some (written.integer slack_bytes)
+    → option_values d ≡ Ok (record { timer_late = limit; refresh_min_rtt = refresh; report_slack_us = slack_us; report_slack_bytes = slack_bytes })
+options_read d limit refresh slack_us slack_bytes late refreshes us bytes =
+    let timers = both_reads _ _ limit refresh late (optional_reads boolean false key.RefreshMinRtt d (written.boolean refresh) refresh refreshes refl refl) in
+    let slacks = both_reads _ _ slack_us slack_bytes (optional_reads integer 0 key.ReportSlackUs d (written.integer slack_us) slack_us us refl refl)
+    (optional_reads integer 0 key.ReportSlackBytes d (written.integer slack_bytes) slack_bytes bytes refl refl) in
+    then_reads _ _ ((limit, refresh), (slack_us, slack_bytes)) _ (both_reads _ _ _ _ timers slacks) refl
+
+second_reads : (s : Settings) (limit : Option ℕ) (refresh : Bool) (slack_us slack_bytes : ℕ) → AreInRange (second s limit refresh slack_us slack_bytes)
+    → header_of (object_of (header_pairs (second s limit refresh slack_us slack_bytes))) ≡ Ok (second s limit refresh slack_us slack_bytes)
+second_reads s None refresh slack_us slack_bytes are =
+    let t = second s None refresh slack_us slack_bytes in
+    let d = object_of (header_pairs t) in
+    header_by d 2 t.options t t are (fields_read d 2 t refl refl refl refl refl refl) (options_read d None refresh slack_us slack_bytes refl refl refl refl) (options_pass t are)
+second_reads s (Some n) refresh slack_us slack_bytes are =
+    let t = second s (Some n) refresh slack_us slack_bytes in
+    let d = object_of (header_pairs t) in
+    header_by d 2 t.options t t are (fields_read d 2 t refl refl refl refl refl refl)
+    (options_read d (Some n) refresh slack_us slack_bytes (present_integer key.TimerLateUs d n refl) refl refl refl) (options_pass t are)
+
+-- ---- a header of either version
+
+-- what holds of headers as they are written in their version holds of all in their ranges
+of_either : (P : Settings → Type 0) (s : Settings) (v : Version) → s.version ≡ v → AreInRange s
+    → (AreInRange s → P (first s))
+    → ((limit : Option ℕ) (refresh : Bool) (slack_us slack_bytes : ℕ) → AreInRange (second s limit refresh slack_us slack_bytes) → P (second s limit refresh slack_us slack_bytes))
+    → P s
+of_either P s One is are of_first of_second =
+    let none : s.options ≡ no_options = are.first_version is in
+    let same : first s ≡ s = ap₂ (λ v o. record {
+      role = s.role;
+      max_datagram_size = s.max_datagram_size;
+      max_ack_delay = s.max_ack_delay;
+      initial_rtt = s.initial_rtt;
+      initial_window = s.initial_window;
+      version = v;
+      options = o;
+    }) (sym is) (sym none) in
+    subst P same (of_first are)
+of_either P s Two is are of_first of_second =
+    let o = s.options in
+    let same : second s o.timer_late o.refresh_min_rtt o.report_slack_us o.report_slack_bytes ≡ s = ap (λ v. record {
+      role = s.role;
+      max_datagram_size = s.max_datagram_size;
+      max_ack_delay = s.max_ack_delay;
+      initial_rtt = s.initial_rtt;
+      initial_window = s.initial_window;
+      version = v;
+      options = s.options;
+    }) (sym is) in
+    subst P same (of_second o.timer_late o.refresh_min_rtt o.report_slack_us o.report_slack_bytes (subst AreInRange (sym same) are))
+
+header_reads : (s : Settings) → AreInRange s → header_of (object_of (header_pairs s)) ≡ Ok s
+header_reads s are = of_either (λ t. header_of (object_of (header_pairs t)) ≡ Ok t) s s.version refl are (first_reads s) (second_reads s)
 
 -- ---- keys rise, and values can be written and read
 
@@ -359,15 +469,43 @@ metrics_follow t v proper =
     (follow_reported _ Ssthresh v.ssthresh _ refl refl words.1
     (follow _ key.Time _ _ refl refl (time_is_kept t proper.in_time) (follow_last _ Window v.window refl refl words.0))))))))
 
-header_follows : (s : Settings) → AreInRange s → Follow [] (header_pairs s)
-header_follows s are =
+-- the keys that both versions have up to max_datagram_size
+header_begins : (s : Settings) (ps : Pairs) → AreInRange s → Follow (codes "max_datagram_size") ps
+    → Follow [] (
+    (key.Event, written.string (line_kind_name kinds.Header))
+    ∷ (key.InitialRtt, written.integer s.initial_rtt)
+    ∷ (key.InitialWindow, written.integer s.initial_window)
+    ∷ (key.MaxAckDelay, written.integer s.max_ack_delay)
+    ∷ (key.MaxDatagramSize, written.integer s.max_datagram_size)
+    ∷ ps)
+header_begins s ps are more =
     follow _ key.Event _ _ refl refl (string_is_kept _ refl)
     (follow _ key.InitialRtt _ _ refl refl (integer_is_kept s.initial_rtt (omega (arith, are.rtt_high)))
     (follow _ key.InitialWindow _ _ refl refl (integer_is_kept s.initial_window (omega (arith, are.window_high)))
     (follow _ key.MaxAckDelay _ _ refl refl (integer_is_kept s.max_ack_delay (omega (arith, are.delay_high)))
-    (follow _ key.MaxDatagramSize _ _ refl refl (integer_is_kept s.max_datagram_size (omega (arith, are.datagram_high)))
-    (follow _ key.Role _ _ refl refl (role_is_kept s.role)
-    (follow _ key.Version _ _ refl refl (integer_is_kept format_version (omega arith)) (none_follow (codes "version"))))))))
+    (follow _ key.MaxDatagramSize _ _ refl refl (integer_is_kept s.max_datagram_size (omega (arith, are.datagram_high))) more))))
+
+version_follows : (j : List ℕ) (n : ℕ) → slice_cmp nat_cmp j (codes "version") ≡ Less → n ≤ 2 → Follow j ((key.Version, written.integer n) ∷ [])
+version_follows j n less small = follow j key.Version (written.integer n) [] less refl (integer_is_kept n (omega (arith, small))) (none_follow (codes "version"))
+
+first_follows : (s : Settings) → AreInRange s → Follow [] (header_pairs (first s))
+first_follows s are = header_begins s _ are (follow _ key.Role _ _ refl refl (role_is_kept s.role) (version_follows _ 1 refl (omega arith)))
+
+limit_follows : (limit : Option ℕ) → ForSome limit (λ n. n ≤ greatest_timer_late) → Follow (codes "role") (limit_pairs limit ++ (key.Version, written.integer 2) ∷ [])
+limit_follows None high = version_follows _ 2 refl (omega arith)
+limit_follows (Some n) high = follow _ key.TimerLateUs _ _ refl refl (integer_is_kept n (let small = high n refl in omega (arith, small))) (version_follows _ 2 refl (omega arith))
+
+second_follows : (s : Settings) (limit : Option ℕ) (refresh : Bool) (slack_us slack_bytes : ℕ) → AreInRange (second s limit refresh slack_us slack_bytes)
+    → Follow [] (header_pairs (second s limit refresh slack_us slack_bytes))
+second_follows s limit refresh slack_us slack_bytes are =
+    header_begins (second s limit refresh slack_us slack_bytes) _ are
+    (follow _ key.RefreshMinRtt _ _ refl refl (boolean_is_kept refresh)
+    (follow _ key.ReportSlackBytes _ _ refl refl (integer_is_kept slack_bytes (omega (arith, are.slack_bytes_high)))
+    (follow _ key.ReportSlackUs _ _ refl refl (integer_is_kept slack_us (omega (arith, are.slack_us_high)))
+    (follow _ key.Role _ _ refl refl (role_is_kept s.role) (limit_follows limit are.late_high)))))
+
+header_follows : (s : Settings) → AreInRange s → Follow [] (header_pairs s)
+header_follows s are = of_either (λ t. Follow [] (header_pairs t)) s s.version refl are (first_follows s) (second_follows s)
 
 -- ---- the line
 
