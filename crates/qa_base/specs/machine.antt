@@ -15,6 +15,7 @@ pub mod Metrics
 pub mod Breaches
 pub mod Rules
 pub mod FirstVersion
+pub mod Slack
 pub mod Order
 pub mod Kept
 pub mod Widths

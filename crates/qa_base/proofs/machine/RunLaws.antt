@@ -26,7 +26,7 @@ rule_holds : (broken_here : Bool) (r : Rule) (rest : Option Rule) → (if broken
 rule_holds true r rest h = cc
 rule_holds false r rest h = (refl, h)
 
-rules_hold : (tests : List (Bool × Rule)) → first_of tests ≡ None → AllByRecursion (λ test. test.0 ≡ false) tests
+pub rules_hold : (tests : List (Bool × Rule)) → first_of tests ≡ None → AllByRecursion (λ test. test.0 ≡ false) tests
 rules_hold [] h = tt
 rules_hold (test ∷ tests) h =
     let both = rule_holds test.0 test.1 (first_of tests) h in (both.0, rules_hold tests both.1)
