@@ -3,8 +3,8 @@
 //!
 //! Ranges, defaults, and the names of keys and choices are cases of lines, in `conformance/lines`.
 use crate::{
-    Event, Fault, Field, Key, Kind, Leave, MetricValues, Micros, PacketNumber, Rule, Space, Span,
-    Spans,
+    Event, Fault, Field, Header, Key, Kind, Leave, MetricValues, Micros, Options, PacketNumber,
+    Role, Rule, Space, Span, Spans, Version,
 };
 use std::test::Fail;
 
@@ -152,6 +152,28 @@ fn spaces_and_numbers_are_ordered(rt: HostRuntime) -> Result<(), Fail> {
     let first = PacketNumber::new(999).ok_or("a packet number")?;
     let second = PacketNumber::new(1000).ok_or("a packet number")?;
     assert!(rt; first < second);
+    Ok(())
+}
+
+#[test]
+fn a_header_takes_options(rt: HostRuntime) -> Result<(), Fail> {
+    let first = Header::new(Role::Client, 1200, None, None, None)?;
+    assert_eq!(rt;
+        (first.version().number(), first.options()),
+        (1, Options::default())
+    );
+    let options = Options {
+        timer_late: Some(1000),
+        refresh_min_rtt: true,
+        ..Options::default()
+    };
+    let second = first.with(options)?;
+    assert_eq!(rt;
+        (second.version(), second.options()),
+        (Version::Two, options)
+    );
+    assert_eq!(rt; second.version().number(), 2);
+    assert_eq!(rt; second.initial_window(), first.initial_window());
     Ok(())
 }
 

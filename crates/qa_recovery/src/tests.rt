@@ -121,6 +121,10 @@ fn samples(rt: HostRuntime) -> Result<(), Fail> {
             "{latest_rtt} {ack_delay}"
         );
         assert_eq!(rt; rtt.first_rtt_sample, Some(micros(0)?));
+        // A refresh sets the least RTT to the sample, and nothing else.
+        rtt.refresh();
+        let refreshed = estimate(latest_rtt, latest_rtt, smoothed_rtt, rttvar)?;
+        assert_eq!(rt; rtt, refreshed, "{latest_rtt} {ack_delay}");
     }
     Ok(())
 }

@@ -2,13 +2,13 @@
 use Rattle.std.specs.Prelude.{◌≡◌, true, false, List, [], ◌∷◌, Some, None, refl}
 use Rattle.qa_base.specs.declared.event.Event.{Event}
 use Rattle.qa_base.specs.declared.rule.Rule.TheVariants as rule
-use Rattle.qa_base.specs.declared.space.Space.TheVariants.{Initial, Handshake, App}
+use Rattle.qa_base.specs.declared.space.Space.TheVariants.{Initial, App}
 use Rattle.qa_base.specs.machine.Estimates.{rtt, sampled}
 use Rattle.qa_base.specs.machine.Rules.{first_broken, IsRun}
 use Rattle.qa_base.specs.machine.Timer.{deadline, set_since}
 use Rattle.qa_base.specs.values.Settings.{Settings}
-use Rattle.qa_base.proofs.Shorthand.{client, server, second_version, sent, bare, ack, pto_fires, loss_fires, metrics}
-use Rattle.qa_base.proofs.edges.Deadlines.{loss_at, pto_at}
+use Rattle.qa_base.proofs.Shorthand.{client, server, second_version, sent, bare, ack, pto_fires, metrics}
+use Rattle.qa_base.proofs.edges.Deadlines.{pto_at}
 
 -- ---- late timers
 

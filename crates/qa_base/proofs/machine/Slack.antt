@@ -23,7 +23,7 @@ use Rattle.qa_base.specs.machine.Metrics.{differs, tests, metric_tests}
 use Rattle.qa_base.specs.machine.Moments.{moments, since}
 use Rattle.qa_base.specs.machine.Numbers.{names_exactly}
 use Rattle.qa_base.specs.machine.Packets.{Packet, packets_of, is_of, is_gone, is_some_packet, newly_acknowledged, largest_acknowledged}
-use Rattle.qa_base.specs.machine.Reno.{Control, Move, hits, collapses, grows, is_limited, moves_of_last, moves, moved, start, reno, enters, is_entry}
+use Rattle.qa_base.specs.machine.Reno.{Control, hits, collapses, grows, is_limited, moves_of_last, moves, moved, start, reno, enters, is_entry}
 use Rattle.qa_base.specs.machine.Rtt.{Estimate, sample_of, updated, distance, pto_base}
 use Rattle.qa_base.specs.machine.Rules.{broken, first_of, first_broken, IsRun}
 use Rattle.qa_base.specs.machine.Slack.{with_slacks}
