@@ -1,19 +1,32 @@
 -- Short forms of settings and events, for histories that are written out.
-use Rattle.std.specs.Prelude.{ℕ, List, true, false, Option}
+use Rattle.std.specs.Prelude.{ℕ, List, Bool, true, false, Option}
 use Rattle.qa_base.specs.declared.event.Event.{Event}
 use Rattle.qa_base.specs.declared.event.Event.TheVariants.{Sent, Ack, Lost, Timer, Metrics}
 use Rattle.qa_base.specs.declared.space.Kind.TheVariants as kind
 use Rattle.qa_base.specs.declared.space.Leave.TheVariants as leave
 use Rattle.qa_base.specs.declared.space.Role.TheVariants as role
 use Rattle.qa_base.specs.declared.space.Space.{Space}
-use Rattle.qa_base.specs.values.Settings.{Settings}
+use Rattle.qa_base.specs.declared.header.Version.TheVariants.{One, Two}
+use Rattle.qa_base.specs.values.Settings.{Settings, no_options}
 
 -- a client or a server with this datagram size and initial window, and the other defaults
 abbrev pub client : ℕ → ℕ → Settings
-client datagram window = record { role = role.Client; max_datagram_size = datagram; max_ack_delay = 25000; initial_rtt = 333000; initial_window = window }
+client datagram window = record { role = role.Client; max_datagram_size = datagram; max_ack_delay = 25000; initial_rtt = 333000; initial_window = window; version = One; options = no_options }
 
 abbrev pub server : ℕ → ℕ → Settings
-server datagram window = record { role = role.Server; max_datagram_size = datagram; max_ack_delay = 25000; initial_rtt = 333000; initial_window = window }
+server datagram window = record { role = role.Server; max_datagram_size = datagram; max_ack_delay = 25000; initial_rtt = 333000; initial_window = window; version = One; options = no_options }
+
+-- the same in version 2, with a limit for timers, a refresh of min_rtt and the slacks of reported times and bytes
+abbrev pub second_version : Settings → Option ℕ → Bool → ℕ → ℕ → Settings
+second_version s timer_late refresh_min_rtt report_slack_us report_slack_bytes = record {
+  role = s.role;
+  max_datagram_size = s.max_datagram_size;
+  max_ack_delay = s.max_ack_delay;
+  initial_rtt = s.initial_rtt;
+  initial_window = s.initial_window;
+  version = Two;
+  options = record { timer_late = timer_late; refresh_min_rtt = refresh_min_rtt; report_slack_us = report_slack_us; report_slack_bytes = report_slack_bytes };
+}
 
 -- ---- packets of a space and a number, sent at a time, with a size
 

@@ -14,6 +14,7 @@ pub mod persistent
 pub mod recovery_mark
 pub mod rtt
 pub mod rules
+pub mod second_version
 pub mod spaces
 pub mod timer
 pub mod window

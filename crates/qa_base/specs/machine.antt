@@ -3,6 +3,8 @@ pub mod Packets
 pub mod Moments
 pub mod Handshake
 pub mod Rtt
+pub mod Detection
+pub mod Estimates
 pub mod Loss
 pub mod Reno
 pub mod Timer
@@ -12,6 +14,8 @@ pub mod State
 pub mod Metrics
 pub mod Breaches
 pub mod Rules
+pub mod FirstVersion
+pub mod Slack
 pub mod Order
 pub mod Kept
 pub mod Widths

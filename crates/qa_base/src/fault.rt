@@ -13,6 +13,10 @@ pub enum Key {
     MaxAckDelay,
     InitialRtt,
     InitialWindow,
+    TimerLateUs,
+    RefreshMinRtt,
+    ReportSlackUs,
+    ReportSlackBytes,
     Time,
     Space,
     Number,
@@ -44,6 +48,10 @@ impl Key {
             Key::MaxAckDelay => "max_ack_delay",
             Key::InitialRtt => "initial_rtt",
             Key::InitialWindow => "initial_window",
+            Key::TimerLateUs => "timer_late_us",
+            Key::RefreshMinRtt => "refresh_min_rtt",
+            Key::ReportSlackUs => "report_slack_us",
+            Key::ReportSlackBytes => "report_slack_bytes",
             Key::Time => "time",
             Key::Space => "space",
             Key::Number => "number",
@@ -81,7 +89,7 @@ pub enum Fault {
     LineTooLong,
     /// F9: an ack-eliciting packet that is not in flight.
     FlagsClash,
-    /// F10: the header's version is not 1.
+    /// F10: the header's version is neither 1 nor 2.
     Version,
     /// F11: a line after line 4294967295.
     TooManyLines,

@@ -9,15 +9,55 @@ use crate::constants::{
 };
 use crate::fault::{Key, RangeFault};
 use crate::limits::{
-    GREATEST_INITIAL_RTT, GREATEST_INITIAL_WINDOW, GREATEST_MAX_ACK_DELAY, LEAST_DATAGRAM_SIZE,
-    MAX_PACKET_SIZE,
+    GREATEST_INITIAL_RTT, GREATEST_INITIAL_WINDOW, GREATEST_MAX_ACK_DELAY,
+    GREATEST_REPORT_SLACK_BYTES, GREATEST_REPORT_SLACK_US, GREATEST_TIMER_LATE,
+    LEAST_DATAGRAM_SIZE, MAX_PACKET_SIZE,
 };
 use crate::space::Role;
 use std::marker::Model;
 
-/// What holds of a whole trace: the sender's role and the parameters of its connection.
+/// The version of the trace format.
+#[derive(Clone, Copy, Debug, PartialEq, Eq)]
+pub enum Version {
+    /// Timers may be late, `min_rtt` is never refreshed, and reported values are compared exactly.
+    One,
+    /// The header says how late timers may be, and more: its `Options`.
+    Two,
+}
+
+impl Version {
+    ghost use Rattle.qa_base.specs.values.Names.{version_number};
+
+    /// The number that stands in a line, 1 or 2.
+    pub fn number(self) -> u64
+        ensures { result ≡ version_number self }
+    {
+        match self {
+            Version::One => 1,
+            Version::Two => 2,
+        }
+    }
+}
+
+/// What a header of version 2 asks of the sender and of its reports. The default asks what version
+/// 1 does: no limit, no refresh and no slack.
+#[derive(Clone, Copy, Debug, Default, PartialEq, Eq)]
+pub struct Options {
+    /// By how many microseconds the timer may be late, 0 to 10^15; None: by any number.
+    pub timer_late: Option<u64>,
+    /// Persistent congestion sets `min_rtt` to the latest sample (RFC 9002, section 5.2).
+    pub refresh_min_rtt: bool,
+    /// By how many microseconds a reported time may differ, 0 to 1000000000.
+    pub report_slack_us: u64,
+    /// By how many bytes a reported window, `ssthresh` or bytes in flight may differ, 0 to 4294967295.
+    pub report_slack_bytes: u64,
+}
+
+/// What holds of a whole trace: the sender's role, the parameters of its connection, and what is
+/// asked of it.
 ///
-/// Each value is in its range, as `Header::new` tests it.
+/// Each value is in its range, as `Header::new` and `Header::with` test it. A header of version 1
+/// has the default options.
 #[derive(Clone, Copy, Debug, PartialEq, Eq)]
 pub struct Header {
     role: Role,
@@ -25,6 +65,8 @@ pub struct Header {
     max_ack_delay: u64,
     initial_rtt: u64,
     initial_window: u64,
+    version: Version,
+    options: Options,
 }
 
 impl Model for Header {
@@ -38,6 +80,8 @@ impl Model for Header {
       max_ack_delay = h.max_ack_delay;
       initial_rtt = h.initial_rtt;
       initial_window = h.initial_window;
+      version = h.version;
+      options = h.options;
     } };
 
     ghost invariant = { λ h. AreInRange (record {
@@ -46,6 +90,8 @@ impl Model for Header {
       max_ack_delay = h.max_ack_delay;
       initial_rtt = h.initial_rtt;
       initial_window = h.initial_window;
+      version = h.version;
+      options = h.options;
     }) };
 
     ghost inverse = { λ s. record {
@@ -54,6 +100,8 @@ impl Model for Header {
       max_ack_delay = s.max_ack_delay;
       initial_rtt = s.initial_rtt;
       initial_window = s.initial_window;
+      version = s.version;
+      options = s.options;
     } };
 }
 
@@ -67,9 +115,9 @@ fn default_window(max_datagram_size: u64) -> u64
 }
 
 impl Header {
-    ghost use Rattle.qa_base.specs.values.Settings.{AreInRange, settings_of};
+    ghost use Rattle.qa_base.specs.values.Settings.{AreInRange, settings_of, with_options};
 
-    /// The header of these values; a value of None is the default.
+    /// The header of these values in version 1; a value of None is the default.
     ///
     /// | Value | Unit | Range | Default |
     /// |---|---|---|---|
@@ -111,6 +159,31 @@ impl Header {
             max_ack_delay,
             initial_rtt,
             initial_window,
+            version: Version::One,
+            options: Options::default(),
+        })
+    }
+
+    /// This header in version 2, with these options in place of its own.
+    ///
+    /// Where an option is outside its range the fault names the first such, in the order of
+    /// `timer_late`, `report_slack_us` and `report_slack_bytes`.
+    pub fn with(self, options: Options) -> Result<Header, RangeFault>
+        ensures { result ≡ with_options self options }
+    {
+        if GREATEST_TIMER_LATE < options.timer_late.unwrap_or(0) {
+            return Err(RangeFault(Key::TimerLateUs));
+        }
+        if GREATEST_REPORT_SLACK_US < options.report_slack_us {
+            return Err(RangeFault(Key::ReportSlackUs));
+        }
+        if GREATEST_REPORT_SLACK_BYTES < options.report_slack_bytes {
+            return Err(RangeFault(Key::ReportSlackBytes));
+        }
+        Ok(Header {
+            version: Version::Two,
+            options,
+            ..self
         })
     }
 
@@ -151,5 +224,20 @@ impl Header {
         ensures range { AreInRange self.now }
     {
         self.initial_window
+    }
+
+    /// The version of the trace format.
+    pub fn version(&self) -> Version
+        ensures { result ≡ self.now.version }
+    {
+        self.version
+    }
+
+    /// What version 2 asks; the default in version 1.
+    pub fn options(&self) -> Options
+        ensures value { result ≡ self.now.options }
+        ensures range { AreInRange self.now }
+    {
+        self.options
     }
 }

@@ -1,9 +1,11 @@
 //! Facts over the definitions alone. Each is the contract of a function that does nothing.
-ghost use Rattle.std.specs.Prelude.{◌≡◌, ◌≤◌, ◌++◌, ◌∷◌, ◌+◌, ◌-◌, ◌*◌, ◌&&◌, ◌↔◌, [], List, length, ℕ, Bool, true, false, not, Ok, if◌then◌else◌};
+ghost use Rattle.std.specs.Prelude.{◌≡◌, ◌≢◌, ◌≤◌, ◌++◌, ◌∷◌, ◌+◌, ◌-◌, ◌*◌, ◌&&◌, ◌↔◌, [], List, length, ℕ, Bool, true, false, not, Some, None, Ok, if◌then◌else◌};
 ghost use Rattle.qa_base.specs.declared.event.Event.{Event};
 ghost use Rattle.qa_base.specs.declared.event.Event.TheVariants as events;
+ghost use Rattle.qa_base.specs.declared.header.Version.TheVariants as versions;
 ghost use Rattle.qa_base.specs.declared.line.Line.{Line};
 ghost use Rattle.qa_base.specs.declared.line.Line.TheVariants as line;
+ghost use Rattle.qa_base.specs.declared.rule.Rule.TheVariants as rules;
 ghost use Rattle.qa_base.specs.declared.space.Leave.{Leave};
 ghost use Rattle.qa_base.specs.declared.space.Space.{Space};
 ghost use Rattle.qa_base.specs.declared.verdict.Totals.{Totals};
@@ -11,18 +13,23 @@ ghost use Rattle.qa_base.specs.declared.verdict.Verdict.TheVariants as verdicts;
 ghost use Rattle.qa_base.specs.values.Events.{fits, is_quiet};
 ghost use Rattle.qa_base.specs.format.AnyOrder.{AreOf, AreOfHeader, text_of};
 ghost use Rattle.qa_base.specs.format.Lines.{has_lf, lines};
-ghost use Rattle.qa_base.specs.machine.Loss.{bytes_in_flight, is_old, owed};
+ghost use Rattle.qa_base.specs.machine.Detection.{is_old};
+ghost use Rattle.qa_base.specs.machine.Estimates.{rtt, sampled};
+ghost use Rattle.qa_base.specs.machine.FirstVersion.{exact_tests, rtt_by_samples};
+ghost use Rattle.qa_base.specs.machine.Loss.{bytes_in_flight, owed};
 ghost use Rattle.qa_base.specs.machine.Numbers.{AreRanges, Names, NamesOnly, has_all, names_exactly};
 ghost use Rattle.qa_base.specs.machine.Order.{NumbersFall};
 ghost use Rattle.qa_base.specs.machine.Packets.{Packet, packets, is_gone, newly_acknowledged};
 ghost use Rattle.qa_base.specs.values.Proper.{IsProperEvent, IsProperLine};
 ghost use Rattle.qa_base.specs.format.Reading.{reading};
 ghost use Rattle.qa_base.specs.machine.Reno.{moves, reno};
-ghost use Rattle.qa_base.specs.machine.Rtt.{Estimate, rtt};
-ghost use Rattle.qa_base.specs.machine.Rules.{IsRun};
+ghost use Rattle.qa_base.specs.machine.Rtt.{Estimate};
+ghost use Rattle.qa_base.specs.machine.Metrics.{metric_tests};
+ghost use Rattle.qa_base.specs.machine.Rules.{first_broken, IsRun};
+ghost use Rattle.qa_base.specs.machine.Slack.{with_slacks};
 ghost use Rattle.qa_base.specs.values.Constants.{minimum_window};
 ghost use Rattle.qa_base.specs.values.Limits.{max_packet_size};
-ghost use Rattle.qa_base.specs.values.Settings.{Settings, AreInRange};
+ghost use Rattle.qa_base.specs.values.Settings.{Settings, AreInRange, no_options};
 ghost use Rattle.qa_base.specs.machine.Timer.{backoff, loss_delay};
 ghost use Rattle.qa_base.specs.verdicts.Verdict.{Reading, IsFixed, IsTraceOfRun, verdict};
 ghost use Rattle.qa_base.specs.format.Written.{Pairs, written};
@@ -48,9 +55,9 @@ pub fn written_is_read()
 {}
 
 /// An object without white space that has the keys and values of an event is read as that event,
-/// in whatever order its keys stand, and so is that of a header, where the values are in their
-/// ranges. Keys that have their default may be left out. (The text may be longer than a line of a
-/// trace may be.)
+/// in whatever order its keys stand, and so is that of a header of either version, where the values
+/// are in their ranges. Keys that have their default may be left out. (The text may be longer than a
+/// line of a trace may be.)
 pub fn any_order_is_read()
     ensures event { (e : Event) (ps : Pairs) → IsProperEvent e → AreOf e ps → reading (text_of ps) ≡ Ok (line.Event e) }
     ensures header { (s : Settings) (ps : Pairs) → AreInRange s → AreOfHeader s ps → reading (text_of ps) ≡ Ok (line.Header s) }
@@ -120,4 +127,21 @@ pub fn window_is_bounded()
 /// The bytes in flight are at most the greatest size of a packet for each event.
 pub fn bytes_in_flight_are_bounded()
     ensures { (c : Settings) (h : List Event) → AllByRecursion Fits h → bytes_in_flight c h ≤ max_packet_size * length h }
+{}
+
+/// A header that asks for no refresh has the RTT of its samples, one without a limit has no event that
+/// is late, and one without slack compares reported values exactly. So it is with each header of
+/// version 1 that is read: it has no options.
+pub fn first_version_asks_no_more()
+    ensures rtt { (c : Settings) (h : List Event) → c.options.refresh_min_rtt ≡ false → rtt c h ≡ rtt_by_samples c h }
+    ensures sampled { (c : Settings) (h : List Event) → c.options.refresh_min_rtt ≡ false → sampled c h ≡ rtt_by_samples c h }
+    ensures timers { (c : Settings) (h : List Event) (e : Event) → c.options.timer_late ≡ None → first_broken c h e ≢ Some rules.TimerLate }
+    ensures metrics { (c : Settings) (h : List Event) (e : Event) → c.options.report_slack_us ≡ 0 → c.options.report_slack_bytes ≡ 0 → metric_tests c h e ≡ exact_tests c h e }
+    ensures read { (l : List ℕ) (c : Settings) → reading l ≡ Ok (line.Header c) → c.version ≡ versions.One → c.options ≡ no_options }
+{}
+
+/// A run is a run of the same events under a header with greater slacks and all else equal.
+pub fn slack_admits_more()
+    ensures { (c : Settings) (slack_us slack_bytes : ℕ) (h : List Event) → c.options.report_slack_us ≤ slack_us → c.options.report_slack_bytes ≤ slack_bytes
+        → IsRun c h → IsRun (with_slacks c slack_us slack_bytes) h }
 {}

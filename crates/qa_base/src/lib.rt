@@ -20,7 +20,7 @@ mod verdict;
 pub use due::Due;
 pub use event::{Event, MetricValues};
 pub use fault::{Fault, Key, RangeFault};
-pub use header::Header;
+pub use header::{Header, Options, Version};
 pub use line::{Line, LineKind};
 pub use number::{Micros, PacketNumber, Span, Spans};
 pub use rule::{Field, Rule};

@@ -1,8 +1,5 @@
 //! The ranges of the format's numbers.
 
-/// The version of the format.
-pub const VERSION: u64 = 1;
-
 /// The most bytes of a packet, and the greatest maximum datagram size: what a UDP datagram can
 /// carry (RFC 9000, section 18.2).
 pub const MAX_PACKET_SIZE: u64 = 65527;
@@ -18,3 +15,12 @@ pub const GREATEST_INITIAL_RTT: u64 = 1_000_000_000;
 
 /// The greatest initial window, 2^32 - 1 bytes.
 pub const GREATEST_INITIAL_WINDOW: u64 = 4_294_967_295;
+
+/// The greatest limit for how late a timer may be, 10^15 microseconds.
+pub const GREATEST_TIMER_LATE: u64 = 1_000_000_000_000_000;
+
+/// The greatest slack of reported times, 1,000 seconds, in microseconds.
+pub const GREATEST_REPORT_SLACK_US: u64 = 1_000_000_000;
+
+/// The greatest slack of reported bytes, 2^32 - 1.
+pub const GREATEST_REPORT_SLACK_BYTES: u64 = 4_294_967_295;

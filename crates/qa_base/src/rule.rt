@@ -33,7 +33,7 @@ impl Field {
     }
 }
 
-/// A rule that an event breaks, V1 to V17 in the order in which they are judged.
+/// A rule that an event or the end of a trace breaks, V1 to V18. An event is judged by them in this order.
 #[derive(Clone, Copy, Debug, PartialEq, Eq)]
 pub enum Rule {
     /// V1: the event's time is below that of the event before.
@@ -66,10 +66,12 @@ pub enum Rule {
     ProbeOwed,
     /// V15: the Handshake space was discarded before the handshake was confirmed.
     NotConfirmed,
-    /// V16: a reported value differs; the first that does.
+    /// V16: a reported value differs by more than the header's slack; the first that does.
     Metric(Field),
     /// V17: the trace ends while a loss is owed.
     OwedAtEnd,
+    /// V18: the event comes when a timer is late by more than the header's limit.
+    TimerLate,
 }
 
 impl Rule {
@@ -98,6 +100,7 @@ impl Rule {
             Rule::NotConfirmed => "not-confirmed",
             Rule::Metric(_) => "metric",
             Rule::OwedAtEnd => "owed-at-end",
+            Rule::TimerLate => "timer-late",
         }
     }
 
@@ -123,6 +126,7 @@ impl Rule {
             Rule::NotConfirmed => 15,
             Rule::Metric(_) => 16,
             Rule::OwedAtEnd => 17,
+            Rule::TimerLate => 18,
         }
     }
 
@@ -147,7 +151,8 @@ impl Rule {
             | Rule::TimerEarly
             | Rule::ProbeOwed
             | Rule::NotConfirmed
-            | Rule::OwedAtEnd => None,
+            | Rule::OwedAtEnd
+            | Rule::TimerLate => None,
         }
     }
 }

@@ -9,10 +9,12 @@ ghost use Rattle.qa_base.specs.declared.space.Space.{Space};
 ghost use Rattle.qa_base.specs.declared.space.Space.TheVariants as spaces;
 ghost use Rattle.qa_base.specs.machine.Breaches.{has_at_or_above};
 ghost use Rattle.qa_base.specs.machine.Kept.{is_kept, kept_count, numbers_of, runs};
-ghost use Rattle.qa_base.specs.machine.Loss.{bytes_in_flight, detection, is_late, is_open, is_owed, is_persistent, owed};
+ghost use Rattle.qa_base.specs.machine.Estimates.{sampled};
+ghost use Rattle.qa_base.specs.machine.Detection.{detection, is_late};
+ghost use Rattle.qa_base.specs.machine.Loss.{bytes_in_flight, is_open, is_owed, is_persistent, owed};
 ghost use Rattle.qa_base.specs.machine.Packets.{Packet, packet_of, packets, greatest, is_covered, is_gone, is_lost, is_newly_acknowledged, is_of, is_some_packet, largest_acknowledged, newly_acknowledged, packets_of};
 ghost use Rattle.qa_base.specs.machine.Reno.{latest_sent};
-ghost use Rattle.qa_base.specs.machine.Rtt.{Estimate, persistent_after, rtt};
+ghost use Rattle.qa_base.specs.machine.Rtt.{Estimate, persistent_after};
 ghost use Rattle.qa_base.specs.machine.Rules.{IsRun};
 ghost use Rattle.qa_base.specs.machine.Timer.{awaits_acknowledgment, is_below_largest, loss_due};
 ghost use Rattle.qa_base.specs.values.Events.{acknowledges, is_quiet, is_space};
@@ -89,13 +91,13 @@ pub fn fronts_stay()
 pub fn losses_are_a_front()
     ensures late { (c : Settings) (e : Event) (h : List Event) → IsRun c (e ∷ h) → (s : Space) (now : ℕ) → detection (e ∷ h) ≡ Some (s, now)
         → (front rest : List Packet) → reverse (packets h) ≡ front ++ rest → NoneFlies c h s front
-        → reverse (owed c (e ∷ h)) ≡ take_while (is_late (rtt c (e ∷ h)) now (largest_acknowledged (e ∷ h) s)) (filter (is_asked (e ∷ h) s) rest) }
+        → reverse (owed c (e ∷ h)) ≡ take_while (is_late (sampled c (e ∷ h)) now (largest_acknowledged (e ∷ h) s)) (filter (is_asked (e ∷ h) s) rest) }
     ensures passed { (c : Settings) (e : Event) (h : List Event) → IsRun c (e ∷ h) → (s : Space) (now : ℕ) → detection (e ∷ h) ≡ Some (s, now)
         → (front rest : List Packet) → reverse (packets h) ≡ front ++ rest → NoneFlies c h s front
-        → reverse (owed c (e ∷ h)) ≡ filter (is_asked (e ∷ h) s) (take_while (is_passed (e ∷ h) s (is_late (rtt c (e ∷ h)) now (largest_acknowledged (e ∷ h) s))) rest) }
+        → reverse (owed c (e ∷ h)) ≡ filter (is_asked (e ∷ h) s) (take_while (is_passed (e ∷ h) s (is_late (sampled c (e ∷ h)) now (largest_acknowledged (e ∷ h) s))) rest) }
     ensures after { (c : Settings) (e : Event) (h : List Event) → IsRun c (e ∷ h) → (s : Space) (now : ℕ) → detection (e ∷ h) ≡ Some (s, now)
         → (front rest : List Packet) → reverse (packets h) ≡ front ++ rest → NoneFlies c h s front
-        → NoneFlies c (e ∷ h) s (front ++ take_while (is_passed (e ∷ h) s (is_late (rtt c (e ∷ h)) now (largest_acknowledged (e ∷ h) s))) rest) }
+        → NoneFlies c (e ∷ h) s (front ++ take_while (is_passed (e ∷ h) s (is_late (sampled c (e ∷ h)) now (largest_acknowledged (e ∷ h) s))) rest) }
 {}
 
 /// In a run one more event adds the packet that it sends to a sum over the open packets, and takes
@@ -116,7 +118,7 @@ pub fn closed_are_forgotten()
     ensures owed { (c : Settings) (e : Event) (h : List Event) → IsRun c (e ∷ h) → (gone kept : List Packet) → reverse (packets h) ≡ gone ++ kept → AreClosed c h gone
         → reverse (owed c (e ∷ h)) ≡ filter (is_owed c (e ∷ h)) kept }
     ensures persistent { (c : Settings) (e : Event) (h : List Event) → IsRun c (e ∷ h) → (gone kept : List Packet) → reverse (packets h) ≡ gone ++ kept → AreClosed c h gone
-        → is_persistent c (e ∷ h) ≡ finds_apart (is_covered (e ∷ h)) (counts_as_end c (e ∷ h)) (persistent_after (rtt c (e ∷ h)) c.max_ack_delay) None kept }
+        → is_persistent c (e ∷ h) ≡ finds_apart (is_covered (e ∷ h)) (counts_as_end c (e ∷ h)) (persistent_after (sampled c (e ∷ h)) c.max_ack_delay) None kept }
     ensures among { (c : Settings) (e : Event) (h : List Event) → IsRun c (e ∷ h) → (kept gone : List Packet) → packets h ≡ kept ++ gone → AreClosed c h gone
         → is_persistent c (e ∷ h) ≡ is_persistent_among c (e ∷ h) kept }
     ensures sums { (weight : Packet → ℕ) (c : Settings) (h : List Event) (gone kept : List Packet) → reverse (packets h) ≡ gone ++ kept → AreClosed c h gone

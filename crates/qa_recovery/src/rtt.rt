@@ -71,7 +71,7 @@ impl Rtt {
     /// The delay is taken off the sample unless that leaves less than `min_rtt`. `rttvar` is
     /// computed by the smoothed RTT before the sample.
     pub fn sample(&mut self, latest_rtt: Micros, ack_delay: u64, now: Micros)
-        ensures { self.new ≡ estimates.sampled self.old latest_rtt ack_delay now }
+        ensures { self.new ≡ estimates.with_sample self.old latest_rtt ack_delay now }
     {
         if self.first_rtt_sample.is_none() {
             *self = Rtt {
@@ -93,6 +93,14 @@ impl Rtt {
             rttvar: Micros::of((3 * self.rttvar.get() + smoothed_rtt.abs_diff(adjusted_rtt)) / 4),
             first_rtt_sample: self.first_rtt_sample,
         };
+    }
+
+    /// Sets `min_rtt` to the latest sample, as a sender should after persistent congestion (RFC 9002,
+    /// section 5.2).
+    pub fn refresh(&mut self)
+        ensures { self.new ≡ estimates.refreshed self.old }
+    {
+        self.min_rtt = self.latest_rtt;
     }
 
     /// How long after it was sent a packet below the largest acknowledged number is lost: the time

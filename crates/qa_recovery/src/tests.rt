@@ -23,3 +23,20 @@ fn a_sender(rt: HostRuntime) -> Result<(), Fail> {
     assert_eq!(rt; reno.window, 6000);
     Ok(())
 }
+
+/// A refresh sets the least RTT to the latest sample, and nothing else.
+#[test]
+fn a_refresh(rt: HostRuntime) -> Result<(), Fail> {
+    let mut rtt = Rtt::start(micros(333_000)?);
+    rtt.sample(micros(100_000)?, 0, micros(100_000)?);
+    rtt.sample(micros(120_000)?, 0, micros(220_000)?);
+    let sampled = rtt;
+    assert_eq!(rt; sampled.min_rtt.get(), 100_000);
+    rtt.refresh();
+    let refreshed = Rtt {
+        min_rtt: micros(120_000)?,
+        ..sampled
+    };
+    assert_eq!(rt; rtt, refreshed);
+    Ok(())
+}

@@ -4,9 +4,9 @@ use Rattle.qa_base.specs.declared.event.Event.{Event}
 use Rattle.qa_base.specs.declared.event.Event.TheVariants.{Confirmed}
 use Rattle.qa_base.specs.declared.rule.Rule.TheVariants as rule
 use Rattle.qa_base.specs.declared.space.Space.TheVariants.{App}
+use Rattle.qa_base.specs.machine.Estimates.{rtt}
 use Rattle.qa_base.specs.machine.Loss.{owed}
 use Rattle.qa_base.specs.machine.Reno.{reno}
-use Rattle.qa_base.specs.machine.Rtt.{rtt}
 use Rattle.qa_base.specs.machine.Rules.{first_broken, IsRun, IsComplete}
 use Rattle.qa_base.specs.values.Settings.{Settings}
 use Rattle.qa_base.specs.machine.Timer.{deadline}

@@ -1,5 +1,5 @@
 -- An object whose keys give the values of a line says that line, whatever else it has and however its keys stand.
-use Rattle.std.proofs.Common.{◌≡◌, ℕ, ◌≤◌, List, Bool, true, false, cond, Option, Some, None, Result, Ok, Err, refl, ap, ◌&&◌, ◌||◌, not, arith}
+use Rattle.std.proofs.Common.{◌≡◌, ◌∙◌, ℕ, ◌≤◌, List, Bool, true, false, cond, Option, Some, None, Result, Ok, Err, refl, ap, ◌&&◌, ◌||◌, not, arith}
 use Rattle.std.proofs.lemmas.Bool.{and_parts, leb-true}
 use Rattle.std.specs.Prelude.{nat_le, codes, option_map, option_and_then, is_some, unwrap_or, if◌then◌else◌}
 use Rattle.serde_json.specs.Data as json
@@ -12,6 +12,7 @@ use Rattle.qa_base.specs.declared.fault.Fault.{Fault}
 use Rattle.qa_base.specs.declared.fault.Fault.TheVariants.{FlagsClash}
 use Rattle.qa_base.specs.declared.fault.Key.{Key}
 use Rattle.qa_base.specs.declared.fault.Key.TheVariants as key
+use Rattle.qa_base.specs.declared.header.Options.{Options}
 use Rattle.qa_base.specs.declared.line.Line.TheVariants as line
 use Rattle.qa_base.specs.declared.rule.Field.TheVariants as field
 use Rattle.qa_base.specs.declared.space.Kind.{Kind as TimerKind}
@@ -21,13 +22,13 @@ use Rattle.qa_base.specs.declared.space.Role.{Role}
 use Rattle.qa_base.specs.declared.space.Space.{Space}
 use Rattle.qa_base.specs.declared.space.Space.TheVariants.{Initial, Handshake, App}
 use Rattle.qa_base.specs.values.Events.{is_space}
-use Rattle.qa_base.specs.values.Limits.{format_version, max_time, max_packet_number, max_packet_size}
+use Rattle.qa_base.specs.values.Limits.{max_time, max_packet_number, max_packet_size}
 use Rattle.qa_base.specs.values.Names.{key_name, role_name, role_named, space_name, space_named, discarded_named, leave_name, leave_named, kind_name, kind_named}
 use Rattle.qa_base.specs.values.Proper.{IsProperEvent}
-use Rattle.qa_base.specs.values.Settings.{Settings}
-use Rattle.qa_base.specs.format.Keys.{◌>>=◌, Kind, read_or, integer, integer_from, string, string_among, boolean, ranges, required, optional}
+use Rattle.qa_base.specs.values.Settings.{Settings, no_options}
+use Rattle.qa_base.specs.format.Keys.{◌>>=◌, both, Kind, read_or, integer, integer_from, string, string_among, boolean, ranges, required, optional}
 use Rattle.qa_base.specs.format.Reading.{reader_named, object_says}
-use Rattle.qa_base.specs.format.Tables.{time, space, header_fields, header_of, settings, sent_fields, sent_of, ack_fields, ack_of, lost_fields, lost_of, timer_fields, timer_of, discard_fields, discard_of, confirmed_of, keys_of, metric_values, metrics_of}
+use Rattle.qa_base.specs.format.Tables.{time, space, version, header_fields, option_values, options_for, options, settings, of_version, header_of, sent_fields, sent_of, ack_fields, ack_of, lost_fields, lost_of, timer_fields, timer_of, discard_fields, discard_of, confirmed_of, keys_of, metric_values, metrics_of}
 use Rattle.qa_base.specs.format.Written as written
 use Rattle.qa_base.proofs.format.KeysWritten.{required_reads, optional_reads, both_reads, integer_from_reads, role_reads, space_reads, leave_reads, kind_reads, ranges_read, present_integer_reads}
 
@@ -59,30 +60,57 @@ ranges_stand d rs at reads = required_reads ranges key.Ranges d (json.array (wri
 
 -- ---- the header
 
--- the settings are those of the values that are there, with their defaults
-pub header_found : (ms : Members) (role : Role) (max_datagram_size : ℕ) (max_ack_delay initial_rtt initial_window : Option ℕ) (s : Settings)
+version_found : (d : Data) (n : ℕ) → get (codes "version") d ≡ Some (written.integer n) → version d ≡ Ok n
+version_found d n at = required_reads integer key.Version d (written.integer n) n at refl refl
+
+-- version 1 has no options
+pub first_options_found : (d : Data) → get (codes "version") d ≡ Some (written.integer 1) → options d ≡ Ok no_options
+first_options_found d at = ap (λ r. options_for r d) (version_found d 1 at)
+
+-- the options of version 2 are the values that are there, with their defaults
+pub second_options_found : (d : Data) (limit : Option ℕ) (refresh : Option Bool) (slack_us slack_bytes : Option ℕ)
+    → get (codes "version") d ≡ Some (written.integer 2)
+    → get (codes "timer_late_us") d ≡ option_map written.integer limit
+    → get (codes "refresh_min_rtt") d ≡ option_map written.boolean refresh
+    → get (codes "report_slack_us") d ≡ option_map written.integer slack_us
+    → get (codes "report_slack_bytes") d ≡ option_map written.integer slack_bytes
+    → options d ≡ Ok (record { timer_late = limit; refresh_min_rtt = unwrap_or refresh false; report_slack_us = unwrap_or slack_us 0; report_slack_bytes = unwrap_or slack_bytes 0 })
+second_options_found d limit refresh slack_us slack_bytes at_version at_limit at_refresh at_slack_us at_slack_bytes =
+    let timers = both_reads _ _ limit (unwrap_or refresh false) (present_integer_reads key.TimerLateUs d limit at_limit)
+    (optional_found boolean false key.RefreshMinRtt d written.boolean refresh at_refresh (λ b. refl) (λ b. refl)) in
+    let slacks = both_reads _ _ (unwrap_or slack_us 0) (unwrap_or slack_bytes 0)
+    (optional_found integer 0 key.ReportSlackUs d written.integer slack_us at_slack_us (λ n. refl) (λ n. refl))
+    (optional_found integer 0 key.ReportSlackBytes d written.integer slack_bytes at_slack_bytes (λ n. refl) (λ n. refl)) in
+    let second : options d ≡ option_values d = ap (λ r. options_for r d) (version_found d 2 at_version) in
+    second ∙ then_reads _ _ ((limit, unwrap_or refresh false), (unwrap_or slack_us 0, unwrap_or slack_bytes 0)) _ (both_reads _ _ _ _ timers slacks) refl
+
+-- the settings are those of the values that are there, with their defaults, in the version of this number with these options
+pub header_found : (ms : Members) (n : ℕ) (asked : Options) (role : Role) (max_datagram_size : ℕ) (max_ack_delay initial_rtt initial_window : Option ℕ) (s t : Settings)
     → get_member (codes "event") ms ≡ Some (written.string (codes "header"))
-    → get_member (codes "version") ms ≡ Some (written.integer format_version)
+    → get_member (codes "version") ms ≡ Some (written.integer n)
     → get_member (codes "role") ms ≡ Some (written.string (role_name role))
     → get_member (codes "max_datagram_size") ms ≡ Some (written.integer max_datagram_size)
     → get_member (codes "max_ack_delay") ms ≡ option_map written.integer max_ack_delay
     → get_member (codes "initial_rtt") ms ≡ option_map written.integer initial_rtt
     → get_member (codes "initial_window") ms ≡ option_map written.integer initial_window
+    → options (object ms) ≡ Ok asked
     → settings role max_datagram_size max_ack_delay initial_rtt initial_window ≡ Ok s
-    → object_says reader_named (object ms) ≡ Ok (line.Header s)
+    → of_version n asked s ≡ Ok t
+    → object_says reader_named (object ms) ≡ Ok (line.Header t)
 unfolding object_says header_of
-header_found ms role max_datagram_size max_ack_delay initial_rtt initial_window s named at_version at_role at_size at_delay at_rtt at_window are =
+header_found ms n asked role max_datagram_size max_ack_delay initial_rtt initial_window s t named at_version at_role at_size at_delay at_rtt at_window asks are of =
     let d = object ms in
-    let firsts = both_reads _ _ format_version role (required_reads integer key.Version d (written.integer format_version) format_version at_version refl refl)
+    let firsts = both_reads _ _ n role (version_found d n at_version)
     (required_reads (string_among role_named) key.Role d (written.string (role_name role)) role at_role refl (role_reads key.Role role)) in
     let sizes = both_reads _ _ max_datagram_size max_ack_delay
     (required_reads integer key.MaxDatagramSize d (written.integer max_datagram_size) max_datagram_size at_size refl refl)
     (present_integer_reads key.MaxAckDelay d max_ack_delay at_delay) in
     let starts = both_reads _ _ initial_rtt initial_window (present_integer_reads key.InitialRtt d initial_rtt at_rtt) (present_integer_reads key.InitialWindow d initial_window at_window) in
     let fields = both_reads _ _ _ _ firsts (both_reads _ _ _ _ sizes starts) in
-    let says : header_of d ≡ Ok s = then_reads (header_fields d) _ ((format_version, role), ((max_datagram_size, max_ack_delay), (initial_rtt, initial_window))) _ fields
-    (then_reads (settings role max_datagram_size max_ack_delay initial_rtt initial_window) _ s _ are refl) in
-    then_reads (required string key.Event d) _ (codes "header") (line.Header s) (named_found d (codes "header") named) (ap (λ r. r >>= λ t. Ok (line.Header t)) says)
+    let says : header_of d ≡ Ok t = then_reads (both (header_fields d) (options d)) _
+    (((n, role), ((max_datagram_size, max_ack_delay), (initial_rtt, initial_window))), asked) _ (both_reads _ _ _ _ fields asks)
+    (then_reads (settings role max_datagram_size max_ack_delay initial_rtt initial_window) (of_version n asked) s t are of) in
+    then_reads (required string key.Event d) _ (codes "header") (line.Header t) (named_found d (codes "header") named) (ap (λ r. r >>= λ u. Ok (line.Header u)) says)
 
 -- ---- packets
 

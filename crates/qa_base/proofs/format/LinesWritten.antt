@@ -1,19 +1,20 @@
 -- A line that was written is one line, and is read as itself.
-use Rattle.std.proofs.Common.{◌≡◌, ◌∙◌, ℕ, ◌≤◌, ◌*◌, List, [], ◌∷◌, ◌++◌, Bool, false, Some, Ok, refl, ap, append_assoc, Less, ◌&&◌, ◌||◌, not, arith, subst, sym}
+use Rattle.std.proofs.Common.{◌≡◌, ◌∙◌, ℕ, ◌≤◌, ◌*◌, List, [], ◌∷◌, ◌++◌, Bool, false, Option, Some, None, Ok, refl, ap, ap₂, append_assoc, Less, ◌&&◌, ◌||◌, not, arith, subst, sym}
 use Rattle.std.proofs.lemmas.Bool.{and_parts, leb-true, or_from, le-ltb}
-use Rattle.std.specs.Prelude.{nat_lt, nat_le, codes, option_map}
+use Rattle.std.specs.Option.{ForSome}
+use Rattle.std.specs.Prelude.{nat_lt, nat_le, codes, option_map, unwrap_or}
 use Rattle.std.specs.Cmp.Lexicographic.{slice_cmp}
 use Rattle.std.specs.Ordering.{nat_cmp}
-use Rattle.std.specs.Result.{result_map_both}
 use Rattle.serde_json.specs.Data.{Data, depth}
 use Rattle.serde_json.specs.Find.{get}
 use Rattle.serde_json.specs.Written.{compact_text}
 use Rattle.qa_base.specs.declared.event.Event.{Event}
 use Rattle.qa_base.specs.declared.event.Event.TheVariants.{Sent, Ack, Lost, Timer, Discard, Confirmed, Keys, Metrics}
 use Rattle.qa_base.specs.declared.event.MetricValues.{MetricValues}
-use Rattle.qa_base.specs.declared.fault.Fault.TheVariants.{OutOfRange}
 use Rattle.qa_base.specs.declared.fault.Key.{Key}
 use Rattle.qa_base.specs.declared.fault.Key.TheVariants as key
+use Rattle.qa_base.specs.declared.header.Version.{Version}
+use Rattle.qa_base.specs.declared.header.Version.TheVariants.{One, Two}
 use Rattle.qa_base.specs.declared.line.Line.{Line}
 use Rattle.qa_base.specs.declared.line.Line.TheVariants as line
 use Rattle.qa_base.specs.declared.line.LineKind.TheVariants as kinds
@@ -23,17 +24,17 @@ use Rattle.qa_base.specs.declared.space.Leave.{Leave}
 use Rattle.qa_base.specs.declared.space.Space.{Space}
 use Rattle.qa_base.specs.format.Keys.{◌>>=◌}
 use Rattle.qa_base.specs.format.Lines.{has_lf}
-use Rattle.qa_base.specs.values.Limits.{format_version, max_time, max_packet_size}
+use Rattle.qa_base.specs.values.Limits.{max_time, max_packet_size, greatest_timer_late, greatest_report_slack_us, greatest_report_slack_bytes}
 use Rattle.qa_base.specs.values.Names.{line_kind_name, space_name}
 use Rattle.qa_base.specs.values.Proper.{IsProperEvent, IsProperLine}
 use Rattle.qa_base.specs.format.Reading.{reader_named, object_says, json_of, reading_by, reading}
-use Rattle.qa_base.specs.values.Settings.{Settings, AreInRange, is_outside, checked}
-use Rattle.qa_base.specs.format.Tables.{settings}
+use Rattle.qa_base.specs.values.Settings.{Settings, AreInRange, is_outside, no_options}
+use Rattle.qa_base.specs.format.Tables.{settings, of_version}
 use Rattle.qa_base.specs.format.Written as written
-use Rattle.qa_base.specs.format.Written.{Pairs, reported, header_pairs, event_pairs, members, object_of, written as text_of}
+use Rattle.qa_base.specs.format.Written.{Pairs, reported, limit_pairs, header_pairs, event_pairs, members, object_of, written as text_of}
 use Rattle.qa_base.proofs.format.Compact.{IsSimple, read-compact_text, is_utf8-compact_text}
 use Rattle.qa_base.proofs.format.OneLine.{has_lf-compact_text}
-use Rattle.qa_base.proofs.format.KeysFound.{header_found, sent_found, ack_found, lost_found, timer_found, discard_found, confirmed_found, keys_found, metrics_found}
+use Rattle.qa_base.proofs.format.KeysFound.{header_found, first_options_found, second_options_found, sent_found, ack_found, lost_found, timer_found, discard_found, confirmed_found, keys_found, metrics_found}
 use Rattle.qa_base.proofs.format.KeysWritten.{past_reported, reported_stands, past_last, last_stands, IsKept, integer_is_kept, string_is_kept, boolean_is_kept, role_is_kept, space_is_kept, leave_is_kept, kind_is_kept, ranges_are_kept, Follow, none_follow, follow, follow_reported, follow_last}
 
 -- ---- a report of the sender's state
@@ -164,17 +165,91 @@ event_found t v = past_reported (codes "event") BytesInFlight v.bytes_in_flight 
 inside : (lo hi n : ℕ) → lo ≤ n → n ≤ hi → is_outside lo hi n ≡ false
 inside lo hi n low high = or_from (nat_lt n lo) (nat_lt hi n) (le-ltb n lo low) (le-ltb hi n high)
 
+-- these values in version 1
+abbrev pub first : Settings → Settings
+first s = record {
+  role = s.role;
+  max_datagram_size = s.max_datagram_size;
+  max_ack_delay = s.max_ack_delay;
+  initial_rtt = s.initial_rtt;
+  initial_window = s.initial_window;
+  version = One;
+  options = no_options;
+}
+
 -- values in their ranges pass the test of ranges
-checked_passes : (s : Settings) → AreInRange s → checked s ≡ Ok s
-checked_passes s are = rw (
+pub settings_read : (s : Settings) → AreInRange s → settings s.role s.max_datagram_size (Some s.max_ack_delay) (Some s.initial_rtt) (Some s.initial_window) ≡ Ok (first s)
+settings_read s are = rw (
   inside 1200 65527 s.max_datagram_size are.datagram_low are.datagram_high,
   inside 0 16383000 s.max_ack_delay (omega arith) are.delay_high,
   inside 1 1000000000 s.initial_rtt are.rtt_low are.rtt_high,
   inside (2 * s.max_datagram_size) 4294967295 s.initial_window are.window_low are.window_high,
 ) refl
 
-pub settings_read : (s : Settings) → AreInRange s → settings s.role s.max_datagram_size (Some s.max_ack_delay) (Some s.initial_rtt) (Some s.initial_window) ≡ Ok s
-settings_read s are = ap (result_map_both (λ t. t) (λ e. OutOfRange e.0)) (checked_passes s are)
+-- these values with these options in version 2
+abbrev pub second : Settings → Option ℕ → Bool → ℕ → ℕ → Settings
+second s limit refresh slack_us slack_bytes = record {
+  role = s.role;
+  max_datagram_size = s.max_datagram_size;
+  max_ack_delay = s.max_ack_delay;
+  initial_rtt = s.initial_rtt;
+  initial_window = s.initial_window;
+  version = Two;
+  options = record { timer_late = limit; refresh_min_rtt = refresh; report_slack_us = slack_us; report_slack_bytes = slack_bytes };
+}
+
+limit_is : (limit : Option ℕ) (hi : ℕ) → ForSome limit (λ n. n ≤ hi) → unwrap_or limit 0 ≤ hi
+limit_is None hi high = omega arith
+limit_is (Some n) hi high = high n refl
+
+-- options in their ranges pass the test of ranges
+pub options_pass : (s : Settings) → AreInRange s → of_version 2 s.options (first s) ≡ Ok (second s s.options.timer_late s.options.refresh_min_rtt s.options.report_slack_us s.options.report_slack_bytes)
+options_pass s are = rw (
+  inside 0 greatest_timer_late (unwrap_or s.options.timer_late 0) (omega arith) (limit_is s.options.timer_late greatest_timer_late are.late_high),
+  inside 0 greatest_report_slack_us s.options.report_slack_us (omega arith) are.slack_us_high,
+  inside 0 greatest_report_slack_bytes s.options.report_slack_bytes (omega arith) are.slack_bytes_high,
+) refl
+
+-- the limit is there or not, and the version stands behind it
+pub limit_at : (s : Settings) (limit : Option ℕ) (refresh : Bool) (slack_us slack_bytes : ℕ)
+    → get (codes "timer_late_us") (object_of (header_pairs (second s limit refresh slack_us slack_bytes))) ≡ option_map written.integer limit
+limit_at s None refresh slack_us slack_bytes = refl
+limit_at s (Some n) refresh slack_us slack_bytes = refl
+
+pub version_at : (s : Settings) (limit : Option ℕ) (refresh : Bool) (slack_us slack_bytes : ℕ)
+    → get (codes "version") (object_of (header_pairs (second s limit refresh slack_us slack_bytes))) ≡ Some (written.integer 2)
+version_at s None refresh slack_us slack_bytes = refl
+version_at s (Some n) refresh slack_us slack_bytes = refl
+
+-- what holds of headers as they are written in their version holds of all in their ranges
+pub of_either : (P : Settings → Type 0) (s : Settings) (v : Version) → s.version ≡ v → AreInRange s
+    → (AreInRange s → P (first s))
+    → ((limit : Option ℕ) (refresh : Bool) (slack_us slack_bytes : ℕ) → AreInRange (second s limit refresh slack_us slack_bytes) → P (second s limit refresh slack_us slack_bytes))
+    → P s
+of_either P s One is are of_first of_second =
+    let none : s.options ≡ no_options = are.first_version is in
+    let same : first s ≡ s = ap₂ (λ v o. record {
+      role = s.role;
+      max_datagram_size = s.max_datagram_size;
+      max_ack_delay = s.max_ack_delay;
+      initial_rtt = s.initial_rtt;
+      initial_window = s.initial_window;
+      version = v;
+      options = o;
+    }) (sym is) (sym none) in
+    subst P same (of_first are)
+of_either P s Two is are of_first of_second =
+    let o = s.options in
+    let same : second s o.timer_late o.refresh_min_rtt o.report_slack_us o.report_slack_bytes ≡ s = ap (λ v. record {
+      role = s.role;
+      max_datagram_size = s.max_datagram_size;
+      max_ack_delay = s.max_ack_delay;
+      initial_rtt = s.initial_rtt;
+      initial_window = s.initial_window;
+      version = v;
+      options = s.options;
+    }) (sym is) in
+    subst P same (of_second o.timer_late o.refresh_min_rtt o.report_slack_us o.report_slack_bytes (subst AreInRange (sym same) are))
 
 -- ---- keys rise, and values can be written and read
 
@@ -229,15 +304,43 @@ metrics_follow t v proper =
     (follow_reported _ Ssthresh v.ssthresh _ refl refl words.1
     (follow _ key.Time _ _ refl refl (time_is_kept t proper.in_time) (follow_last _ Window v.window refl refl words.0))))))))
 
-pub header_follows : (s : Settings) → AreInRange s → Follow [] (header_pairs s)
-header_follows s are =
+-- the keys that both versions have up to max_datagram_size
+header_begins : (s : Settings) (ps : Pairs) → AreInRange s → Follow (codes "max_datagram_size") ps
+    → Follow [] (
+    (key.Event, written.string (line_kind_name kinds.Header))
+    ∷ (key.InitialRtt, written.integer s.initial_rtt)
+    ∷ (key.InitialWindow, written.integer s.initial_window)
+    ∷ (key.MaxAckDelay, written.integer s.max_ack_delay)
+    ∷ (key.MaxDatagramSize, written.integer s.max_datagram_size)
+    ∷ ps)
+header_begins s ps are more =
     follow _ key.Event _ _ refl refl (string_is_kept _ refl)
     (follow _ key.InitialRtt _ _ refl refl (integer_is_kept s.initial_rtt (omega (arith, are.rtt_high)))
     (follow _ key.InitialWindow _ _ refl refl (integer_is_kept s.initial_window (omega (arith, are.window_high)))
     (follow _ key.MaxAckDelay _ _ refl refl (integer_is_kept s.max_ack_delay (omega (arith, are.delay_high)))
-    (follow _ key.MaxDatagramSize _ _ refl refl (integer_is_kept s.max_datagram_size (omega (arith, are.datagram_high)))
-    (follow _ key.Role _ _ refl refl (role_is_kept s.role)
-    (follow _ key.Version _ _ refl refl (integer_is_kept format_version (omega arith)) (none_follow (codes "version"))))))))
+    (follow _ key.MaxDatagramSize _ _ refl refl (integer_is_kept s.max_datagram_size (omega (arith, are.datagram_high))) more))))
+
+version_follows : (j : List ℕ) (n : ℕ) → slice_cmp nat_cmp j (codes "version") ≡ Less → n ≤ 2 → Follow j ((key.Version, written.integer n) ∷ [])
+version_follows j n less small = follow j key.Version (written.integer n) [] less refl (integer_is_kept n (omega (arith, small))) (none_follow (codes "version"))
+
+pub first_follows : (s : Settings) → AreInRange s → Follow [] (header_pairs (first s))
+first_follows s are = header_begins s _ are (follow _ key.Role _ _ refl refl (role_is_kept s.role) (version_follows _ 1 refl (omega arith)))
+
+limit_follows : (limit : Option ℕ) → ForSome limit (λ n. n ≤ greatest_timer_late) → Follow (codes "role") (limit_pairs limit ++ (key.Version, written.integer 2) ∷ [])
+limit_follows None high = version_follows _ 2 refl (omega arith)
+limit_follows (Some n) high = follow _ key.TimerLateUs _ _ refl refl (integer_is_kept n (let small = high n refl in omega (arith, small))) (version_follows _ 2 refl (omega arith))
+
+pub second_follows : (s : Settings) (limit : Option ℕ) (refresh : Bool) (slack_us slack_bytes : ℕ) → AreInRange (second s limit refresh slack_us slack_bytes)
+    → Follow [] (header_pairs (second s limit refresh slack_us slack_bytes))
+second_follows s limit refresh slack_us slack_bytes are =
+    header_begins (second s limit refresh slack_us slack_bytes) _ are
+    (follow _ key.RefreshMinRtt _ _ refl refl (boolean_is_kept refresh)
+    (follow _ key.ReportSlackBytes _ _ refl refl (integer_is_kept slack_bytes (omega (arith, are.slack_bytes_high)))
+    (follow _ key.ReportSlackUs _ _ refl refl (integer_is_kept slack_us (omega (arith, are.slack_us_high)))
+    (follow _ key.Role _ _ refl refl (role_is_kept s.role) (limit_follows limit are.late_high)))))
+
+header_follows : (s : Settings) → AreInRange s → Follow [] (header_pairs s)
+header_follows s are = of_either (λ t. Follow [] (header_pairs t)) s s.version refl are (first_follows s) (second_follows s)
 
 -- ---- the line
 
@@ -279,9 +382,23 @@ event_is_said (Keys t) proper = keys_found _ t refl refl proper
 event_is_said (Metrics t v) proper = ap (λ ps. object_says reader_named (object_of ps)) (metrics_pairs_are t v) ∙ metrics_are_said t v proper
 
 -- the object of a header says the header
+first_is_said : (s : Settings) → AreInRange s → object_says reader_named (object_of (header_pairs (first s))) ≡ Ok (line.Header (first s))
+first_is_said s are =
+    header_found (members (header_pairs (first s))) 1 no_options s.role s.max_datagram_size (Some s.max_ack_delay) (Some s.initial_rtt) (Some s.initial_window) (first s) (first s)
+    refl refl refl refl refl refl refl (first_options_found (object_of (header_pairs (first s))) refl) (settings_read s are) refl
+
+second_is_said : (s : Settings) (limit : Option ℕ) (refresh : Bool) (slack_us slack_bytes : ℕ) → AreInRange (second s limit refresh slack_us slack_bytes)
+    → object_says reader_named (object_of (header_pairs (second s limit refresh slack_us slack_bytes))) ≡ Ok (line.Header (second s limit refresh slack_us slack_bytes))
+second_is_said s limit refresh slack_us slack_bytes are =
+    let t = second s limit refresh slack_us slack_bytes in
+    let at_version = version_at s limit refresh slack_us slack_bytes in
+    let asked = second_options_found (object_of (header_pairs t)) limit (Some refresh) (Some slack_us) (Some slack_bytes) at_version
+    (limit_at s limit refresh slack_us slack_bytes) refl refl refl in
+    header_found (members (header_pairs t)) 2 t.options s.role s.max_datagram_size (Some s.max_ack_delay) (Some s.initial_rtt) (Some s.initial_window) (first s) t
+    refl at_version refl refl refl refl refl asked (settings_read t are) (options_pass t are)
+
 header_is_said : (s : Settings) → AreInRange s → object_says reader_named (object_of (header_pairs s)) ≡ Ok (line.Header s)
-header_is_said s are =
-    header_found _ s.role s.max_datagram_size (Some s.max_ack_delay) (Some s.initial_rtt) (Some s.initial_window) s refl refl refl refl refl refl refl (settings_read s are)
+header_is_said s are = of_either (λ t. object_says reader_named (object_of (header_pairs t)) ≡ Ok (line.Header t)) s s.version refl are (first_is_said s) (second_is_said s)
 
 -- what was written is read as itself
 pub written_reads : (x : Line) → IsProperLine x → reading (text_of x) ≡ Ok x

@@ -13,25 +13,26 @@ use Rattle.qa_base.specs.declared.event.Event.{Event}
 use Rattle.qa_base.specs.declared.event.Event.TheVariants.{Sent, Ack, Lost, Timer, Discard, Confirmed, Keys, Metrics}
 use Rattle.qa_base.specs.declared.fault.Key.{Key}
 use Rattle.qa_base.specs.declared.fault.Key.TheVariants as key
+use Rattle.qa_base.specs.declared.header.Options.{Options}
 use Rattle.qa_base.specs.declared.line.Line.{Line}
 use Rattle.qa_base.specs.declared.line.Line.TheVariants as line
 use Rattle.qa_base.specs.declared.space.Leave.{Leave}
 use Rattle.qa_base.specs.declared.space.Leave.TheVariants.{Window}
 use Rattle.qa_base.specs.values.Constants.{default_initial_rtt, default_max_ack_delay}
-use Rattle.qa_base.specs.values.Names.{key_name, leave_name, leave_named}
+use Rattle.qa_base.specs.values.Names.{key_name, role_name, leave_name, leave_named}
 use Rattle.qa_base.specs.values.Proper.{IsProperEvent}
-use Rattle.qa_base.specs.values.Settings.{Settings, AreInRange, default_window}
+use Rattle.qa_base.specs.values.Settings.{Settings, AreInRange, default_window, no_options}
 use Rattle.qa_base.specs.format.AnyOrder.{IsAmong, AreOfLine, event_defaults, AreOf, header_defaults, AreOfHeader, text_of}
 use Rattle.qa_base.specs.format.Keys.{◌>>=◌, string_among}
 use Rattle.qa_base.specs.format.Reading.{reader_named, object_says, reading_by, reading}
 use Rattle.qa_base.specs.format.Simple.{IsBefore, HaveSimple, IsKept, AreKept, put_all}
-use Rattle.qa_base.specs.format.Tables.{settings}
+use Rattle.qa_base.specs.format.Tables.{options, settings, of_version}
 use Rattle.qa_base.specs.format.Written as written
 use Rattle.qa_base.specs.format.Written.{Pairs, header_pairs, event_pairs, members}
 use Rattle.qa_base.proofs.format.AnyOrder.{json_of-members, get_put, get_put_other}
-use Rattle.qa_base.proofs.format.KeysFound.{header_found, sent_found, ack_found, lost_found, timer_found, discard_found, confirmed_found, keys_found, metrics_found}
+use Rattle.qa_base.proofs.format.KeysFound.{header_found, first_options_found, second_options_found, sent_found, ack_found, lost_found, timer_found, discard_found, confirmed_found, keys_found, metrics_found}
 use Rattle.qa_base.proofs.format.KeysWritten.{leave_reads, Follow}
-use Rattle.qa_base.proofs.format.LinesWritten.{settings_read, header_follows, event_follows, metrics_pairs_are, event_found, time_found, window_found, ssthresh_found, bytes_in_flight_found, latest_rtt_found, min_rtt_found, smoothed_rtt_found, rttvar_found}
+use Rattle.qa_base.proofs.format.LinesWritten.{first, second, of_either, settings_read, options_pass, limit_at, version_at, first_follows, second_follows, event_follows, metrics_pairs_are, event_found, time_found, window_found, ssthresh_found, bytes_in_flight_found, latest_rtt_found, min_rtt_found, smoothed_rtt_found, rttvar_found}
 use Rattle.qa_base.proofs.format.PlainTexts.{key_is_ascii}
 
 -- ---- texts
@@ -220,7 +221,22 @@ events_rise : Rise (members event_defaults)
 events_rise = ((refl, (refl, tt)), ((refl, tt), (tt, tt)))
 
 header_rises : (size : ℕ) → Rise (members (header_defaults size))
-header_rises size = ((refl, (refl, tt)), ((refl, tt), (tt, tt)))
+header_rises size = (
+  (refl, (refl, (refl, (refl, (refl, tt))))),
+  (
+    (refl, (refl, (refl, (refl, tt)))),
+    (
+      (refl, (refl, (refl, tt))),
+      (
+        (refl, (refl, tt)),
+        (
+          (refl, tt),
+          (tt, tt),
+        ),
+      ),
+    ),
+  ),
+)
 
 -- ---- headers
 
@@ -228,26 +244,77 @@ settings_given : (s : Settings) (delay rtt window : Option ℕ) → AreInRange s
     → unwrap_or delay default_max_ack_delay ≡ s.max_ack_delay
     → unwrap_or rtt default_initial_rtt ≡ s.initial_rtt
     → unwrap_or window (default_window s.max_datagram_size) ≡ s.initial_window
-    → settings s.role s.max_datagram_size delay rtt window ≡ Ok s
+    → settings s.role s.max_datagram_size delay rtt window ≡ Ok (first s)
 settings_given s delay rtt window are delays rtts windows = rw (delays, rtts, windows) (settings_read s are)
+
+-- the line's own pairs are those of a header in the version of this number with these options
+header_given : (s : Settings) (n : ℕ) (o : Options) (t : Settings) (own ps : Pairs) → AreInRange s → Follow [] own → AreOfLine own (header_defaults s.max_datagram_size) ps
+    → get_member (codes "event") (members own) ≡ Some (written.string (codes "header"))
+    → get_member (codes "version") (members own) ≡ Some (written.integer n)
+    → get_member (codes "role") (members own) ≡ Some (written.string (role_name s.role))
+    → get_member (codes "max_datagram_size") (members own) ≡ Some (written.integer s.max_datagram_size)
+    → get_member (codes "max_ack_delay") (members own) ≡ Some (written.integer s.max_ack_delay)
+    → get_member (codes "initial_rtt") (members own) ≡ Some (written.integer s.initial_rtt)
+    → get_member (codes "initial_window") (members own) ≡ Some (written.integer s.initial_window)
+    → options (object (put_all no_members (members ps))) ≡ Ok o
+    → of_version n o (first s) ≡ Ok t
+    → reading (text_of ps) ≡ Ok (line.Header t)
+header_given s n o t own ps in_range follows are named at_version at_role at_size at_delay at_rtt at_window asks of =
+    let defaults = header_defaults s.max_datagram_size in
+    let rise = header_rises s.max_datagram_size in
+    let at = required_given own defaults ps follows rise are in
+    let integer_at = optional_given own defaults ps follows rise are written.integer in
+    let delay = integer_at default_max_ack_delay (codes "max_ack_delay") s.max_ack_delay same_integer at_delay refl in
+    let rtt = integer_at default_initial_rtt (codes "initial_rtt") s.initial_rtt same_integer at_rtt refl in
+    let window = integer_at (default_window s.max_datagram_size) (codes "initial_window") s.initial_window same_integer at_window refl in
+    text_reads own defaults ps follows rise are (line.Header t)
+    (header_found (put_all no_members (members ps)) n o s.role s.max_datagram_size delay.0 rtt.0 window.0 (first s) t
+    (at (codes "event") _ named refl)
+    (at (codes "version") _ at_version refl)
+    (at (codes "role") _ at_role refl)
+    (at (codes "max_datagram_size") _ at_size refl)
+    delay.1 rtt.1 window.1 asks (settings_given s delay.0 rtt.0 window.0 in_range delay.2 rtt.2 window.2) of)
+
+first_order_reads : (s : Settings) (ps : Pairs) → AreInRange s → AreOfHeader (first s) ps → reading (text_of ps) ≡ Ok (line.Header (first s))
+first_order_reads s ps in_range are =
+    let own = header_pairs (first s) in
+    let follows = first_follows s in_range in
+    let at_version = required_given own (header_defaults s.max_datagram_size) ps follows (header_rises s.max_datagram_size) are (codes "version") (written.integer 1) refl refl in
+    header_given s 1 no_options (first s) own ps in_range follows are refl refl refl refl refl refl refl
+    (first_options_found (object (put_all no_members (members ps))) at_version) refl
+
+options_given : (limit : Option ℕ) (refresh : Option Bool) (slack_us slack_bytes : Option ℕ) (o : Options)
+    → limit ≡ o.timer_late
+    → unwrap_or refresh no_options.refresh_min_rtt ≡ o.refresh_min_rtt
+    → unwrap_or slack_us no_options.report_slack_us ≡ o.report_slack_us
+    → unwrap_or slack_bytes no_options.report_slack_bytes ≡ o.report_slack_bytes
+    → record { timer_late = limit; refresh_min_rtt = unwrap_or refresh false; report_slack_us = unwrap_or slack_us 0; report_slack_bytes = unwrap_or slack_bytes 0 } ≡ o
+options_given limit refresh slack_us slack_bytes o limits refreshes times bytes = rw (limits, refreshes, times, bytes) refl
+
+second_order_reads : (s : Settings) (ps : Pairs) (limit : Option ℕ) (refresh : Bool) (slack_us slack_bytes : ℕ) → AreInRange (second s limit refresh slack_us slack_bytes)
+    → AreOfHeader (second s limit refresh slack_us slack_bytes) ps
+    → reading (text_of ps) ≡ Ok (line.Header (second s limit refresh slack_us slack_bytes))
+second_order_reads s ps limit refresh slack_us slack_bytes in_range are =
+    let t = second s limit refresh slack_us slack_bytes in
+    let own = header_pairs t in
+    let defaults = header_defaults s.max_datagram_size in
+    let follows = second_follows s limit refresh slack_us slack_bytes in_range in
+    let rise = header_rises s.max_datagram_size in
+    let own_version = version_at s limit refresh slack_us slack_bytes in
+    let at_version = required_given own defaults ps follows rise are (codes "version") (written.integer 2) own_version refl in
+    let at_limit = reported_given own defaults ps follows rise are (codes "timer_late_us") limit (limit_at s limit refresh slack_us slack_bytes) refl in
+    let refreshes = optional_given own defaults ps follows rise are written.boolean no_options.refresh_min_rtt (codes "refresh_min_rtt") refresh same_boolean refl refl in
+    let times = optional_given own defaults ps follows rise are written.integer no_options.report_slack_us (codes "report_slack_us") slack_us same_integer refl refl in
+    let bytes = optional_given own defaults ps follows rise are written.integer no_options.report_slack_bytes (codes "report_slack_bytes") slack_bytes same_integer refl refl in
+    let asks : options (object (put_all no_members (members ps))) ≡ Ok t.options =
+    second_options_found (object (put_all no_members (members ps))) limit refreshes.0 times.0 bytes.0 at_version at_limit refreshes.1 times.1 bytes.1
+    ∙ ap (λ o. Ok o) (options_given limit refreshes.0 times.0 bytes.0 t.options refl refreshes.2 times.2 bytes.2) in
+    header_given t 2 t.options t own ps in_range follows are refl own_version refl refl refl refl refl asks (options_pass t in_range)
 
 -- a header is read from its keys and values in any order, and with or without its defaults
 pub header_order_reads : (s : Settings) (ps : Pairs) → AreInRange s → AreOfHeader s ps → reading (text_of ps) ≡ Ok (line.Header s)
-header_order_reads s ps in_range are =
-    let own = header_pairs s in
-    let defaults = header_defaults s.max_datagram_size in
-    let follows = header_follows s in_range in
-    let rise = header_rises s.max_datagram_size in
-    let at = required_given own defaults ps follows rise are in
-    let delay = optional_given own defaults ps follows rise are written.integer default_max_ack_delay (codes "max_ack_delay") s.max_ack_delay same_integer refl refl in
-    let rtt = optional_given own defaults ps follows rise are written.integer default_initial_rtt (codes "initial_rtt") s.initial_rtt same_integer refl refl in
-    let window = optional_given own defaults ps follows rise are written.integer (default_window s.max_datagram_size) (codes "initial_window") s.initial_window same_integer refl refl in
-    text_reads own defaults ps follows rise are (line.Header s) (header_found (put_all no_members (members ps)) s.role s.max_datagram_size delay.0 rtt.0 window.0 s
-    (at (codes "event") _ refl refl)
-    (at (codes "version") _ refl refl)
-    (at (codes "role") _ refl refl)
-    (at (codes "max_datagram_size") _ refl refl)
-    delay.1 rtt.1 window.1 (settings_given s delay.0 rtt.0 window.0 in_range delay.2 rtt.2 window.2))
+header_order_reads s ps in_range =
+    of_either (λ t. AreOfHeader t ps → reading (text_of ps) ≡ Ok (line.Header t)) s s.version refl in_range (first_order_reads s ps) (second_order_reads s ps)
 
 -- ---- events
 

@@ -1,8 +1,8 @@
 -- What the reading of lines gives is such as there is.
 use Rattle.std.proofs.Common.{◌≡◌, ℕ, ◌≤◌, ◌*◌, List, Bool, true, false, cond, Option, Some, None, Result, Ok, Err, ok_or, refl, ◌&&◌, ◌||◌, not, arith, ◌⊎◌, inl, inr}
-use Rattle.std.specs.Prelude.{nat_lt, codes, bytes_eq, is_some, option_map, unwrap_or}
+use Rattle.std.specs.Prelude.{◌==◌, nat_lt, codes, bytes_eq, is_some, option_map, unwrap_or}
 use Rattle.std.specs.List.{list_all}
-use Rattle.std.specs.Result.{result_map_both}
+use Rattle.std.specs.Option.{ForSome}
 use Rattle.std.proofs.lemmas.Bool.{or_parts, and_from, ltb-false}
 use Rattle.serde_json.specs.Data.{Data}
 use Rattle.serde_json.specs.Find.{as_object}
@@ -12,9 +12,12 @@ use Rattle.qa_base.specs.declared.event.Event.{Event}
 use Rattle.qa_base.specs.declared.event.Event.TheVariants.{Sent}
 use Rattle.qa_base.specs.declared.event.MetricValues.{MetricValues}
 use Rattle.qa_base.specs.declared.fault.Fault.{Fault}
-use Rattle.qa_base.specs.declared.fault.Fault.TheVariants.{NotJson, NotObject, UnknownEvent, FlagsClash, OutOfRange, Version}
+use Rattle.qa_base.specs.declared.fault.Fault.TheVariants as fault
+use Rattle.qa_base.specs.declared.fault.Fault.TheVariants.{NotJson, NotObject, UnknownEvent, FlagsClash}
 use Rattle.qa_base.specs.declared.fault.RangeFault.{RangeFault}
 use Rattle.qa_base.specs.declared.fault.Key.TheVariants as key
+use Rattle.qa_base.specs.declared.header.Options.{Options}
+use Rattle.qa_base.specs.declared.header.Version.TheVariants.{One, Two}
 use Rattle.qa_base.specs.declared.rule.Field.TheVariants.{Window, Ssthresh, BytesInFlight, LatestRtt, MinRtt, SmoothedRtt, Rttvar}
 use Rattle.qa_base.specs.declared.space.Space.{Space}
 use Rattle.qa_base.specs.declared.space.Space.TheVariants.{Initial, Handshake, App}
@@ -25,12 +28,12 @@ use Rattle.qa_base.specs.declared.line.LineKind.{LineKind}
 use Rattle.qa_base.specs.declared.line.LineKind.TheVariants as kinds
 use Rattle.qa_base.specs.values.Events.{is_space}
 use Rattle.qa_base.specs.format.Keys.{◌>>=◌, both, ranged, string, string_among, required}
-use Rattle.qa_base.specs.values.Limits.{max_time, max_packet_number, max_packet_size}
+use Rattle.qa_base.specs.values.Limits.{max_time, max_packet_number, max_packet_size, greatest_timer_late, greatest_report_slack_us, greatest_report_slack_bytes}
 use Rattle.qa_base.specs.values.Names.{line_kind_named, discarded_named}
 use Rattle.qa_base.specs.values.Proper.{AreWords, IsProperEvent, IsProperLine}
 use Rattle.qa_base.specs.format.Reading.{Reader, header_line, event_line, reader_of, reader_named, object_says, json_of, is_blank, reading_by, reading}
-use Rattle.qa_base.specs.values.Settings.{Settings, AreInRange, is_outside, default_window, checked, settings_of}
-use Rattle.qa_base.specs.format.Tables.{time, header_fields, header_of, settings, sent_fields, sent_of, ack_fields, ack_of, lost_fields, lost_of, timer_fields, timer_of, discard_fields, discard_of, confirmed_of, keys_of, metric, metric_values, metrics_of}
+use Rattle.qa_base.specs.values.Settings.{Settings, AreInRange, is_outside, default_window, no_options, checked, settings_of, with_options}
+use Rattle.qa_base.specs.format.Tables.{time, out_of_range, header_fields, options, settings, of_version, header_of, sent_fields, sent_of, ack_fields, ack_of, lost_fields, lost_of, timer_fields, timer_of, discard_fields, discard_of, confirmed_of, keys_of, metric, metric_values, metrics_of}
 use Rattle.qa_base.specs.format.Written.{line_fits}
 use Rattle.qa_base.proofs.format.KeysRead.{bind_ok, both_ok, ok_is, required_stands, required_within, required_high, optional_is_word, present_is_word, ranges_are}
 use Rattle.qa_base.proofs.format.Sized.{IsSized, read-IsSized}
@@ -160,13 +163,20 @@ metrics_is_proper d e sized h =
 inside : (lo hi n : ℕ) → is_outside lo hi n ≡ false → (lo ≤ n) × (n ≤ hi)
 inside lo hi n h = let parts = or_parts (nat_lt n lo) (nat_lt hi n) h in (ltb-false n lo parts.0, ltb-false hi n parts.1)
 
+ok_is_settings : (s t : Settings) → (let r : Result Settings RangeFault = Ok s in r ≡ Ok t) → s ≡ t
+ok_is_settings s t h = cc
+
 past : (b : Bool) (fault : RangeFault) (r : Result Settings RangeFault) (s : Settings) → cond b (Err fault) r ≡ Ok s → (b ≡ false) × (r ≡ Ok s)
 past true fault r s h = cc
 past false fault r s h = (refl, h)
 
+-- options that are none are in their ranges
+none_is_high : (hi : ℕ) → ForSome None (λ n. n ≤ hi)
+none_is_high hi n is = cc
+
 -- values that were compared with their ranges are in them
-checked_is_in_range : (s t : Settings) → checked s ≡ Ok t → AreInRange t
-checked_is_in_range s t h =
+checked_is_in_range : (s t : Settings) → s.options ≡ no_options → checked s ≡ Ok t → AreInRange t
+checked_is_in_range s t none h =
     let datagram = past (is_outside 1200 65527 s.max_datagram_size) _ _ t h in
     let delay = past (is_outside 0 16383000 s.max_ack_delay) _ _ t datagram.1 in
     let rtt = past (is_outside 1 1000000000 s.initial_rtt) _ _ t delay.1 in
@@ -184,15 +194,61 @@ checked_is_in_range s t h =
       rtt_high = rtt_in.1;
       window_low = window_in.0;
       window_high = window_in.1;
+      late_high = rw none (none_is_high greatest_timer_late);
+      slack_us_high = rw none (omega arith);
+      slack_bytes_high = rw none (omega arith);
+      first_version = λ first. none;
     })
 
-unmapped : (r : Result Settings RangeFault) (s : Settings) → result_map_both (λ t. t) (λ e. OutOfRange e.0) r ≡ Ok s → r ≡ Ok s
+limit_high : (limit : Option ℕ) (hi : ℕ) → unwrap_or limit 0 ≤ hi → ForSome limit (λ n. n ≤ hi)
+limit_high None hi high = none_is_high hi
+limit_high (Some m) hi high = λ n is. let same : m ≡ n = cc in rw (← same) high
+
+two_is_not_one : (A : Type 0) → Two ≡ One → A
+two_is_not_one A h = cc
+
+-- and so are options
+with_options_in_range : (s t : Settings) (o : Options) → AreInRange s → with_options s o ≡ Ok t → AreInRange t
+with_options_in_range s t o are h =
+    let late = past (is_outside 0 greatest_timer_late (unwrap_or o.timer_late 0)) _ _ t h in
+    let slack_us = past (is_outside 0 greatest_report_slack_us o.report_slack_us) _ _ t late.1 in
+    let slack_bytes = past (is_outside 0 greatest_report_slack_bytes o.report_slack_bytes) _ _ t slack_us.1 in
+    let late_in = inside 0 greatest_timer_late (unwrap_or o.timer_late 0) late.0 in
+    let slack_us_in = inside 0 greatest_report_slack_us o.report_slack_us slack_us.0 in
+    let slack_bytes_in = inside 0 greatest_report_slack_bytes o.report_slack_bytes slack_bytes.0 in
+    let set : Settings = record {
+      role = s.role;
+      max_datagram_size = s.max_datagram_size;
+      max_ack_delay = s.max_ack_delay;
+      initial_rtt = s.initial_rtt;
+      initial_window = s.initial_window;
+      version = Two;
+      options = o;
+    } in
+    let same : set ≡ t = ok_is_settings set t slack_bytes.1 in
+    rw (← same) (record {
+      datagram_low = are.datagram_low;
+      datagram_high = are.datagram_high;
+      delay_high = are.delay_high;
+      rtt_low = are.rtt_low;
+      rtt_high = are.rtt_high;
+      window_low = are.window_low;
+      window_high = are.window_high;
+      late_high = limit_high o.timer_late greatest_timer_late late_in.1;
+      slack_us_high = slack_us_in.1;
+      slack_bytes_high = slack_bytes_in.1;
+      first_version = two_is_not_one (o ≡ no_options);
+    })
+
+unmapped : (r : Result Settings RangeFault) (s : Settings) → out_of_range r ≡ Ok s → r ≡ Ok s
 unmapped (Ok t) s h = cc
 unmapped (Err e) s h = cc
 
-of_version : (b : Bool) (s t : Settings) → cond b (Ok s) (Err Version) ≡ Ok t → s ≡ t
-of_version true s t h = cc
-of_version false s t h = cc
+-- a header that was read has one of the versions
+versioned : (first second : Bool) (s t : Settings) (r : Result Settings Fault) → cond first (Ok s) (cond second r (Err fault.Version)) ≡ Ok t → (s ≡ t) ⊎ (r ≡ Ok t)
+versioned true second s t r h = inl cc
+versioned false true s t r h = inr h
+versioned false false s t r h = cc
 
 set_is_in_range : (role : Role) (datagram : ℕ) (delay rtt window : Option ℕ) (s : Settings) → settings role datagram delay rtt window ≡ Ok s → AreInRange s
 set_is_in_range role datagram delay rtt window s h = checked_is_in_range (record {
@@ -201,15 +257,23 @@ set_is_in_range role datagram delay rtt window s h = checked_is_in_range (record
   max_ack_delay = unwrap_or delay 25000;
   initial_rtt = unwrap_or rtt 333000;
   initial_window = unwrap_or window (default_window datagram);
-}) s (unmapped (settings_of role datagram delay rtt window) s h)
+  version = One;
+  options = no_options;
+}) s refl (unmapped (settings_of role datagram delay rtt window) s h)
+
+of_version_in_range : (n : ℕ) (o : Options) (s t : Settings) → AreInRange s → of_version n o s ≡ Ok t → AreInRange t
+of_version_in_range n o s t are h = elim (versioned (n == 1) (n == 2) s t (out_of_range (with_options s o)) h) [
+  | inl same ↦ rw (← same) are
+  | inr set ↦ with_options_in_range s t o are (unmapped (with_options s o) t set)
+]
 
 header_is_proper : (d : Data) (s : Settings) → header_of d ≡ Ok s → AreInRange s
 unfolding header_of
 header_is_proper d s h =
-    let read = bind_ok (header_fields d) _ s h in
-    let f = read.0 in
-    let set = bind_ok (settings f.0.1 f.1.0.0 f.1.0.1 f.1.1.0 f.1.1.1) _ s read.2 in
-    rw (← of_version _ set.0 s set.2) (set_is_in_range f.0.1 f.1.0.0 f.1.0.1 f.1.1.0 f.1.1.1 set.0 set.1)
+    let read = bind_ok (both (header_fields d) (options d)) _ s h in
+    let f = read.0.0 in
+    let set = bind_ok (settings f.0.1 f.1.0.0 f.1.0.1 f.1.1.0 f.1.1.1) (of_version f.0.0 read.0.1) s read.2 in
+    of_version_in_range f.0.0 read.0.1 set.0 s (set_is_in_range f.0.1 f.1.0.0 f.1.0.1 f.1.1.0 f.1.1.1 set.0 set.1) set.2
 
 -- ---- a line
 

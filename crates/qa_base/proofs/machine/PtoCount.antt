@@ -11,14 +11,15 @@ use Rattle.qa_base.specs.declared.event.Event.TheVariants.{Timer}
 use Rattle.qa_base.specs.declared.space.Kind.TheVariants.{Loss, Pto}
 use Rattle.qa_base.specs.declared.space.Space.{Space}
 use Rattle.qa_base.specs.declared.space.Space.TheVariants.{Initial, Handshake, App}
-use Rattle.qa_base.specs.machine.Breaches.{is_kind, is_other, is_before}
+use Rattle.qa_base.specs.machine.Breaches.{is_other, is_before}
 use Rattle.qa_base.specs.values.Events.{is_space}
 use Rattle.qa_base.specs.machine.Handshake.{is_confirmed, is_validated}
 use Rattle.qa_base.specs.values.Limits.{max_time}
-use Rattle.qa_base.specs.machine.Rtt.{Estimate, rtt, pto_base}
+use Rattle.qa_base.specs.machine.Estimates.{rtt}
+use Rattle.qa_base.specs.machine.Rtt.{Estimate, pto_base}
 use Rattle.qa_base.specs.machine.Rules.{IsRun, first_broken}
 use Rattle.qa_base.specs.values.Settings.{Settings}
-use Rattle.qa_base.specs.machine.Timer.{Due, earlier, loss_due, earliest_loss, pto_due, earliest_pto, anti_deadlock, deadline, backoff, is_pto, resets_count, last_eliciting, last_set}
+use Rattle.qa_base.specs.machine.Timer.{Due, is_kind, earlier, loss_due, earliest_loss, pto_due, earliest_pto, anti_deadlock, deadline, backoff, is_pto, resets_count, last_eliciting, last_set}
 use Rattle.qa_base.proofs.machine.RunLaws.{all_hold}
 use Rattle.qa_base.specs.machine.Widths.{IsTimely}
 use Rattle.qa_base.proofs.machine.Steps.{backoff_after}

@@ -10,11 +10,13 @@ use Rattle.qa_base.specs.declared.event.Event.TheVariants.{Sent, Ack, Lost, Time
 use Rattle.qa_base.specs.declared.space.Space.{Space}
 use Rattle.qa_base.specs.declared.space.Leave.{Leave}
 use Rattle.qa_base.specs.values.Events.{is_quiet}
-use Rattle.qa_base.specs.machine.Loss.{is_found, is_found_at, is_owed, found_at, owed, detection, flight_size, bytes_in_flight}
+use Rattle.qa_base.specs.machine.Detection.{is_found, is_found_at, found_at, detection, is_persistent_by}
+use Rattle.qa_base.specs.machine.Estimates.{refreshed_by, rtt, sampled}
+use Rattle.qa_base.specs.machine.Loss.{is_owed, owed, flight_size, bytes_in_flight}
 use Rattle.qa_base.specs.machine.Moments.{since}
 use Rattle.qa_base.specs.machine.Packets.{Packet, packets, newly_acknowledged, is_followed_by, is_gone, is_of, is_covered, is_lost}
 use Rattle.qa_base.specs.machine.Reno.{moves, moves_of_last}
-use Rattle.qa_base.specs.machine.Rtt.{rtt}
+use Rattle.qa_base.specs.machine.Rtt.{Estimate}
 use Rattle.qa_base.specs.values.Settings.{Settings}
 use Rattle.qa_base.specs.machine.Timer.{is_pto, resets_count, backoff}
 
@@ -37,11 +39,22 @@ owed-quiet c (Timer time kind space) h quiet = cc
 owed-quiet c (Discard time space) h quiet = cc
 owed-quiet c _ h quiet = refl
 
+-- without persistent congestion nothing is refreshed
+pub not_refreshed : (refresh : Bool) (c : Settings) (h : List Event) (r : Estimate) → is_persistent_by r c h ≡ false → refreshed_by refresh c h r ≡ r
+not_refreshed true c h r none = rw none refl
+not_refreshed false c h r none = refl
+
+pub sampled-quiet : (c : Settings) (e : Event) (h : List Event) → is_quiet e ≡ true → sampled c (e ∷ h) ≡ rtt c h
+sampled-quiet c (Ack time space ranges delay limited) h quiet = cc
+sampled-quiet c (Timer time kind space) h quiet = cc
+sampled-quiet c (Discard time space) h quiet = cc
+sampled-quiet c _ h quiet = refl
+
 pub rtt-quiet : (c : Settings) (e : Event) (h : List Event) → is_quiet e ≡ true → rtt c (e ∷ h) ≡ rtt c h
 rtt-quiet c (Ack time space ranges delay limited) h quiet = cc
 rtt-quiet c (Timer time kind space) h quiet = cc
 rtt-quiet c (Discard time space) h quiet = cc
-rtt-quiet c _ h quiet = refl
+rtt-quiet c e h quiet = not_refreshed c.options.refresh_min_rtt c (e ∷ h) (rtt c h) refl
 
 pub moves_of_last-quiet : (c : Settings) (e : Event) (h : List Event) → is_quiet e ≡ true → moves_of_last c (e ∷ h) ≡ []
 moves_of_last-quiet c (Ack time space ranges delay limited) h quiet = cc
@@ -117,12 +130,12 @@ no_detection : (ps : List Packet) → AllByRecursion (λ p. false ≡ false) ps
 no_detection [] = tt
 no_detection (p ∷ ps) = (refl, no_detection ps)
 
-not_found : (c : Settings) (h : List Event) (d : Option (Space × ℕ)) → found_at c h d ≡ [] → AllByRecursion (λ p. is_found_at c h p d ≡ false) (packets h)
-not_found c h None none = no_detection (packets h)
-not_found c h (Some d) none = nothing_found (is_found c h d.1 d.0) (is_of d.0) (packets h) none
+not_found : (r : Estimate) (h : List Event) (d : Option (Space × ℕ)) → found_at r h d ≡ [] → AllByRecursion (λ p. is_found_at r h p d ≡ false) (packets h)
+not_found r h None none = no_detection (packets h)
+not_found r h (Some d) none = nothing_found (is_found r h d.1 d.0) (is_of d.0) (packets h) none
 
 pub not_owed : (c : Settings) (h : List Event) → owed c h ≡ [] → AllByRecursion (λ p. is_owed c h p ≡ false) (packets h)
-not_owed c h none = not_found c h (detection h) none
+not_owed c h none = not_found (sampled c h) h (detection h) none
 
 pub same_sum : (f g : Packet → ℕ) (ps : List Packet) → AllByRecursion (λ p. f p ≡ g p) ps → sum_by f ps ≡ sum_by g ps
 same_sum f g [] same = refl

@@ -10,7 +10,7 @@ use Rattle.qa_base.specs.machine.Order.{IsLower, NumbersFall}
 use Rattle.qa_base.specs.machine.Packets.{Packet, packets, is_of, newly_acknowledged, is_newly_acknowledged}
 use Rattle.qa_base.specs.machine.Rules.{broken, first_of, first_broken, IsRun}
 use Rattle.qa_base.specs.machine.Breaches.{is_time_back, is_loss_owed, is_loss_not_owed, is_other_loss_set, is_space_gone, is_number_not_higher, is_past_window, is_past_probe, is_past_recovery, is_ack_unsent, is_timer_not_set, is_timer_other, is_timer_early, is_probe_owed, is_not_confirmed}
-use Rattle.qa_base.specs.machine.Loss.{is_old}
+use Rattle.qa_base.specs.machine.Detection.{is_old}
 use Rattle.qa_base.specs.machine.Rtt.{Estimate}
 use Rattle.qa_base.specs.machine.Timer.{loss_delay}
 use Rattle.qa_base.specs.values.Settings.{Settings}
@@ -26,7 +26,7 @@ rule_holds : (broken_here : Bool) (r : Rule) (rest : Option Rule) → (if broken
 rule_holds true r rest h = cc
 rule_holds false r rest h = (refl, h)
 
-rules_hold : (tests : List (Bool × Rule)) → first_of tests ≡ None → AllByRecursion (λ test. test.0 ≡ false) tests
+pub rules_hold : (tests : List (Bool × Rule)) → first_of tests ≡ None → AllByRecursion (λ test. test.0 ≡ false) tests
 rules_hold [] h = tt
 rules_hold (test ∷ tests) h =
     let both = rule_holds test.0 test.1 (first_of tests) h in (both.0, rules_hold tests both.1)

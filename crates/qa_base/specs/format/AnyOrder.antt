@@ -10,7 +10,7 @@ use Rattle.qa_base.specs.declared.fault.Key.TheVariants as key
 use Rattle.qa_base.specs.declared.space.Leave.TheVariants.{Window}
 use Rattle.qa_base.specs.values.Constants.{default_initial_rtt, default_max_ack_delay}
 use Rattle.qa_base.specs.values.Names.{leave_name}
-use Rattle.qa_base.specs.values.Settings.{Settings, default_window}
+use Rattle.qa_base.specs.values.Settings.{Settings, default_window, no_options}
 use Rattle.qa_base.specs.format.Written.{Pairs, integer, string, boolean, header_pairs, event_pairs, object_of}
 
 -- the pair is one of these
@@ -36,12 +36,15 @@ AreOf e = AreOfLine (event_pairs e) event_defaults
 
 -- ---- headers
 
--- the same of a header with this datagram size, by which the initial window is computed
+-- the same of a header with this datagram size, by which the initial window is computed; the last three are keys of version 2
 abbrev pub header_defaults : ℕ → Pairs
 header_defaults max_datagram_size =
     (key.InitialRtt, integer default_initial_rtt)
     ∷ (key.InitialWindow, integer (default_window max_datagram_size))
     ∷ (key.MaxAckDelay, integer default_max_ack_delay)
+    ∷ (key.RefreshMinRtt, boolean no_options.refresh_min_rtt)
+    ∷ (key.ReportSlackBytes, integer no_options.report_slack_bytes)
+    ∷ (key.ReportSlackUs, integer no_options.report_slack_us)
     ∷ []
 
 -- the pairs are the keys and values of the header

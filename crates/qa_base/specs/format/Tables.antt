@@ -3,11 +3,15 @@ use Rattle.std.specs.Prelude.{ℕ, ◌==◌, ◌&&◌, not, List, Bool, false, O
 use Rattle.std.specs.Result.{result_map_both}
 use Rattle.serde_json.specs.Data.{Data}
 use Rattle.qa_base.specs.declared.fault.Fault.{Fault}
-use Rattle.qa_base.specs.declared.fault.Fault.TheVariants.{OutOfRange, FlagsClash, Version}
+use Rattle.qa_base.specs.declared.fault.Fault.TheVariants as fault
+use Rattle.qa_base.specs.declared.fault.Fault.TheVariants.{OutOfRange, FlagsClash}
+use Rattle.qa_base.specs.declared.fault.RangeFault.{RangeFault}
 use Rattle.qa_base.specs.declared.fault.Key.TheVariants as key
 use Rattle.qa_base.specs.declared.event.Event.{Event}
 use Rattle.qa_base.specs.declared.event.Event.TheVariants.{Sent, Ack, Lost, Timer, Discard, Confirmed, Keys, Metrics}
 use Rattle.qa_base.specs.declared.event.MetricValues.{MetricValues}
+use Rattle.qa_base.specs.declared.header.Options.{Options}
+use Rattle.qa_base.specs.declared.header.Version.TheVariants.{One, Two}
 use Rattle.qa_base.specs.declared.rule.Field.{Field}
 use Rattle.qa_base.specs.declared.rule.Field.TheVariants.{Window, Ssthresh, BytesInFlight, LatestRtt, MinRtt, SmoothedRtt, Rttvar}
 use Rattle.qa_base.specs.declared.space.Kind.{Kind}
@@ -16,9 +20,9 @@ use Rattle.qa_base.specs.declared.space.Leave.TheVariants as leaves
 use Rattle.qa_base.specs.declared.space.Space.{Space}
 use Rattle.qa_base.specs.declared.space.Role.{Role}
 use Rattle.qa_base.specs.format.Keys.{◌>>=◌, both, integer, integer_from, string_among, boolean, ranges, required, optional, if_present}
-use Rattle.qa_base.specs.values.Limits.{format_version, max_time, max_packet_number, max_packet_size}
-use Rattle.qa_base.specs.values.Names.{role_named, space_named, discarded_named, leave_named, kind_named}
-use Rattle.qa_base.specs.values.Settings.{Settings, settings_of}
+use Rattle.qa_base.specs.values.Limits.{max_time, max_packet_number, max_packet_size}
+use Rattle.qa_base.specs.values.Names.{version_number, role_named, space_named, discarded_named, leave_named, kind_named}
+use Rattle.qa_base.specs.values.Settings.{Settings, no_options, settings_of, with_options}
 
 -- the keys that several kinds of line have
 abbrev pub time : Data → Result ℕ Fault
@@ -29,23 +33,56 @@ space = required (string_among space_named) key.Space
 
 -- ---- the header
 
+abbrev pub version : Data → Result ℕ Fault
+version = required integer key.Version
+
+-- a value that is out of its range is a fault of its key
+abbrev pub out_of_range : Result Settings RangeFault → Result Settings Fault
+out_of_range r = result_map_both (λ s. s) (λ e. OutOfRange e.0) r
+
 -- version and role, max_datagram_size and max_ack_delay, initial_rtt and initial_window, whose numbers are not compared with
 -- their ranges yet
 abbrev pub header_fields : Data → Result ((ℕ × Role) × ((ℕ × Option ℕ) × (Option ℕ × Option ℕ))) Fault
 header_fields d =
-    both (both (required integer key.Version d) (required (string_among role_named) key.Role d))
+    both (both (version d) (required (string_among role_named) key.Role d))
     (both (both (required integer key.MaxDatagramSize d) (if_present integer key.MaxAckDelay d))
     (both (if_present integer key.InitialRtt d) (if_present integer key.InitialWindow d)))
+
+-- timer_late_us and refresh_min_rtt, report_slack_us and report_slack_bytes, whose numbers are not compared with their ranges yet
+abbrev pub option_values : Data → Result Options Fault
+option_values d =
+    both (both (if_present integer key.TimerLateUs d) (optional boolean false key.RefreshMinRtt d))
+    (both (optional integer 0 key.ReportSlackUs d) (optional integer 0 key.ReportSlackBytes d))
+    >>= λ ((timer_late, refresh_min_rtt), (report_slack_us, report_slack_bytes)). Ok (record {
+      timer_late = timer_late;
+      refresh_min_rtt = refresh_min_rtt;
+      report_slack_us = report_slack_us;
+      report_slack_bytes = report_slack_bytes;
+    })
+
+abbrev pub options_for : Result ℕ Fault → Data → Result Options Fault
+options_for (Ok n) d = if n == version_number Two then option_values d else Ok no_options
+options_for (Err e) d = Ok no_options
+
+-- the keys that only version 2 has: they are looked at where the version is 2
+abbrev pub options : Data → Result Options Fault
+options d = options_for (version d) d
 
 -- the settings, each in its range
 abbrev pub settings : Role → ℕ → Option ℕ → Option ℕ → Option ℕ → Result Settings Fault
 settings role max_datagram_size max_ack_delay initial_rtt initial_window =
-    result_map_both (λ s. s) (λ e. OutOfRange e.0) (settings_of role max_datagram_size max_ack_delay initial_rtt initial_window)
+    out_of_range (settings_of role max_datagram_size max_ack_delay initial_rtt initial_window)
+
+-- the settings in the version of this number, with these options in version 2
+abbrev pub of_version : ℕ → Options → Settings → Result Settings Fault
+of_version n options s =
+    if n == version_number One then Ok s else (if n == version_number Two then out_of_range (with_options s options) else Err fault.Version)
 
 -- the version is judged after all other keys
 unfoldable pub header_of : Data → Result Settings Fault
-header_of d = header_fields d >>= λ ((version, role), ((max_datagram_size, max_ack_delay), (initial_rtt, initial_window))).
-    settings role max_datagram_size max_ack_delay initial_rtt initial_window >>= λ s. if version == format_version then Ok s else Err Version
+header_of d =
+    both (header_fields d) (options d) >>= λ (((version, role), ((max_datagram_size, max_ack_delay), (initial_rtt, initial_window))), options).
+    settings role max_datagram_size max_ack_delay initial_rtt initial_window >>= of_version version options
 
 -- ---- packets
 

@@ -7,14 +7,16 @@ use Rattle.qa_base.specs.declared.event.Event.{Event}
 use Rattle.qa_base.specs.declared.event.Event.TheVariants.{Sent, Ack, Lost, Timer, Discard, Confirmed, Keys, Metrics}
 use Rattle.qa_base.specs.declared.fault.Key.{Key}
 use Rattle.qa_base.specs.declared.fault.Key.TheVariants as key
+use Rattle.qa_base.specs.declared.header.Options.{Options}
+use Rattle.qa_base.specs.declared.header.Version.{Version}
+use Rattle.qa_base.specs.declared.header.Version.TheVariants.{One, Two}
 use Rattle.qa_base.specs.declared.line.Line.{Line}
 use Rattle.qa_base.specs.declared.line.Line.TheVariants as line
 use Rattle.qa_base.specs.declared.line.LineKind.TheVariants as kinds
 use Rattle.qa_base.specs.declared.rule.Field.{Field}
 use Rattle.qa_base.specs.declared.rule.Field.TheVariants.{Window, Ssthresh, BytesInFlight, LatestRtt, MinRtt, SmoothedRtt, Rttvar}
 use Rattle.qa_base.specs.values.Events.{fits}
-use Rattle.qa_base.specs.values.Limits.{format_version}
-use Rattle.qa_base.specs.values.Names.{key_name, line_kind_name, role_name, space_name, leave_name, kind_name}
+use Rattle.qa_base.specs.values.Names.{key_name, line_kind_name, version_number, role_name, space_name, leave_name, kind_name}
 use Rattle.qa_base.specs.values.Settings.{Settings}
 
 -- ---- values
@@ -42,6 +44,20 @@ integer_pairs (range ∷ ranges) = item (integer_pair range) (integer_pairs rang
 abbrev pub Pairs : Type 0
 Pairs = List (Key × Data)
 
+-- the limit of a timer, where there is one
+abbrev pub limit_pairs : Option ℕ → Pairs
+limit_pairs None = []
+limit_pairs (Some limit) = (key.TimerLateUs, integer limit) ∷ []
+
+-- the keys that only version 2 has, up to the role
+abbrev pub option_pairs : Version → Options → Pairs
+option_pairs One options = []
+option_pairs Two options =
+    (key.RefreshMinRtt, boolean options.refresh_min_rtt)
+    ∷ (key.ReportSlackBytes, integer options.report_slack_bytes)
+    ∷ (key.ReportSlackUs, integer options.report_slack_us)
+    ∷ []
+
 abbrev pub header_pairs : Settings → Pairs
 header_pairs s =
     (key.Event, string (line_kind_name kinds.Header))
@@ -49,8 +65,10 @@ header_pairs s =
     ∷ (key.InitialWindow, integer s.initial_window)
     ∷ (key.MaxAckDelay, integer s.max_ack_delay)
     ∷ (key.MaxDatagramSize, integer s.max_datagram_size)
-    ∷ (key.Role, string (role_name s.role))
-    ∷ (key.Version, integer format_version)
+    ∷ option_pairs s.version s.options
+    ++ (key.Role, string (role_name s.role))
+    ∷ limit_pairs s.options.timer_late
+    ++ (key.Version, integer (version_number s.version))
     ∷ []
 
 -- a value that is reported; one that is not is left out

@@ -1,10 +1,10 @@
 -- What each rule forbids: whether an event breaks it after a history.
-use Rattle.std.specs.Prelude.{ℕ, ◌+◌, ◌*◌, ◌&&◌, not, nat_lt, nat_le, Bool, true, false, List, [], ◌∷◌, map, Option, Some, None, is_none}
+use Rattle.std.specs.Prelude.{ℕ, ◌+◌, ◌*◌, ◌&&◌, not, nat_lt, nat_le, max, Bool, true, false, List, [], ◌∷◌, map, Option, Some, None, is_none}
 use Rattle.std.specs.List.{list_any}
 use Rattle.qa_base.specs.declared.event.Event.{Event}
 use Rattle.qa_base.specs.declared.event.Event.TheVariants.{Sent, Ack, Lost, Timer, Discard}
 use Rattle.qa_base.specs.declared.space.Kind.{Kind}
-use Rattle.qa_base.specs.declared.space.Kind.TheVariants.{Loss, Pto}
+use Rattle.qa_base.specs.declared.space.Kind.TheVariants.{Pto}
 use Rattle.qa_base.specs.declared.space.Leave.TheVariants.{Window, Probe, Recovery}
 use Rattle.qa_base.specs.declared.space.Space.{Space}
 use Rattle.qa_base.specs.declared.space.Space.TheVariants.{Handshake}
@@ -17,7 +17,7 @@ use Rattle.qa_base.specs.machine.Packets.{Packet, packets_of, is_of, is_gone, is
 use Rattle.qa_base.specs.machine.Reno.{reno}
 use Rattle.qa_base.specs.values.Constants.{probe_datagrams}
 use Rattle.qa_base.specs.values.Settings.{Settings}
-use Rattle.qa_base.specs.machine.Timer.{Due, deadline}
+use Rattle.qa_base.specs.machine.Timer.{Due, deadline, packet_deadline, set_since, is_kind}
 
 -- ---- any event
 
@@ -107,11 +107,6 @@ abbrev pub is_timer_not_set : Settings → List Event → Event → Bool
 is_timer_not_set c h (Timer time kind space) = is_none (deadline c h)
 is_timer_not_set c h _ = false
 
-abbrev pub is_kind : Kind → Kind → Bool
-is_kind Loss Loss = true
-is_kind Pto Pto = true
-is_kind _ _ = false
-
 abbrev pub is_other : Kind → Space → Option Due → Bool
 is_other kind space None = false
 is_other kind space (Some due) = not (is_kind kind due.kind && is_space space due.space)
@@ -141,3 +136,18 @@ is_probe_owed h _ = false
 abbrev pub is_not_confirmed : List Event → Event → Bool
 is_not_confirmed h (Discard time Handshake) = not (is_confirmed h)
 is_not_confirmed h _ = false
+
+-- ---- any event
+
+-- past a deadline by more than the limit, counted from the time since which it was set where that is later
+abbrev pub is_past_due : ℕ → ℕ → ℕ → Option Due → Bool
+is_past_due limit since time None = false
+is_past_due limit since time (Some due) = nat_lt (max due.time since + limit) time
+
+abbrev pub is_late_by : Settings → List Event → ℕ → Option ℕ → Bool
+is_late_by c h time None = false
+is_late_by c h time (Some limit) = is_past_due limit (set_since c h) time (packet_deadline c h)
+
+-- V18: a timer that is set for packets should have fired before it, by the header's limit
+abbrev pub is_timer_late : Settings → List Event → Event → Bool
+is_timer_late c h e = is_late_by c h (time_of e) c.options.timer_late

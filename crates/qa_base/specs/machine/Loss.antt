@@ -1,57 +1,19 @@
--- Which packets are detected as lost, which are open, and the bytes in flight.
-use Rattle.std.specs.Prelude.{ℕ, ◌-◌, ◌*◌, ◌&&◌, ◌||◌, not, nat_le, nat_lt, max, Bool, false, List, [], ◌∷◌, filter, sum_by, Option, Some, None, if◌then◌else◌}
-use Rattle.std.specs.List.{list_any}
+-- Which packets are owed as lost, which are open, the bytes in flight, and persistent congestion.
+use Rattle.std.specs.Prelude.{ℕ, ◌&&◌, not, Bool, List, sum_by, if◌then◌else◌}
 use Rattle.qa_base.specs.declared.event.Event.{Event}
-use Rattle.qa_base.specs.declared.event.Event.TheVariants.{Ack, Timer}
-use Rattle.qa_base.specs.declared.space.Kind.TheVariants.{Loss}
-use Rattle.qa_base.specs.declared.space.Space.{Space}
-use Rattle.qa_base.specs.machine.Packets.{Packet, packets, packets_of, is_of, is_covered, is_lost, is_gone, acknowledges_new, largest_acknowledged}
-use Rattle.qa_base.specs.machine.Rtt.{Estimate, rtt, persistent_after}
-use Rattle.qa_base.specs.values.Constants.{packet_threshold, time_threshold_parts, time_threshold_divisor, granularity}
+use Rattle.qa_base.specs.machine.Detection.{owed_by, is_owed_by, is_unsettled, is_persistent_by}
+use Rattle.qa_base.specs.machine.Estimates.{sampled}
+use Rattle.qa_base.specs.machine.Packets.{Packet, packets, is_gone}
 use Rattle.qa_base.specs.values.Settings.{Settings}
 
--- ---- detection (RFC 9002, section 6.1, A.10)
-
--- sent as long ago as the time threshold of the RTT, and the granularity (section 6.1.2)
-abbrev pub is_old : Estimate → ℕ → Packet → Bool
-is_old r now p =
-    nat_le (time_threshold_parts * max r.latest_rtt r.smoothed_rtt) (time_threshold_divisor * (now - p.time))
-    && nat_le granularity (now - p.time)
-
--- below the largest acknowledged number, by the packet threshold (section 6.1.1) or for long enough
-abbrev pub is_late : Estimate → ℕ → Option ℕ → Packet → Bool
-is_late r now None p = false
-is_late r now (Some largest) p = nat_lt p.number largest && (nat_le packet_threshold (largest - p.number) || is_old r now p)
-
--- neither acknowledged nor declared lost
-abbrev pub is_unsettled : List Event → Packet → Bool
-is_unsettled h p = not (is_covered h p) && not (is_lost h p)
-
--- a detection in the packet's space, at a time, finds it lost
-abbrev pub is_found : Settings → List Event → ℕ → Space → Packet → Bool
-is_found c h now s p = p.in_flight && is_unsettled h p && is_late (rtt c h) now (largest_acknowledged h s) p
-
--- where and when the last event looks for losses: an acknowledgment of something new, and a loss timer
-abbrev pub detection : List Event → Option (Space × ℕ)
-detection (Ack time space ranges delay limited ∷ before) =
-    if acknowledges_new (Ack time space ranges delay limited ∷ before) then Some (space, time) else None
-detection (Timer time Loss space ∷ before) = Some (space, time)
-detection _ = None
-
-abbrev pub found_at : Settings → List Event → Option (Space × ℕ) → List Packet
-found_at c h None = []
-found_at c h (Some (s, now)) = filter (is_found c h now s) (packets_of h s)
+-- ---- losses (RFC 9002, section 6.1, A.10)
 
 -- the packets that the last event found lost; the next has to declare them
 abbrev pub owed : Settings → List Event → List Packet
-owed c h = found_at c h (detection h)
-
-abbrev pub is_found_at : Settings → List Event → Packet → Option (Space × ℕ) → Bool
-is_found_at c h p None = false
-is_found_at c h p (Some (s, now)) = is_of s p && is_found c h now s p
+owed c h = owed_by (sampled c h) h
 
 abbrev pub is_owed : Settings → List Event → Packet → Bool
-is_owed c h p = is_found_at c h p (detection h)
+is_owed c h p = is_owed_by (sampled c h) h p
 
 -- ---- bytes in flight (RFC 9002, B.4, B.9)
 
@@ -68,25 +30,6 @@ bytes_in_flight c h = sum_by (flight_size c h) (packets h)
 
 -- ---- persistent congestion (RFC 9002, section 7.6)
 
-abbrev pub is_after : Option ℕ → Packet → Bool
-is_after None p = false
-is_after (Some time) p = nat_lt time p.time
-
--- an ack-eliciting packet that was sent after the first sample
-abbrev pub is_end : Settings → List Event → Packet → Bool
-is_end c h p = p.eliciting && is_after (rtt c h).first_rtt_sample p
-
--- a packet of any space that was sent between the two is acknowledged
-abbrev pub is_acknowledged_between : List Event → Packet → Packet → Bool
-is_acknowledged_between h p q = list_any (λ m. nat_lt p.place m.place && nat_lt m.place q.place && is_covered h m) (packets h)
-
--- the two lie too far apart, and nothing between them was acknowledged
-abbrev pub are_ends : Settings → List Event → Packet → Packet → Bool
-are_ends c h p q =
-    is_end c h p && is_end c h q
-    && nat_lt (persistent_after (rtt c h) c.max_ack_delay) (q.time - p.time)
-    && not (is_acknowledged_between h p q)
-
--- the last event establishes persistent congestion by two packets that it found lost
+-- the last event establishes it by two packets that it found lost
 abbrev pub is_persistent : Settings → List Event → Bool
-is_persistent c h = list_any (λ p. list_any (are_ends c h p) (owed c h)) (owed c h)
+is_persistent c h = is_persistent_by (sampled c h) c h

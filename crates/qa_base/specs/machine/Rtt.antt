@@ -1,5 +1,5 @@
--- The round-trip time, by its samples (RFC 9002, section 5).
-use Rattle.std.specs.Prelude.{ℕ, ◌+◌, ◌-◌, ◌*◌, ◌/◌, ◌==◌, nat_le, min, max, List, [], ◌∷◌, find, Option, Some, None, if◌then◌else◌}
+-- Samples of the round-trip time, and the estimate that they make (RFC 9002, section 5).
+use Rattle.std.specs.Prelude.{ℕ, ◌+◌, ◌-◌, ◌*◌, ◌/◌, ◌==◌, nat_le, min, max, List, ◌∷◌, find, Option, Some, None, if◌then◌else◌}
 use Rattle.std.specs.List.{list_any}
 use Rattle.qa_base.specs.declared.event.Event.{Event}
 use Rattle.qa_base.specs.declared.event.Event.TheVariants.{Ack}
@@ -76,22 +76,27 @@ next_sample r latest_rtt ack_delay =
       first_rtt_sample = r.first_rtt_sample;
     }
 
-abbrev pub sampled_by : Option ℕ → Estimate → ℕ → ℕ → ℕ → Estimate
-sampled_by None r latest_rtt ack_delay now = first_sample latest_rtt now
-sampled_by (Some first) r latest_rtt ack_delay now = next_sample r latest_rtt ack_delay
+abbrev pub with_sample_by : Option ℕ → Estimate → ℕ → ℕ → ℕ → Estimate
+with_sample_by None r latest_rtt ack_delay now = first_sample latest_rtt now
+with_sample_by (Some first) r latest_rtt ack_delay now = next_sample r latest_rtt ack_delay
 
 -- one sample more, the first or a later one
-abbrev pub sampled : Estimate → ℕ → ℕ → ℕ → Estimate
-sampled r latest_rtt ack_delay now = sampled_by r.first_rtt_sample r latest_rtt ack_delay now
+abbrev pub with_sample : Estimate → ℕ → ℕ → ℕ → Estimate
+with_sample r latest_rtt ack_delay now = with_sample_by r.first_rtt_sample r latest_rtt ack_delay now
 
 abbrev pub updated : Estimate → Option Sample → Estimate
 updated r None = r
-updated r (Some s) = sampled r s.latest_rtt s.ack_delay s.time
+updated r (Some s) = with_sample r s.latest_rtt s.ack_delay s.time
 
--- the estimate after a history
-abbrev pub rtt : Settings → List Event → Estimate
-rtt c [] = start c.initial_rtt
-rtt c (e ∷ before) = updated (rtt c before) (sample_of c (e ∷ before))
+-- min_rtt is the latest sample again (section 5.2)
+abbrev pub refreshed : Estimate → Estimate
+refreshed r = record {
+  latest_rtt = r.latest_rtt;
+  min_rtt = r.latest_rtt;
+  smoothed_rtt = r.smoothed_rtt;
+  rttvar = r.rttvar;
+  first_rtt_sample = r.first_rtt_sample;
+}
 
 -- ---- what is computed from it
 

@@ -2,9 +2,9 @@
 use Rattle.std.specs.Prelude.{List, length}
 use Rattle.qa_base.specs.declared.event.Event.{Event}
 use Rattle.qa_base.specs.declared.verdict.Totals.{Totals}
+use Rattle.qa_base.specs.machine.Estimates.{rtt}
 use Rattle.qa_base.specs.machine.Loss.{bytes_in_flight, owed}
 use Rattle.qa_base.specs.machine.Reno.{reno}
-use Rattle.qa_base.specs.machine.Rtt.{rtt}
 use Rattle.qa_base.specs.values.Settings.{Settings}
 use Rattle.qa_base.specs.machine.Timer.{backoff}
 

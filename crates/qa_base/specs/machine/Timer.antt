@@ -1,5 +1,5 @@
 -- The loss detection timer (RFC 9002, section 6.2, A.8).
-use Rattle.std.specs.Prelude.{ℕ, ◌+◌, ◌-◌, ◌*◌, ◌/◌, ◌^◌, ◌&&◌, nat_le, nat_lt, min, max, count_by, Bool, true, false, List, [], ◌∷◌, filter, find, map, unwrap_or, Option, Some, None, option_map, option_and_then, if◌then◌else◌}
+use Rattle.std.specs.Prelude.{ℕ, ◌+◌, ◌-◌, ◌*◌, ◌/◌, ◌^◌, ◌==◌, ◌&&◌, nat_le, nat_lt, min, max, count_by, Bool, true, false, List, [], ◌∷◌, filter, find, map, unwrap_or, Option, Some, None, option_map, option_and_then, if◌then◌else◌}
 use Rattle.std.specs.List.{list_any}
 use Rattle.std.specs.Option.{option_or}
 use Rattle.qa_base.specs.declared.event.Event.{Event}
@@ -8,12 +8,13 @@ use Rattle.qa_base.specs.declared.space.Kind.{Kind}
 use Rattle.qa_base.specs.declared.space.Kind.TheVariants.{Loss, Pto}
 use Rattle.qa_base.specs.declared.space.Space.{Space}
 use Rattle.qa_base.specs.declared.space.Space.TheVariants.{Initial, Handshake, App}
-use Rattle.qa_base.specs.values.Events.{time_of}
+use Rattle.qa_base.specs.values.Events.{time_of, is_space}
 use Rattle.qa_base.specs.machine.Handshake.{is_confirmed, is_validated, has_keys}
+use Rattle.qa_base.specs.machine.Estimates.{rtt}
 use Rattle.qa_base.specs.machine.Loss.{is_open}
 use Rattle.qa_base.specs.machine.Moments.{moments, since}
 use Rattle.qa_base.specs.machine.Packets.{Packet, packets_of, acknowledges_new, largest_acknowledged}
-use Rattle.qa_base.specs.machine.Rtt.{Estimate, rtt, pto_base}
+use Rattle.qa_base.specs.machine.Rtt.{Estimate, pto_base}
 use Rattle.qa_base.specs.values.Constants.{time_threshold_parts, time_threshold_divisor, granularity}
 use Rattle.qa_base.specs.values.Settings.{Settings}
 
@@ -126,3 +127,24 @@ anti_deadlock c h =
 -- what the timer is set for: the first of these that there is
 abbrev pub deadline : Settings → List Event → Option Due
 deadline c h = option_or (earliest_loss c h) (option_or (earliest_pto c h) (anti_deadlock c h))
+
+-- what it is set for by packets, not as the timer that an unvalidated client keeps
+abbrev pub packet_deadline : Settings → List Event → Option Due
+packet_deadline c h = option_or (earliest_loss c h) (earliest_pto c h)
+
+-- ---- since when
+
+abbrev pub is_kind : Kind → Kind → Bool
+is_kind Loss Loss = true
+is_kind Pto Pto = true
+is_kind _ _ = false
+
+-- both there, of the same kind, space and time
+abbrev pub is_same_due : Option Due → Option Due → Bool
+is_same_due (Some due) (Some other) = is_kind due.kind other.kind && is_space due.space other.space && due.time == other.time
+is_same_due _ _ = false
+
+-- the time since which the deadline is what it is: that of the event that made it so
+abbrev pub set_since : Settings → List Event → ℕ
+set_since c [] = 0
+set_since c (e ∷ before) = if is_same_due (deadline c before) (deadline c (e ∷ before)) then set_since c before else time_of e

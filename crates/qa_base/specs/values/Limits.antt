@@ -1,10 +1,6 @@
 -- The ranges of the format's numbers.
 use Rattle.std.specs.Prelude.{ℕ, ◌&&◌, nat_le, Option, Some, None, if◌then◌else◌}
 
--- the version of the format
-abbrev pub format_version : ℕ
-format_version = 1
-
 -- the greatest time, 10^15 microseconds
 abbrev pub max_time : ℕ
 max_time = 1000000000000000
@@ -32,6 +28,18 @@ greatest_initial_rtt = 1000000000
 -- the greatest initial window, 2^32 - 1 bytes
 abbrev pub greatest_initial_window : ℕ
 greatest_initial_window = 4294967295
+
+-- the greatest limit for how late a timer is, 10^15 microseconds
+abbrev pub greatest_timer_late : ℕ
+greatest_timer_late = 1000000000000000
+
+-- the greatest slack of reported times, 1,000 seconds
+abbrev pub greatest_report_slack_us : ℕ
+greatest_report_slack_us = 1000000000
+
+-- the greatest slack of reported bytes, 2^32 - 1
+abbrev pub greatest_report_slack_bytes : ℕ
+greatest_report_slack_bytes = 4294967295
 
 -- the number, where it is from lo to hi
 abbrev pub in_range : ℕ → ℕ → ℕ → Option ℕ

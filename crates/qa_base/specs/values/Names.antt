@@ -4,6 +4,8 @@ use Rattle.qa_base.specs.declared.fault.Key.{Key}
 use Rattle.qa_base.specs.declared.fault.Key.TheVariants as key
 use Rattle.qa_base.specs.declared.fault.Fault.{Fault}
 use Rattle.qa_base.specs.declared.fault.Fault.TheVariants as fault
+use Rattle.qa_base.specs.declared.header.Version.{Version}
+use Rattle.qa_base.specs.declared.header.Version.TheVariants.{One, Two}
 use Rattle.qa_base.specs.declared.line.LineKind.{LineKind}
 use Rattle.qa_base.specs.declared.line.LineKind.TheVariants as kinds
 use Rattle.qa_base.specs.declared.rule.Field.{Field}
@@ -38,6 +40,10 @@ key_name key.MaxDatagramSize = codes "max_datagram_size"
 key_name key.MaxAckDelay = codes "max_ack_delay"
 key_name key.InitialRtt = codes "initial_rtt"
 key_name key.InitialWindow = codes "initial_window"
+key_name key.TimerLateUs = codes "timer_late_us"
+key_name key.RefreshMinRtt = codes "refresh_min_rtt"
+key_name key.ReportSlackUs = codes "report_slack_us"
+key_name key.ReportSlackBytes = codes "report_slack_bytes"
 key_name key.Time = codes "time"
 key_name key.Space = codes "space"
 key_name key.Number = codes "number"
@@ -64,6 +70,11 @@ line_kind_name kinds.Discard = codes "discard"
 line_kind_name kinds.Confirmed = codes "confirmed"
 line_kind_name kinds.Keys = codes "keys"
 line_kind_name kinds.Metrics = codes "metrics"
+
+-- the version of the format that a header has
+abbrev pub version_number : Version → ℕ
+version_number One = 1
+version_number Two = 2
 
 abbrev pub role_name : Role → List ℕ
 role_name Client = codes "client"
@@ -136,6 +147,7 @@ rule_name rule.ProbeOwed = codes "probe-owed"
 rule_name rule.NotConfirmed = codes "not-confirmed"
 rule_name (rule.Metric f) = codes "metric"
 rule_name rule.OwedAtEnd = codes "owed-at-end"
+rule_name rule.TimerLate = codes "timer-late"
 
 abbrev pub rule_number : Rule → ℕ
 rule_number rule.TimeBack = 1
@@ -155,6 +167,7 @@ rule_number rule.ProbeOwed = 14
 rule_number rule.NotConfirmed = 15
 rule_number (rule.Metric f) = 16
 rule_number rule.OwedAtEnd = 17
+rule_number rule.TimerLate = 18
 
 -- the reported value that differs, of a metric
 abbrev pub field_of : Rule → Option Field

@@ -9,7 +9,9 @@ use Rattle.qa_base.specs.declared.event.Event.TheVariants.{Sent, Ack, Lost, Time
 use Rattle.qa_base.specs.declared.space.Leave.{Leave}
 use Rattle.qa_base.specs.declared.space.Space.{Space}
 use Rattle.qa_base.specs.values.Events.{acknowledges, declares_lost, discards}
-use Rattle.qa_base.specs.machine.Loss.{is_found, is_found_at, found_at, detection, owed, is_owed, is_open, is_unsettled, flight_size, bytes_in_flight}
+use Rattle.qa_base.specs.machine.Estimates.{sampled}
+use Rattle.qa_base.specs.machine.Detection.{is_found, is_found_at, found_at, detection, is_unsettled}
+use Rattle.qa_base.specs.machine.Loss.{owed, is_owed, is_open, flight_size, bytes_in_flight}
 use Rattle.qa_base.specs.machine.Packets.{Packet, packets, packet_of, is_of, is_covered, is_lost, is_gone, is_newly_acknowledged, newly_acknowledged}
 use Rattle.qa_base.specs.machine.Rules.{IsRun}
 use Rattle.qa_base.specs.values.Settings.{Settings}
@@ -100,9 +102,9 @@ sum_of_either weight f g (p ∷ ps) apart =
 
 -- ---- sums over the open packets
 
-found_part : (c : Settings) (h : List Event) (d : Option (Space × ℕ)) → filter (λ p. is_found_at c h p d) (packets h) ≡ found_at c h d
+found_part : (c : Settings) (h : List Event) (d : Option (Space × ℕ)) → filter (λ p. is_found_at (sampled c h) h p d) (packets h) ≡ found_at (sampled c h) h d
 found_part c h None = none_left (λ p. false) (packets h) (of_each (λ p. false ≡ false) (packets h) (λ p has. refl))
-found_part c h (Some (s, now)) = part_of_part (is_of s) (is_found c h now s) (packets h)
+found_part c h (Some (s, now)) = part_of_part (is_of s) (is_found (sampled c h) h now s) (packets h)
 
 -- what an event finds lost stands among the packets sent before it
 pub owed_among : (c : Settings) (e : Event) (h : List Event) → filter (is_owed c (e ∷ h)) (packets h) ≡ owed c (e ∷ h)

@@ -9,11 +9,12 @@ use Rattle.qa_base.specs.declared.space.Space.{Space}
 use Rattle.qa_base.specs.machine.Breaches.{numbers}
 use Rattle.qa_laws.specs.machine.Conduct.{IsLostRightly}
 use Rattle.qa_base.specs.values.Events.{is_space, is_named, acknowledges, has_ranges}
-use Rattle.qa_base.specs.machine.Loss.{is_found, is_found_at, detection, owed, is_late, is_old, is_unsettled}
+use Rattle.qa_base.specs.machine.Estimates.{sampled}
+use Rattle.qa_base.specs.machine.Detection.{is_found, is_found_at, detection, is_late, is_old, is_unsettled}
+use Rattle.qa_base.specs.machine.Loss.{owed}
 use Rattle.qa_base.specs.machine.Numbers.{has_all}
 use Rattle.qa_base.specs.machine.Packets.{Packet, packet_of, packets, packets_of, is_of, is_covered, greatest, greatest_in, largest_acknowledged}
 use Rattle.qa_base.specs.values.Proper.{IsRange, IsProperEvent}
-use Rattle.qa_base.specs.machine.Rtt.{rtt}
 use Rattle.qa_base.specs.machine.Rules.{IsRun}
 use Rattle.qa_base.specs.values.Settings.{Settings}
 use Rattle.qa_base.specs.machine.Timer.{loss_delay}
@@ -130,19 +131,19 @@ place_of c h run p q has_p has_q same lower = elim (two_of WasSentBefore (packet
   | inr (inr behind) ↦ behind.place
 ]
 
-late_by : (c : Settings) (h : List Event) (now m : ℕ) (p : Packet) → p.number < m → (nat_le 3 (m - p.number) || is_old (rtt c h) now p) ≡ true
-    → (p.number + 3 ≤ m) ⊎ (loss_delay (rtt c h) ≤ now - p.time)
-late_by c h now m p below is = elim (or_cases (nat_le 3 (m - p.number)) (is_old (rtt c h) now p) is) [
+late_by : (c : Settings) (h : List Event) (now m : ℕ) (p : Packet) → p.number < m → (nat_le 3 (m - p.number) || is_old (sampled c h) now p) ≡ true
+    → (p.number + 3 ≤ m) ⊎ (loss_delay (sampled c h) ≤ now - p.time)
+late_by c h now m p below is = elim (or_cases (nat_le 3 (m - p.number)) (is_old (sampled c h) now p) is) [
   | inl far ↦ (let three = leb-true 3 (m - p.number) far in inl (omega (arith, three, below)))
-  | inr old ↦ inr ((old_is_after_loss_delay (rtt c h) now p).0 old)
+  | inr old ↦ inr ((old_is_after_loss_delay (sampled c h) now p).0 old)
 ]
 
 lost_by : (c : Settings) (h : List Event) → IsRun c h → AllByRecursion IsProperEvent h → (p : Packet) → Contains (packets h) p → (s : Space) (now : ℕ)
-    → detection h ≡ Some (s, now) → p.space ≡ s → p.in_flight ≡ true → (most : Option ℕ) → largest_acknowledged h s ≡ most → is_late (rtt c h) now most p ≡ true
+    → detection h ≡ Some (s, now) → p.space ≡ s → p.in_flight ≡ true → (most : Option ℕ) → largest_acknowledged h s ≡ most → is_late (sampled c h) now most p ≡ true
     → IsLostRightly c h s p.number
 lost_by c h run proper p has s now at of_space flying None largest late = cc
 lost_by c h run proper p has s now at of_space flying (Some m) largest late =
-    let both = and_parts (nat_lt p.number m) (nat_le 3 (m - p.number) || is_old (rtt c h) now p) late in
+    let both = and_parts (nat_lt p.number m) (nat_le 3 (m - p.number) || is_old (sampled c h) now p) late in
     let below = ltb-true p.number m both.0 in
     let ack = largest_is_acknowledged c h run proper s m largest in
     let lower : p.number < ack.0.number = omega (arith, below, ack.3) in
@@ -160,15 +161,15 @@ lost_by c h run proper p has s now at of_space flying (Some m) largest late =
       lower = lower;
       now = now;
       detected = at;
-      late = subst (λ (k : ℕ). (p.number + 3 ≤ k) ⊎ (loss_delay (rtt c h) ≤ now - p.time)) (sym ack.3) (late_by c h now m p below both.1);
+      late = subst (λ (k : ℕ). (p.number + 3 ≤ k) ⊎ (loss_delay (sampled c h) ≤ now - p.time)) (sym ack.3) (late_by c h now m p below both.1);
     }
 
 found_rightly : (c : Settings) (h : List Event) → IsRun c h → AllByRecursion IsProperEvent h → (p : Packet) → Contains (packets h) p → (space : Space) → p.space ≡ space
-    → (d : Option (Space × ℕ)) → detection h ≡ d → is_found_at c h p d ≡ true → IsLostRightly c h space p.number
+    → (d : Option (Space × ℕ)) → detection h ≡ d → is_found_at (sampled c h) h p d ≡ true → IsLostRightly c h space p.number
 found_rightly c h run proper p has space of_space None at is = cc
 found_rightly c h run proper p has space of_space (Some (s, now)) at is =
-    let parts = and_parts (is_of s p) (is_found c h now s p) is in
-    let more = and_parts (p.in_flight && is_unsettled h p) (is_late (rtt c h) now (largest_acknowledged h s) p) parts.1 in
+    let parts = and_parts (is_of s p) (is_found (sampled c h) h now s p) is in
+    let more = and_parts (p.in_flight && is_unsettled h p) (is_late (sampled c h) now (largest_acknowledged h s) p) parts.1 in
     let flying = (and_parts p.in_flight (is_unsettled h p) more.0).0 in
     let of_s : p.space ≡ s = sym (is_space_is s p.space parts.0) in
     subst (λ (t : Space). IsLostRightly c h t p.number) (sym of_s ∙ of_space)

@@ -9,10 +9,12 @@ use Rattle.qa_base.specs.declared.space.Kind.TheVariants.{Loss}
 use Rattle.qa_base.specs.declared.space.Space.{Space}
 use Rattle.qa_base.specs.declared.space.Space.TheVariants.{Initial, Handshake, App}
 use Rattle.qa_base.specs.machine.Breaches.{is_before}
-use Rattle.qa_base.specs.machine.Loss.{owed, is_found, is_late, is_old, is_open, is_unsettled}
+use Rattle.qa_base.specs.machine.Estimates.{rtt, sampled}
+use Rattle.qa_base.specs.machine.Rtt.{Estimate}
+use Rattle.qa_base.specs.machine.Detection.{is_found, is_late, is_old, is_unsettled}
+use Rattle.qa_base.specs.machine.Loss.{owed, is_open}
 use Rattle.qa_laws.specs.machine.Oldest.{is_flying, due_of}
 use Rattle.qa_base.specs.machine.Packets.{Packet, packets_of, largest_acknowledged}
-use Rattle.qa_base.specs.machine.Rtt.{rtt}
 use Rattle.qa_base.specs.machine.Rules.{IsRun}
 use Rattle.qa_base.specs.values.Settings.{Settings}
 use Rattle.qa_base.specs.machine.Timer.{Due, deadline, earlier, earliest_loss, earliest_pto, anti_deadlock, loss_due, loss_delay, is_below_largest}
@@ -58,11 +60,10 @@ earliest_awaits c h run due is = elim (earlier_is (loss_due c h Initial) (earlie
   ]
 ]
 
-late_from : (c : Settings) (h : List Event) (now : ℕ) (p : Packet) (most : Option ℕ) → is_below_largest p.number most ≡ true → is_old (rtt c h) now p ≡ true
-    → is_late (rtt c h) now most p ≡ true
-late_from c h now p None below old = cc
-late_from c h now p (Some m) below old =
-    and_from (nat_lt p.number m) (nat_le 3 (m - p.number) || is_old (rtt c h) now p) below (or_right (nat_le 3 (m - p.number)) (is_old (rtt c h) now p) old)
+late_from : (r : Estimate) (now : ℕ) (p : Packet) (most : Option ℕ) → is_below_largest p.number most ≡ true → is_old r now p ≡ true → is_late r now most p ≡ true
+late_from r now p None below old = cc
+late_from r now p (Some m) below old =
+    and_from (nat_lt p.number m) (nat_le 3 (m - p.number) || is_old r now p) below (or_right (nat_le 3 (m - p.number)) (is_old r now p) old)
 
 none_has : (ps : List Packet) (p : Packet) → Contains ps p → ps ≡ [] → ⊥
 none_has [] p (k, within, is) none = omega arith
@@ -85,9 +86,9 @@ timer_owes c h time space run none =
     let below : is_below_largest p.number (largest_acknowledged h space) ≡ true = subst (λ (s : Space). is_below_largest p.number (largest_acknowledged h s) ≡ true) (sym of_space) awaits.below in
     let has : Contains (packets_of h space) p = subst (λ (s : Space). Contains (packets_of h s) p) (sym of_space) awaits.sent in
     let flying = and_parts p.in_flight (is_open c h p) awaits.flying in
-    let late = late_from c h time p (largest_acknowledged h space) below old in
+    let late = late_from (rtt c h) time p (largest_acknowledged h space) below old in
     let unsettled = (opens_is c h p flying.1).unsettled in
     let e = Timer time Loss space in
-    let found : is_found c (e ∷ h) time space p ≡ true = and_from (p.in_flight && is_unsettled (e ∷ h) p) (is_late (rtt c (e ∷ h)) time (largest_acknowledged (e ∷ h) space) p)
+    let found : is_found (sampled c (e ∷ h)) (e ∷ h) time space p ≡ true = and_from (p.in_flight && is_unsettled (e ∷ h) p) (is_late (sampled c (e ∷ h)) time (largest_acknowledged (e ∷ h) space) p)
     (and_from p.in_flight (is_unsettled (e ∷ h) p) flying.0 unsettled) late in
-    none_has (owed c (e ∷ h)) p (part_has (is_found c (e ∷ h) time space) (packets_of (e ∷ h) space) p has found) none
+    none_has (owed c (e ∷ h)) p (part_has (is_found (sampled c (e ∷ h)) (e ∷ h) time space) (packets_of (e ∷ h) space) p has found) none

@@ -10,17 +10,19 @@ use Rattle.qa_base.specs.declared.space.Kind.{Kind}
 use Rattle.qa_base.specs.declared.space.Kind.TheVariants.{Loss, Pto}
 use Rattle.qa_base.specs.declared.space.Space.{Space}
 use Rattle.qa_base.specs.declared.space.Space.TheVariants.{Initial, Handshake, App}
-use Rattle.qa_base.specs.machine.Breaches.{is_kind, is_other}
+use Rattle.qa_base.specs.machine.Breaches.{is_other}
 use Rattle.qa_base.specs.values.Events.{is_space}
-use Rattle.qa_base.specs.machine.Loss.{is_found, found_at, detection, owed, is_owed, is_open, is_late, is_unsettled}
+use Rattle.qa_base.specs.machine.Estimates.{rtt, sampled}
+use Rattle.qa_base.specs.machine.Detection.{is_found, found_at, detection, is_late, is_unsettled}
+use Rattle.qa_base.specs.machine.Loss.{owed, is_owed, is_open}
 use Rattle.qa_laws.specs.machine.Oldest.{is_flying, due_of, is_asked}
 use Rattle.qa_laws.specs.machine.Sequence.{EachTwo}
 use Rattle.qa_base.specs.machine.Packets.{Packet, packets, packets_of, is_of, is_some_packet, is_gone, acknowledges_new, largest_acknowledged}
-use Rattle.qa_base.specs.machine.Rtt.{Estimate, rtt, pto_base}
+use Rattle.qa_base.specs.machine.Rtt.{Estimate, pto_base}
 use Rattle.qa_base.specs.machine.Rules.{IsRun}
 use Rattle.qa_base.specs.values.Settings.{Settings}
 use Rattle.qa_base.specs.machine.Handshake.{is_confirmed, is_validated, has_keys}
-use Rattle.qa_base.specs.machine.Timer.{Due, deadline, awaits_acknowledgment, last_eliciting, last_set, backoff, earlier, earliest_loss, earliest_pto, anti_deadlock, loss_due, pto_due, is_below_largest}
+use Rattle.qa_base.specs.machine.Timer.{Due, is_kind, deadline, awaits_acknowledgment, last_eliciting, last_set, backoff, earlier, earliest_loss, earliest_pto, anti_deadlock, loss_due, pto_due, is_below_largest}
 use Rattle.qa_laws.proofs.machine.Courses.{IsEarlier, in_order_of, is_space_is}
 use Rattle.qa_laws.proofs.machine.Deadline.{first_passes, loss_due_is}
 use Rattle.qa_laws.proofs.machine.Lateness.{earlier_is_late}
@@ -36,9 +38,9 @@ abbrev pub asked : List Event → Space → List Packet
 asked h s = filter (is_asked h s) (reverse (packets h))
 
 found_of_asked : (c : Settings) (h : List Event) (now : ℕ) (s : Space)
-    → filter (is_found c h now s) (packets_of h s) ≡ filter (is_late (rtt c h) now (largest_acknowledged h s)) (filter (is_asked h s) (packets h))
+    → filter (is_found (sampled c h) h now s) (packets_of h s) ≡ filter (is_late (sampled c h) now (largest_acknowledged h s)) (filter (is_asked h s) (packets h))
 found_of_asked c h now s =
-    let late = is_late (rtt c h) now (largest_acknowledged h s) in
+    let late = is_late (sampled c h) now (largest_acknowledged h s) in
     let open_here : Packet → Bool = λ p. p.in_flight && is_unsettled h p in
     part_of_part open_here late (packets_of h s) ∙ ap (filter late) (sym (part_of_part (is_of s) open_here (packets h)))
 
@@ -59,14 +61,14 @@ late_first c h r now largest s run =
 -- in a run, where the last event looks for losses in a space at a time, what it finds is, in the order of sending,
 -- the packets asked of up to the first that is not late
 pub owed_is_front : (c : Settings) (h : List Event) → IsRun c h → (s : Space) (now : ℕ) → detection h ≡ Some (s, now)
-    → reverse (owed c h) ≡ take_while (is_late (rtt c h) now (largest_acknowledged h s)) (asked h s)
+    → reverse (owed c h) ≡ take_while (is_late (sampled c h) now (largest_acknowledged h s)) (asked h s)
 owed_is_front c h run s now at =
-    let late = is_late (rtt c h) now (largest_acknowledged h s) in
-    ap (λ d. reverse (found_at c h d)) at
+    let late = is_late (sampled c h) now (largest_acknowledged h s) in
+    ap (λ d. reverse (found_at (sampled c h) h d)) at
     ∙ (ap reverse (found_of_asked c h now s)
     ∙ (sym (part_turned late (filter (is_asked h s) (packets h)))
     ∙ (ap (filter late) (sym (part_turned (is_asked h s) (packets h)))
-    ∙ front late (asked h s) (late_first c h (rtt c h) now (largest_acknowledged h s) s run))))
+    ∙ front late (asked h s) (late_first c h (sampled c h) now (largest_acknowledged h s) s run))))
 
 -- ---- a loss timer goes off in a space that is there
 

@@ -6,7 +6,8 @@ use Rattle.qa_base.specs.declared.event.Event.{Event}
 use Rattle.qa_base.specs.declared.space.Space.{Space}
 use Rattle.qa_base.specs.values.Events.{acknowledges}
 use Rattle.qa_laws.specs.machine.Fates.{fate, fate_by, fate_next, is_uncovered}
-use Rattle.qa_base.specs.machine.Loss.{detection, is_owed, is_open}
+use Rattle.qa_base.specs.machine.Detection.{detection}
+use Rattle.qa_base.specs.machine.Loss.{is_owed, is_open}
 use Rattle.qa_laws.specs.machine.Oldest.{is_flying, NoneFlies}
 use Rattle.qa_base.specs.machine.Packets.{Packet, packets, is_of, is_covered, is_lost, is_gone}
 use Rattle.qa_base.specs.machine.Rules.{IsRun}

@@ -10,10 +10,12 @@ use Rattle.std.specs.Prelude.{nat_lt, if◌then◌else◌}
 use Rattle.qa_base.specs.declared.event.Event.{Event}
 use Rattle.qa_base.specs.declared.event.Event.TheVariants.{Sent}
 use Rattle.qa_laws.specs.machine.Among.{are_ends_among, is_persistent_among}
-use Rattle.qa_base.specs.machine.Loss.{owed, is_owed, is_open, is_end, is_persistent, are_ends}
+use Rattle.qa_base.specs.machine.Estimates.{sampled}
+use Rattle.qa_base.specs.machine.Detection.{is_end, are_ends}
+use Rattle.qa_base.specs.machine.Loss.{owed, is_owed, is_open, is_persistent}
 use Rattle.qa_laws.specs.machine.Sequence.{EachTwo, WasSentBefore}
 use Rattle.qa_base.specs.machine.Packets.{Packet, packets, is_covered, is_newly_acknowledged, newly_acknowledged}
-use Rattle.qa_base.specs.machine.Rtt.{rtt, persistent_after}
+use Rattle.qa_base.specs.machine.Rtt.{persistent_after}
 use Rattle.qa_base.specs.machine.Rules.{IsRun}
 use Rattle.qa_base.specs.values.Settings.{Settings}
 use Rattle.qa_laws.specs.machine.Sums.{counted, open_sum}
@@ -63,21 +65,21 @@ not_between : (h : List Event) (p q m : Packet) → m.place < p.place → (nat_l
 not_between h p q m before = rw (le-ltb p.place m.place (omega (arith, before))) refl
 
 ends_of_kept : (c : Settings) (g : List Event) (kept gone : List Packet) (p q : Packet) → packets g ≡ kept ++ gone → AllByRecursion (WasSentBefore p) gone
-    → are_ends c g p q ≡ are_ends_among c g kept p q
+    → are_ends (sampled c g) c g p q ≡ are_ends_among c g kept p q
 ends_of_kept c g kept gone p q parts behind =
     let between : Packet → Bool = λ m. nat_lt p.place m.place && nat_lt m.place q.place && is_covered g m in
     let none : AllByRecursion (λ m. between m ≡ false) gone = each_weaker (WasSentBefore p) (λ m. between m ≡ false) (λ m before. not_between g p q m before.place) gone behind in
     let same : list_any between (packets g) ≡ list_any between kept = ap (list_any between) parts ∙ any_of_first between kept gone none in
-    ap (λ b. is_end c g p && is_end c g q && nat_lt (persistent_after (rtt c g) c.max_ack_delay) (q.time - p.time) && not b) same
+    ap (λ b. is_end (sampled c g) p && is_end (sampled c g) q && nat_lt (persistent_after (sampled c g) c.max_ack_delay) (q.time - p.time) && not b) same
 
 pairs_of_kept : (c : Settings) (g : List Event) (kept gone found : List Packet) → packets g ≡ kept ++ gone → EachTwo WasSentBefore (kept ++ gone)
     → AllByRecursion (λ p. AllByRecursion (WasSentBefore p) gone) found
-    → list_any (λ p. list_any (are_ends c g p) found) found ≡ list_any (λ p. list_any (are_ends_among c g kept p) found) found
+    → list_any (λ p. list_any (are_ends (sampled c g) c g p) found) found ≡ list_any (λ p. list_any (are_ends_among c g kept p) found) found
 pairs_of_kept c g kept gone found parts two behind =
-    same_any (λ p. list_any (are_ends c g p) found) (λ p. list_any (are_ends_among c g kept p) found) found
-    (each_weaker (λ p. AllByRecursion (WasSentBefore p) gone) (λ p. list_any (are_ends c g p) found ≡ list_any (are_ends_among c g kept p) found)
-    (λ p before. same_any (are_ends c g p) (are_ends_among c g kept p) found
-    (of_each (λ q. are_ends c g p q ≡ are_ends_among c g kept p q) found (λ q has. ends_of_kept c g kept gone p q parts before)))
+    same_any (λ p. list_any (are_ends (sampled c g) c g p) found) (λ p. list_any (are_ends_among c g kept p) found) found
+    (each_weaker (λ p. AllByRecursion (WasSentBefore p) gone) (λ p. list_any (are_ends (sampled c g) c g p) found ≡ list_any (are_ends_among c g kept p) found)
+    (λ p before. same_any (are_ends (sampled c g) c g p) (are_ends_among c g kept p) found
+    (of_each (λ q. are_ends (sampled c g) c g p q ≡ are_ends_among c g kept p q) found (λ q has. ends_of_kept c g kept gone p q parts before)))
     found behind)
 
 -- none of the closed is found lost by the event that comes next
@@ -101,7 +103,7 @@ persistent_if c e h kept gone run same parts closed =
     let two : EachTwo WasSentBefore (kept ++ gone) = subst (λ (ps : List Packet). EachTwo WasSentBefore ps) parts (in_order c h run.0) in
     let behind : AllByRecursion (λ p. AllByRecursion (WasSentBefore p) gone) found = of_each (λ p. AllByRecursion (WasSentBefore p) gone) found
     (λ p has. all_behind WasSentBefore kept gone two p (part_is (is_owed c (e ∷ h)) kept p has).0) in
-    ap (λ found. list_any (λ p. list_any (are_ends c (e ∷ h) p) found) found) (owed_of_kept c e h run kept gone parts closed)
+    ap (λ found. list_any (λ p. list_any (are_ends (sampled c (e ∷ h)) c (e ∷ h) p) found) found) (owed_of_kept c e h run kept gone parts closed)
     ∙ pairs_of_kept c (e ∷ h) kept gone found (same ∙ parts) two behind
 
 -- in a run, packets before all others that are closed before an event have no part in whether it establishes persistent congestion

@@ -3,7 +3,7 @@ use Rattle.std.proofs.Common.{◌≡◌, ◌≤◌, ◌-◌, ◌*◌, max, ℕ, 
 use Rattle.std.proofs.lemmas.Bool.{and_parts, and_from, or_cases, or_left, or_right, ltb-true, lt-ltb, leb-true, le-leb}
 use Rattle.std.specs.Prelude.{nat_lt, nat_le}
 use Rattle.qa_base.specs.declared.event.Event.{Event}
-use Rattle.qa_base.specs.machine.Loss.{is_old, is_late}
+use Rattle.qa_base.specs.machine.Detection.{is_old, is_late}
 use Rattle.qa_base.specs.machine.Packets.{Packet, packets, is_of}
 use Rattle.qa_base.specs.machine.Rtt.{Estimate}
 use Rattle.qa_base.specs.machine.Rules.{IsRun}

@@ -8,7 +8,9 @@ use Rattle.qa_base.specs.declared.event.Event.TheVariants.{Ack, Lost}
 use Rattle.qa_base.specs.declared.space.Space.{Space}
 use Rattle.qa_base.specs.machine.Breaches.{numbers}
 use Rattle.qa_base.specs.values.Events.{is_space, is_named, acknowledges, declares_lost, discards}
-use Rattle.qa_base.specs.machine.Loss.{is_found, is_found_at, found_at, detection, owed, is_owed, is_open, is_unsettled}
+use Rattle.qa_base.specs.machine.Estimates.{sampled}
+use Rattle.qa_base.specs.machine.Detection.{is_found, is_found_at, found_at, detection, is_unsettled}
+use Rattle.qa_base.specs.machine.Loss.{owed, is_owed, is_open}
 use Rattle.qa_base.specs.machine.Numbers.{has_all, names_exactly}
 use Rattle.qa_base.specs.machine.Packets.{Packet, packets, packets_of, is_of, is_some_packet, is_covered, is_lost, is_gone, greatest, greatest_in, greatest_of, largest_acknowledged}
 use Rattle.qa_base.specs.machine.Rules.{IsRun}
@@ -58,18 +60,18 @@ below_largest_stays e h s n is = rw (largest_after e h s) (below_raised (greates
 
 -- ---- what is owed
 
-found_has : (c : Settings) (h : List Event) (p : Packet) (d : Option (Space × ℕ)) → Contains (packets h) p → is_found_at c h p d ≡ true → Contains (found_at c h d) p
+found_has : (c : Settings) (h : List Event) (p : Packet) (d : Option (Space × ℕ)) → Contains (packets h) p → is_found_at (sampled c h) h p d ≡ true → Contains (found_at (sampled c h) h d) p
 found_has c h p None has is = cc
 found_has c h p (Some (s, now)) has is =
-    let both = and_parts (is_of s p) (is_found c h now s p) is in
-    part_has (is_found c h now s) (packets_of h s) p (part_has (is_of s) (packets h) p has both.0) both.1
+    let both = and_parts (is_of s p) (is_found (sampled c h) h now s p) is in
+    part_has (is_found (sampled c h) h now s) (packets_of h s) p (part_has (is_of s) (packets h) p has both.0) both.1
 
-found_is : (c : Settings) (h : List Event) (p : Packet) (d : Option (Space × ℕ)) → Contains (found_at c h d) p → Contains (packets h) p × (is_found_at c h p d ≡ true)
+found_is : (c : Settings) (h : List Event) (p : Packet) (d : Option (Space × ℕ)) → Contains (found_at (sampled c h) h d) p → Contains (packets h) p × (is_found_at (sampled c h) h p d ≡ true)
 found_is c h p None (k, within, is) = absurd (omega arith)
 found_is c h p (Some (s, now)) has =
-    let found = part_is (is_found c h now s) (packets_of h s) p has in
+    let found = part_is (is_found (sampled c h) h now s) (packets_of h s) p has in
     let of_space = part_is (is_of s) (packets h) p found.0 in
-    (of_space.0, and_from (is_of s p) (is_found c h now s p) of_space.1 found.1)
+    (of_space.0, and_from (is_of s p) (is_found (sampled c h) h now s p) of_space.1 found.1)
 
 -- the packets owed are those of which it is so
 pub owed_has : (c : Settings) (h : List Event) (p : Packet) → Contains (packets h) p → is_owed c h p ≡ true → Contains (owed c h) p
@@ -78,11 +80,11 @@ owed_has c h p has is = found_has c h p (detection h) has is
 pub owed_is : (c : Settings) (h : List Event) (p : Packet) → Contains (owed c h) p → Contains (packets h) p × (is_owed c h p ≡ true)
 owed_is c h p has = found_is c h p (detection h) has
 
-found_of_one : (c : Settings) (h : List Event) (p q : Packet) (d : Option (Space × ℕ)) → is_found_at c h p d ≡ true → is_found_at c h q d ≡ true → p.space ≡ q.space
+found_of_one : (c : Settings) (h : List Event) (p q : Packet) (d : Option (Space × ℕ)) → is_found_at (sampled c h) h p d ≡ true → is_found_at (sampled c h) h q d ≡ true → p.space ≡ q.space
 found_of_one c h p q None is_p is_q = cc
 found_of_one c h p q (Some (s, now)) is_p is_q =
-    let of_p = is_space_is s p.space (and_parts (is_of s p) (is_found c h now s p) is_p).0 in
-    let of_q = is_space_is s q.space (and_parts (is_of s q) (is_found c h now s q) is_q).0 in
+    let of_p = is_space_is s p.space (and_parts (is_of s p) (is_found (sampled c h) h now s p) is_p).0 in
+    let of_q = is_space_is s q.space (and_parts (is_of s q) (is_found (sampled c h) h now s q) is_q).0 in
     sym of_p ∙ of_q
 
 -- all of one space

@@ -13,7 +13,7 @@ use Rattle.qa_base.specs.declared.fault.Fault.TheVariants.{HeaderPlace, LineTooL
 use Rattle.qa_base.specs.declared.line.Line.{Line}
 use Rattle.qa_base.specs.declared.line.Line.TheVariants as line
 use Rattle.qa_base.specs.declared.rule.Rule.{Rule}
-use Rattle.qa_base.specs.declared.rule.Rule.TheVariants.{OwedAtEnd}
+use Rattle.qa_base.specs.declared.rule.Rule.TheVariants.{OwedAtEnd, TimerLate}
 use Rattle.qa_base.specs.declared.verdict.Totals.{Totals}
 use Rattle.qa_base.specs.declared.verdict.Verdict.{Verdict}
 use Rattle.qa_base.specs.declared.verdict.Verdict.TheVariants.{Accepted, Refused, Unreadable}
@@ -21,6 +21,7 @@ use Rattle.qa_laws.specs.verdicts.Grounds.{AreGoodLines, BreaksAt, IsOutOfPlace,
 use Rattle.qa_base.specs.format.Lines.{line_limit, max_lines, lines}
 use Rattle.qa_base.specs.machine.Loss.{owed}
 use Rattle.qa_base.specs.machine.Packets.{Packet, history_of, is_some_packet}
+use Rattle.qa_base.specs.machine.Breaches.{is_timer_late}
 use Rattle.qa_base.specs.machine.Metrics.{metric_tests}
 use Rattle.qa_base.specs.machine.Rules.{broken, first_of, first_broken}
 use Rattle.qa_base.specs.values.Settings.{Settings}
@@ -545,10 +546,10 @@ never_of : (tests : List (Bool × Rule)) → AllByRecursion IsOfEvent tests → 
 never_of [] all is = cc
 never_of (test ∷ tests) all is = never_if test.0 test.1 (first_of tests) all.0 (never_of tests all.1) is
 
-metrics_of_event : (c : Settings) (h : List Event) (e : Event) → AllByRecursion IsOfEvent (metric_tests c h e)
-metrics_of_event c h (Metrics time values) = ((λ is. cc), ((λ is. cc), ((λ is. cc), ((λ is. cc), ((λ is. cc), ((λ is. cc), ((λ is. cc), tt)))))))
-metrics_of_event c h _ = tt
+metrics_of_event : (c : Settings) (h : List Event) (e : Event) (tests : List (Bool × Rule)) → AllByRecursion IsOfEvent tests → AllByRecursion IsOfEvent (metric_tests c h e ++ tests)
+metrics_of_event c h (Metrics time values) tests all = ((λ is. cc), ((λ is. cc), ((λ is. cc), ((λ is. cc), ((λ is. cc), ((λ is. cc), ((λ is. cc), all)))))))
+metrics_of_event c h _ tests all = all
 
 pub never_owed_at_end : (c : Settings) (h : List Event) (e : Event) → first_broken c h e ≡ Some OwedAtEnd → ⊥
 unfolding first_broken
-never_owed_at_end c h e is = let metrics = metrics_of_event c h e in never_of (broken c h e) ((λ is. cc), ((λ is. cc), ((λ is. cc), ((λ is. cc), ((λ is. cc), ((λ is. cc), ((λ is. cc), ((λ is. cc), ((λ is. cc), ((λ is. cc), ((λ is. cc), ((λ is. cc), ((λ is. cc), ((λ is. cc), ((λ is. cc), metrics))))))))))))))) is
+never_owed_at_end c h e is = let metrics = metrics_of_event c h e ((is_timer_late c h e, TimerLate) ∷ []) ((λ is. cc), tt) in never_of (broken c h e) ((λ is. cc), ((λ is. cc), ((λ is. cc), ((λ is. cc), ((λ is. cc), ((λ is. cc), ((λ is. cc), ((λ is. cc), ((λ is. cc), ((λ is. cc), ((λ is. cc), ((λ is. cc), ((λ is. cc), ((λ is. cc), ((λ is. cc), metrics))))))))))))))) is

@@ -2,9 +2,11 @@
 use Rattle.std.specs.Prelude.{ℕ, ◌-◌, ◌&&◌, ◌||◌, not, nat_lt, Bool, false, List, [], ◌∷◌, filter, Option, Some, None, if◌then◌else◌}
 use Rattle.std.specs.List.{list_any}
 use Rattle.qa_base.specs.declared.event.Event.{Event}
-use Rattle.qa_base.specs.machine.Loss.{is_owed, is_end}
+use Rattle.qa_base.specs.machine.Estimates.{sampled}
+use Rattle.qa_base.specs.machine.Detection.{is_end}
+use Rattle.qa_base.specs.machine.Loss.{is_owed}
 use Rattle.qa_base.specs.machine.Packets.{Packet, is_covered}
-use Rattle.qa_base.specs.machine.Rtt.{rtt, persistent_after}
+use Rattle.qa_base.specs.machine.Rtt.{persistent_after}
 use Rattle.qa_base.specs.values.Settings.{Settings}
 
 -- one of these packets, sent between the two, is acknowledged
@@ -14,8 +16,8 @@ is_acknowledged_among h ps p q = list_any (λ m. nat_lt p.place m.place && nat_l
 -- the two lie too far apart (section 7.6.1), and none of these packets between them was acknowledged
 abbrev pub are_ends_among : Settings → List Event → List Packet → Packet → Packet → Bool
 are_ends_among c h ps p q =
-    is_end c h p && is_end c h q
-    && nat_lt (persistent_after (rtt c h) c.max_ack_delay) (q.time - p.time)
+    is_end (sampled c h) p && is_end (sampled c h) q
+    && nat_lt (persistent_after (sampled c h) c.max_ack_delay) (q.time - p.time)
     && not (is_acknowledged_among h ps p q)
 
 -- the last event establishes persistent congestion by two of these packets
@@ -26,7 +28,7 @@ is_persistent_among c h ps = list_any (λ p. list_any (are_ends_among c h ps p) 
 
 -- the last event found the packet lost, and it may be an end (section 7.6.2)
 abbrev pub counts_as_end : Settings → List Event → Packet → Bool
-counts_as_end c h p = is_owed c h p && is_end c h p
+counts_as_end c h p = is_owed c h p && is_end (sampled c h) p
 
 -- sent more than so long after the packet at hand, where there is one
 abbrev pub is_far_from : ℕ → Option ℕ → ℕ → Bool

@@ -9,10 +9,11 @@ use Rattle.qa_base.specs.declared.space.Leave.TheVariants.{Window, Probe, Recove
 use Rattle.qa_base.specs.declared.space.Space.{Space}
 use Rattle.qa_base.specs.values.Constants.{packet_threshold, probe_datagrams}
 use Rattle.qa_base.specs.values.Events.{is_named, time_of}
-use Rattle.qa_base.specs.machine.Loss.{detection, owed, bytes_in_flight, is_persistent}
+use Rattle.qa_base.specs.machine.Estimates.{sampled}
+use Rattle.qa_base.specs.machine.Detection.{detection}
+use Rattle.qa_base.specs.machine.Loss.{owed, bytes_in_flight, is_persistent}
 use Rattle.qa_base.specs.machine.Packets.{Packet, packets, is_covered}
 use Rattle.qa_base.specs.machine.Reno.{reno, is_entry, is_outside_recovery, latest_sent}
-use Rattle.qa_base.specs.machine.Rtt.{rtt}
 use Rattle.qa_base.specs.values.Settings.{Settings}
 use Rattle.qa_base.specs.machine.Timer.{loss_delay}
 
@@ -35,7 +36,7 @@ pub record IsLostRightly (c : Settings) (h : List Event) (s : Space) (n : ℕ) :
   pub lower : packet.number < other.number
   pub now : ℕ
   pub detected : detection h ≡ Some (s, now)
-  pub late : (packet.number + packet_threshold ≤ other.number) ⊎ (loss_delay (rtt c h) ≤ now - packet.time)
+  pub late : (packet.number + packet_threshold ≤ other.number) ⊎ (loss_delay (sampled c h) ≤ now - packet.time)
 
 -- ---- probes (RFC 9002, section 6.2.4)
 

@@ -5,9 +5,10 @@ use Rattle.std.specs.Prelude.{◌≡◌, false, ◌+◌, ◌&&◌, ◌||◌, not
 use Rattle.qa_base.specs.declared.event.Event.{Event}
 use Rattle.qa_base.specs.declared.space.Kind.TheVariants.{Loss}
 use Rattle.qa_base.specs.declared.space.Space.{Space}
-use Rattle.qa_base.specs.machine.Loss.{is_open, is_unsettled}
+use Rattle.qa_base.specs.machine.Estimates.{rtt}
+use Rattle.qa_base.specs.machine.Detection.{is_unsettled}
+use Rattle.qa_base.specs.machine.Loss.{is_open}
 use Rattle.qa_base.specs.machine.Packets.{Packet, is_of, largest_acknowledged}
-use Rattle.qa_base.specs.machine.Rtt.{rtt}
 use Rattle.qa_base.specs.values.Settings.{Settings}
 use Rattle.qa_base.specs.machine.Timer.{Due, loss_delay, is_below_largest}
 
