@@ -134,10 +134,10 @@ class TrialCase(RunnerCase):
         self.write_files("traces", "first-loss", {"trace": TRACE, "report": REPORT, "explain": EXPLANATION})
         self.write_files("traces", "bad", {"trace": BAD_TRACE, "report": BAD_REPORT, "explain": BAD_EXPLANATION})
 
-    def compile_program(self, flags=(), **other):
+    def compile_program(self, text=AUDITOR, flags=(), **other):
         """The right auditor, but for these macros."""
         source = self.corpus / "program.c"
-        source.write_text(AUDITOR)
+        source.write_text(text)
         macros = [f"-D{name}={value}" for name, value in {**RIGHT, **other}.items()]
         subprocess.run([os.environ.get("CC", "cc"), *macros, *flags, "-o", self.program, source], check=True)
 
@@ -168,7 +168,7 @@ class RefusalsTest(TrialCase):
         self.assert_fails(str(self.program))
 
     def test_program_that_is_not_linked_with_the_library_at_run_time(self):
-        self.compile_program(flags=["-static"])
+        self.compile_program("int main(void) { return 0; }", flags=["-static"])
         self.assertEqual(self.lines(1), [
             f"FAILED {self.program}: the program is not linked with the C library at run time", "0 passed, 1 failed",
         ])

@@ -38,3 +38,10 @@ fn a_line_is_written_and_read(rt: HostRuntime) -> Result<(), Fail> {
     assert_eq!(rt; read_line(alloc, text.as_bytes())?, line);
     Ok(())
 }
+
+/// To a line LF is no white space that makes it blank, and no line of a trace has one.
+#[test]
+fn lf_is_not_blank(rt: HostRuntime) {
+    let not_json = LineFault::Fault(Fault::NotJson);
+    assert_eq!(rt; read_line(rt.alloc(), b"\n"), Err(not_json));
+}
