@@ -120,6 +120,26 @@ pub fn optional_integer(key: Key, object: &Value) -> Result<Option<u64>, Fault>
     }
 }
 
+/// An integer of 64 bits, which is 0 where it is absent.
+pub fn integer_or_zero(key: Key, object: &Value) -> Result<u64, Fault>
+    ensures { result ≡ keys.optional keys.integer 0 key (view object.now) }
+{
+    match present(key, object) {
+        None => Ok(0),
+        Some(value) => integer(key, value),
+    }
+}
+
+/// A boolean, which is false where it is absent.
+pub fn boolean_or_false(key: Key, object: &Value) -> Result<bool, Fault>
+    ensures { result ≡ keys.optional keys.boolean false key (view object.now) }
+{
+    match present(key, object) {
+        None => Ok(false),
+        Some(value) => boolean(key, value),
+    }
+}
+
 // ---- the keys of the tables
 
 /// The key `time`.
@@ -194,26 +214,6 @@ pub fn leave(object: &Value) -> Result<Leave, Fault>
         Some(value) => Leave::named(string(Key::Leave, value)?).ok_or(Fault::OutOfRange(
             Key::Leave,
         )),
-    }
-}
-
-/// The key `delay`, which is 0 where it is absent.
-pub fn delay(object: &Value) -> Result<u64, Fault>
-    ensures { result ≡ keys.optional keys.integer 0 Key.Delay (view object.now) }
-{
-    match present(Key::Delay, object) {
-        None => Ok(0),
-        Some(value) => integer(Key::Delay, value),
-    }
-}
-
-/// The key `limited`, which is false where it is absent.
-pub fn limited(object: &Value) -> Result<bool, Fault>
-    ensures { result ≡ keys.optional keys.boolean false Key.Limited (view object.now) }
-{
-    match present(Key::Limited, object) {
-        None => Ok(false),
-        Some(value) => boolean(Key::Limited, value),
     }
 }
 

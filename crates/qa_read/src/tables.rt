@@ -1,6 +1,7 @@
 //! The keys of each kind of line, read in the order of their table, and what the line then says.
-ghost use Rattle.std.specs.Prelude.{◌≡◌, IfOk};
+ghost use Rattle.std.specs.Prelude.{◌≡◌, false, IfOk};
 ghost use Rattle.serde_json.specs.View.{view};
+ghost use Rattle.qa_base.specs.format.Keys as keys;
 ghost use Rattle.qa_base.specs.format.Tables as tables;
 ghost use Rattle.qa_read.specs.Gives.{Gives};
 
@@ -8,10 +9,9 @@ use crate::fault::LineFault;
 use crate::fields;
 use crate::fields::both;
 use crate::ranges::ranges;
-use qa_base::limits::VERSION;
 use qa_base::{
-    Event, Fault, Field, Header, Key, Kind, Leave, MetricValues, Micros, PacketNumber, Role, Space,
-    Spans,
+    Event, Fault, Field, Header, Key, Kind, Leave, MetricValues, Micros, Options, PacketNumber,
+    Role, Space, Spans, Version,
 };
 use serde_json::Value;
 use std::alloc::{AllocError, Global};
@@ -43,6 +43,64 @@ fn header_fields(object: &Value) -> Result<HeaderFields, Fault>
     both(named, both(most, initial))
 }
 
+/// What stands at the keys that only version 2 has, the first two and the slack.
+fn option_fields(object: &Value) -> Result<((Option<u64>, bool), (u64, u64)), Fault>
+    ensures { result ≡ keys.both
+        (keys.both (keys.if_present keys.integer Key.TimerLateUs (view object.now)) (keys.optional keys.boolean false Key.RefreshMinRtt (view object.now)))
+        (keys.both (keys.optional keys.integer 0 Key.ReportSlackUs (view object.now)) (keys.optional keys.integer 0 Key.ReportSlackBytes (view object.now))) }
+{
+    let machine = both(
+        fields::optional_integer(Key::TimerLateUs, object),
+        fields::boolean_or_false(Key::RefreshMinRtt, object),
+    );
+    let slack = both(
+        fields::integer_or_zero(Key::ReportSlackUs, object),
+        fields::integer_or_zero(Key::ReportSlackBytes, object),
+    );
+    both(machine, slack)
+}
+
+/// The same as options.
+fn option_values(object: &Value) -> Result<Options, Fault>
+    ensures { result ≡ tables.option_values (view object.now) }
+{
+    let (machine, slack) = option_fields(object)?;
+    let (timer_late, refresh_min_rtt) = machine;
+    let (report_slack_us, report_slack_bytes) = slack;
+    Ok(Options {
+        timer_late,
+        refresh_min_rtt,
+        report_slack_us,
+        report_slack_bytes,
+    })
+}
+
+/// The options of a header. In another version than 2 their keys are looked at no more than any key
+/// that no table has.
+fn options(object: &Value) -> Result<Options, Fault>
+    ensures { result ≡ tables.options (view object.now) }
+{
+    match fields::required_integer(Key::Version, object) {
+        Ok(version) if version == Version::Two.number() => option_values(object),
+        _ => Ok(Options::default()),
+    }
+}
+
+/// The header in the version of this number.
+fn of_version(version: u64, options: Options, header: Header) -> Result<Header, Fault>
+    ensures { result ≡ tables.of_version version options header }
+{
+    if version == Version::One.number() {
+        return Ok(header);
+    }
+    if version == Version::Two.number() {
+        return header
+            .with(options)
+            .map_err(|fault| Fault::OutOfRange(fault.0));
+    }
+    Err(Fault::Version)
+}
+
 /// The header of these values, or the first key whose value is out of its range.
 fn settings(
     role: Role,
@@ -63,12 +121,20 @@ fn settings(
     .map_err(|fault| Fault::OutOfRange(fault.0))
 }
 
+/// What stands at all keys of a header.
+fn header_values(object: &Value) -> Result<(HeaderFields, Options), Fault>
+    ensures { result ≡ keys.both (tables.header_fields (view object.now)) (tables.options (view object.now)) }
+{
+    both(header_fields(object), options(object))
+}
+
 /// The header of a trace.
 #[tactic(auto, unfolding(qa_base::specs::format::Tables::header_of))]
 pub fn header_of(object: &Value) -> Result<Header, Fault>
     ensures { result ≡ tables.header_of (view object.now) }
 {
-    let ((version, role), (most, initial)) = header_fields(object)?;
+    let (fields, options) = header_values(object)?;
+    let ((version, role), (most, initial)) = fields;
     let (max_datagram_size, max_ack_delay) = most;
     let (initial_rtt, initial_window) = initial;
     let header = settings(
@@ -78,11 +144,7 @@ pub fn header_of(object: &Value) -> Result<Header, Fault>
         initial_rtt,
         initial_window,
     )?;
-    if version == VERSION {
-        Ok(header)
-    } else {
-        Err(Fault::Version)
-    }
+    of_version(version, options, header)
 }
 
 // ---- packets
@@ -134,7 +196,10 @@ fn ack_fields(alloc: Global, object: &Value) -> Result<Result<AckFields, Fault>,
     ensures { IfOk result (λ fields. fields ≡ tables.ack_fields (view object.now)) }
 {
     let ranges = ranges(alloc, object)?;
-    let rest = both(fields::delay(object), fields::limited(object));
+    let rest = both(
+        fields::integer_or_zero(Key::Delay, object),
+        fields::boolean_or_false(Key::Limited, object),
+    );
     let rest = both(ranges, rest);
     let rest = both(fields::space(object), rest);
     Ok(both(fields::time(object), rest))

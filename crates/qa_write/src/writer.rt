@@ -1,5 +1,5 @@
 //! The text of a line.
-ghost use Rattle.std.specs.Prelude.{◌≡◌, ◌≤◌, true, false, string_bytes, Ok, IfOk, OnOk, MatchOption};
+ghost use Rattle.std.specs.Prelude.{◌≡◌, ◌≤◌, true, false, string_bytes, None, Some, Ok, IfOk, OnOk, MatchOption};
 ghost use Rattle.std.specs.List.{AllByRecursion};
 ghost use Rattle.serde_json.specs.Data as json;
 ghost use Rattle.serde_json.specs.View.{view, members_view};
@@ -12,10 +12,9 @@ ghost use Rattle.qa_base.specs.format.Reading.{reading};
 ghost use Rattle.qa_base.specs.values.Settings.{AreInRange};
 ghost use Rattle.qa_base.specs.format.Written.{written, line_fits, object_of, header_pairs, event_pairs, integer_pairs, integer};
 
-use qa_base::limits::VERSION;
 use qa_base::{
     Event, Field, Header, Key, Kind, Leave, Line, LineKind, MetricValues, Micros, PacketNumber,
-    Space, Spans,
+    Space, Spans, Version,
 };
 use serde_json::{Map, Value, json};
 use std::alloc::{AllocError, Global};
@@ -56,6 +55,21 @@ fn header_object(alloc: Global, header: &Header) -> Result<Value, AllocError>
     ensures object { IfOk result (λ v. view v ≡ object_of (header_pairs header.now)) }
     ensures proper { OnOk result (AreInRange header.now) }
 {
+    match header.version() {
+        Version::One => first_header_object(alloc, header),
+        Version::Two => match header.options().timer_late {
+            None => unlimited_header_object(alloc, header),
+            Some(limit) => limited_header_object(alloc, header, limit),
+        },
+    }
+}
+
+/// The object of a header of version 1.
+fn first_header_object(alloc: Global, header: &Header) -> Result<Value, AllocError>
+    requires { header.now.version ≡ Version.One }
+    ensures object { IfOk result (λ v. view v ≡ object_of (header_pairs header.now)) }
+    ensures proper { OnOk result (AreInRange header.now) }
+{
     json!(in alloc; {
         (Key::Event.name()): LineKind::Header.name(),
         (Key::InitialRtt.name()): header.initial_rtt(),
@@ -63,7 +77,52 @@ fn header_object(alloc: Global, header: &Header) -> Result<Value, AllocError>
         (Key::MaxAckDelay.name()): header.max_ack_delay(),
         (Key::MaxDatagramSize.name()): header.max_datagram_size(),
         (Key::Role.name()): header.role().name(),
-        (Key::Version.name()): VERSION,
+        (Key::Version.name()): Version::One.number(),
+    })
+}
+
+/// The object of a header of version 2 whose timers have no limit.
+fn unlimited_header_object(alloc: Global, header: &Header) -> Result<Value, AllocError>
+    requires second { header.now.version ≡ Version.Two }
+    requires unlimited { header.now.options.timer_late ≡ None }
+    ensures object { IfOk result (λ v. view v ≡ object_of (header_pairs header.now)) }
+    ensures proper { OnOk result (AreInRange header.now) }
+{
+    let options = header.options();
+    json!(in alloc; {
+        (Key::Event.name()): LineKind::Header.name(),
+        (Key::InitialRtt.name()): header.initial_rtt(),
+        (Key::InitialWindow.name()): header.initial_window(),
+        (Key::MaxAckDelay.name()): header.max_ack_delay(),
+        (Key::MaxDatagramSize.name()): header.max_datagram_size(),
+        (Key::RefreshMinRtt.name()): options.refresh_min_rtt,
+        (Key::ReportSlackBytes.name()): options.report_slack_bytes,
+        (Key::ReportSlackUs.name()): options.report_slack_us,
+        (Key::Role.name()): header.role().name(),
+        (Key::Version.name()): Version::Two.number(),
+    })
+}
+
+/// The object of a header of version 2 with this limit for its timers, in microseconds.
+fn limited_header_object(alloc: Global, header: &Header, limit: u64) -> Result<Value, AllocError>
+    requires second { header.now.version ≡ Version.Two }
+    requires limited { header.now.options.timer_late ≡ Some limit }
+    ensures object { IfOk result (λ v. view v ≡ object_of (header_pairs header.now)) }
+    ensures proper { OnOk result (AreInRange header.now) }
+{
+    let options = header.options();
+    json!(in alloc; {
+        (Key::Event.name()): LineKind::Header.name(),
+        (Key::InitialRtt.name()): header.initial_rtt(),
+        (Key::InitialWindow.name()): header.initial_window(),
+        (Key::MaxAckDelay.name()): header.max_ack_delay(),
+        (Key::MaxDatagramSize.name()): header.max_datagram_size(),
+        (Key::RefreshMinRtt.name()): options.refresh_min_rtt,
+        (Key::ReportSlackBytes.name()): options.report_slack_bytes,
+        (Key::ReportSlackUs.name()): options.report_slack_us,
+        (Key::Role.name()): header.role().name(),
+        (Key::TimerLateUs.name()): limit,
+        (Key::Version.name()): Version::Two.number(),
     })
 }
 
