@@ -128,6 +128,7 @@ fn a_probe_timeout(rt: HostRuntime) -> Result<(), Fail> {
         time: 2_997_000,
     };
     assert_eq!(rt; client.deadline(&open_in(space, waiting)), Some(due));
+    assert_eq!(rt; client.packet_deadline(&open_in(space, waiting)), Some(due));
     assert!(rt; !client.is_validated());
     Ok(())
 }
