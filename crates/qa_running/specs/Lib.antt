@@ -4,3 +4,4 @@ pub mod Trimmed
 pub mod Answers
 pub mod Running
 pub mod Following
+pub mod Watch

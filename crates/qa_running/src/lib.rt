@@ -8,5 +8,6 @@ mod ledger;
 mod running;
 #[cfg(test)]
 mod tests;
+mod watch;
 
 pub use running::Running;

@@ -1,6 +1,8 @@
 //! What is asked of a ledger, with values worked out by hand from RFC 9002.
 use super::*;
-use qa_base::{Event, Header, Kind, Leave, Micros, PacketNumber, Role, Rule, Space, Span};
+use qa_base::{
+    Event, Header, Kind, Leave, Micros, Options, PacketNumber, Role, Rule, Space, Span,
+};
 use qa_ledger::{State, first_broken};
 use std::test::Fail;
 
@@ -25,6 +27,8 @@ fn before_any_event(rt: HostRuntime) -> Result<(), Fail> {
         space,
     };
     assert_eq!(rt; first_broken(&ledger, &timer), Some(Rule::TimerNotSet));
+    assert_eq!(rt; ledger.options(), Options::default());
+    assert!(rt; !ledger.is_late(time));
     let number = PacketNumber::new(0).ok_or("out of range")?;
     let spans = [Span::new(number, number).ok_or("falls")?];
     assert!(rt; !ledger.were_sent(space, &spans));
