@@ -3,9 +3,9 @@ use Rattle.std.specs.Prelude.{◌≡◌, ◌≤◌, ◌∷◌, List, length, map
 use Rattle.std.specs.List.{AllByRecursion, list_any}
 use Rattle.qa_base.specs.declared.event.Event.{Event}
 use Rattle.qa_base.specs.declared.space.Space.{Space}
+use Rattle.qa_base.specs.machine.Estimates.{rtt, sampled}
 use Rattle.qa_base.specs.machine.Handshake.{acknowledges_handshake, has_keys, is_confirmed}
 use Rattle.qa_base.specs.machine.Leave as leaves
-use Rattle.qa_base.specs.machine.Estimates.{rtt, sampled}
 use Rattle.qa_base.specs.machine.Loss as loss
 use Rattle.qa_base.specs.machine.Packets.{is_gone, largest_acknowledged, newly_acknowledged}
 use Rattle.qa_base.specs.machine.Probes as probes

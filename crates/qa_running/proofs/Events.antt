@@ -12,8 +12,8 @@ use Rattle.qa_base.specs.declared.space.Kind.TheVariants.{Loss, Pto}
 use Rattle.qa_base.specs.declared.space.Leave.{Leave}
 use Rattle.qa_base.specs.declared.space.Space.{Space}
 use Rattle.qa_base.specs.machine.Breaches.{is_loss_owed}
-use Rattle.qa_base.specs.machine.Estimates.{sampled}
 use Rattle.qa_base.specs.machine.Detection.{detection, found_at, is_found_at}
+use Rattle.qa_base.specs.machine.Estimates.{sampled}
 use Rattle.qa_base.specs.machine.Loss.{is_owed as owes, owed}
 use Rattle.qa_base.specs.machine.Packets.{Packet, packets, acknowledges_new, is_covered as covers, is_gone, is_lost, is_newly_acknowledged, is_some_packet, newly_acknowledged}
 use Rattle.qa_base.specs.machine.Rules.{IsRun}

@@ -6,8 +6,8 @@ use Rattle.qa_base.specs.declared.event.Event.{Event}
 use Rattle.qa_base.specs.declared.event.Event.TheVariants.{Ack, Lost, Discard}
 use Rattle.qa_base.specs.declared.space.Space.{Space}
 use Rattle.qa_base.specs.declared.space.Space.TheVariants.{Initial, Handshake, App}
-use Rattle.qa_base.specs.machine.Estimates.{sampled}
 use Rattle.qa_base.specs.machine.Detection.{detection, is_found, is_found_at, is_late}
+use Rattle.qa_base.specs.machine.Estimates.{sampled}
 use Rattle.qa_base.specs.machine.Loss.{is_open as opens, is_owed as owes}
 use Rattle.qa_base.specs.machine.Packets.{Packet, packets, is_covered as covers, is_gone, is_lost, is_newly_acknowledged, is_of, largest_acknowledged}
 use Rattle.qa_base.specs.machine.Rtt.{Estimate}

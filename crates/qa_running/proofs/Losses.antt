@@ -9,8 +9,8 @@ use Rattle.std.specs.Prelude.{if◌then◌else◌, nat_le, nat_lt, ◌==◌}
 use Rattle.qa_base.specs.declared.event.Event.{Event}
 use Rattle.qa_base.specs.declared.space.Space.{Space}
 use Rattle.qa_base.specs.machine.Breaches.{numbers}
-use Rattle.qa_base.specs.machine.Estimates.{sampled}
 use Rattle.qa_base.specs.machine.Detection.{detection, found_at, is_after, is_end as ends, is_found, is_found_at}
+use Rattle.qa_base.specs.machine.Estimates.{sampled}
 use Rattle.qa_base.specs.machine.Loss.{is_owed as owes, is_persistent, owed}
 use Rattle.qa_base.specs.machine.Numbers.{has_all, has_next, has_range, is_in, names_exactly}
 use Rattle.qa_base.specs.machine.Packets.{Packet, packets, is_covered as covers, is_of, is_some_packet}

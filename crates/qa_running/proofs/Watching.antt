@@ -1,9 +1,8 @@
 -- What is kept of the timer is that of the history.
-use Rattle.std.proofs.Common.{◌≡◌, ◌∙◌, ◌+◌, ◌-◌, ℕ, max, nat_lt, List, [], ◌∷◌, Bool, true, false, Option, Some, None, refl, sym, ap, arith}
+use Rattle.std.proofs.Common.{◌≡◌, ◌∙◌, ◌+◌, ◌-◌, ℕ, max, nat_lt, List, [], ◌∷◌, Bool, true, false, Option, None, refl, sym, arith}
 use Rattle.std.proofs.lemmas.Bool.Decides.{nat_tests}
-use Rattle.std.specs.Prelude.{if◌then◌else◌, is_none}
+use Rattle.std.specs.Prelude.{if◌then◌else◌}
 use Rattle.qa_base.specs.declared.event.Event.{Event}
-use Rattle.qa_base.specs.machine.Breaches.{is_past_due}
 use Rattle.qa_base.specs.machine.Handshake.{is_validated}
 use Rattle.qa_base.specs.machine.Timer.{Due, deadline, is_same_due, set_since}
 use Rattle.qa_base.specs.values.Events.{time_of}
@@ -27,13 +26,6 @@ pub watched_at_start : (watch : TimerWatch) → watch.due ≡ None → watch.sin
 watched_at_start watch due since c = record {
   due = λ limited. due ∙ sym (none_either (is_validated c []) None refl);
   since = λ limited. since;
-}
-
--- without a limit nothing is said of it
-pub unwatched : (watch : TimerWatch) (c : Settings) (h : List Event) → is_none c.options.timer_late ≡ true → IsWatched watch c h
-unwatched watch c h none = record {
-  due = λ limited. let never : true ≡ false = sym none ∙ limited in cc;
-  since = λ limited. let never : true ≡ false = sym none ∙ limited in cc;
 }
 
 -- one event more

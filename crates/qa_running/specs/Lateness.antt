@@ -1,8 +1,8 @@
 -- By what a detection tells which packets are late, after a history.
 use Rattle.std.specs.Prelude.{◌≡◌, ℕ, List}
-use Rattle.qa_base.specs.machine.Estimates.{sampled}
 use Rattle.qa_base.specs.declared.event.Event.{Event}
 use Rattle.qa_base.specs.declared.space.Space.{Space}
+use Rattle.qa_base.specs.machine.Estimates.{sampled}
 use Rattle.qa_base.specs.machine.Packets.{largest_acknowledged}
 use Rattle.qa_base.specs.values.Settings.{Settings}
 use Rattle.qa_sent.specs.Steps.{Lateness}

@@ -136,7 +136,9 @@ impl State for Running {
         match self.connection.header.options().timer_late {
             None => false,
             Some(limit) => {
-                let due = self.connection.packet_deadline(&open_packets(&self.packets));
+                let due = self
+                    .connection
+                    .packet_deadline(&open_packets(&self.packets));
                 self.watch.is_past_due(due, limit, time)
             }
         }

@@ -1,8 +1,6 @@
 //! What is asked of a ledger, with values worked out by hand from RFC 9002.
 use super::*;
-use qa_base::{
-    Event, Header, Kind, Leave, Micros, Options, PacketNumber, Role, Rule, Space, Span,
-};
+use qa_base::{Event, Header, Kind, Leave, Micros, Options, PacketNumber, Role, Rule, Space, Span};
 use qa_ledger::{State, first_broken};
 use std::test::Fail;
 
