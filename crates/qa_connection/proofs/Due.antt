@@ -1,14 +1,16 @@
 -- The deadline from what is kept is that of the history.
-use Rattle.std.proofs.Common.{◌≡◌, ◌≤◌, ◌+◌, ◌*◌, ◌^◌, ℕ, min, List, Bool, Option, None, option_map, refl, ap, arith}
+use Rattle.std.proofs.Common.{◌≡◌, ◌≤◌, ◌+◌, ◌*◌, ◌^◌, ℕ, min, List, Bool, Option, Some, None, option_map, refl, ap, arith}
 use Rattle.std.specs.List.{list_any}
+use Rattle.std.specs.Option.{option_or}
 use Rattle.std.specs.Prelude.{if◌then◌else◌}
 use Rattle.qa_base.specs.declared.event.Event.{Event}
 use Rattle.qa_base.specs.declared.space.Kind.TheVariants.{Pto}
 use Rattle.qa_base.specs.declared.space.Space.{Space}
 use Rattle.qa_base.specs.declared.space.Space.TheVariants.{Initial, Handshake, App}
+use Rattle.qa_base.specs.machine.Estimates.{rtt}
 use Rattle.qa_base.specs.machine.Handshake.{has_keys, is_validated}
 use Rattle.qa_base.specs.machine.Packets.{largest_acknowledged, packets_of}
-use Rattle.qa_base.specs.machine.Rtt.{Estimate, pto_base, rtt}
+use Rattle.qa_base.specs.machine.Rtt.{Estimate, pto_base}
 use Rattle.qa_base.specs.machine.Timer.{Due, anti_deadlock, awaits_acknowledgment, backoff, earlier, earliest_loss, earliest_pto, last_eliciting, last_set}
 use Rattle.qa_base.specs.machine.Timer as timers
 use Rattle.qa_base.specs.values.Settings.{Settings}
@@ -79,8 +81,19 @@ anti_is k c h of few =
     let s = of.settled in
     anti_of c h _ k.has_keys k.last_set k.rtt k.pto_count (validated_is k.header c k.handshake_acknowledged k.confirmed h s.header s.handshake_acknowledged s.confirmed) s.keys s.last_set of.measured.rtt s.pto_count few
 
+-- what the timer is set for by packets
+pub packet_deadline_is : (k : Connection) (told : OpenPackets) (c : Settings) (h : List Event) → IsOf k c h → IsProperRun c h → AreOpen told c h
+    → deadlines.packet_deadline k told ≡ timers.packet_deadline c h
+packet_deadline_is k told c h of run open_packets =
+    let few = pto_count c h run.run run.timely in
+    rw (loss_is k told c h of open_packets, pto_is k told c h of open_packets few) refl
+
+or_turned : (a b d : Option Due) → option_or (option_or a b) d ≡ option_or a (option_or b d)
+or_turned None b d = refl
+or_turned (Some due) b d = refl
+
 -- what the timer is set for
 pub deadline_is : (k : Connection) (told : OpenPackets) (c : Settings) (h : List Event) → IsOf k c h → IsProperRun c h → AreOpen told c h → deadlines.deadline k told ≡ timers.deadline c h
 deadline_is k told c h of run open_packets =
     let few = pto_count c h run.run run.timely in
-    rw (loss_is k told c h of open_packets, pto_is k told c h of open_packets few, anti_is k c h of few) refl
+    rw (packet_deadline_is k told c h of run open_packets, anti_is k c h of few) (or_turned (earliest_loss c h) (earliest_pto c h) (anti_deadlock c h))

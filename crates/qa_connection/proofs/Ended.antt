@@ -6,9 +6,12 @@ use Rattle.std.specs.Prelude.{if◌then◌else◌}
 use Rattle.qa_base.specs.declared.event.Event.{Event}
 use Rattle.qa_base.specs.declared.event.Event.TheVariants.{Sent, Ack}
 use Rattle.qa_base.specs.declared.space.Space.{Space}
+use Rattle.qa_base.specs.machine.Detection.{is_persistent_by}
+use Rattle.qa_base.specs.machine.Estimates.{refreshed_by, rtt, sampled}
 use Rattle.qa_base.specs.machine.Handshake.{acknowledges_handshake, is_confirmed, is_server, is_validated}
+use Rattle.qa_base.specs.machine.Loss.{is_persistent as persists}
 use Rattle.qa_base.specs.machine.Packets.{greatest, greatest_in, greatest_of, is_gone, largest_acknowledged}
-use Rattle.qa_base.specs.machine.Rtt.{Estimate, rtt, updated}
+use Rattle.qa_base.specs.machine.Rtt.{Estimate, updated}
 use Rattle.qa_base.specs.machine.Timer.{last_eliciting}
 use Rattle.qa_base.specs.values.Events.{discards, is_space}
 use Rattle.qa_base.specs.values.Settings.{Settings}
@@ -16,7 +19,7 @@ use Rattle.qa_base.proofs.machine.Steps.{last_eliciting_sent}
 use Rattle.qa_connection.specs.Known.{acknowledged_by}
 use Rattle.qa_connection.specs.Spaces.{eliciting_at, passed, raised}
 use Rattle.qa_connection.specs.Spaces as spaces
-use Rattle.qa_connection.specs.Steps.{sample_of}
+use Rattle.qa_connection.specs.Steps.{refreshed_if, sample_of}
 use Rattle.qa_connection.specs.declared.spaces.SpaceState.{SpaceState}
 use Rattle.qa_connection.proofs.Told.{sample_is}
 use Rattle.qa_sent.specs.declared.packet.SentPacket.{SentPacket}
@@ -59,13 +62,24 @@ pub discarded_of : (e : Event) (h : List Event) (s : Space) (before after : Spac
     → after.discarded ≡ is_gone (e ∷ h) s
 discarded_of e h s before after is of = ap (λ (x : SpaceState). x.discarded) is ∙ ap (λ b. discards s e || b) of
 
--- the estimate
-pub rtt_of : (c : Settings) (e : Event) (h : List Event) (header : Settings) (confirmed : Bool) (acknowledged : List SentPacket) (before : Estimate)
+-- the estimate with the event's sample
+pub sampled_of : (c : Settings) (e : Event) (h : List Event) (header : Settings) (confirmed : Bool) (acknowledged : List SentPacket) (before : Estimate)
     → header ≡ c → confirmed ≡ is_confirmed h → acknowledged ≡ acknowledged_by c e h → before ≡ rtt c h
-    → updated before (sample_of header.max_ack_delay confirmed e acknowledged) ≡ rtt c (e ∷ h)
-rtt_of c e h header confirmed acknowledged before is_header is_confirmed_then are is =
+    → updated before (sample_of header.max_ack_delay confirmed e acknowledged) ≡ sampled c (e ∷ h)
+sampled_of c e h header confirmed acknowledged before is_header is_confirmed_then are is =
     let sample = sample_is c e h in
     rw (is_header, is_confirmed_then, are, is) (ap (updated (rtt c h)) sample)
+
+refreshed_is : (refreshes : Bool) (c : Settings) (h : List Event) (r : Estimate) → refreshed_if refreshes (is_persistent_by r c h) r ≡ refreshed_by refreshes c h r
+refreshed_is true c h r = refl
+refreshed_is false c h r = refl
+
+-- the estimate after the event
+pub rtt_of : (c : Settings) (e : Event) (h : List Event) (header : Settings) (is_persistent : Bool) (begun : Estimate)
+    → header ≡ c → is_persistent ≡ persists c (e ∷ h) → begun ≡ sampled c (e ∷ h)
+    → refreshed_if header.options.refresh_min_rtt is_persistent begun ≡ rtt c (e ∷ h)
+rtt_of c e h header is_persistent begun is_header is is_begun =
+    rw (is_header, is, is_begun) (refreshed_is c.options.refresh_min_rtt c (e ∷ h) (sampled c (e ∷ h)))
 
 -- whether the peer has validated the sender's address
 pub validated_is : (header c : Settings) (acknowledged confirmed : Bool) (h : List Event) → header ≡ c → acknowledged ≡ list_any acknowledges_handshake h → confirmed ≡ is_confirmed h

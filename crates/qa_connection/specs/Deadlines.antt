@@ -6,9 +6,10 @@ use Rattle.qa_base.specs.declared.event.Event.{Event}
 use Rattle.qa_base.specs.declared.space.Kind.TheVariants.{Loss, Pto}
 use Rattle.qa_base.specs.declared.space.Space.{Space}
 use Rattle.qa_base.specs.declared.space.Space.TheVariants.{Initial, Handshake, App}
+use Rattle.qa_base.specs.machine.Estimates.{rtt}
 use Rattle.qa_base.specs.machine.Handshake.{is_server}
 use Rattle.qa_base.specs.machine.Packets.{largest_acknowledged, packets_of}
-use Rattle.qa_base.specs.machine.Rtt.{Estimate, pto_base, rtt}
+use Rattle.qa_base.specs.machine.Rtt.{Estimate, pto_base}
 use Rattle.qa_base.specs.machine.Timer.{Due, awaits_acknowledgment, earlier, is_below_largest, loss_delay}
 use Rattle.qa_base.specs.machine.Timer as timers
 use Rattle.qa_base.specs.values.Settings.{Settings}
@@ -69,5 +70,8 @@ anti_deadlock k =
     if is_server k.header.role || k.handshake_acknowledged || k.confirmed then None
     else pto_at (if k.has_keys then Handshake else Initial) k.last_set (pto_base k.rtt) k.pto_count
 
+abbrev pub packet_deadline : Connection → OpenPackets → Option Due
+packet_deadline k told = option_or (earliest_loss k told) (earliest_pto k told)
+
 abbrev pub deadline : Connection → OpenPackets → Option Due
-deadline k told = option_or (earliest_loss k told) (option_or (earliest_pto k told) (anti_deadlock k))
+deadline k told = option_or (packet_deadline k told) (anti_deadlock k)

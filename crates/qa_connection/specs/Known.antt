@@ -3,13 +3,14 @@ use Rattle.std.specs.Prelude.{◌≡◌, ◌≤◌, ◌∷◌, List, length, map
 use Rattle.std.specs.List.{AllByRecursion, list_any}
 use Rattle.qa_base.specs.declared.event.Event.{Event}
 use Rattle.qa_base.specs.declared.space.Space.{Space}
+use Rattle.qa_base.specs.machine.Estimates.{rtt, sampled}
 use Rattle.qa_base.specs.machine.Handshake.{acknowledges_handshake, has_keys, is_confirmed}
 use Rattle.qa_base.specs.machine.Leave as leaves
 use Rattle.qa_base.specs.machine.Loss as loss
 use Rattle.qa_base.specs.machine.Packets.{is_gone, largest_acknowledged, newly_acknowledged}
 use Rattle.qa_base.specs.machine.Probes as probes
 use Rattle.qa_base.specs.machine.Reno as moves
-use Rattle.qa_base.specs.machine.Rtt as estimates
+use Rattle.qa_base.specs.machine.Rtt.{Estimate}
 use Rattle.qa_base.specs.machine.Rules.{IsRun}
 use Rattle.qa_base.specs.machine.Timer as timers
 use Rattle.qa_base.specs.machine.Widths.{Fits, IsTimely}
@@ -23,9 +24,9 @@ use Rattle.qa_sent.specs.declared.packet.SentPacket.{SentPacket}
 
 -- ---- what is kept
 
--- what losses are looked for by: the estimate, and the largest acknowledged numbers
-pub record IsMeasured (k : Connection) (c : Settings) (h : List Event) : Type 0 where
-  pub rtt : k.rtt ≡ estimates.rtt c h
+-- what losses are looked for by: this estimate, and the largest acknowledged numbers
+pub record IsMeasured (k : Connection) (r : Estimate) (h : List Event) : Type 0 where
+  pub rtt : k.rtt ≡ r
   pub largest : (s : Space) → (state_of s k.spaces).largest ≡ largest_acknowledged h s
 
 -- everything else
@@ -47,12 +48,12 @@ pub record IsSettled (k : Connection) (c : Settings) (h : List Event) : Type 0 w
 
 -- it is kept of this history
 pub record IsOf (k : Connection) (c : Settings) (h : List Event) : Type 0 where
-  pub measured : IsMeasured k c h
+  pub measured : IsMeasured k (rtt c h) h
   pub settled : IsSettled k c h
 
--- it is kept of this history, and the event was begun
+-- it is kept of this history, and the event was begun: its sample was taken
 pub record IsBegun (k : Connection) (c : Settings) (e : Event) (h : List Event) : Type 0 where
-  pub measured : IsMeasured k c (e ∷ h)
+  pub measured : IsMeasured k (sampled c (e ∷ h)) (e ∷ h)
   pub settled : IsSettled k c h
 
 -- ---- what is told of an event

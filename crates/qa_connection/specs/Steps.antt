@@ -5,7 +5,7 @@ use Rattle.qa_base.specs.declared.event.Event.{Event}
 use Rattle.qa_base.specs.declared.event.Event.TheVariants.{Ack, Discard}
 use Rattle.qa_base.specs.machine.Packets.{Packet, greatest}
 use Rattle.qa_base.specs.machine.Reno.{Control, Move, Hit, collapses, grow, is_limited, is_outside_recovery, latest_sent, moved}
-use Rattle.qa_base.specs.machine.Rtt.{Sample}
+use Rattle.qa_base.specs.machine.Rtt.{Estimate, Sample, refreshed}
 use Rattle.qa_base.specs.values.Events.{time_of}
 use Rattle.qa_base.specs.values.Limits.{least_datagram_size, max_packet_size}
 use Rattle.qa_sent.specs.declared.packet.SentPacket.{SentPacket}
@@ -40,6 +40,10 @@ sample_by time delay number ps = if list_any (λ p. p.eliciting) ps then sample_
 abbrev pub sample_of : ℕ → Bool → Event → List SentPacket → Option Sample
 sample_of most confirmed (Ack time space ranges delay limited) ps = sample_by time (limited_delay most confirmed delay) (greatest ranges) ps
 sample_of most confirmed _ ps = None
+
+-- the estimate after an event, refreshed where the header asks for it and the event establishes persistent congestion (section 5.2)
+abbrev pub refreshed_if : Bool → Bool → Estimate → Estimate
+refreshed_if refreshes is_persistent r = if refreshes && is_persistent then refreshed r else r
 
 -- ---- the window
 

@@ -112,7 +112,7 @@ impl Connection {
             confirmed,
             handshake_acknowledged,
             has_keys: handshake::has_keys_after(self.has_keys, event),
-            rtt: self.rtt,
+            rtt: sampling::refreshed_after(self.rtt, &self.header, outcome.is_persistent),
             reno: congestion::reno_after(&self.header, self.reno, event, acknowledged, outcome),
             pto_count: timeouts::pto_count_after(self.pto_count, event, resets),
             last_set: timeouts::last_set_after(self.last_set, event, is_new),

@@ -240,15 +240,24 @@ impl Connection {
         pto_at(space, self.last_set, self.rtt.pto_base(), self.pto_count)
     }
 
+    /// What the loss detection timer is set for by the packets that are open: the first of them that
+    /// is old enough to be lost, else a probe timeout; None where they do not set it. The timer that a
+    /// client keeps until its address is validated is no part of it. `packets` is what the timer asks
+    /// of the packets.
+    #[tactic(auto, using(crate::proofs::Due::packet_deadline_is))]
+    pub fn packet_deadline(&self, packets: &OpenPackets) -> Option<Due>
+        ensures value { result ≡ deadlines.packet_deadline self.now packets.now }
+        ensures meaning { (c : Settings) (h : List Event) → IsOf self.now c h → IsProperRun c h → AreOpen packets.now c h → result ≡ timers.packet_deadline c h }
+    {
+        or_else(self.earliest_loss(packets), self.earliest_pto(packets))
+    }
+
     /// What the loss detection timer is set for; None where it is not set (RFC 9002, A.8). `packets`
     /// is what it asks of the packets that are open.
     #[tactic(auto, using(crate::proofs::Due::deadline_is))]
     pub fn deadline(&self, packets: &OpenPackets) -> Option<Due>
         ensures { (c : Settings) (h : List Event) → IsOf self.now c h → IsProperRun c h → AreOpen packets.now c h → result ≡ timers.deadline c h }
     {
-        or_else(
-            self.earliest_loss(packets),
-            or_else(self.earliest_pto(packets), self.anti_deadlock()),
-        )
+        or_else(self.packet_deadline(packets), self.anti_deadlock())
     }
 }

@@ -79,6 +79,18 @@ pub(crate) fn acknowledged(
     sampled(rtt, sent_at(packets, number), delay, now)
 }
 
+/// The estimate after an event that found losses, with the event's sample before. Persistent
+/// congestion refreshes `min_rtt` where the header asks for it (RFC 9002, section 5.2).
+pub(crate) fn refreshed_after(rtt: Rtt, header: &Header, is_persistent: bool) -> Rtt
+    ensures { result ≡ steps.refreshed_if header.now.options.refresh_min_rtt is_persistent rtt }
+{
+    let mut more = rtt;
+    if header.options().refresh_min_rtt && is_persistent {
+        more.refresh();
+    }
+    more
+}
+
 /// The estimate after an event that newly acknowledges these packets.
 pub(crate) fn rtt_after(
     rtt: Rtt,

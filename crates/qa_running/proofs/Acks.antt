@@ -4,8 +4,9 @@ use Rattle.std.specs.List.{AllByRecursion, filter}
 use Rattle.qa_base.specs.declared.event.Event.{Event}
 use Rattle.qa_base.specs.declared.event.Event.TheVariants.{Sent, Ack, Timer, Lost, Discard, Confirmed, Keys, Metrics}
 use Rattle.qa_base.specs.declared.space.Space.{Space}
+use Rattle.qa_base.specs.machine.Estimates.{sampled}
 use Rattle.qa_base.specs.machine.Loss.{is_persistent}
-use Rattle.qa_base.specs.machine.Rtt.{Estimate, persistent_after, rtt}
+use Rattle.qa_base.specs.machine.Rtt.{Estimate, persistent_after}
 use Rattle.qa_base.specs.machine.Rules.{IsRun}
 use Rattle.qa_base.specs.values.Settings.{Settings}
 use Rattle.qa_connection.specs.Known.{acknowledged_by}
@@ -59,13 +60,13 @@ found_acknowledged c h e time space ranges delay limited is held found of stands
 
 -- ---- persistent congestion
 
-pub unsampled : (c : Settings) (h : List Event) → IsRun c h → (r : Estimate) → r ≡ rtt c h → r.first_rtt_sample ≡ None → false ≡ is_persistent c h
+pub unsampled : (c : Settings) (h : List Event) → IsRun c h → (r : Estimate) → r ≡ sampled c h → r.first_rtt_sample ≡ None → false ≡ is_persistent c h
 unsampled c h run r is none = sym (not_persistent_unsampled c h run (ap (λ (x : Estimate). x.first_rtt_sample) (sym is) ∙ none))
 
-pub persists : (c : Settings) (h : List Event) → IsRun c h → (r : Estimate) → r ≡ rtt c h → (first : ℕ) → r.first_rtt_sample ≡ Some first
+pub persists : (c : Settings) (h : List Event) → IsRun c h → (r : Estimate) → r ≡ sampled c h → (first : ℕ) → r.first_rtt_sample ≡ Some first
     → (held : Held) → StandsFor held c h → (limit delay : ℕ) → limit ≡ persistent_after r delay → delay ≡ c.max_ack_delay
     → (result : Bool) → result ≡ are_apart limit first None held.packets → result ≡ is_persistent c h
-persists c h run r is first sampled held stands limit delay limit_is delay_is result found =
+persists c h run r is first taken held stands limit delay limit_is delay_is result found =
     found
     ∙ (ap (λ n. are_apart n first None held.packets) (limit_is ∙ (ap (persistent_after r) delay_is ∙ ap (λ (x : Estimate). persistent_after x c.max_ack_delay) is))
-    ∙ sym (persistent_is_held c h run first (ap (λ (x : Estimate). x.first_rtt_sample) (sym is) ∙ sampled) held stands))
+    ∙ sym (persistent_is_held c h run first (ap (λ (x : Estimate). x.first_rtt_sample) (sym is) ∙ taken) held stands))

@@ -4,8 +4,9 @@ use Rattle.std.specs.List.{list_any}
 use Rattle.qa_base.specs.declared.event.Event.{Event}
 use Rattle.qa_base.specs.declared.space.Space.{Space}
 use Rattle.qa_base.specs.declared.space.Space.TheVariants.{Initial, Handshake, App}
+use Rattle.qa_base.specs.machine.Estimates.{rtt}
 use Rattle.qa_base.specs.machine.Packets.{largest_acknowledged}
-use Rattle.qa_base.specs.machine.Rtt.{Estimate, rtt}
+use Rattle.qa_base.specs.machine.Rtt.{Estimate}
 use Rattle.qa_base.specs.machine.Rules.{IsRun}
 use Rattle.qa_base.specs.machine.State.{totals}
 use Rattle.qa_base.specs.values.Settings.{Settings}

@@ -12,7 +12,9 @@ use Rattle.qa_base.specs.declared.space.Kind.TheVariants.{Loss, Pto}
 use Rattle.qa_base.specs.declared.space.Leave.{Leave}
 use Rattle.qa_base.specs.declared.space.Space.{Space}
 use Rattle.qa_base.specs.machine.Breaches.{is_loss_owed}
-use Rattle.qa_base.specs.machine.Loss.{detection, found_at, is_found_at, is_owed as owes, owed}
+use Rattle.qa_base.specs.machine.Detection.{detection, found_at, is_found_at}
+use Rattle.qa_base.specs.machine.Estimates.{sampled}
+use Rattle.qa_base.specs.machine.Loss.{is_owed as owes, owed}
 use Rattle.qa_base.specs.machine.Packets.{Packet, packets, acknowledges_new, is_covered as covers, is_gone, is_lost, is_newly_acknowledged, is_some_packet, newly_acknowledged}
 use Rattle.qa_base.specs.machine.Rules.{IsRun}
 use Rattle.qa_base.specs.values.Events.{acknowledges, declares_lost, discards, is_named, is_space}
@@ -167,7 +169,7 @@ new_by_names s ranges others same ps =
 nothing_found : (c : Settings) (h : List Event) (time : ℕ) (space : Space) (ranges : List (ℕ × ℕ)) (delay : ℕ) (limited : Bool)
     → acknowledges_new (Ack time space ranges delay limited ∷ h) ≡ false → (p : Packet) → owes c (Ack time space ranges delay limited ∷ h) p ≡ false
 nothing_found c h time space ranges delay limited none p =
-    ap (λ b. is_found_at c (Ack time space ranges delay limited ∷ h) p (if◌then◌else◌ {A = Option (Space × ℕ)} b (Some (space, time)) None)) none
+    ap (λ b. is_found_at (sampled c (Ack time space ranges delay limited ∷ h)) (Ack time space ranges delay limited ∷ h) p (if◌then◌else◌ {A = Option (Space × ℕ)} b (Some (space, time)) None)) none
 
 between_by : (cov los was own gone : Bool) → was ≡ false → own ≡ false → fate_by cov los false gone ≡ fate_by cov (was || los) own gone
 between_by cov los was own gone not_was not_own = rw (not_was, not_own) refl
@@ -176,7 +178,7 @@ between_by cov los was own gone not_was not_own = rw (not_was, not_own) refl
 pub nothing_owed : (c : Settings) (h : List Event) (time : ℕ) (space : Space) (ranges : List (ℕ × ℕ)) (delay : ℕ) (limited : Bool)
     → acknowledges_new (Ack time space ranges delay limited ∷ h) ≡ false → owed c (Ack time space ranges delay limited ∷ h) ≡ []
 nothing_owed c h time space ranges delay limited none =
-    ap (λ b. found_at c (Ack time space ranges delay limited ∷ h) (if◌then◌else◌ {A = Option (Space × ℕ)} b (Some (space, time)) None)) none
+    ap (λ b. found_at (sampled c (Ack time space ranges delay limited ∷ h)) (Ack time space ranges delay limited ∷ h) (if◌then◌else◌ {A = Option (Space × ℕ)} b (Some (space, time)) None)) none
 
 -- in a run, after an acknowledgment of nothing new, the packets that it names are covered, and the packets held stand for the history
 pub stands_covered : (c : Settings) (h : List Event) (time : ℕ) (space : Space) (ranges : List (ℕ × ℕ)) (delay : ℕ) (limited : Bool)

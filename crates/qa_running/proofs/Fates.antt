@@ -6,9 +6,11 @@ use Rattle.qa_base.specs.declared.event.Event.{Event}
 use Rattle.qa_base.specs.declared.event.Event.TheVariants.{Ack, Lost, Discard}
 use Rattle.qa_base.specs.declared.space.Space.{Space}
 use Rattle.qa_base.specs.declared.space.Space.TheVariants.{Initial, Handshake, App}
-use Rattle.qa_base.specs.machine.Loss.{detection, is_found, is_found_at, is_late, is_open as opens, is_owed as owes}
+use Rattle.qa_base.specs.machine.Detection.{detection, is_found, is_found_at, is_late}
+use Rattle.qa_base.specs.machine.Estimates.{sampled}
+use Rattle.qa_base.specs.machine.Loss.{is_open as opens, is_owed as owes}
 use Rattle.qa_base.specs.machine.Packets.{Packet, packets, is_covered as covers, is_gone, is_lost, is_newly_acknowledged, is_of, largest_acknowledged}
-use Rattle.qa_base.specs.machine.Rtt.{Estimate, rtt}
+use Rattle.qa_base.specs.machine.Rtt.{Estimate}
 use Rattle.qa_base.specs.machine.Rules.{IsRun}
 use Rattle.qa_base.specs.values.Events.{is_space, is_named, acknowledges, discards}
 use Rattle.qa_base.specs.values.Settings.{Settings}
@@ -82,11 +84,11 @@ owed_by false los false true free there = refl
 owed_by false true false false free there = refl
 owed_by false false false false free there = refl
 
-found_there : (c : Settings) (e : Event) (h : List Event) → IsRun c (e ∷ h) → (p : Packet) (d : Option (Space × ℕ)) → detection (e ∷ h) ≡ d → is_found_at c (e ∷ h) p d ≡ true
+found_there : (c : Settings) (e : Event) (h : List Event) → IsRun c (e ∷ h) → (p : Packet) (d : Option (Space × ℕ)) → detection (e ∷ h) ≡ d → is_found_at (sampled c (e ∷ h)) (e ∷ h) p d ≡ true
     → is_gone h p.space ≡ false
 found_there c e h run p None at is = cc
 found_there c e h run p (Some (s, now)) at is =
-    let of_space = is_space_is s p.space (and_parts (is_of s p) (is_found c (e ∷ h) now s p) is).0 in
+    let of_space = is_space_is s p.space (and_parts (is_of s p) (is_found (sampled c (e ∷ h)) (e ∷ h) now s p) is).0 in
     subst (λ (t : Space). is_gone h t ≡ false) of_space (space_of_detection c e h run s now at)
 
 not_discarded : (c : Settings) (e : Event) (h : List Event) (p : Packet) → owes c (e ∷ h) p ≡ true → discards p.space e ≡ false
@@ -214,12 +216,12 @@ same_late r now (Some n) f p = refl
 
 -- a detection asks of it whether it is late, as it asks of the packet of the history
 pub late_told : (c : Settings) (g : List Event) (s : Space) (now : ℕ) (l : Lateness) → IsLatenessAt c g s now l → (f : Fate) (p : Packet)
-    → is_late_by l (told f p) ≡ is_late (rtt c g) now (largest_acknowledged g s) p
+    → is_late_by l (told f p) ≡ is_late (sampled c g) now (largest_acknowledged g s) p
 late_told c g s now l is f p =
     same_late l.rtt l.now l.largest f p
     ∙ (ap (λ r. is_late r l.now l.largest p) is.rtt_is
-    ∙ (ap (λ n. is_late (rtt c g) n l.largest p) is.now_is
-    ∙ ap (λ o. is_late (rtt c g) now o p) is.largest_is))
+    ∙ (ap (λ n. is_late (sampled c g) n l.largest p) is.now_is
+    ∙ ap (λ o. is_late (sampled c g) now o p) is.largest_is))
 
 free_by : (was los : Bool) → was ≡ false → los ≡ (was || los)
 free_by was los not_was = rw not_was refl
@@ -237,14 +239,14 @@ pub found_told : (c : Settings) (e : Event) (h : List Event) → IsRun c (e ∷ 
     → found_by s l (told (between c e h p) p) ≡ sent_of c (e ∷ h) p
 found_told c e h run s now at none l lateness p has not_was no_disc =
     let g = e ∷ h in
-    let late = is_late (rtt c g) now (largest_acknowledged g s) p in
+    let late = is_late (sampled c g) now (largest_acknowledged g s) p in
     let gone_is : is_gone g p.space ≡ is_gone h p.space = ap (λ b. b || is_gone h p.space) no_disc in
     ap (λ b. if is_flying s (told (between c e h p) p) && b then with_fate Owed (told (between c e h p) p) else told (between c e h p) p) (late_told c g s now l lateness (between c e h p) p)
     ∙ (found_tests (is_of s p) p.in_flight (acknowledges p.space p.number e || covers h p) (is_lost h p) late (is_gone h p.space) (covers g p) (is_lost g p) (owes c g p) p
     (λ same. there_of h s p.space (space_of_detection c e h run s now at) (space_turned p.space s ∙ same))
     (covered_after e h p has)
     (lost_is_owed c e h run p has ∙ sym (free_by (owes c h p) (is_lost h p) not_was))
-    (ap (is_found_at c g p) at)
+    (ap (is_found_at (sampled c g) g p) at)
     ∙ ap (λ b. told (fate_by (covers g p) (is_lost g p) (owes c g p) b) p) (sym gone_is))
 
 -- ---- what is newly acknowledged

@@ -3,6 +3,7 @@ use Rattle.std.proofs.Common.{◌≡◌, ◌∙◌, ◌<◌, ◌==◌, ℕ, Bool
 use Rattle.std.proofs.lemmas.Bool.Decides.{nat_tests}
 use Rattle.std.proofs.lemmas.List.{length-map, length-reverse}
 use Rattle.qa_base.specs.declared.event.Event.{Event}
+use Rattle.qa_base.specs.machine.Estimates.{sampled}
 use Rattle.qa_base.specs.machine.Packets.{acknowledges_new, newly_acknowledged}
 use Rattle.qa_base.specs.machine.Rules.{IsRun, first_broken}
 use Rattle.qa_base.specs.machine.Widths.{Fits, IsTimely}
@@ -16,6 +17,8 @@ use Rattle.qa_running.proofs.Events.{some_by_length}
 use Rattle.qa_running.specs.Following.{StandsOnceSent}
 use Rattle.qa_running.specs.Running.{IsAfter, State}
 use Rattle.qa_running.specs.Standing.{StandsFor}
+use Rattle.qa_running.specs.Watch.{IsWatched}
+use Rattle.qa_running.specs.declared.watch.TimerWatch.{TimerWatch}
 use Rattle.qa_sent.specs.Held.{Held}
 use Rattle.qa_sent.specs.Steps.{trimmed}
 use Rattle.qa_sent.specs.Told.{sent_of}
@@ -51,20 +54,24 @@ pub followed : (k : Settings) (h : List Event) (e : Event) (old : State) → IsA
     → (sent : Held) → (StandsFor old.packets k h → IsRun k (e ∷ h) → StandsOnceSent sent k e h)
     → (begun : Connection) → (IsOf old.connection k h → acked ≡ acknowledged_by k e h → IsBegun begun k e h)
     → (is_new : Bool) → is_new ≡ nat_lt 0 (length acked)
-    → (settled : Held) → (StandsOnceSent sent k e h → IsMeasured begun k (e ∷ h) → IsRun k (e ∷ h) → is_new ≡ acknowledges_new (e ∷ h) → StandsFor settled k (e ∷ h))
-    → (found : Outcome) → (StandsFor settled k (e ∷ h) → IsRun k (e ∷ h) → IsMeasured begun k (e ∷ h) → begun.header ≡ k → IsOutcome found k (e ∷ h))
+    → (settled : Held) → (StandsOnceSent sent k e h → IsMeasured begun (sampled k (e ∷ h)) (e ∷ h) → IsRun k (e ∷ h) → is_new ≡ acknowledges_new (e ∷ h) → StandsFor settled k (e ∷ h))
+    → (found : Outcome) → (StandsFor settled k (e ∷ h) → IsRun k (e ∷ h) → IsMeasured begun (sampled k (e ∷ h)) (e ∷ h) → begun.header ≡ k → IsOutcome found k (e ∷ h))
     → (ended : Connection) → (IsBegun begun k e h → IsProperRun k (e ∷ h) → acked ≡ acknowledged_by k e h → IsOutcome found k (e ∷ h) → IsOf ended k (e ∷ h))
     → (kept : Held) → kept ≡ trimmed settled
-    → IsAfter (record { connection = ended; packets = kept; numbers = numbers; failed = false }) k (e ∷ h)
-followed k h e old after works allowed timely fit few acked acks numbers adds sent sends begun begins is_new new settled settles found finds ended ends kept drops =
+    → (watch : TimerWatch) → (IsOf ended k (e ∷ h) → IsProperRun k (e ∷ h) → StandsFor kept k (e ∷ h) → IsWatched old.watch k h → IsWatched watch k (e ∷ h))
+    → IsAfter (record { connection = ended; packets = kept; numbers = numbers; watch = watch; failed = false }) k (e ∷ h)
+followed k h e old after works allowed timely fit few acked acks numbers adds sent sends begun begins is_new new settled settles found finds ended ends kept drops watch watches =
     let proper = proper_more k h e old after allowed timely fit few in
     let is = acks after.packets proper.run in
     let half = begins after.connection is in
     let stands = settles (sends after.packets proper.run) half.measured proper.run (new ∙ new_by_length k h e acked is) in
     let out = finds stands proper.run half.measured half.settled.header in
+    let connection = ends half proper is out in
+    let packets = stands_trimmed k (e ∷ h) proper.run settled kept stands drops in
     record {
       run = proper;
-      connection = ends half proper is out;
-      packets = stands_trimmed k (e ∷ h) proper.run settled kept stands drops;
+      connection = connection;
+      packets = packets;
       numbers = λ w. adds (after.numbers works);
+      watch = watches connection proper packets after.watch;
     }

@@ -10,3 +10,4 @@ pub mod Settles
 pub mod Acks
 pub mod Answered
 pub mod Followed
+pub mod Watching

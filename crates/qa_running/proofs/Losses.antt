@@ -9,11 +9,13 @@ use Rattle.std.specs.Prelude.{if◌then◌else◌, nat_le, nat_lt, ◌==◌}
 use Rattle.qa_base.specs.declared.event.Event.{Event}
 use Rattle.qa_base.specs.declared.space.Space.{Space}
 use Rattle.qa_base.specs.machine.Breaches.{numbers}
-use Rattle.qa_base.specs.machine.Loss.{detection, found_at, is_after, is_end as ends, is_found, is_found_at, is_owed as owes, is_persistent, owed}
+use Rattle.qa_base.specs.machine.Detection.{detection, found_at, is_after, is_end as ends, is_found, is_found_at}
+use Rattle.qa_base.specs.machine.Estimates.{sampled}
+use Rattle.qa_base.specs.machine.Loss.{is_owed as owes, is_persistent, owed}
 use Rattle.qa_base.specs.machine.Numbers.{has_all, has_next, has_range, is_in, names_exactly}
 use Rattle.qa_base.specs.machine.Packets.{Packet, packets, is_covered as covers, is_of, is_some_packet}
 use Rattle.qa_base.specs.machine.Reno.{latest_sent}
-use Rattle.qa_base.specs.machine.Rtt.{persistent_after, rtt}
+use Rattle.qa_base.specs.machine.Rtt.{persistent_after}
 use Rattle.qa_base.specs.machine.Rules.{IsRun}
 use Rattle.qa_base.specs.values.Events.{is_named, is_space}
 use Rattle.qa_base.specs.values.Settings.{Settings}
@@ -36,9 +38,9 @@ use Rattle.qa_sent.specs.declared.packet.SentPacket.{SentPacket}
 
 -- ---- the packets that are owed
 
-found_part : (c : Settings) (h : List Event) (d : Option (Space × ℕ)) → filter (λ p. is_found_at c h p d) (packets h) ≡ found_at c h d
+found_part : (c : Settings) (h : List Event) (d : Option (Space × ℕ)) → filter (λ p. is_found_at (sampled c h) h p d) (packets h) ≡ found_at (sampled c h) h d
 found_part c h None = none_left (λ p. false) (packets h) (of_each (λ p. false ≡ false) (packets h) (λ p has. refl))
-found_part c h (Some (s, now)) = part_of_part (is_of s) (is_found c h now s) (packets h)
+found_part c h (Some (s, now)) = part_of_part (is_of s) (is_found (sampled c h) h now s) (packets h)
 
 -- they stand among the packets that are held, in the order of sending
 pub owed_of_kept : (held : Held) (c : Settings) (h : List Event) (stands : StandsFor held c h) → reverse (owed c h) ≡ filter (owes c h) stands.kept
@@ -158,44 +160,44 @@ none_found : (covered counts : Packet → Bool) (limit : ℕ) (ps : List Packet)
 none_found covered counts limit [] none = refl
 none_found covered counts limit (p ∷ ps) none = front_step covered counts limit p ps (covered p) refl none.0 ∙ none_found covered counts limit ps none.1
 
-end_told : (c : Settings) (h : List Event) → IsRun c h → (first : ℕ) → (rtt c h).first_rtt_sample ≡ Some first → (p : Packet) → is_end first (sent_of c h p) ≡ counts_as_end c h p
-end_told c h run first sampled p =
+end_told : (c : Settings) (h : List Event) → IsRun c h → (first : ℕ) → (sampled c h).first_rtt_sample ≡ Some first → (p : Packet) → is_end first (sent_of c h p) ≡ counts_as_end c h p
+end_told c h run first taken p =
     ap (λ b. b && (p.eliciting && nat_lt first p.time)) (is_owed_told c h run p)
-    ∙ ap (λ o. owes c h p && (p.eliciting && is_after o p)) (sym sampled)
+    ∙ ap (λ o. owes c h p && (p.eliciting && is_after o p)) (sym taken)
 
-apart_told : (c : Settings) (h : List Event) → IsRun c h → (first : ℕ) → (rtt c h).first_rtt_sample ≡ Some first → (limit : ℕ) (began : Option ℕ) (ps : List Packet)
+apart_told : (c : Settings) (h : List Event) → IsRun c h → (first : ℕ) → (sampled c h).first_rtt_sample ≡ Some first → (limit : ℕ) (began : Option ℕ) (ps : List Packet)
     → are_apart limit first began (map (sent_of c h) ps) ≡ finds_apart (covers h) (counts_as_end c h) limit began ps
-apart_told c h run first sampled limit began [] = refl
-apart_told c h run first sampled limit began (p ∷ ps) =
+apart_told c h run first taken limit began [] = refl
+apart_told c h run first taken limit began (p ∷ ps) =
     let rest : Option ℕ → Bool = λ at. are_apart limit first at (map (sent_of c h) ps) in
     let found : Option ℕ → Bool = λ at. finds_apart (covers h) (counts_as_end c h) limit at ps in
     let far = is_far_from limit began p.time in
     let nearest = Some (earliest began p.time) in
     ap (λ b. if b then rest None else (if is_end first (sent_of c h p) then far || rest nearest else rest began)) (is_covered_told c h p)
-    ∙ (ap (λ b. if covers h p then rest None else (if b then far || rest nearest else rest began)) (end_told c h run first sampled p)
-    ∙ (ap (λ b. if covers h p then b else (if counts_as_end c h p then far || rest nearest else rest began)) (apart_told c h run first sampled limit None ps)
-    ∙ (ap (λ b. if covers h p then found None else (if counts_as_end c h p then far || b else rest began)) (apart_told c h run first sampled limit nearest ps)
-    ∙ ap (λ b. if covers h p then found None else (if counts_as_end c h p then far || found nearest else b)) (apart_told c h run first sampled limit began ps))))
+    ∙ (ap (λ b. if covers h p then rest None else (if b then far || rest nearest else rest began)) (end_told c h run first taken p)
+    ∙ (ap (λ b. if covers h p then b else (if counts_as_end c h p then far || rest nearest else rest began)) (apart_told c h run first taken limit None ps)
+    ∙ (ap (λ b. if covers h p then found None else (if counts_as_end c h p then far || b else rest began)) (apart_told c h run first taken limit nearest ps)
+    ∙ ap (λ b. if covers h p then found None else (if counts_as_end c h p then far || found nearest else b)) (apart_told c h run first taken limit began ps))))
 
 -- in a run the last event establishes persistent congestion exactly where a walk over the packets held finds it, where there is a sample
-pub persistent_is_held : (c : Settings) (h : List Event) → IsRun c h → (first : ℕ) → (rtt c h).first_rtt_sample ≡ Some first → (held : Held) → StandsFor held c h
-    → is_persistent c h ≡ are_apart (persistent_after (rtt c h) c.max_ack_delay) first None held.packets
-persistent_is_held c h run first sampled held stands =
-    let limit = persistent_after (rtt c h) c.max_ack_delay in
+pub persistent_is_held : (c : Settings) (h : List Event) → IsRun c h → (first : ℕ) → (sampled c h).first_rtt_sample ≡ Some first → (held : Held) → StandsFor held c h
+    → is_persistent c h ≡ are_apart (persistent_after (sampled c h) c.max_ack_delay) first None held.packets
+persistent_is_held c h run first taken held stands =
+    let limit = persistent_after (sampled c h) c.max_ack_delay in
     persistent_is_forward c h run
     ∙ (ap (finds_apart (covers h) (counts_as_end c h) limit None) stands.parts
     ∙ (front_dropped (covers h) (counts_as_end c h) limit stands.gone stands.kept
-    (each_weaker (λ p. owes c h p ≡ false) (λ p. counts_as_end c h p ≡ false) (λ p free. and_left (owes c h p) (ends c h p) free) stands.gone
+    (each_weaker (λ p. owes c h p ≡ false) (λ p. counts_as_end c h p ≡ false) (λ p free. and_left (owes c h p) (ends (sampled c h) p) free) stands.gone
     (dropped_free c h stands.gone stands.forgotten))
-    ∙ sym (ap (are_apart limit first None) stands.packets_are ∙ apart_told c h run first sampled limit None stands.kept)))
+    ∙ sym (ap (are_apart limit first None) stands.packets_are ∙ apart_told c h run first taken limit None stands.kept)))
 
-counts_not : (c : Settings) (h : List Event) → (rtt c h).first_rtt_sample ≡ None → (p : Packet) → counts_as_end c h p ≡ false
+counts_not : (c : Settings) (h : List Event) → (sampled c h).first_rtt_sample ≡ None → (p : Packet) → counts_as_end c h p ≡ false
 counts_not c h unsampled p =
     ap (λ o. owes c h p && (p.eliciting && is_after o p)) unsampled ∙ and_right (owes c h p) (p.eliciting && false) (and_right p.eliciting false refl)
 
 -- and does not where there is none
-pub not_persistent_unsampled : (c : Settings) (h : List Event) → IsRun c h → (rtt c h).first_rtt_sample ≡ None → is_persistent c h ≡ false
+pub not_persistent_unsampled : (c : Settings) (h : List Event) → IsRun c h → (sampled c h).first_rtt_sample ≡ None → is_persistent c h ≡ false
 not_persistent_unsampled c h run unsampled =
     persistent_is_forward c h run
-    ∙ none_found (covers h) (counts_as_end c h) (persistent_after (rtt c h) c.max_ack_delay) (reverse (packets h))
+    ∙ none_found (covers h) (counts_as_end c h) (persistent_after (sampled c h) c.max_ack_delay) (reverse (packets h))
     (each_value (λ p. counts_as_end c h p ≡ false) (counts_not c h unsampled) (reverse (packets h)))

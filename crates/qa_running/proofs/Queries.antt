@@ -6,9 +6,9 @@ use Rattle.std.specs.List.{AllByRecursion, list_any}
 use Rattle.std.specs.Prelude.{if◌then◌else◌}
 use Rattle.qa_base.specs.declared.event.Event.{Event}
 use Rattle.qa_base.specs.declared.space.Space.{Space}
+use Rattle.qa_base.specs.machine.Estimates.{rtt}
 use Rattle.qa_base.specs.machine.Loss.{bytes_in_flight, is_open as opens}
 use Rattle.qa_base.specs.machine.Packets.{Packet, packets, packets_of, is_of, largest_acknowledged}
-use Rattle.qa_base.specs.machine.Rtt.{rtt}
 use Rattle.qa_base.specs.machine.Rules.{IsRun}
 use Rattle.qa_base.specs.machine.Timer.{awaits_acknowledgment, loss_due}
 use Rattle.qa_base.specs.values.Settings.{Settings}

@@ -2,13 +2,13 @@
 use Rattle.std.specs.Prelude.{◌≡◌, ℕ, List}
 use Rattle.qa_base.specs.declared.event.Event.{Event}
 use Rattle.qa_base.specs.declared.space.Space.{Space}
+use Rattle.qa_base.specs.machine.Estimates.{sampled}
 use Rattle.qa_base.specs.machine.Packets.{largest_acknowledged}
-use Rattle.qa_base.specs.machine.Rtt.{rtt}
 use Rattle.qa_base.specs.values.Settings.{Settings}
 use Rattle.qa_sent.specs.Steps.{Lateness}
 
 -- it is the estimate after the history, this time, and the largest number that was acknowledged in the space
 pub record IsLatenessAt (c : Settings) (h : List Event) (s : Space) (now : ℕ) (l : Lateness) : Type 0 where
-  pub rtt_is : l.rtt ≡ rtt c h
+  pub rtt_is : l.rtt ≡ sampled c h
   pub now_is : l.now ≡ now
   pub largest_is : l.largest ≡ largest_acknowledged h s

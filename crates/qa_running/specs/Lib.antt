@@ -3,3 +3,4 @@ pub mod Lateness
 pub mod Trimmed
 pub mod Running
 pub mod Following
+pub mod Watch

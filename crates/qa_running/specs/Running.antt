@@ -7,13 +7,16 @@ use Rattle.qa_connection.specs.declared.connection.Connection.{Connection}
 use Rattle.qa_ranges.specs.Sent.{AreSent, BySpace}
 use Rattle.qa_running.specs.Standing.{StandsFor}
 use Rattle.qa_running.specs.Trimmed.{IsTrimmed}
+use Rattle.qa_running.specs.Watch.{IsWatched}
+use Rattle.qa_running.specs.declared.watch.TimerWatch.{TimerWatch}
 use Rattle.qa_sent.specs.Held.{Held}
 
--- the connection, the packets that are kept, the numbers that were sent, and whether it was out of memory
+-- the connection, the packets that are kept, the numbers that were sent, what is kept of the timer, and whether it was out of memory
 pub record State : Type 0 where
   pub connection : Connection
   pub packets : Held
   pub numbers : BySpace
+  pub watch : TimerWatch
   pub failed : Bool
 
 -- it is the state after this history under this header; one that has failed may have taken the number of a packet that it did not
@@ -23,6 +26,7 @@ pub record IsAfter (state : State) (c : Settings) (h : List Event) : Type 0 wher
   pub connection : IsOf state.connection c h
   pub packets : StandsFor state.packets c h
   pub numbers : state.failed ≡ false → AreSent state.numbers h
+  pub watch : IsWatched state.watch c h
 
 -- the same, and it has not failed
 pub record Answers (state : State) (c : Settings) (h : List Event) : Type 0 where

@@ -11,7 +11,7 @@ ghost use Rattle.qa_running.specs.Running.{IsAfter};
 ghost use Rattle.qa_running.specs.Standing.{StandsFor};
 
 use crate::running::Running;
-use qa_base::{Due, Micros, PacketNumber, Space, Span, Totals};
+use qa_base::{Due, Micros, Options, PacketNumber, Space, Span, Totals};
 use qa_connection::{OpenInSpace, OpenPackets};
 use qa_ledger::{State, totals_by};
 use qa_sent::SentPackets;
@@ -27,7 +27,7 @@ fn open_in(packets: &SentPackets, space: Space) -> OpenInSpace
 }
 
 /// What the timer asks of the open packets.
-fn open_packets(packets: &SentPackets) -> OpenPackets
+pub(crate) fn open_packets(packets: &SentPackets) -> OpenPackets
     ensures { (c : Settings) (h : List AnEvent) → IsRun c h → StandsFor packets.now c h → AreOpen result c h }
 {
     OpenPackets {
@@ -66,6 +66,10 @@ impl State for Running {
 
     ghost tells = { Answers };
 
+    fn options(&self) -> Options {
+        self.connection.header.options()
+    }
+
     fn max_datagram_size(&self) -> u64 {
         self.connection.header.max_datagram_size()
     }
@@ -103,7 +107,6 @@ impl State for Running {
         self.connection.reno.window
     }
 
-    #[tactic(auto, using(crate::proofs::Queries::bytes_are_held))]
     fn bytes_in_flight(&self) -> u64 {
         self.packets.bytes_in_flight()
     }
@@ -127,6 +130,18 @@ impl State for Running {
 
     fn is_confirmed(&self) -> bool {
         self.connection.confirmed
+    }
+
+    fn is_late(&self, time: Micros) -> bool {
+        match self.connection.header.options().timer_late {
+            None => false,
+            Some(limit) => {
+                let due = self
+                    .connection
+                    .packet_deadline(&open_packets(&self.packets));
+                self.watch.is_past_due(due, limit, time)
+            }
+        }
     }
 
     fn held(&self) -> Totals {

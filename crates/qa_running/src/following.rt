@@ -1,6 +1,7 @@
 //! What an event that is admitted changes in the packets that are kept.
 ghost use Rattle.std.specs.Prelude.{◌≡◌, ◌∷◌, List, true, filter, IfOk, OnOk, OnErr};
 ghost use Rattle.qa_base.specs.declared.event.Event.{Event as AnEvent};
+ghost use Rattle.qa_base.specs.machine.Estimates.{sampled};
 ghost use Rattle.qa_base.specs.machine.Loss as loss;
 ghost use Rattle.qa_base.specs.machine.Packets.{acknowledges_new};
 ghost use Rattle.qa_base.specs.machine.Rules.{IsRun};
@@ -91,7 +92,7 @@ fn named(
 
 /// By what the event tells which packets of the space are late.
 fn lateness(connection: &Connection, space: Space, now: Micros) -> Lateness
-    ensures { (c : Settings) (h : List AnEvent) → IsMeasured connection.now c h → IsLatenessAt c h space now result }
+    ensures { (c : Settings) (h : List AnEvent) → IsMeasured connection.now (sampled c h) h → IsLatenessAt c h space now result }
 {
     Lateness {
         rtt: connection.rtt,
@@ -110,7 +111,7 @@ pub(crate) fn settle(
     is_new: bool,
 )
     requires next { IsOnceSent packets.old event.now }
-    ensures { (c : Settings) (h : List AnEvent) → StandsOnceSent packets.old c event.now h → IsMeasured connection.now c (event.now ∷ h)
+    ensures { (c : Settings) (h : List AnEvent) → StandsOnceSent packets.old c event.now h → IsMeasured connection.now (sampled c (event.now ∷ h)) (event.now ∷ h)
         → IsRun c (event.now ∷ h) → is_new ≡ acknowledges_new (event.now ∷ h) → StandsFor packets.new c (event.now ∷ h) }
 {
     match event {
@@ -145,7 +146,7 @@ pub(crate) fn settle(
 
 /// What the last event found lost.
 pub(crate) fn outcome(packets: &SentPackets, connection: &Connection) -> Outcome
-    ensures { (c : Settings) (h : List AnEvent) → StandsFor packets.now c h → IsRun c h → IsMeasured connection.now c h
+    ensures { (c : Settings) (h : List AnEvent) → StandsFor packets.now c h → IsRun c h → IsMeasured connection.now (sampled c h) h
         → connection.now.header ≡ c → IsOutcome result c h }
 {
     Outcome {
@@ -156,7 +157,7 @@ pub(crate) fn outcome(packets: &SentPackets, connection: &Connection) -> Outcome
 
 /// Whether what the last event found lost establishes persistent congestion (RFC 9002, section 7.6).
 fn is_persistent(packets: &SentPackets, connection: &Connection) -> bool
-    ensures { (c : Settings) (h : List AnEvent) → StandsFor packets.now c h → IsRun c h → IsMeasured connection.now c h
+    ensures { (c : Settings) (h : List AnEvent) → StandsFor packets.now c h → IsRun c h → IsMeasured connection.now (sampled c h) h
         → connection.now.header ≡ c → result ≡ loss.is_persistent c h }
 {
     match connection.rtt.first_rtt_sample {

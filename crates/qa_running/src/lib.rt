@@ -6,5 +6,6 @@ mod following;
 mod kept;
 mod ledger;
 mod running;
+mod watch;
 
 pub use running::Running;

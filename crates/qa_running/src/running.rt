@@ -2,6 +2,7 @@
 ghost use Rattle.std.specs.Prelude.{◌≡◌, [], false};
 ghost use Rattle.qa_running.specs.Running.{IsAfter};
 
+use crate::watch::TimerWatch;
 use qa_base::Header;
 use qa_connection::Connection;
 use qa_ranges::SentNumbers;
@@ -20,6 +21,7 @@ pub struct Running {
     pub(crate) connection: Connection,
     pub(crate) packets: SentPackets,
     pub(crate) numbers: SentNumbers,
+    pub(crate) watch: TimerWatch,
     pub(crate) failed: bool,
 }
 
@@ -32,6 +34,7 @@ impl Model for Running {
       connection = r.connection;
       packets = r.packets;
       numbers = r.numbers;
+      watch = r.watch;
       failed = r.failed;
     } };
 
@@ -39,6 +42,7 @@ impl Model for Running {
       connection = r.connection;
       packets = r.packets;
       numbers = r.numbers;
+      watch = r.watch;
       failed = r.failed;
     }) };
 }
@@ -54,6 +58,7 @@ impl Running {
             connection: Connection::start(header),
             packets: SentPackets::new(alloc),
             numbers: SentNumbers::new(alloc),
+            watch: TimerWatch::start(),
             failed: false,
         }
     }

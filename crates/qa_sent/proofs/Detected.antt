@@ -5,7 +5,7 @@ use Rattle.std.specs.List.{AllByRecursion}
 use Rattle.std.proofs.lemmas.Bool.{and_parts, and_from, both_ways, false_from_ne_true, le-leb, leb-true, lt-ltb, ltb-true, or_cases, or_left, or_right}
 use Rattle.std.proofs.lemmas.List.{drop_at, length-map, length-take-le, map-append, take-append-drop, take-map}
 use Rattle.qa_base.specs.declared.space.Space.{Space}
-use Rattle.qa_base.specs.machine.Loss.{is_late, is_old}
+use Rattle.qa_base.specs.machine.Detection.{is_late, is_old}
 use Rattle.qa_base.specs.machine.Packets.{Packet}
 use Rattle.qa_base.specs.machine.Rtt.{Estimate}
 use Rattle.qa_base.specs.values.Events.{is_space}

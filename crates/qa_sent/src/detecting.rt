@@ -1,7 +1,7 @@
 //! Detection of losses (RFC 9002, section 6.1, A.10): a walk along the packets of a space.
 ghost use Rattle.std.specs.Prelude.{◌≡◌, ◌≤◌, ◌<◌, ◌+◌, ◌-◌, ℕ, false, true, count_by, drop, length, map, slice_index_or, slice_set};
 ghost use Rattle.std.specs.List.{AllByRecursion};
-ghost use Rattle.qa_base.specs.machine.Loss.{is_old};
+ghost use Rattle.qa_base.specs.machine.Detection.{is_old};
 ghost use Rattle.qa_sent.specs.Detection.{IsEnd, IsPassed, lost_in};
 ghost use Rattle.qa_sent.specs.Fates.{is_owed};
 ghost use Rattle.qa_sent.specs.Held.{AreLosses, AreOrdered, IsIndexed, IsLane};

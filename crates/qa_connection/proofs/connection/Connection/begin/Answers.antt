@@ -1,7 +1,7 @@
 use Rattle.std.proofs.Common.{◌∙◌, ap}
 use Rattle.qa_connection.specs.Spaces.{state_of}
 use Rattle.qa_connection.specs.declared.spaces.SpaceState.{SpaceState}
-use Rattle.qa_connection.proofs.Ended.{largest_of, rtt_of}
+use Rattle.qa_connection.proofs.Ended.{largest_of, sampled_of}
 use Rattle.qa_connection.proofs.connection.Connection.begin.Goals as goal
 
 pub returns : goal.returns
@@ -12,7 +12,7 @@ returns c = λ c' h of are.
     let spaces = c.acknowledged-self.ensures in
     record {
       measured = record {
-        rtt = c.rtt_after-self.ensures ∙ rtt_of c' e h k.header k.confirmed c.args.acknowledged.now k.rtt s.header s.confirmed are of.measured.rtt;
+        rtt = c.rtt_after-self.ensures ∙ sampled_of c' e h k.header k.confirmed c.args.acknowledged.now k.rtt s.header s.confirmed are of.measured.rtt;
         largest = λ space. largest_of e h space (state_of space k.spaces) (state_of space c.acknowledged-self.result) (spaces space) (of.measured.largest space);
       };
       settled = record {

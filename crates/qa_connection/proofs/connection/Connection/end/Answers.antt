@@ -13,7 +13,7 @@ use Rattle.qa_base.specs.values.Events.{time_of}
 use Rattle.qa_base.proofs.machine.Steps.{last_set_after, probe_due_after}
 use Rattle.qa_connection.specs.Spaces.{state_of}
 use Rattle.qa_connection.specs.declared.spaces.SpaceState.{SpaceState}
-use Rattle.qa_connection.proofs.Ended.{discarded_of, last_eliciting_of, validated_is}
+use Rattle.qa_connection.proofs.Ended.{discarded_of, last_eliciting_of, rtt_of, validated_is}
 use Rattle.qa_connection.proofs.Entries.{entry_is}
 use Rattle.qa_connection.proofs.Grown.{reno_of}
 use Rattle.qa_connection.proofs.Spent.{probe_spent_of, pto_count_of, recovery_spent_of}
@@ -39,7 +39,7 @@ returns c = λ c' h begun run are outcome.
     let passes = c.passed.ensures in
     record {
       measured = record {
-        rtt = begun.measured.rtt;
+        rtt = c.refreshed_after.ensures ∙ rtt_of c' e h k.header c.args.outcome.is_persistent k.rtt s.header outcome.is_persistent begun.measured.rtt;
         largest = λ space. ap (λ (x : SpaceState). x.largest) (passes space) ∙ begun.measured.largest space;
       };
       settled = record {

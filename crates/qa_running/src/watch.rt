@@ -1,0 +1,104 @@
+//! Since when the loss detection timer is set for what it is.
+ghost use Rattle.std.specs.Prelude.{◌≡◌, ◌∷◌, [], List, if◌then◌else◌};
+ghost use Rattle.qa_base.specs.declared.event.Event.{Event as AnEvent};
+ghost use Rattle.qa_base.specs.machine.Breaches as breaches;
+ghost use Rattle.qa_base.specs.machine.Timer as timers;
+ghost use Rattle.qa_base.specs.values.Events as events;
+ghost use Rattle.qa_base.specs.values.Settings.{Settings};
+ghost use Rattle.qa_connection.specs.Known.{IsOf, IsProperRun};
+ghost use Rattle.qa_running.specs.Standing.{StandsFor};
+ghost use Rattle.qa_running.specs.Watch.{IsWatched};
+
+use crate::answers::open_packets;
+use qa_base::{Due, Micros};
+use qa_connection::Connection;
+use qa_sent::SentPackets;
+
+/// What the loss detection timer is set for, and since when. It is kept where the header has a limit
+/// for how late the timer may be.
+#[derive(Clone, Copy, Debug, PartialEq, Eq)]
+pub(crate) struct TimerWatch {
+    /// What it is set for; None where it is not set.
+    pub(crate) due: Option<Due>,
+    /// The time of the event that set it so; 0 before any event.
+    pub(crate) since: Micros,
+}
+
+/// Whether the timer is set by both, for the same cause, space and time.
+fn is_same_due(due: Option<Due>, other: Option<Due>) -> bool
+    ensures { result ≡ timers.is_same_due due other }
+{
+    match (due, other) {
+        (Some(due), Some(other)) => {
+            due.kind == other.kind && due.space == other.space && due.time == other.time
+        }
+        (None, _) => false,
+        (Some(_), None) => false,
+    }
+}
+
+/// Whether a time is past a deadline by more than a limit in microseconds, counted from the time
+/// since which the timer is set so where that is later.
+#[tactic(auto, using(crate::proofs::Watching::late_is))]
+fn is_past(due: Due, since: Micros, limit: u64, time: Micros) -> bool
+    ensures { result ≡ breaches.is_past_due limit since time (Some due) }
+{
+    let from = due.time.max(u128::from(since.get()));
+    u128::from(limit) < u128::from(time.get()).saturating_sub(from)
+}
+
+impl TimerWatch {
+    /// Before any event.
+    #[tactic(auto, using(crate::proofs::Watching::watched_at_start))]
+    pub(crate) fn start() -> TimerWatch
+        ensures { (c : Settings) → IsWatched result c [] }
+    {
+        TimerWatch {
+            due: None,
+            since: Micros::of(0),
+        }
+    }
+
+    /// After an event that happened now, with what the timer is set for after it.
+    fn passed(self, due: Option<Due>, now: Micros) -> TimerWatch
+        ensures due { result.due ≡ due }
+        ensures since { result.since ≡ (if timers.is_same_due self.due due then self.since else now) }
+    {
+        TimerWatch {
+            due,
+            since: if is_same_due(self.due, due) {
+                self.since
+            } else {
+                now
+            },
+        }
+    }
+
+    /// After an event that happened now, by what is kept of the connection and the packets after it.
+    /// Nothing is asked of them where the header has no limit.
+    pub(crate) fn after(
+        self,
+        connection: &Connection,
+        packets: &SentPackets,
+        now: Micros,
+    ) -> TimerWatch
+        ensures { (c : Settings) (e : AnEvent) (h : List AnEvent) → IsOf connection.now c (e ∷ h) → IsProperRun c (e ∷ h) → StandsFor packets.now c (e ∷ h)
+            → now ≡ events.time_of e → IsWatched self c h → IsWatched result c (e ∷ h) }
+    {
+        if connection.header.options().timer_late.is_none() {
+            return self;
+        }
+        self.passed(connection.deadline(&open_packets(packets)), now)
+    }
+
+    /// Whether a time is past a deadline by more than a limit in microseconds, where there is a
+    /// deadline; counted from when the timer was set so, where that is later.
+    pub(crate) fn is_past_due(&self, due: Option<Due>, limit: u64, time: Micros) -> bool
+        ensures { result ≡ breaches.is_past_due limit self.now.since time due }
+    {
+        match due {
+            None => false,
+            Some(due) => is_past(due, self.since, limit, time),
+        }
+    }
+}
