@@ -18,6 +18,7 @@ GRANULARITY = 1000
 PERSISTENT_CONGESTION_THRESHOLD = 3
 PROBE_DATAGRAMS = 2
 METRICS = ("window", "ssthresh", "bytes_in_flight", "latest_rtt", "min_rtt", "smoothed_rtt", "rttvar")
+METRICS_IN_BYTES = METRICS[:3]
 TOTALS = ("events", *METRICS, "pto_count", "owed")
 
 
@@ -106,6 +107,13 @@ class Sender:
         self.is_confirmed = False
         self.is_handshake_acknowledged = False
         self.has_keys = False
+        options = header if header["version"] == 2 else {}
+        self.timer_late: Optional[int] = options.get("timer_late_us")
+        self.refreshes_min_rtt: bool = options.get("refresh_min_rtt") or False
+        self.slack_us: int = options.get("report_slack_us") or 0
+        self.slack_bytes: int = options.get("report_slack_bytes") or 0
+        # Since when the deadline is what it is; kept only where timers have a limit.
+        self.due_since = 0
 
     # What is computed from the state.
 
@@ -172,6 +180,10 @@ class Sender:
 
     def first_broken(self, event: Event) -> Optional[str]:
         """The first rule that the event breaks, as a report names it."""
+        return self.broken_by_any(event) or ("V18 timer-late" if self.is_late(event["time"]) else None)
+
+    def broken_by_any(self, event: Event) -> Optional[str]:
+        """The first rule that the event breaks, but for the one about late timers."""
         kind = event["event"]
         if event["time"] < self.last_time:
             return "V1 time-back"
@@ -231,15 +243,28 @@ class Sender:
     def broken_by_metrics(self, event: Event) -> Optional[str]:
         """The first reported value that is not the sender's."""
         for name in METRICS:
-            if event.get(name) is not None and event[name] != getattr(self, name):
+            if event.get(name) is not None and self.differs(name, event[name]):
                 return f"V16 metric {name}"
         return None
+
+    def differs(self, name: str, reported: int) -> bool:
+        """Whether a reported value differs from the sender's by more than the header allows."""
+        held = getattr(self, name)
+        return held is None or abs(reported - held) > (self.slack_bytes if name in METRICS_IN_BYTES else self.slack_us)
+
+    def is_late(self, time: int) -> bool:
+        """Whether a timer should have fired before this time, later than which the header lets none fire."""
+        due = self.loss_deadline() or self.pto_deadline() if self.timer_late is not None else None
+        return due is not None and time > max(due.time, self.due_since) + self.timer_late
 
     # What each event changes.
 
     def follow(self, event: Event) -> None:
         """Takes an event that breaks no rule."""
+        before = self.deadline() if self.timer_late is not None else None
         getattr(self, f"on_{event['event']}")(event)
+        if self.timer_late is not None and self.deadline() != before:
+            self.due_since = event["time"]
         self.events += 1
         self.last_time = event["time"]
 
@@ -318,6 +343,8 @@ class Sender:
         if self.is_persistent(lost):
             self.window = PROBE_DATAGRAMS * self.max_datagram_size
             self.recovery_start_time = None
+            # Once the sample of the event has counted (RFC 9002, section 5.2).
+            self.min_rtt = self.latest_rtt if self.refreshes_min_rtt else self.min_rtt
 
     def is_lost(self, space: Space, packet: Packet, now: int) -> bool:
         """By the packet threshold or the time threshold (RFC 9002, section 6.1)."""

@@ -112,11 +112,10 @@ def metric(name, usual):
     return Key(name, good, NOT_INTEGER, absent=LEFT_OUT)
 
 
-# The tables, without the key `event`. The usual initial window is one for every datagram size, and
-# what is out of its range, or is its value where it is absent, is so for datagrams of 1200 bytes.
-TABLES = {
-    "header": (
-        Key("version", ("1",), NOT_INTEGER, late=("2", "0", "10", MOST), late_fault="F10 version"),
+def header(version):
+    """The table of a header in any version."""
+    return (
+        Key("version", (version,), NOT_INTEGER, late=("3", "0", "10", MOST), late_fault="F10 version"),
         Key("role", ('"client"', '"server"'), NOT_STRING, ('"Client"', '""', '"clients"', '"server "', '"proxy"')),
         Key("max_datagram_size", ("1200", "1201", "65527"), NOT_INTEGER, ("1199", "0", "1", "65528", MOST)),
         Key("max_ack_delay", ("25001", "0", "16383000"), NOT_INTEGER, ("16383001", MOST), "25000"),
@@ -124,7 +123,23 @@ TABLES = {
         Key(
             "initial_window", ("131054", "131055", "4294967295"), NOT_INTEGER, ("2399", "0", "4294967296", MOST), "12000"
         ),
-    ),
+    )
+
+
+# The keys of a header that have a meaning in version 2 alone.
+OPTIONS = (
+    Key("timer_late_us", ("7", "0", "1000000000000000"), NOT_INTEGER, ("1000000000000001", MOST), LEFT_OUT),
+    Key("refresh_min_rtt", ("true", "false"), NOT_BOOLEAN, absent="false"),
+    Key("report_slack_us", ("1", "0", "1000000000"), NOT_INTEGER, ("1000000001", MOST), "0"),
+    Key("report_slack_bytes", ("2", "0", "4294967295"), NOT_INTEGER, ("4294967296", MOST), "0"),
+)
+
+# The tables, without the key `event`, by the names of their files. The usual initial window is one
+# for every datagram size, and what is out of its range, or is its value where it is absent, is so for
+# datagrams of 1200 bytes.
+TABLES = {
+    "header": header("1"),
+    "header-2": (*header("2"), *OPTIONS),
     "sent": (
         TIME,
         SPACE,
@@ -198,11 +213,16 @@ class Fault(NamedTuple):
 EVENT, MISSING, KIND, RANGE, LATE = range(5)
 
 
+def event_of(kind):
+    """The event of the lines of this kind."""
+    return kind.split("-")[0]
+
+
 def faults_of(kind):
     """Each fault that one key gives a line of this kind."""
     for value in (None, "null"):
         yield Fault((EVENT, 0), "event", value, "F3 missing event")
-    for value in (*NOT_STRING, f'["{kind}"]'):
+    for value in (*NOT_STRING, f'["{event_of(kind)}"]'):
         yield Fault((EVENT, 0), "event", value, "F4 wrong-kind event")
     for value in OTHER_EVENTS:
         yield Fault((EVENT, 0), "event", value, "F6 unknown-event")
@@ -233,7 +253,7 @@ def object_text(members):
 
 
 def usual(kind):
-    return [("event", f'"{kind}"'), *((key.name, key.good[0]) for key in TABLES[kind])]
+    return [("event", f'"{event_of(kind)}"'), *((key.name, key.good[0]) for key in TABLES[kind])]
 
 
 def changed(kind, changes):
@@ -250,7 +270,7 @@ def changed_at_the_end(kind, changes):
 def written(kind, members):
     """The text that is written for a good line: each key of the table, in order of their bytes."""
     given = {name: value for name, value in members if value != "null"}
-    whole = {"event": f'"{kind}"', **{key.name: given.get(key.name, key.absent) for key in TABLES[kind]}}
+    whole = {"event": f'"{event_of(kind)}"', **{key.name: given.get(key.name, key.absent) for key in TABLES[kind]}}
     return object_text((name, whole[name]) for name in sorted(whole) if whole[name] != LEFT_OUT)
 
 
@@ -318,7 +338,7 @@ def fault_cases(kind):
         yield object_text(changed(kind, {fault.name: fault.value})), fault.said
     for first, second in itertools.combinations(first_faults_of(kind), 2):
         if first.name != second.name:
-            said = min(first, second, key=lambda fault: fault.rank).said
+            said = min(judged(first, second), key=lambda fault: fault.rank).said
             for pair in ((first, second), (second, first)):
                 yield object_text(changed_at_the_end(kind, {fault.name: fault.value for fault in pair})), said
 
@@ -343,6 +363,13 @@ def order_cases(kind):
     for changes in choices:
         for members in orders_of(changed(kind, changes)):
             yield object_text(members), written(kind, members)
+
+
+def judged(*faults):
+    """Those of the faults that are judged: in a header of an unknown version the options mean nothing."""
+    if any(fault.rank[0] == LATE and fault.name == "version" for fault in faults):
+        return [fault for fault in faults if fault.name not in (key.name for key in OPTIONS)]
+    return faults
 
 
 # Files.
