@@ -1,6 +1,6 @@
 //! Lines that are read quickly.
 use super::quick_line;
-use qa_base::{Event, Leave, Line, MetricValues, Micros, PacketNumber, Space, Span, Spans};
+use qa_base::{Event, Kind, Leave, Line, MetricValues, Micros, PacketNumber, Space, Span, Spans};
 use std::test::Fail;
 
 /// White space in each place, keys in another order, and keys that no event has.
@@ -65,5 +65,33 @@ fn the_later_of_two_equal_keys_is_read(rt: HostRuntime) -> Result<(), Fail> {
     let line =
         r#"{"event":"keys","time":1,"min_rtt":3,"window":12000,"rttvar":0,"min_rtt":4,"time":9,"event":"metrics"}"#;
     assert_eq!(rt; quick_line(rt.alloc(), line.as_bytes()), Some(metrics));
+    Ok(())
+}
+
+#[test]
+fn short_events_are_read(rt: HostRuntime) -> Result<(), Fail> {
+    let time = Micros::new(6).ok_or("a time")?;
+    let (kind, space) = (Kind::Pto, Space::Initial);
+    for (line, event) in [
+        (
+            r#"{"event":"timer","time":6,"kind":"pto","space":"initial"}"#,
+            Event::Timer { time, kind, space },
+        ),
+        (
+            r#"{"event":"discard","time":6,"space":"initial"}"#,
+            Event::Discard { time, space },
+        ),
+        (
+            r#"{"event":"confirmed","time":6}"#,
+            Event::Confirmed { time },
+        ),
+        (r#"{"event":"keys","time":6}"#, Event::Keys { time }),
+    ] {
+        assert_eq!(rt;
+            quick_line(rt.alloc(), line.as_bytes()),
+            Some(Line::Event(event)),
+            "{line}"
+        );
+    }
     Ok(())
 }
