@@ -91,7 +91,8 @@ impl Connection {
     }
 
     /// Takes the second half of an event that was begun: all that follows from what it newly
-    /// acknowledges and from what it found lost.
+    /// acknowledges and from what it found lost. Persistent congestion refreshes `min_rtt` only here,
+    /// after losses were looked for, and where the header asks for it.
     pub fn end(&mut self, event: &Event, acknowledged: &[SentPacket], outcome: Outcome)
         ensures { (c : Settings) (h : List Event) → IsBegun self.old c event.now h → IsProperRun c (event.now ∷ h)
             → acknowledged.now ≡ acknowledged_by c event.now h → IsOutcome outcome c (event.now ∷ h) → IsOf self.new c (event.now ∷ h) }
