@@ -54,6 +54,7 @@ test:
 	conformance/failing $(program)
 	conformance/failing --traces $(program_by_one_byte)
 	conformance/cuts $(program)
+	conformance/allocations $(program)
 	conformance/run --traces $(program_by_one_byte)
 	conformance/run --lines $(program_of_lines)
 
