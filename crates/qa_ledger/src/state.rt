@@ -15,7 +15,7 @@ ghost use Rattle.qa_base.specs.machine.Timer as timers;
 ghost use Rattle.qa_base.specs.values.Limits.{max_packet_size};
 ghost use Rattle.qa_base.specs.values.Settings.{Settings};
 
-use qa_base::{Due, Micros, PacketNumber, Space, Span, Totals};
+use qa_base::{Due, Micros, Options, PacketNumber, Space, Span, Totals};
 
 /// The state of the machine after a header and some events, as the rules ask for it. Each answer is
 /// what the definitions say of those events, and takes no memory.
@@ -30,6 +30,10 @@ pub trait State {
     fn max_datagram_size(&self) -> u64
         ensures value { (c : Settings) (h : List AnEvent) → tells self.now c h → result ≡ c.max_datagram_size }
         ensures bound { result ≤ max_packet_size };
+
+    /// What the header asks beside the machine of version 1: limits and slack.
+    fn options(&self) -> Options
+        ensures value { (c : Settings) (h : List AnEvent) → tells self.now c h → result ≡ c.options };
 
     /// The time of the last event; None before any.
     fn last_time(&self) -> Option<Micros>
@@ -80,6 +84,10 @@ pub trait State {
     /// What the loss detection timer is set for; None where it is not (RFC 9002, A.8).
     fn deadline(&self) -> Option<Due>
         ensures { (c : Settings) (h : List AnEvent) → tells self.now c h → result ≡ timers.deadline c h };
+
+    /// Whether the next event, at this time, shows that the timer was too late, by the header's limit.
+    fn is_late(&self, time: Micros) -> bool
+        ensures { (c : Settings) (h : List AnEvent) → tells self.now c h → result ≡ breaches.is_late_by c h time c.options.timer_late };
 
     /// Whether the probe of the last probe timeout is due (RFC 9002, section 6.2.4).
     fn is_probe_due(&self) -> bool
