@@ -1,2 +1,4 @@
 pub mod Totals
 pub mod Sound
+pub mod Tests
+pub mod Counted

@@ -1,9 +1,10 @@
 -- What the machine holds, by its parts.
 use Rattle.std.proofs.Common.{◌≡◌, ℕ, List, length, refl}
 use Rattle.qa_base.specs.declared.event.Event.{Event}
+use Rattle.qa_base.specs.machine.Estimates.{rtt}
 use Rattle.qa_base.specs.machine.Loss.{bytes_in_flight, owed}
 use Rattle.qa_base.specs.machine.Reno.{Control, reno}
-use Rattle.qa_base.specs.machine.Rtt.{Estimate, rtt}
+use Rattle.qa_base.specs.machine.Rtt.{Estimate}
 use Rattle.qa_base.specs.values.Settings.{Settings}
 use Rattle.qa_base.specs.machine.State.{totals}
 use Rattle.qa_base.specs.machine.Timer.{backoff}

@@ -1,14 +1,22 @@
 -- The tests of the rules from one of them on, and the totals by their parts.
-use Rattle.std.specs.Prelude.{ℕ, Bool, List, ◌∷◌}
+use Rattle.std.specs.Prelude.{ℕ, Bool, List, [], ◌∷◌, ◌++◌}
 use Rattle.qa_base.specs.declared.event.Event.{Event}
 use Rattle.qa_base.specs.declared.rule.Rule.{Rule}
 use Rattle.qa_base.specs.declared.rule.Rule.TheVariants as rule
 use Rattle.qa_base.specs.declared.verdict.Totals.{Totals}
-use Rattle.qa_base.specs.machine.Breaches.{is_past_window, is_past_probe, is_past_recovery, is_ack_unsent, is_timer_not_set, is_timer_other, is_timer_early, is_probe_owed, is_not_confirmed}
+use Rattle.qa_base.specs.machine.Breaches.{is_past_window, is_past_probe, is_past_recovery, is_ack_unsent, is_timer_not_set, is_timer_other, is_timer_early, is_probe_owed, is_not_confirmed, is_timer_late}
 use Rattle.qa_base.specs.machine.Metrics.{metric_tests}
 use Rattle.qa_base.specs.machine.Reno.{Control}
 use Rattle.qa_base.specs.machine.Rtt.{Estimate}
 use Rattle.qa_base.specs.values.Settings.{Settings}
+
+-- V18
+abbrev pub late_tests : Settings → List Event → Event → List (Bool × Rule)
+late_tests c h e = (is_timer_late c h e, rule.TimerLate) ∷ []
+
+-- V16 and V18
+abbrev pub last_tests : Settings → List Event → Event → List (Bool × Rule)
+last_tests c h e = metric_tests c h e ++ late_tests c h e
 
 -- from V11 on
 abbrev pub timer_tests : Settings → List Event → Event → List (Bool × Rule)
@@ -18,7 +26,7 @@ timer_tests c h e =
     ∷ (is_timer_early c h e, rule.TimerEarly)
     ∷ (is_probe_owed h e, rule.ProbeOwed)
     ∷ (is_not_confirmed h e, rule.NotConfirmed)
-    ∷ metric_tests c h e
+    ∷ last_tests c h e
 
 -- from V7 on
 abbrev pub leave_tests : Settings → List Event → Event → List (Bool × Rule)

@@ -17,7 +17,8 @@ use thiserror::Error;
 /// Why a ledger does not admit an event.
 #[derive(Clone, Copy, Debug, PartialEq, Eq, Error)]
 pub enum LedgerFault {
-    /// The event breaks this rule, the first of V1 to V16 that it breaks. The ledger is as it was.
+    /// The event breaks this rule, the first of V1 to V16 and V18 that it breaks. The ledger is as it
+    /// was.
     #[error("{0}")]
     Broken(Rule),
     /// The ledger is out of memory, now or since an earlier event. It has failed, holds the state

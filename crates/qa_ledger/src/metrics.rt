@@ -12,44 +12,48 @@ ghost use Rattle.qa_base.specs.values.Settings.{Settings};
 ghost use Rattle.qa_ledger.specs.Tests.{totals_of};
 
 use crate::state::State;
-use qa_base::{Event, Field, Header, MetricValues, Rule, Totals};
+use qa_base::{Event, Field, Header, MetricValues, Options, Rule, Totals};
 use qa_plain::{backoff, owed_count, reno, rtt};
 use qa_recovery::{Reno, Rtt};
 
-/// Whether a value is reported that is not the machine's, which may have none.
-fn differs(reported: Option<u64>, held: Option<u64>) -> bool
-    ensures { result ≡ metrics.differs reported held }
+/// Whether a value is reported that differs by more than the slack from the machine's, which may have
+/// none.
+fn differs(slack: u64, reported: Option<u64>, held: Option<u64>) -> bool
+    ensures { result ≡ metrics.differs slack reported held }
 {
     match (reported, held) {
         (None, _) => false,
         (Some(_), None) => true,
-        (Some(reported), Some(held)) => reported != held,
+        (Some(reported), Some(held)) => slack < reported.abs_diff(held),
     }
 }
 
-/// The first of the reported values that differs from the machine's, as a rule that is broken.
-fn metric_rule(values: &MetricValues, held: &Totals) -> Option<Rule>
-    ensures { result ≡ rules.first_of (metrics.tests values.now held.now) }
+/// The first of the reported values that differs from the machine's by more than the header's slack,
+/// of bytes or of times, as a rule that is broken.
+fn metric_rule(options: Options, values: &MetricValues, held: &Totals) -> Option<Rule>
+    ensures { result ≡ rules.first_of (metrics.tests options values.now held.now) }
 {
-    if differs(values.window, Some(held.window)) {
+    let bytes = options.report_slack_bytes;
+    let times = options.report_slack_us;
+    if differs(bytes, values.window, Some(held.window)) {
         return Some(Rule::Metric(Field::Window));
     }
-    if differs(values.ssthresh, held.ssthresh) {
+    if differs(bytes, values.ssthresh, held.ssthresh) {
         return Some(Rule::Metric(Field::Ssthresh));
     }
-    if differs(values.bytes_in_flight, Some(held.bytes_in_flight)) {
+    if differs(bytes, values.bytes_in_flight, Some(held.bytes_in_flight)) {
         return Some(Rule::Metric(Field::BytesInFlight));
     }
-    if differs(values.latest_rtt, Some(held.latest_rtt)) {
+    if differs(times, values.latest_rtt, Some(held.latest_rtt)) {
         return Some(Rule::Metric(Field::LatestRtt));
     }
-    if differs(values.min_rtt, Some(held.min_rtt)) {
+    if differs(times, values.min_rtt, Some(held.min_rtt)) {
         return Some(Rule::Metric(Field::MinRtt));
     }
-    if differs(values.smoothed_rtt, Some(held.smoothed_rtt)) {
+    if differs(times, values.smoothed_rtt, Some(held.smoothed_rtt)) {
         return Some(Rule::Metric(Field::SmoothedRtt));
     }
-    if differs(values.rttvar, Some(held.rttvar)) {
+    if differs(times, values.rttvar, Some(held.rttvar)) {
         return Some(Rule::Metric(Field::Rttvar));
     }
     None
@@ -100,12 +104,12 @@ pub fn totals(header: &Header, events: &[Event]) -> Totals
     )
 }
 
-/// V16: the first reported value that is not the machine's.
+/// V16: the first reported value that is not the machine's, by more than the header's slack.
 pub fn metrics_rule<S: State>(state: &S, event: &Event) -> Option<Rule>
     ensures { (c : Settings) (h : List AnEvent) → S.tells state.now c h → result ≡ rules.first_of (metrics.metric_tests c h event.now) }
 {
     match event {
-        Event::Metrics { values, .. } => metric_rule(values, &state.held()),
+        Event::Metrics { values, .. } => metric_rule(state.options(), values, &state.held()),
         _ => None,
     }
 }

@@ -5,7 +5,7 @@ ghost use Rattle.qa_base.specs.declared.event.Event.{Event as AnEvent};
 ghost use Rattle.qa_base.specs.machine.Breaches as breaches;
 ghost use Rattle.qa_base.specs.machine.Rules as rules;
 ghost use Rattle.qa_base.specs.values.Settings.{Settings};
-ghost use Rattle.qa_ledger.specs.Tests.{leave_tests, timer_tests};
+ghost use Rattle.qa_ledger.specs.Tests.{leave_tests, timer_tests, last_tests, late_tests};
 
 use crate::metrics::metrics_rule;
 use crate::state::State;
@@ -236,6 +236,31 @@ fn is_not_confirmed<S: State>(state: &S, event: &Event) -> bool
     }
 }
 
+/// V18: a timer that is set for packets should have fired before the event, by the header's limit.
+fn is_timer_late<S: State>(state: &S, event: &Event) -> bool
+    ensures { (c : Settings) (h : List AnEvent) → S.tells state.now c h → result ≡ breaches.is_timer_late c h event.now }
+{
+    state.is_late(time_of(event))
+}
+
+/// The rule of V18 where the event breaks it.
+fn late_rule<S: State>(state: &S, event: &Event) -> Option<Rule>
+    ensures { (c : Settings) (h : List AnEvent) → S.tells state.now c h → result ≡ rules.first_of (late_tests c h event.now) }
+{
+    if is_timer_late(state, event) {
+        return Some(Rule::TimerLate);
+    }
+    None
+}
+
+/// The first of V16 and V18 that the event breaks.
+#[tactic(auto, using(crate::proofs::Tests::first_of_both))]
+fn last_rule<S: State>(state: &S, event: &Event) -> Option<Rule>
+    ensures { (c : Settings) (h : List AnEvent) → S.tells state.now c h → result ≡ rules.first_of (last_tests c h event.now) }
+{
+    metrics_rule(state, event).or(late_rule(state, event))
+}
+
 /// The first rule from V11 on that the event breaks.
 fn timer_rule<S: State>(state: &S, event: &Event) -> Option<Rule>
     ensures { (c : Settings) (h : List AnEvent) → S.tells state.now c h → result ≡ rules.first_of (timer_tests c h event.now) }
@@ -255,7 +280,7 @@ fn timer_rule<S: State>(state: &S, event: &Event) -> Option<Rule>
     if is_not_confirmed(state, event) {
         return Some(Rule::NotConfirmed);
     }
-    metrics_rule(state, event)
+    last_rule(state, event)
 }
 
 /// The first rule from V7 on that the event breaks.
@@ -277,7 +302,7 @@ fn leave_rule<S: State>(state: &S, event: &Event) -> Option<Rule>
     timer_rule(state, event)
 }
 
-/// The first rule that the event breaks after these events, V1 to V16 in their order.
+/// The first rule that the event breaks after these events, V1 to V16 and V18 in their order.
 #[tactic(auto, unfolding(qa_base::specs::machine::Rules::first_broken))]
 pub fn first_broken<S: State>(state: &S, event: &Event) -> Option<Rule>
     ensures { (c : Settings) (h : List AnEvent) → S.tells state.now c h → result ≡ rules.first_broken c h event.now }

@@ -13,7 +13,7 @@ use crate::ledger::{Ledger, LedgerFault};
 use crate::metrics;
 use crate::rules::first_broken;
 use crate::state::State;
-use qa_base::{Due, Event, Header, Micros, PacketNumber, Space, Span, Totals};
+use qa_base::{Due, Event, Header, Micros, Options, PacketNumber, Space, Span, Totals};
 use qa_plain::time_of;
 use qa_ranges::SentNumbers;
 use std::alloc::{AllocError, Global};
@@ -136,6 +136,10 @@ impl State for Whole {
         self.header.max_datagram_size()
     }
 
+    fn options(&self) -> Options {
+        self.header.options()
+    }
+
     fn last_time(&self) -> Option<Micros> {
         self.events.last().map(|event| time_of(event))
     }
@@ -183,6 +187,10 @@ impl State for Whole {
     #[tactic(auto, using(qa_base::proofs::machine::PtoCount::pto_count))]
     fn deadline(&self) -> Option<Due> {
         qa_plain::deadline(&self.header, &self.events)
+    }
+
+    fn is_late(&self, time: Micros) -> bool {
+        qa_plain::is_late(&self.header, &self.events, time)
     }
 
     fn is_probe_due(&self) -> bool {

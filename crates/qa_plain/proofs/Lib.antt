@@ -4,3 +4,5 @@ pub mod Entries
 pub mod Answered
 pub mod Powers
 pub mod Followed
+pub mod Refreshed
+pub mod Late

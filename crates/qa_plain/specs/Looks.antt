@@ -2,9 +2,10 @@
 use Rattle.std.specs.Prelude.{◌≡◌, ◌&&◌, ℕ, Bool, false, List, Option, Some, None}
 use Rattle.qa_base.specs.declared.event.Event.{Event}
 use Rattle.qa_base.specs.declared.space.Space.{Space}
-use Rattle.qa_base.specs.machine.Loss.{detection, is_late, is_unsettled}
+use Rattle.qa_base.specs.machine.Estimates.{sampled}
+use Rattle.qa_base.specs.machine.Detection.{detection, is_late, is_unsettled}
 use Rattle.qa_base.specs.machine.Packets.{Packet, is_of, largest_acknowledged}
-use Rattle.qa_base.specs.machine.Rtt.{Estimate, rtt}
+use Rattle.qa_base.specs.machine.Rtt.{Estimate}
 use Rattle.qa_base.specs.values.Settings.{Settings}
 
 -- the estimate, where and when the last event looks for losses, and the largest number acknowledged there
@@ -19,7 +20,7 @@ largest_there h (Some (s, now)) = largest_acknowledged h s
 
 -- this is seen of the history
 abbrev pub IsLook : Settings → List Event → Seen → Type 0
-IsLook c h look = (look.rtt ≡ rtt c h) × (look.detection ≡ detection h) × (look.largest ≡ largest_there h (detection h))
+IsLook c h look = (look.rtt ≡ sampled c h) × (look.detection ≡ detection h) × (look.largest ≡ largest_there h (detection h))
 
 -- a detection there and then, with this estimate and largest number, finds the packet lost
 abbrev pub is_found_where : List Event → Estimate → Option ℕ → Packet → Option (Space × ℕ) → Bool

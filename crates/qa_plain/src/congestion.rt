@@ -1,6 +1,8 @@
 //! Persistent congestion (RFC 9002, section 7.6).
 ghost use Rattle.std.specs.Prelude.{◌≡◌};
 ghost use Rattle.std.specs.List.{list_any};
+ghost use Rattle.qa_base.specs.machine.Detection as detections;
+ghost use Rattle.qa_base.specs.machine.Estimates.{sampled};
 ghost use Rattle.qa_base.specs.machine.Loss as loss;
 ghost use Rattle.qa_base.specs.machine.Packets.{history_of};
 ghost use Rattle.qa_plain.specs.Looks.{IsLook};
@@ -12,7 +14,7 @@ use qa_base::{Event, Header, Micros};
 
 /// Whether the packet was sent after the first sample.
 fn is_after(first: Option<Micros>, packet: Packet) -> bool
-    ensures { result ≡ loss.is_after first packet }
+    ensures { result ≡ detections.is_after first packet }
 {
     match first {
         None => false,
@@ -24,14 +26,14 @@ fn is_after(first: Option<Micros>, packet: Packet) -> bool
 /// first sample.
 fn is_end(header: &Header, events: &[Event], look: Look, packet: Packet) -> bool
     requires seen { IsLook header.now (history_of events.now) look }
-    ensures { result ≡ loss.is_end header.now (history_of events.now) packet }
+    ensures { result ≡ detections.is_end (sampled header.now (history_of events.now)) packet }
 {
     packet.eliciting && is_after(look.rtt.first_rtt_sample, packet)
 }
 
 /// Whether a packet that was sent between the two is acknowledged.
 pub fn is_acknowledged_between(events: &[Event], first: Packet, second: Packet) -> bool
-    ensures { result ≡ loss.is_acknowledged_between (history_of events.now) first second }
+    ensures { result ≡ detections.is_acknowledged_between (history_of events.now) first second }
 {
     let mut found = false;
     for (place, event) in events.iter().enumerate() {
@@ -50,7 +52,7 @@ pub fn is_acknowledged_between(events: &[Event], first: Packet, second: Packet) 
 /// Whether the two lie too far apart, and nothing that was sent between them was acknowledged.
 fn are_ends(header: &Header, events: &[Event], look: Look, first: Packet, second: Packet) -> bool
     requires seen { IsLook header.now (history_of events.now) look }
-    ensures { result ≡ loss.are_ends header.now (history_of events.now) first second }
+    ensures { result ≡ detections.are_ends (sampled header.now (history_of events.now)) header.now (history_of events.now) first second }
 {
     let delay = Micros::of(header.max_ack_delay());
     let apart = second.time.get().saturating_sub(first.time.get());
@@ -63,7 +65,7 @@ fn are_ends(header: &Header, events: &[Event], look: Look, first: Packet, second
 /// Whether the packet and one that is owed establish persistent congestion.
 fn has_end(header: &Header, events: &[Event], look: Look, first: Packet) -> bool
     requires seen { IsLook header.now (history_of events.now) look }
-    ensures { result ≡ list_any (loss.are_ends header.now (history_of events.now) first) (loss.owed header.now (history_of events.now)) }
+    ensures { result ≡ list_any (detections.are_ends (sampled header.now (history_of events.now)) header.now (history_of events.now) first) (loss.owed header.now (history_of events.now)) }
 {
     let mut found = false;
     for (place, event) in events.iter().enumerate() {

@@ -84,6 +84,7 @@ fn first_awaiting(header: &Header, events: &[Event], look: Look, space: Space) -
 }
 
 /// When the first packet of the space is old.
+#[tactic(auto, using(crate::proofs::Refreshed::same_loss_delay))]
 fn loss_due(header: &Header, events: &[Event], look: Look, space: Space) -> Option<Due>
     requires seen { IsLook header.now (history_of events.now) look }
     ensures { result ≡ timers.loss_due header.now (history_of events.now) space }
@@ -166,6 +167,7 @@ fn doubled(base: u64, count: u64) -> u128
 
 /// The probe timeout of the space, doubled for each before it; the peer may delay its
 /// acknowledgments.
+#[tactic(auto, using(crate::proofs::Refreshed::same_pto_base))]
 fn pto_due(
     header: &Header,
     events: &[Event],
@@ -255,6 +257,7 @@ pub fn last_set(events: &[Event]) -> Option<Micros>
 }
 
 /// The timer that a client keeps until its address is validated (RFC 9002, section 6.2.2.1).
+#[tactic(auto, using(crate::proofs::Refreshed::same_pto_base))]
 fn anti_deadlock(header: &Header, events: &[Event], look: Look, count: u64) -> Option<Due>
     requires seen { IsLook header.now (history_of events.now) look }
     requires counted { count ≡ timers.backoff header.now (history_of events.now) }
@@ -277,6 +280,16 @@ fn anti_deadlock(header: &Header, events: &[Event], look: Look, count: u64) -> O
             time: u128::from(set.get()) + doubled(look.rtt.pto_base(), count),
         }),
     }
+}
+
+/// What the timer is set for by packets: one that will be old, else a probe timeout.
+pub fn packet_deadline(header: &Header, events: &[Event], look: Look, count: u64) -> Option<Due>
+    requires seen { IsLook header.now (history_of events.now) look }
+    requires counted { count ≡ timers.backoff header.now (history_of events.now) }
+    requires few { count ≤ 40 }
+    ensures { result ≡ timers.packet_deadline header.now (history_of events.now) }
+{
+    earliest_loss(header, events, look).or(earliest_pto(header, events, look, count))
 }
 
 /// What the timer is set for: a packet that will be old, else a probe timeout, else the timer that a

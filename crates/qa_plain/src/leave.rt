@@ -12,6 +12,7 @@ ghost use Rattle.qa_base.specs.machine.Probes as probes;
 ghost use Rattle.qa_plain.specs.Words as words;
 ghost use Rattle.qa_base.specs.machine.Widths.{Fits};
 
+use crate::estimates::refreshed_where_asked;
 use crate::losses::{Look, look_at};
 use crate::sampling::{sample_of, start, updated};
 use crate::settled::acknowledges_new;
@@ -237,10 +238,11 @@ pub fn recovery_spent(header: &Header, events: &[Event]) -> Option<u64>
     for (place, event) in events.iter().enumerate() {
         let before = &events[..place];
         let after = &events[..place + 1];
-        rtt = updated(rtt, sample_of(header, before, event));
-        let seen = look_at(header, after, rtt);
+        let sampled = updated(rtt, sample_of(header, before, event));
+        let seen = look_at(header, after, sampled);
         spent = recovery_after(header, before, event, after, seen, reno, spent);
         reno = moved(header, before, event, after, seen, reno);
+        rtt = refreshed_where_asked(header, after, seen);
     }
     spent
 }

@@ -5,15 +5,18 @@
 //! the events behind each packet for each acknowledgment. For 300 events that is about a millisecond
 //! a call. Events need not be a run, nor their times or numbers rise. What is asked of them stands at
 //! each function: `reno` and `recovery_spent` ask that each fits (`Event::fits`) and that there are
-//! fewer than 2^32, `deadline` for a PTO count of at most 40, and the others for nothing.
+//! fewer than 2^32, `deadline` and `packet_deadline` for a PTO count of at most 40, `set_since` and
+//! `is_late` for such a count after each event, and the others for nothing.
 //!
 //! Times are in microseconds, sizes and windows in bytes.
 #![tactic(auto)]
 
 mod congestion;
 mod deadlines;
+mod estimates;
 mod event;
 mod handshake;
+mod lateness;
 mod leave;
 mod losses;
 mod named;
@@ -24,13 +27,16 @@ mod settled;
 mod timer;
 mod window;
 
+pub use estimates::{rtt, sampled};
 pub use event::time_of;
 pub use handshake::is_confirmed;
+pub use lateness::{is_late, set_since};
 pub use leave::{is_probe_due, probe_spent, recovery_spent};
 pub use named::{has_at_or_above, were_sent};
 pub use packet::{Packet, packet_of};
-pub use questions::{bytes_in_flight, deadline, is_owed, names_owed, owed_count, owes, owes_in};
-pub use sampling::rtt;
+pub use questions::{
+    bytes_in_flight, deadline, is_owed, names_owed, owed_count, owes, owes_in, packet_deadline,
+};
 pub use settled::{is_covered, is_gone, is_lost, is_newly_acknowledged, largest_acknowledged};
 pub use timer::backoff;
 pub use window::reno;

@@ -1,10 +1,11 @@
 //! Detection of losses, what is open, and the bytes in flight (RFC 9002, section 6.1, A.10).
 ghost use Rattle.std.specs.Prelude.{◌&&◌, ◌≡◌, ◌∷◌, ◌≤◌, ◌*◌, length};
 ghost use Rattle.qa_base.specs.declared.space.Space.{Space};
+ghost use Rattle.qa_base.specs.machine.Detection as detections;
+ghost use Rattle.qa_base.specs.machine.Estimates as estimates;
 ghost use Rattle.qa_base.specs.machine.Loss as loss;
 ghost use Rattle.qa_base.specs.machine.Packets as packets;
 ghost use Rattle.qa_base.specs.machine.Packets.{history_of};
-ghost use Rattle.qa_base.specs.machine.Rtt as estimates;
 ghost use Rattle.qa_plain.specs.Looks.{IsLook, is_found_by, largest_there as largest_there_of};
 ghost use Rattle.std.specs.List.{list_any};
 
@@ -20,7 +21,7 @@ use std::marker::Model;
 /// What is found out of a history once, before its packets are asked.
 #[derive(Clone, Copy, Debug, PartialEq, Eq)]
 pub struct Look {
-    /// The estimate of the round-trip time.
+    /// The estimate of the round-trip time with the last event's sample, before a refresh.
     pub rtt: Rtt,
     /// Where and when the last event looks for losses.
     pub detection: Option<(Space, Micros)>,
@@ -41,7 +42,7 @@ impl Model for Look {
 /// Whether the packet was sent as long ago as the time threshold of the RTT and the granularity
 /// (RFC 9002, section 6.1.2).
 fn is_old(rtt: Rtt, now: Micros, packet: Packet) -> bool
-    ensures { result ≡ loss.is_old rtt now packet }
+    ensures { result ≡ detections.is_old rtt now packet }
 {
     let age = now.get().saturating_sub(packet.time.get());
     TIME_THRESHOLD_PARTS * rtt.latest_rtt.get().max(rtt.smoothed_rtt.get())
@@ -52,7 +53,7 @@ fn is_old(rtt: Rtt, now: Micros, packet: Packet) -> bool
 /// Whether the packet is below the largest acknowledged number, by the packet threshold or for long
 /// enough.
 fn is_late(rtt: Rtt, now: Micros, largest: Option<u64>, packet: Packet) -> bool
-    ensures { result ≡ loss.is_late rtt now largest packet }
+    ensures { result ≡ detections.is_late rtt now largest packet }
 {
     match largest {
         None => false,
@@ -65,14 +66,14 @@ fn is_late(rtt: Rtt, now: Micros, largest: Option<u64>, packet: Packet) -> bool
 
 /// Whether the packet is neither acknowledged nor declared lost.
 pub fn is_unsettled(events: &[Event], packet: Packet) -> bool
-    ensures { result ≡ loss.is_unsettled (history_of events.now) packet }
+    ensures { result ≡ detections.is_unsettled (history_of events.now) packet }
 {
     !is_covered(events, packet) && !is_lost(events, packet)
 }
 
 /// Where and when an event looks for losses.
 pub fn detection_by(before: &[Event], event: &Event) -> Option<(Space, Micros)>
-    ensures { result ≡ loss.detection (event.now ∷ history_of before.now) }
+    ensures { result ≡ detections.detection (event.now ∷ history_of before.now) }
 {
     match event {
         Event::Ack { time, space, .. } => {
@@ -93,7 +94,7 @@ pub fn detection_by(before: &[Event], event: &Event) -> Option<(Space, Micros)>
 
 /// Where and when the last event looks for losses.
 pub fn detection(events: &[Event]) -> Option<(Space, Micros)>
-    ensures { result ≡ loss.detection (history_of events.now) }
+    ensures { result ≡ detections.detection (history_of events.now) }
 {
     match events.split_last() {
         None => None,
@@ -103,7 +104,7 @@ pub fn detection(events: &[Event]) -> Option<(Space, Micros)>
 
 /// The largest number that was acknowledged where the last event looks for losses.
 fn largest_there(events: &[Event]) -> Option<u64>
-    ensures { result ≡ largest_there_of (history_of events.now) (loss.detection (history_of events.now)) }
+    ensures { result ≡ largest_there_of (history_of events.now) (detections.detection (history_of events.now)) }
 {
     match detection(events) {
         None => None,
@@ -111,9 +112,9 @@ fn largest_there(events: &[Event]) -> Option<u64>
     }
 }
 
-/// What is known of the history, with its estimate.
+/// What is known of the history, with its estimate before a refresh.
 pub fn look_at(header: &Header, events: &[Event], rtt: Rtt) -> Look
-    requires known { rtt ≡ estimates.rtt header.now (history_of events.now) }
+    requires known { rtt ≡ estimates.sampled header.now (history_of events.now) }
     ensures { IsLook header.now (history_of events.now) result }
 {
     Look {
@@ -132,7 +133,7 @@ fn is_late_open(
     now: Micros,
     packet: Packet,
 ) -> bool
-    ensures { result ≡ (loss.is_unsettled (history_of events.now) packet && loss.is_late rtt now largest packet) }
+    ensures { result ≡ (detections.is_unsettled (history_of events.now) packet && detections.is_late rtt now largest packet) }
 {
     is_late(rtt, now, largest, packet) && is_unsettled(events, packet)
 }

@@ -9,9 +9,9 @@ ghost use Rattle.qa_base.specs.machine.Packets.{history_of};
 ghost use Rattle.qa_base.specs.machine.Timer as timers;
 ghost use Rattle.qa_plain.specs.Looks.{IsLook};
 
+use crate::estimates::sampled;
 use crate::losses::{Look, look_at};
 use crate::packet::Packet;
-use crate::sampling::rtt;
 use crate::timer::backoff;
 use crate::{deadlines, losses, named};
 use qa_base::{Due, Event, Header, Space, Span};
@@ -20,7 +20,7 @@ use qa_base::{Due, Event, Header, Space, Span};
 fn look(header: &Header, events: &[Event]) -> Look
     ensures { IsLook header.now (history_of events.now) result }
 {
-    look_at(header, events, rtt(header, events))
+    look_at(header, events, sampled(header, events))
 }
 
 /// Whether the last event found the packet lost, so that the next has to declare it: an
@@ -76,6 +76,22 @@ pub fn deadline(header: &Header, events: &[Event]) -> Option<Due>
     ensures { result ≡ timers.deadline header.now (history_of events.now) }
 {
     deadlines::deadline(
+        header,
+        events,
+        look(header, events),
+        backoff(header, events),
+    )
+}
+
+/// What the timer is set for by packets, not as the timer that a client keeps until its address is
+/// validated (RFC 9002, section 6.2.2.1); None where packets set none.
+///
+/// Asks for a PTO count of at most 40.
+pub fn packet_deadline(header: &Header, events: &[Event]) -> Option<Due>
+    requires counted { timers.backoff header.now (history_of events.now) ≤ 40 }
+    ensures { result ≡ timers.packet_deadline header.now (history_of events.now) }
+{
+    deadlines::packet_deadline(
         header,
         events,
         look(header, events),

@@ -1,4 +1,4 @@
-//! The round-trip time, by its samples (RFC 9002, section 5).
+//! The samples of the round-trip time (RFC 9002, section 5).
 ghost use Rattle.std.specs.Prelude.{◌≡◌, ◌∷◌, ◌==◌, find};
 ghost use Rattle.std.specs.List.{list_any};
 ghost use Rattle.qa_base.specs.machine.Packets.{history_of, newly_acknowledged};
@@ -128,19 +128,4 @@ pub fn start(header: &Header) -> Rtt
     ensures { result ≡ estimates.start header.now.initial_rtt }
 {
     Rtt::start(Micros::of(header.initial_rtt()))
-}
-
-/// The estimate of the round-trip time after the events (RFC 9002, section 5, A.7).
-///
-/// An acknowledgment gives a sample where it newly acknowledges both the packet with its largest
-/// number and an ack-eliciting one. The peer's delay counts up to its `max_ack_delay` once the
-/// handshake is confirmed.
-pub fn rtt(header: &Header, events: &[Event]) -> Rtt
-    ensures { result ≡ estimates.rtt header.now (history_of events.now) }
-{
-    let mut rtt = start(header);
-    for (place, event) in events.iter().enumerate() {
-        rtt = updated(rtt, sample_of(header, &events[..place], event));
-    }
-    rtt
 }

@@ -11,6 +11,7 @@ ghost use Rattle.qa_base.specs.values.Limits.{max_packet_size};
 ghost use Rattle.qa_plain.specs.Words.{last_sending, hits_at};
 
 use crate::congestion::is_persistent;
+use crate::estimates::refreshed_where_asked;
 use crate::event::time_of;
 use crate::losses::{Look, is_owed, look_at};
 use crate::packet::packet_of;
@@ -173,16 +174,11 @@ pub fn reno(header: &Header, events: &[Event]) -> Reno
     let mut reno = Reno::start(header.initial_window());
     for (place, event) in events.iter().enumerate() {
         let before = &events[..place];
-        rtt = updated(rtt, sample_of(header, before, event));
         let after = &events[..place + 1];
-        reno = moved(
-            header,
-            before,
-            event,
-            after,
-            look_at(header, after, rtt),
-            reno,
-        );
+        let sampled = updated(rtt, sample_of(header, before, event));
+        let seen = look_at(header, after, sampled);
+        reno = moved(header, before, event, after, seen, reno);
+        rtt = refreshed_where_asked(header, after, seen);
     }
     reno
 }

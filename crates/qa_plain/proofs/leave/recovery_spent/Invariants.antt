@@ -1,8 +1,8 @@
 use Rattle.std.proofs.Common.{◌≡◌, ◌≤◌, take, length}
+use Rattle.qa_base.specs.machine.Estimates.{rtt}
 use Rattle.qa_base.specs.machine.Packets.{history_of}
 use Rattle.std.specs.Option.{ForSome}
 use Rattle.qa_base.specs.machine.Leave.{recovery_spent}
-use Rattle.qa_base.specs.machine.Rtt.{rtt}
 use Rattle.qa_base.specs.machine.Reno.{reno}
 use Rattle.qa_plain.proofs.leave.recovery_spent.Given as goal
 

@@ -1,6 +1,6 @@
 use Rattle.std.proofs.Common.{◌≡◌, take}
+use Rattle.qa_base.specs.machine.Estimates.{rtt}
 use Rattle.qa_base.specs.machine.Packets.{history_of}
-use Rattle.qa_base.specs.machine.Rtt.{rtt}
 use Rattle.qa_base.specs.machine.Reno.{reno}
 use Rattle.qa_plain.proofs.window.reno.Given as goal
 
