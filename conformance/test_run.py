@@ -507,7 +507,7 @@ class LargeTest(RunnerCase):
 import time
 def slowly(lines):
     for line in lines:
-        end = time.process_time() + 0.15 * (len(line) > 60000)
+        end = time.process_time() + 0.6 * (len(line) > 60000)
         while time.process_time() < end: pass
         yield line
 """ + ANSWERS.format(lines="slowly(sys.stdin.buffer)"))
