@@ -1,5 +1,5 @@
 -- A value that is put at a key of an event is found of this key, and nothing else changes.
-use Rattle.std.proofs.Common.{◌≡◌, ◌∙◌, ◌<◌, ◌^◌, ℕ, List, Bool, true, Some, codes}
+use Rattle.std.proofs.Common.{◌≡◌, ◌∙◌, ◌<◌, ◌^◌, ℕ, Bool, true, Some, codes}
 use Rattle.std.specs.List.{AllByRecursion}
 use Rattle.qa_base.specs.declared.line.LineKind.{LineKind}
 use Rattle.qa_base.specs.declared.space.Kind.{Kind}
@@ -10,7 +10,7 @@ use Rattle.qa_base.specs.values.Proper.{IsRange, IsWord}
 use Rattle.qa_base.specs.format.Written.{integer, boolean}
 use Rattle.qa_base.proofs.format.AnyOrder.{get_put, get_put_other}
 use Rattle.qa_quick.specs.declared.found.Found.{Found}
-use Rattle.qa_quick.specs.Found.{Holds, Keeps, line_kind_data, space_data, leave_data, kind_data}
+use Rattle.qa_quick.specs.Found.{Keeps, line_kind_data, space_data, leave_data, kind_data}
 use Rattle.qa_quick.specs.Ranges.{Spans, ranges_data}
 
 pub put_event : (f : Found) (x : LineKind) → Keeps (codes "event") (line_kind_data x) f (record f { event = Some x })

@@ -1,11 +1,9 @@
 -- What the lexer of JSON makes of white space, operators, strings, integers and literals.
-use Rattle.std.proofs.Common.{◌≡◌, ◌∙◌, ◌⊎◌, inl, inr, ℕ, ◌+◌, ◌-◌, ◌<◌, ◌≤◌, ◌^◌, List, [], ◌∷◌, ◌++◌, Bool, true, false, cond, ◌&&◌, ◌||◌, ◌==◌, not, length, take, drop, get_or, Some, IsUtf8, decimal, refl, sym, ap, ap₂, subst, arith, append_assoc, take-append-drop, append-nil, lt-ltb}
-use Rattle.std.specs.Prelude.{nat_le}
+use Rattle.std.proofs.Common.{◌≡◌, ◌∙◌, inl, inr, ℕ, ◌+◌, ◌<◌, ◌≤◌, ◌^◌, List, [], ◌∷◌, ◌++◌, Bool, true, false, cond, length, drop, get_or, Some, IsUtf8, decimal, refl, sym, ap, ap₂, subst, arith, append_assoc, append-nil, lt-ltb}
 use Rattle.std.specs.List.{list_all}
-use Rattle.std.proofs.lemmas.Bool.{and_parts, and_from, or_cases, eqb-true, leb-true, ne_eqb, le-ltb, not-true, eqb-false}
+use Rattle.std.proofs.lemmas.Bool.{and_parts, or_cases, eqb-true, leb-true, ne_eqb, le-ltb, not-true, eqb-false}
 use Rattle.std.proofs.lemmas.Fmt.{IsAscii-decimal}
-use Rattle.std.proofs.lemmas.List.{drop_more, take_all, length-drop}
-use Rattle.std.proofs.lemmas.List.Folds.{list_all_more}
+use Rattle.std.proofs.lemmas.List.{drop_more}
 use Rattle.std.proofs.lemmas.Str.{IsUtf8-append, IsUtf8-nil, IsUtf8-from_ascii}
 use Rattle.json.specs.Text.{content, plain, prepend}
 use Rattle.json.specs.Token as tokens

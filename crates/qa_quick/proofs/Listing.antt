@@ -1,20 +1,18 @@
 -- Ranges that are found one after another, up to the end of their list.
-use Rattle.std.proofs.Common.{◌≡◌, ◌∙◌, ◌≤◌, ◌<◌, ◌^◌, ℕ, List, [], ◌∷◌, ◌++◌, Bool, true, false, cond, Option, Some, None, decimal, refl, sym, ap, subst, arith, append_assoc, max}
+use Rattle.std.proofs.Common.{◌≡◌, ◌∙◌, ◌≤◌, ℕ, List, [], ◌∷◌, ◌++◌, Bool, true, false, cond, Some, None, decimal, refl, sym, ap, subst, arith, append_assoc}
 use Rattle.std.specs.Prelude.{nat_le}
 use Rattle.std.specs.List.{AllByRecursion}
-use Rattle.std.proofs.lemmas.Bool.{leb-true, and_parts}
-use Rattle.json.specs.Lex.{Lexeme, token, comma, between, lex}
+use Rattle.std.proofs.lemmas.Bool.{leb-true}
+use Rattle.json.specs.Lex.{token, comma, between, lex}
 use Rattle.json.specs.Token as tokens
-use Rattle.json.specs.Tree as tree
-use Rattle.serde_json.specs.Data.{depth, items_depth}
-use Rattle.serde_json.specs.Written.{outline, items_outline}
-use Rattle.qa_base.specs.format.Written.{integer_pair, integer_pairs}
+use Rattle.serde_json.specs.Written.{outline}
+use Rattle.qa_base.specs.format.Written.{integer_pair}
 use Rattle.qa_base.specs.values.Events.{has_ranges}
 use Rattle.qa_base.specs.values.Limits.{max_packet_number, in_range}
 use Rattle.qa_base.specs.values.Proper.{IsRange}
 use Rattle.qa_base.proofs.format.Compact.{of_json-outline, depth-outline}
 use Rattle.qa_base.proofs.format.KeysWritten.{ranges_are_kept}
-use Rattle.qa_quick.specs.Lexes.{Lexes, lexemes, items_lexemes, IsValueOf}
+use Rattle.qa_quick.specs.Lexes.{Lexes, lexemes, IsValueOf}
 use Rattle.qa_quick.specs.Ranges.{Spans, ranges_data, TakesRange, TakesRanges, FollowsRanges}
 use Rattle.qa_quick.proofs.Lexing.{then}
 use Rattle.qa_quick.proofs.Saying.{range_is}

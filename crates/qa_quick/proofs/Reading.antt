@@ -1,13 +1,13 @@
 -- Bytes that lex to the members of an object are read as that object.
-use Rattle.std.proofs.Common.{◌≡◌, ◌∙◌, ℕ, suc, ◌≤◌, List, [], ◌∷◌, ◌++◌, Bool, true, false, cond, Some, Ok, IsUtf8, refl, sym, ap, arith, append_assoc, append-nil, option_map, option_and_then, Err, ok_or, None, Option, ◌⊎◌, inl, inr, ◌&&◌, ◌||◌, ◌==◌}
-use Rattle.std.proofs.lemmas.Str.{IsUtf8-nil, is_utf8-from_IsUtf8}
+use Rattle.std.proofs.Common.{◌≡◌, ◌∙◌, ℕ, ◌≤◌, List, [], ◌∷◌, ◌++◌, Bool, true, false, cond, Some, Ok, IsUtf8, refl, sym, ap, arith, append_assoc, append-nil, option_map, option_and_then, Err, ok_or, None, Option, inl, inr}
+use Rattle.std.proofs.lemmas.Str.{is_utf8-from_IsUtf8}
 use Rattle.std.specs.List.{list_all}
 use Rattle.std.proofs.lemmas.Bool.{and_parts, or_cases, eqb-true, cases_Bool}
 use Rattle.std.specs.Str.{is_utf8}
 use Rattle.qa_base.specs.declared.fault.Fault.TheVariants.{NotJson}
 use Rattle.json.specs.Json as form
 use Rattle.json.specs.Json.{Json}
-use Rattle.json.specs.Lex.{Lexeme, token, comma, colon, between, lex, tokens, Place, fresh, after_value, after_comma, begins_colon, punctuate}
+use Rattle.json.specs.Lex.{Lexeme, token, between, lex, tokens, Place, fresh, after_value, after_comma, begins_colon, punctuate}
 use Rattle.json.specs.Token.{Token}
 use Rattle.json.specs.Tree.{json_tokens, items_tokens, members_tokens, members_depth}
 use Rattle.json.proofs.Printed.Trees.{value-json_tokens}

@@ -1,25 +1,21 @@
 -- What was found of a line's keys says an event.
-use Rattle.std.proofs.Common.{◌≡◌, ◌∙◌, ◌≤◌, ◌<◌, ◌^◌, ℕ, List, Bool, true, false, cond, Option, Some, None, refl, sym, ap, arith, subst, ◌&&◌, Ok, codes}
+use Rattle.std.proofs.Common.{◌≡◌, ◌∙◌, ◌≤◌, ◌<◌, ◌^◌, ℕ, List, Bool, true, false, cond, Option, Some, None, refl, sym, ap, arith, subst, ◌&&◌}
 use Rattle.std.proofs.lemmas.Bool.{and_parts, leb-true}
 use Rattle.std.specs.Prelude.{nat_le, option_map, IfSome, unwrap_or}
 use Rattle.std.specs.List.{AllByRecursion}
-use Rattle.serde_json.specs.Data.{object, Members}
-use Rattle.qa_base.specs.declared.line.Line.TheVariants as line
-use Rattle.qa_base.specs.declared.event.Event.{Event}
 use Rattle.qa_base.specs.declared.event.Event.TheVariants.{Sent, Ack, Lost, Timer, Discard, Confirmed, Keys, Metrics}
 use Rattle.qa_base.specs.declared.space.Kind.{Kind}
 use Rattle.qa_base.specs.declared.space.Leave.{Leave}
 use Rattle.qa_base.specs.declared.space.Leave.TheVariants.{Window}
 use Rattle.qa_base.specs.declared.space.Space.{Space}
 use Rattle.qa_base.specs.values.Events.{fits, has_ranges}
-use Rattle.qa_base.specs.format.Reading.{reader_named, object_says}
 use Rattle.qa_base.specs.values.Limits.{max_time, max_packet_number, in_range}
 use Rattle.qa_base.specs.values.Proper.{IsRange}
 use Rattle.qa_base.specs.format.Written.{integer, boolean}
 use Rattle.qa_base.proofs.format.KeysFound.{sent_found, ack_found, lost_found, timer_found, discard_found, confirmed_found, keys_found, metrics_found}
 use Rattle.qa_quick.specs.declared.found.Found.{Found}
 use Rattle.qa_base.specs.declared.line.LineKind.TheVariants as kinds
-use Rattle.qa_quick.specs.Found.{Holds, line_kind_data, space_data, kind_data, Says}
+use Rattle.qa_quick.specs.Found.{line_kind_data, space_data, kind_data, Says}
 use Rattle.qa_quick.specs.Ranges.{ranges_data}
 
 -- ---- ranges of numbers

@@ -1,6 +1,5 @@
 -- Members that are found one after another, up to the end of their object.
-use Rattle.std.proofs.Common.{◌≡◌, ◌∙◌, ◌<◌, ◌≤◌, ◌^◌, max, ℕ, List, [], ◌∷◌, ◌++◌, Bool, true, false, Option, Some, None, Ok, Equal, IsUtf8, decimal, codes, length, is_eq, option_map, option_and_then, refl, sym, ap, arith}
-use Rattle.std.specs.Prelude.{IfSome}
+use Rattle.std.proofs.Common.{◌≡◌, ◌∙◌, ◌<◌, ◌≤◌, ◌^◌, ℕ, List, [], ◌∷◌, ◌++◌, Bool, true, false, Some, None, Ok, Equal, IsUtf8, decimal, codes, length, is_eq, option_map, option_and_then, refl, sym, ap, arith}
 use Rattle.std.specs.Cmp.Lexicographic.{slice_cmp}
 use Rattle.std.specs.Ordering.{nat_cmp}
 use Rattle.std.specs.List.{list_all}
@@ -9,13 +8,12 @@ use Rattle.std.proofs.lemmas.Bool.{or_parts}
 use Rattle.std.proofs.lemmas.Map.Text.{is_eq-slice_cmp}
 use Rattle.std.proofs.lemmas.Str.{IsUtf8-nil}
 use Rattle.json.specs.Json as form
-use Rattle.json.specs.Lex.{Lexeme, token, comma, colon, between, lex}
+use Rattle.json.specs.Lex.{token, comma, colon, between, lex}
 use Rattle.json.specs.Token as tokens
 use Rattle.json.specs.Tree.{members_depth as tree_depth}
 use Rattle.serde_json.specs.Data as json
 use Rattle.serde_json.specs.Data.{Data, Members, no_members, put}
-use Rattle.serde_json.specs.Read.{of_json, of_members}
-use Rattle.serde_json.specs.Written.{outline}
+use Rattle.serde_json.specs.Read.{of_members}
 use Rattle.serde_json.proofs.Numbers.{number_of-decimal}
 use Rattle.qa_base.specs.declared.event.Event.{Event}
 use Rattle.qa_base.specs.declared.line.Line.TheVariants as line

@@ -1,4 +1,3 @@
-use Rattle.std.proofs.Common.{sym, ◌∙◌}
 use Rattle.qa_quick.proofs.Lexing.{lexes_integer}
 use Rattle.qa_quick.proofs.tokens.integer.Goals as goal
 

@@ -1,4 +1,4 @@
-use Rattle.std.proofs.Common.{◌-◌, ◌∙◌, List, ℕ, [], length, take, drop, arith, sym, subst}
+use Rattle.std.proofs.Common.{◌-◌, ◌∙◌, List, ℕ, [], length, drop, arith, sym, subst}
 use Rattle.std.proofs.lemmas.List.{take_all, length-drop}
 use Rattle.qa_quick.specs.Lexes.{Lexes}
 use Rattle.qa_quick.proofs.Lexing.{lexes_nothing, space_more}
