@@ -11,8 +11,10 @@ program_by_one_byte := crates/one_byte/out/one_byte
 # The reader of lines by itself, a test of it.
 program_of_lines := crates/lines/out/lines
 example := examples/ten-packets.trace
+# The tests of the programs of conformance/, which mostly wait for one another's processes.
+runner_tests := test_run test_trials test_mutations test_simulate
 
-.PHONY: help build one_byte lines run test bench install clean
+.PHONY: help build one_byte lines run test $(runner_tests) bench install clean
 
 help:
 	@echo 'make build     proves the program and builds $(program)'
@@ -38,10 +40,7 @@ run: build
 # `rt ci` proves all crates from nothing, and leaves each program built of what it proved.
 test:
 	rt ci
-	python3 conformance/test_run.py
-	python3 conformance/test_trials.py
-	python3 conformance/test_mutations.py
-	python3 conformance/test_simulate.py
+	$(MAKE) --no-print-directory -j 4 $(runner_tests)
 	python3 conformance/lines/make.py --check
 	conformance/run $(program)
 	conformance/simulate $(program) $(program_by_one_byte)
@@ -57,6 +56,9 @@ test:
 	conformance/allocations $(program)
 	conformance/run --traces $(program_by_one_byte)
 	conformance/run --lines $(program_of_lines)
+
+$(runner_tests):
+	python3 conformance/$@.py
 
 # No part of `test`, for no number of seconds is right on every machine.
 bench: build
