@@ -7,6 +7,7 @@ pub mod ack_resets_count_of_server
 pub mod ack_while_loss_owed
 pub mod anti_deadlock
 pub mod anti_deadlock_early
+pub mod anti_deadlock_has_no_limit
 pub mod anti_deadlock_keys_handshake
 pub mod anti_deadlock_keys_initial
 pub mod anti_deadlock_with_app_packets
@@ -64,6 +65,7 @@ pub mod recovery_packet
 pub mod recovery_then_avoidance
 pub mod recovery_without_entry
 pub mod refresh_min
+pub mod reports_at_their_slack
 pub mod rule_before_a_later_long_line
 pub mod rule_before_a_later_long_line_of_spaces
 pub mod second_pto
@@ -78,9 +80,10 @@ pub mod ssthresh_alone_where_none_with_slack
 pub mod ssthresh_where_none
 pub mod ssthresh_where_none_with_slack
 pub mod time_back
-pub mod times_at_the_limit
 pub mod timer_as_late_as_allowed
 pub mod timer_late
+pub mod timer_late_past_a_report
+pub mod times_at_the_limit
 pub mod two_loss_timers
 pub mod two_probes
 pub mod two_samples

@@ -1,13 +1,15 @@
 -- Edges of what version 2 of the format asks: late timers, and a min_rtt that is refreshed (RFC 9002, section 5.2).
 use Rattle.std.specs.Prelude.{◌≡◌, true, false, List, [], ◌∷◌, Some, None, refl}
 use Rattle.qa_base.specs.declared.event.Event.{Event}
+use Rattle.qa_base.specs.declared.event.Event.TheVariants.{Discard}
+use Rattle.qa_base.specs.declared.rule.Field.TheVariants as field
 use Rattle.qa_base.specs.declared.rule.Rule.TheVariants as rule
-use Rattle.qa_base.specs.declared.space.Space.TheVariants.{Initial, App}
+use Rattle.qa_base.specs.declared.space.Space.TheVariants.{Initial, Handshake, App}
 use Rattle.qa_base.specs.machine.Estimates.{rtt, sampled}
 use Rattle.qa_base.specs.machine.Rules.{first_broken, IsRun}
 use Rattle.qa_base.specs.machine.Timer.{deadline, set_since}
 use Rattle.qa_base.specs.values.Settings.{Settings}
-use Rattle.qa_base.proofs.Shorthand.{client, server, second_version, sent, bare, ack, pto_fires, metrics}
+use Rattle.qa_base.proofs.Shorthand.{client, server, second_version, sent, bare, ack, lost, pto_fires, metrics}
 use Rattle.qa_base.proofs.edges.Deadlines.{pto_at}
 
 -- ---- late timers
@@ -48,6 +50,46 @@ pub packet_sets_the_timer_anew :
     × (first_broken limited (sent Initial 1 500000 1200 ∷ sent Initial 0 0 1200 ∷ []) (pto_fires Initial 1500001) ≡ Some rule.TimerLate)
 unfolding first_broken
 packet_sets_the_timer_anew = (refl, refl, refl)
+
+-- The rule comes last: an event that is late as well is refused by the rule that it breaks besides.
+pub late_timer_is_judged_last :
+    (first_broken limited reported (metrics 1000001 (Some 12001) None None None None None None) ≡ Some (rule.Metric field.Window))
+    × (first_broken limited reported (sent Initial 0 1000001 1200) ≡ Some rule.NumberNotHigher)
+    × (first_broken limited reported (pto_fires App 1000001) ≡ Some rule.TimerOther)
+unfolding first_broken
+late_timer_is_judged_last = (refl, refl, refl)
+
+abbrev owing : List Event
+owing =
+    ack App ((3, 3) ∷ []) 100000 ∷
+    sent App 3 0 1200 ∷
+    sent App 2 0 1200 ∷
+    sent App 1 0 1200 ∷
+    sent App 0 0 1200 ∷ []
+
+-- Packet 0 is lost, and packets 1 and 2 are old at 112500: the Lost line may come up to then, or up to the limit past it.
+pub lost_line_can_be_late :
+    (first_broken (second_version (server 1200 12000) (Some 0) false 0 0) owing (lost App ((0, 0) ∷ []) 112500) ≡ None)
+    × (first_broken (second_version (server 1200 12000) (Some 0) false 0 0) owing (lost App ((0, 0) ∷ []) 112501) ≡ Some rule.TimerLate)
+    × (first_broken (second_version (server 1200 12000) (Some 7) false 0 0) owing (lost App ((0, 0) ∷ []) 112507) ≡ None)
+    × (first_broken (second_version (server 1200 12000) (Some 7) false 0 0) owing (lost App ((0, 0) ∷ []) 112508) ≡ Some rule.TimerLate)
+unfolding first_broken
+lost_line_can_be_late = (refl, refl, refl, refl)
+
+abbrev discarded : List Event
+discarded =
+    Discard 999500 Initial ∷
+    sent Handshake 0 0 1200 ∷
+    sent Initial 0 0 1200 ∷ []
+
+-- Both spaces have a probe timeout at 999000. Once Initial is discarded it is that of Handshake: the time is the same, and it counts
+-- from the discard.
+pub timer_of_another_space_is_another :
+    (set_since limited discarded ≡ 999500)
+    × (first_broken limited discarded (metrics 1000500 None None None None None None None) ≡ None)
+    × (first_broken limited discarded (metrics 1000501 None None None None None None None) ≡ Some rule.TimerLate)
+unfolding first_broken
+timer_of_another_space_is_another = (refl, refl, refl)
 
 -- ---- a refresh of min_rtt
 

@@ -12,7 +12,7 @@ use Rattle.qa_base.proofs.Shorthand.{server, sent, ack, lost, metrics}
 abbrev settings : Settings
 settings = server 1200 12000
 
-abbrev samples : List Event
+abbrev pub samples : List Event
 samples =
     ack App ((8, 10) ∷ []) 250000 ∷
     sent App 11 140000 900 ∷
