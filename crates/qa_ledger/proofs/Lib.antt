@@ -1,4 +1,4 @@
 pub mod Totals
 pub mod Sound
-pub mod Tests
+pub mod Firsts
 pub mod Counted

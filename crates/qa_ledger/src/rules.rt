@@ -254,7 +254,7 @@ fn late_rule<S: State>(state: &S, event: &Event) -> Option<Rule>
 }
 
 /// The first of V16 and V18 that the event breaks.
-#[tactic(auto, using(crate::proofs::Tests::first_of_both))]
+#[tactic(auto, using(crate::proofs::Firsts::first_of_both))]
 fn last_rule<S: State>(state: &S, event: &Event) -> Option<Rule>
     ensures { (c : Settings) (h : List AnEvent) → S.tells state.now c h → result ≡ rules.first_of (last_tests c h event.now) }
 {
