@@ -6,3 +6,4 @@ pub mod Spent
 pub mod Ended
 pub mod Powers
 pub mod Due
+pub mod States

@@ -1,5 +1,5 @@
 -- What an event makes of what is kept of a packet number space.
-use Rattle.std.specs.Prelude.{ℕ, ◌||◌, ◌&&◌, max, false, Option, Some, None, if◌then◌else◌}
+use Rattle.std.specs.Prelude.{ℕ, ◌||◌, ◌&&◌, max, true, false, Option, Some, None, if◌then◌else◌}
 use Rattle.std.specs.Option.{option_or}
 use Rattle.qa_base.specs.declared.event.Event.{Event}
 use Rattle.qa_base.specs.declared.event.Event.TheVariants.{Sent, Ack}
@@ -50,4 +50,34 @@ passed e s state = record {
   discarded = discards s e || state.discarded;
   largest = state.largest;
   last_eliciting = option_or (eliciting_at s e) state.last_eliciting;
+}
+
+-- ---- in place
+
+-- the state of a space, changed where it is this one
+abbrev pub changed_in : Space → (SpaceState → SpaceState) → Space → SpaceState → SpaceState
+changed_in space step s state = if is_space s space then step state else state
+
+-- this number was acknowledged, and none above it
+abbrev pub with_largest : ℕ → SpaceState → SpaceState
+with_largest n state = record {
+  discarded = state.discarded;
+  largest = raised (Some n) state.largest;
+  last_eliciting = state.last_eliciting;
+}
+
+-- an ack-eliciting packet was sent then
+abbrev pub with_eliciting : ℕ → SpaceState → SpaceState
+with_eliciting time state = record {
+  discarded = state.discarded;
+  largest = state.largest;
+  last_eliciting = Some time;
+}
+
+-- the keys were discarded
+abbrev pub with_discarded : SpaceState → SpaceState
+with_discarded state = record {
+  discarded = true;
+  largest = state.largest;
+  last_eliciting = state.last_eliciting;
 }

@@ -27,24 +27,24 @@ fn probe_size(event: &Event) -> u64
     }
 }
 
-/// What was spent, with this.
-fn more_spent(spent: Option<u64>, more: u64) -> Option<u64>
-    ensures { result ≡ option_map (λ n. capped (more + n)) spent }
+/// Adds this to what was spent, where that is counted.
+fn spend(spent: &mut Option<u64>, more: u64)
+    ensures { spent.new ≡ option_map (λ n. capped (more + n)) spent.old }
 {
-    match spent {
-        None => None,
-        Some(spent) => Some(more.saturating_add(spent)),
+    if let Some(before) = *spent {
+        *spent = Some(more.saturating_add(before));
     }
 }
 
-/// The bytes of probes since the last probe timeout, after an event.
-pub(crate) fn probe_spent_after(spent: Option<u64>, event: &Event) -> Option<u64>
-    ensures { (h : List Event) → result ≡ (if timers.is_pto (event.now ∷ h) then Some 0 else option_map (λ n. capped (leaves.probe_size (event.now ∷ h) + n)) spent) }
+/// The bytes of probes since the last probe timeout take in an event.
+pub(crate) fn spend_probe(spent: &mut Option<u64>, event: &Event)
+    ensures { (h : List Event) → spent.new ≡ (if timers.is_pto (event.now ∷ h) then Some 0 else option_map (λ n. capped (leaves.probe_size (event.now ∷ h) + n)) spent.old) }
 {
     if is_pto(event) {
-        return Some(0);
+        *spent = Some(0);
+    } else {
+        spend(spent, probe_size(event));
     }
-    more_spent(spent, probe_size(event))
 }
 
 /// Whether the event sends an ack-eliciting packet of the space.
@@ -78,18 +78,13 @@ fn answers_pto(event: &Event, is_new: bool, space: Space) -> bool
     is_discard(event) || is_probe_or_new(event, is_new, space)
 }
 
-/// The space in which a probe is due, unless the event makes it needless.
-fn unanswered_by(due: Option<Space>, event: &Event, is_new: bool) -> Option<Space>
-    ensures { (h : List Event) → is_new ≡ acknowledges_new (event.now ∷ h) → result ≡ probes.unanswered_by (event.now ∷ h) due }
+/// The space in which a probe is due is forgotten where the event makes it needless.
+fn answer(due: &mut Option<Space>, event: &Event, is_new: bool)
+    ensures { (h : List Event) → is_new ≡ acknowledges_new (event.now ∷ h) → due.new ≡ probes.unanswered_by (event.now ∷ h) due.old }
 {
-    match due {
-        None => None,
-        Some(space) => {
-            if answers_pto(event, is_new, space) {
-                None
-            } else {
-                Some(space)
-            }
+    if let Some(space) = *due {
+        if answers_pto(event, is_new, space) {
+            *due = None;
         }
     }
 }
@@ -104,15 +99,15 @@ fn timer_space(event: &Event) -> Option<Space>
     }
 }
 
-/// The space in which a probe is due, after an event.
-pub(crate) fn probe_due_after(due: Option<Space>, event: &Event, is_new: bool) -> Option<Space>
+/// The space in which a probe is due takes in an event.
+pub(crate) fn follow_due(due: &mut Option<Space>, event: &Event, is_new: bool)
     ensures { (h : List Event) → is_new ≡ acknowledges_new (event.now ∷ h)
-        → result ≡ (if timers.is_pto (event.now ∷ h) then leaves.timer_space (event.now ∷ h) else probes.unanswered_by (event.now ∷ h) due) }
+        → due.new ≡ (if timers.is_pto (event.now ∷ h) then leaves.timer_space (event.now ∷ h) else probes.unanswered_by (event.now ∷ h) due.old) }
 {
     if is_pto(event) {
-        timer_space(event)
+        *due = timer_space(event);
     } else {
-        unanswered_by(due, event, is_new)
+        answer(due, event, is_new);
     }
 }
 
@@ -132,12 +127,13 @@ fn recovery_mark(event: &Event) -> u64
     }
 }
 
-/// How many recovery packets there were since the last entry, after an event.
-pub(crate) fn recovery_spent_after(spent: Option<u64>, event: &Event, entered: bool) -> Option<u64>
-    ensures { (h : List Event) → result ≡ (if entered then Some 0 else option_map (λ n. capped ((if leaves.is_recovery_packet (event.now ∷ h) then 1 else 0) + n)) spent) }
+/// How many recovery packets there were since the last entry takes in an event.
+pub(crate) fn spend_recovery(spent: &mut Option<u64>, event: &Event, entered: bool)
+    ensures { (h : List Event) → spent.new ≡ (if entered then Some 0 else option_map (λ n. capped ((if leaves.is_recovery_packet (event.now ∷ h) then 1 else 0) + n)) spent.old) }
 {
     if entered {
-        return Some(0);
+        *spent = Some(0);
+    } else {
+        spend(spent, recovery_mark(event));
     }
-    more_spent(spent, recovery_mark(event))
 }

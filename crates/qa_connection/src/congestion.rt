@@ -32,8 +32,8 @@ pub(crate) fn start(header: &Header) -> Reno
 
 /// Whether the event enters recovery by a loss, of packets the last of which was sent then (RFC 9002,
 /// section 7.3.2).
-pub(crate) fn enters(reno: Reno, last_owed: Option<Micros>) -> bool
-    ensures { result ≡ steps.enters_at reno.recovery_start_time last_owed }
+pub(crate) fn enters(reno: &Reno, last_owed: Option<Micros>) -> bool
+    ensures { result ≡ steps.enters_at reno.now.recovery_start_time last_owed }
 {
     match (reno.recovery_start_time, last_owed) {
         (_, None) => false,
@@ -42,28 +42,24 @@ pub(crate) fn enters(reno: Reno, last_owed: Option<Micros>) -> bool
     }
 }
 
-/// The window after a loss, of packets the last of which was sent then (B.6).
-fn hit(reno: Reno, last_owed: Option<Micros>, now: Micros, max_datagram_size: u64) -> Reno
+/// A loss is taken in, of packets the last of which was sent then, where there is one (B.6).
+fn hit(reno: &mut Reno, last_owed: Option<Micros>, now: Micros, max_datagram_size: u64)
     requires { IsDatagramSize max_datagram_size }
-    ensures { result ≡ fold (moves.moved max_datagram_size) reno (steps.hits_at now last_owed) }
+    ensures { reno.new ≡ fold (moves.moved max_datagram_size) reno.old (steps.hits_at now last_owed) }
 {
-    let mut more = reno;
     if let Some(last) = last_owed {
-        more.hit(last, now, max_datagram_size);
+        reno.hit(last, now, max_datagram_size);
     }
-    more
 }
 
-/// The window after persistent congestion, where there is any (B.8).
-fn collapsed(reno: Reno, is_persistent: bool, max_datagram_size: u64) -> Reno
+/// Persistent congestion is taken in, where there is any (B.8).
+fn collapse(reno: &mut Reno, is_persistent: bool, max_datagram_size: u64)
     requires { IsDatagramSize max_datagram_size }
-    ensures { result ≡ fold (moves.moved max_datagram_size) reno (moves.collapses is_persistent) }
+    ensures { reno.new ≡ fold (moves.moved max_datagram_size) reno.old (moves.collapses is_persistent) }
 {
-    let mut more = reno;
     if is_persistent {
-        more.collapse(max_datagram_size);
+        reno.collapse(max_datagram_size);
     }
-    more
 }
 
 /// Whether the window and the packet's size are in the ranges in which it grows; those of a run are.
@@ -73,61 +69,55 @@ fn can_grow(window: u64, size: u64) -> bool
     1 <= window && window <= GREATEST_WINDOW && 1 <= size && size <= MAX_PACKET_SIZE
 }
 
-/// The window after the packet was acknowledged (B.5).
-fn grown_by(reno: Reno, packet: SentPacket, max_datagram_size: u64) -> Reno
+/// The window grows since the packet was acknowledged (B.5).
+fn grow_by(reno: &mut Reno, packet: &SentPacket, max_datagram_size: u64)
     requires { IsDatagramSize max_datagram_size }
-    ensures { result ≡ steps.grown_by max_datagram_size reno packet }
+    ensures { reno.new ≡ steps.grown_by max_datagram_size reno.old packet.now }
 {
-    let mut more = reno;
     if packet.in_flight && can_grow(reno.window, packet.size) {
-        more.grow(packet.size, packet.time, max_datagram_size);
+        reno.grow(packet.size, packet.time, max_datagram_size);
     }
-    more
 }
 
-/// The window after the packets were acknowledged, one after the other.
-fn grown(reno: Reno, packets: &[SentPacket], max_datagram_size: u64) -> Reno
+/// The window grows since the packets were acknowledged, one after the other.
+fn grow(reno: &mut Reno, packets: &[SentPacket], max_datagram_size: u64)
     requires { IsDatagramSize max_datagram_size }
-    ensures { result ≡ fold (steps.grown_by max_datagram_size) reno packets.now }
+    ensures { reno.new ≡ fold (steps.grown_by max_datagram_size) reno.old packets.now }
 {
-    let mut reno = reno;
     for packet in packets {
-        reno = grown_by(reno, *packet, max_datagram_size);
+        grow_by(reno, packet, max_datagram_size);
     }
-    reno
 }
 
-/// The window after the growth by an event, if the sender used the window that it had (section 7.8).
-fn grown_unless_limited(
-    reno: Reno,
+/// The window grows by an event, if the sender used the window that it had (section 7.8).
+fn grow_unless_limited(
+    reno: &mut Reno,
     event: &Event,
     packets: &[SentPacket],
     max_datagram_size: u64,
-) -> Reno
+)
     requires { IsDatagramSize max_datagram_size }
-    ensures { result ≡ fold (steps.grown_by max_datagram_size) reno (if moves.is_limited event.now then [] else packets.now) }
+    ensures { reno.new ≡ fold (steps.grown_by max_datagram_size) reno.old (if moves.is_limited event.now then [] else packets.now) }
 {
-    if is_limited(event) {
-        reno
-    } else {
-        grown(reno, packets, max_datagram_size)
+    if !is_limited(event) {
+        grow(reno, packets, max_datagram_size);
     }
 }
 
-/// The window after an event: first its loss counts, then persistent congestion, then growth by the
-/// packets that it newly acknowledges, in the order of sending (A.7).
-pub(crate) fn reno_after(
+/// The window takes in an event: first its loss counts, then persistent congestion, then growth by
+/// the packets that it newly acknowledges, in the order of sending (A.7).
+pub(crate) fn follow(
+    reno: &mut Reno,
     header: &Header,
-    reno: Reno,
     event: &Event,
     packets: &[SentPacket],
     outcome: Outcome,
-) -> Reno
+)
     ensures range { AreInRange header.now }
-    ensures value { result ≡ steps.reno_after header.now.max_datagram_size reno event.now packets.now outcome.last_owed outcome.is_persistent }
+    ensures value { reno.new ≡ steps.reno_after header.now.max_datagram_size reno.old event.now packets.now outcome.last_owed outcome.is_persistent }
 {
     let max_datagram_size = header.max_datagram_size();
-    let reno = hit(reno, outcome.last_owed, time_of(event), max_datagram_size);
-    let reno = collapsed(reno, outcome.is_persistent, max_datagram_size);
-    grown_unless_limited(reno, event, packets, max_datagram_size)
+    hit(reno, outcome.last_owed, time_of(event), max_datagram_size);
+    collapse(reno, outcome.is_persistent, max_datagram_size);
+    grow_unless_limited(reno, event, packets, max_datagram_size);
 }

@@ -86,8 +86,14 @@ impl Connection {
     pub fn begin(&mut self, event: &Event, acknowledged: &[SentPacket])
         ensures { (c : Settings) (h : List Event) → IsOf self.old c h → acknowledged.now ≡ acknowledged_by c event.now h → IsBegun self.new c event.now h }
     {
-        self.rtt = sampling::rtt_after(self.rtt, &self.header, self.confirmed, event, acknowledged);
-        self.spaces = self.spaces.acknowledged(event);
+        sampling::follow(
+            &mut self.rtt,
+            &self.header,
+            self.confirmed,
+            event,
+            acknowledged,
+        );
+        self.spaces.acknowledge(event);
     }
 
     /// Takes the second half of an event that was begun: all that follows from what it newly
@@ -98,29 +104,25 @@ impl Connection {
             → acknowledged.now ≡ acknowledged_by c event.now h → IsOutcome outcome c (event.now ∷ h) → IsOf self.new c (event.now ∷ h) }
     {
         let is_new = !acknowledged.is_empty();
-        let confirmed = handshake::is_confirmed_after(self.confirmed, event);
-        let handshake_acknowledged = handshake::is_acknowledged_after(
+        self.events = self.events.saturating_add(1);
+        self.last_time = Some(time_of(event));
+        handshake::confirm(&mut self.confirmed, event);
+        handshake::acknowledge(&mut self.handshake_acknowledged, event);
+        handshake::show_keys(&mut self.has_keys, event);
+        let validated = handshake::is_validated(
+            &self.header,
             self.handshake_acknowledged,
-            event,
+            self.confirmed,
         );
-        let validated = handshake::is_validated(&self.header, handshake_acknowledged, confirmed);
         let resets = timeouts::resets_count(event, is_new, validated);
-        let entered = congestion::enters(self.reno, outcome.last_owed);
-        *self = Connection {
-            header: self.header,
-            events: self.events.saturating_add(1),
-            last_time: Some(time_of(event)),
-            confirmed,
-            handshake_acknowledged,
-            has_keys: handshake::has_keys_after(self.has_keys, event),
-            rtt: sampling::refreshed_after(self.rtt, &self.header, outcome.is_persistent),
-            reno: congestion::reno_after(&self.header, self.reno, event, acknowledged, outcome),
-            pto_count: timeouts::pto_count_after(self.pto_count, event, resets),
-            last_set: timeouts::last_set_after(self.last_set, event, is_new),
-            probe_spent: allowances::probe_spent_after(self.probe_spent, event),
-            probe_due: allowances::probe_due_after(self.probe_due, event, is_new),
-            recovery_spent: allowances::recovery_spent_after(self.recovery_spent, event, entered),
-            spaces: self.spaces.passed(event),
-        };
+        timeouts::count(&mut self.pto_count, event, resets);
+        timeouts::set(&mut self.last_set, event, is_new);
+        let entered = congestion::enters(&self.reno, outcome.last_owed);
+        allowances::spend_probe(&mut self.probe_spent, event);
+        allowances::follow_due(&mut self.probe_due, event, is_new);
+        allowances::spend_recovery(&mut self.recovery_spent, event, entered);
+        sampling::refresh(&mut self.rtt, &self.header, outcome.is_persistent);
+        congestion::follow(&mut self.reno, &self.header, event, acknowledged, outcome);
+        self.spaces.pass(event);
     }
 }

@@ -14,11 +14,13 @@ fn confirms(event: &Event) -> bool
     }
 }
 
-/// Whether the handshake is confirmed by an event or was before it.
-pub(crate) fn is_confirmed_after(before: bool, event: &Event) -> bool
-    ensures { result ≡ (handshake.confirms event.now || before) }
+/// Sets whether the handshake is confirmed, by an event or before it.
+pub(crate) fn confirm(confirmed: &mut bool, event: &Event)
+    ensures { confirmed.new ≡ (handshake.confirms event.now || confirmed.old) }
 {
-    confirms(event) || before
+    if confirms(event) {
+        *confirmed = true;
+    }
 }
 
 /// Whether the event is an acknowledgment of Handshake packets.
@@ -31,11 +33,13 @@ fn acknowledges_handshake(event: &Event) -> bool
     }
 }
 
-/// Whether a Handshake packet is acknowledged by an event or was before it.
-pub(crate) fn is_acknowledged_after(before: bool, event: &Event) -> bool
-    ensures { result ≡ (handshake.acknowledges_handshake event.now || before) }
+/// Sets whether a Handshake packet was acknowledged, by an event or before it.
+pub(crate) fn acknowledge(acknowledged: &mut bool, event: &Event)
+    ensures { acknowledged.new ≡ (handshake.acknowledges_handshake event.now || acknowledged.old) }
 {
-    acknowledges_handshake(event) || before
+    if acknowledges_handshake(event) {
+        *acknowledged = true;
+    }
 }
 
 /// Whether the event shows that the keys of the Handshake space are there.
@@ -50,11 +54,13 @@ fn shows_keys(event: &Event) -> bool
     }
 }
 
-/// Whether those keys are there after an event.
-pub(crate) fn has_keys_after(before: bool, event: &Event) -> bool
-    ensures { result ≡ (handshake.shows_keys event.now || before) }
+/// Sets whether those keys are there, by an event or before it.
+pub(crate) fn show_keys(has_keys: &mut bool, event: &Event)
+    ensures { has_keys.new ≡ (handshake.shows_keys event.now || has_keys.old) }
 {
-    shows_keys(event) || before
+    if shows_keys(event) {
+        *has_keys = true;
+    }
 }
 
 /// Whether the peer has validated the sender's address: a server's peer always has, and a client's

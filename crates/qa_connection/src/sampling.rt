@@ -47,59 +47,45 @@ fn limited_delay(header: &Header, confirmed: bool, delay: u64) -> u64
     }
 }
 
-/// The estimate with the sample of a packet that was sent then, where there is one.
-fn sampled(rtt: Rtt, sent: Option<Micros>, delay: u64, now: Micros) -> Rtt
-    ensures { result ≡ estimates.updated rtt (steps.sample_at now delay sent) }
+/// The sample of a packet that was sent then is taken in, where there is one.
+fn sample(rtt: &mut Rtt, sent: Option<Micros>, delay: u64, now: Micros)
+    ensures { rtt.new ≡ estimates.updated rtt.old (steps.sample_at now delay sent) }
 {
-    match sent {
-        None => rtt,
-        Some(sent) => {
-            let mut more = rtt;
-            more.sample(Micros::of(now.get().saturating_sub(sent.get())), delay, now);
-            more
-        }
+    if let Some(sent) = sent {
+        rtt.sample(Micros::of(now.get().saturating_sub(sent.get())), delay, now);
     }
 }
 
-/// The estimate after an acknowledgment that newly acknowledges these packets, which stand in the
-/// order of sending. It gives a sample where the largest acknowledged number and an ack-eliciting
-/// packet are among them (RFC 9002, section 5.1).
-pub(crate) fn acknowledged(
-    rtt: Rtt,
-    packets: &[SentPacket],
-    number: PacketNumber,
-    delay: u64,
-    now: Micros,
-) -> Rtt
-    ensures { result ≡ estimates.updated rtt (steps.sample_by now delay number packets.now) }
+/// An acknowledgment is taken in that newly acknowledges these packets, which stand in the order of
+/// sending. It gives a sample where the largest acknowledged number and an ack-eliciting packet are
+/// among them (RFC 9002, section 5.1).
+fn acknowledge(rtt: &mut Rtt, packets: &[SentPacket], number: PacketNumber, delay: u64, now: Micros)
+    ensures { rtt.new ≡ estimates.updated rtt.old (steps.sample_by now delay number packets.now) }
 {
-    if !some_eliciting(packets) {
-        return rtt;
+    if some_eliciting(packets) {
+        sample(rtt, sent_at(packets, number), delay, now);
     }
-    sampled(rtt, sent_at(packets, number), delay, now)
 }
 
-/// The estimate after an event that found losses, with the event's sample before. Persistent
-/// congestion refreshes `min_rtt` where the header asks for it (RFC 9002, section 5.2).
-pub(crate) fn refreshed_after(rtt: Rtt, header: &Header, is_persistent: bool) -> Rtt
-    ensures { result ≡ steps.refreshed_if header.now.options.refresh_min_rtt is_persistent rtt }
+/// An event that found losses is taken in, with the event's sample before. Persistent congestion
+/// refreshes `min_rtt` where the header asks for it (RFC 9002, section 5.2).
+pub(crate) fn refresh(rtt: &mut Rtt, header: &Header, is_persistent: bool)
+    ensures { rtt.new ≡ steps.refreshed_if header.now.options.refresh_min_rtt is_persistent rtt.old }
 {
-    let mut more = rtt;
     if header.options().refresh_min_rtt && is_persistent {
-        more.refresh();
+        rtt.refresh();
     }
-    more
 }
 
-/// The estimate after an event that newly acknowledges these packets.
-pub(crate) fn rtt_after(
-    rtt: Rtt,
+/// An event is taken in that newly acknowledges these packets.
+pub(crate) fn follow(
+    rtt: &mut Rtt,
     header: &Header,
     confirmed: bool,
     event: &Event,
     packets: &[SentPacket],
-) -> Rtt
-    ensures { result ≡ estimates.updated rtt (steps.sample_of header.now.max_ack_delay confirmed event.now packets.now) }
+)
+    ensures { rtt.new ≡ estimates.updated rtt.old (steps.sample_of header.now.max_ack_delay confirmed event.now packets.now) }
 {
     match event {
         Event::Ack {
@@ -107,13 +93,13 @@ pub(crate) fn rtt_after(
             ranges,
             delay,
             ..
-        } => acknowledged(
+        } => acknowledge(
             rtt,
             packets,
             greatest(ranges.as_slice()),
             limited_delay(header, confirmed, *delay),
             *time,
         ),
-        _ => rtt,
+        _ => {}
     }
 }

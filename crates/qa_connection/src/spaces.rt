@@ -1,7 +1,5 @@
 //! What is kept of each packet number space.
-ghost use Rattle.std.specs.Prelude.{◌≡◌, ◌||◌};
-ghost use Rattle.std.specs.Option.{option_or};
-ghost use Rattle.qa_base.specs.values.Events.{discards as discards_of};
+ghost use Rattle.std.specs.Prelude.{◌≡◌};
 ghost use Rattle.qa_base.specs.declared.space.Space.{Space};
 ghost use Rattle.qa_connection.specs.Spaces as steps;
 
@@ -31,41 +29,6 @@ pub struct Spaces {
     pub app: SpaceState,
 }
 
-/// Whether the event discards the keys of the space.
-fn discards(event: &Event, in_space: Space) -> bool
-    ensures { result ≡ discards_of in_space event.now }
-{
-    match event {
-        Event::Discard { space, .. } => in_space == *space,
-        _ => false,
-    }
-}
-
-/// When the event sends an ack-eliciting packet in the space, where it does.
-fn eliciting_at(event: &Event, in_space: Space) -> Option<Micros>
-    ensures { result ≡ steps.eliciting_at in_space event.now }
-{
-    match event {
-        Event::Sent {
-            time,
-            space,
-            eliciting: true,
-            ..
-        } if in_space == *space => Some(*time),
-        _ => None,
-    }
-}
-
-/// The greatest number that the event acknowledges in the space, where it does.
-fn greatest_in(event: &Event, in_space: Space) -> Option<PacketNumber>
-    ensures { result ≡ steps.greatest_in in_space event.now }
-{
-    match event {
-        Event::Ack { space, ranges, .. } if in_space == *space => Some(greatest(ranges.as_slice())),
-        _ => None,
-    }
-}
-
 /// The greater of the two, where there are two.
 fn raised(number: Option<PacketNumber>, most: Option<PacketNumber>) -> Option<PacketNumber>
     ensures { result ≡ steps.raised number most }
@@ -74,16 +37,6 @@ fn raised(number: Option<PacketNumber>, most: Option<PacketNumber>) -> Option<Pa
         (None, most) => most,
         (Some(number), None) => Some(number),
         (Some(number), Some(most)) => Some(number.max(most)),
-    }
-}
-
-/// The later sending, where there is one, or the one before it.
-fn or_before(sent: Option<Micros>, before: Option<Micros>) -> Option<Micros>
-    ensures { result ≡ option_or sent before }
-{
-    match sent {
-        None => before,
-        Some(sent) => Some(sent),
     }
 }
 
@@ -99,26 +52,11 @@ impl SpaceState {
         }
     }
 
-    /// With what an event acknowledges.
-    fn acknowledged(self, event: &Event, space: Space) -> SpaceState
-        ensures { result ≡ steps.acknowledged event.now space self }
+    /// An acknowledgment of this number and of none above it came.
+    fn raise(&mut self, number: PacketNumber)
+        ensures { self.new ≡ steps.with_largest number self.old }
     {
-        SpaceState {
-            discarded: self.discarded,
-            largest: raised(greatest_in(event, space), self.largest),
-            last_eliciting: self.last_eliciting,
-        }
-    }
-
-    /// With what an event sends and discards.
-    fn passed(self, event: &Event, space: Space) -> SpaceState
-        ensures { result ≡ steps.passed event.now space self }
-    {
-        SpaceState {
-            discarded: discards(event, space) || self.discarded,
-            largest: self.largest,
-            last_eliciting: or_before(eliciting_at(event, space), self.last_eliciting),
-        }
+        self.largest = raised(Some(number), self.largest);
     }
 }
 
@@ -145,25 +83,69 @@ impl Spaces {
         }
     }
 
-    /// With what an event acknowledges.
-    pub(crate) fn acknowledged(&self, event: &Event) -> Spaces
-        ensures { (s : Space) → steps.state_of s result ≡ steps.acknowledged event.now s (steps.state_of s self.now) }
+    /// An acknowledgment of this number and of none above it came in a space.
+    #[tactic(auto, using(crate::proofs::States::changed_initial, crate::proofs::States::changed_handshake, crate::proofs::States::changed_app))]
+    fn raise(&mut self, space: Space, number: PacketNumber)
+        ensures { (s : Space) → steps.state_of s self.new ≡ steps.changed_in space (steps.with_largest number) s (steps.state_of s self.old) }
     {
-        Spaces {
-            initial: self.initial.acknowledged(event, Space::Initial),
-            handshake: self.handshake.acknowledged(event, Space::Handshake),
-            app: self.app.acknowledged(event, Space::App),
+        match space {
+            Space::Initial => self.initial.raise(number),
+            Space::Handshake => self.handshake.raise(number),
+            Space::App => self.app.raise(number),
         }
     }
 
-    /// With what an event sends and discards.
-    pub(crate) fn passed(&self, event: &Event) -> Spaces
-        ensures { (s : Space) → steps.state_of s result ≡ steps.passed event.now s (steps.state_of s self.now) }
+    /// An ack-eliciting packet was sent in a space.
+    #[tactic(auto, using(crate::proofs::States::changed_initial, crate::proofs::States::changed_handshake, crate::proofs::States::changed_app))]
+    fn elicit(&mut self, space: Space, time: Micros)
+        ensures { (s : Space) → steps.state_of s self.new ≡ steps.changed_in space (steps.with_eliciting time) s (steps.state_of s self.old) }
     {
-        Spaces {
-            initial: self.initial.passed(event, Space::Initial),
-            handshake: self.handshake.passed(event, Space::Handshake),
-            app: self.app.passed(event, Space::App),
+        match space {
+            Space::Initial => self.initial.last_eliciting = Some(time),
+            Space::Handshake => self.handshake.last_eliciting = Some(time),
+            Space::App => self.app.last_eliciting = Some(time),
+        }
+    }
+
+    /// The keys of a space were discarded.
+    #[tactic(auto, using(crate::proofs::States::changed_initial, crate::proofs::States::changed_handshake, crate::proofs::States::changed_app))]
+    fn discard(&mut self, space: Space)
+        ensures { (s : Space) → steps.state_of s self.new ≡ steps.changed_in space steps.with_discarded s (steps.state_of s self.old) }
+    {
+        match space {
+            Space::Initial => self.initial.discarded = true,
+            Space::Handshake => self.handshake.discarded = true,
+            Space::App => self.app.discarded = true,
+        }
+    }
+
+    /// Takes in what an event acknowledges.
+    pub(crate) fn acknowledge(&mut self, event: &Event)
+        ensures { (s : Space) → steps.state_of s self.new ≡ steps.acknowledged event.now s (steps.state_of s self.old) }
+    {
+        match event {
+            Event::Ack { space, ranges, .. } => self.raise(*space, greatest(ranges.as_slice())),
+            _ => {}
+        }
+    }
+
+    /// Takes in what an event sends and discards.
+    pub(crate) fn pass(&mut self, event: &Event)
+        ensures { (s : Space) → steps.state_of s self.new ≡ steps.passed event.now s (steps.state_of s self.old) }
+    {
+        match event {
+            Event::Sent {
+                time,
+                space,
+                eliciting,
+                ..
+            } => {
+                if *eliciting {
+                    self.elicit(*space, *time);
+                }
+            }
+            Event::Discard { space, .. } => self.discard(*space),
+            _ => {}
         }
     }
 }

@@ -23,17 +23,14 @@ pub(crate) fn resets_count(event: &Event, is_new: bool, validated: bool) -> bool
     }
 }
 
-/// The PTO count after an event (RFC 9002, section 6.2.1).
-pub(crate) fn pto_count_after(count: u64, event: &Event, resets: bool) -> u64
-    ensures { (h : List Event) → result ≡ (if resets then 0 else (if timers.is_pto (event.now ∷ h) then capped (1 + count) else count)) }
+/// The PTO count takes in an event (RFC 9002, section 6.2.1).
+pub(crate) fn count(count: &mut u64, event: &Event, resets: bool)
+    ensures { (h : List Event) → count.new ≡ (if resets then 0 else (if timers.is_pto (event.now ∷ h) then capped (1 + count.old) else count.old)) }
 {
     if resets {
-        return 0;
-    }
-    if is_pto(event) {
-        count.saturating_add(1)
-    } else {
-        count
+        *count = 0;
+    } else if is_pto(event) {
+        *count = count.saturating_add(1);
     }
 }
 
@@ -49,18 +46,12 @@ fn sets_timer(event: &Event, is_new: bool) -> bool
     }
 }
 
-/// When the timer was last set, after an event.
-pub(crate) fn last_set_after(
-    last_set: Option<Micros>,
-    event: &Event,
-    is_new: bool,
-) -> Option<Micros>
+/// Notes when the timer was last set, where the event sets it.
+pub(crate) fn set(last_set: &mut Option<Micros>, event: &Event, is_new: bool)
     ensures { (h : List Event) → is_new ≡ acknowledges_new (event.now ∷ h)
-        → result ≡ (if timers.sets_timer (event.now ∷ h) then Some (time_of_event event.now) else last_set) }
+        → last_set.new ≡ (if timers.sets_timer (event.now ∷ h) then Some (time_of_event event.now) else last_set.old) }
 {
     if sets_timer(event, is_new) {
-        Some(time_of(event))
-    } else {
-        last_set
+        *last_set = Some(time_of(event));
     }
 }

@@ -86,6 +86,29 @@ apart_of_part limit first ps from to part =
     ∙ (apart_front limit first (take from ps) (slice_range ps from to ++ drop to ps) part.before
     ∙ apart_rest limit first None (slice_range ps from to) (drop to ps) part.behind)
 
+-- ---- none of them
+
+both_zero : (m n : ℕ) → m + n ≡ 0 → (m ≡ 0) × (n ≡ 0)
+both_zero m n none = ((omega (arith, none)), (omega (arith, none)))
+
+off_by : (b : Bool) → ◌≡◌ {A = ℕ} (cond b 1 0) 0 → b ≡ false
+off_by true none = absurd (omega (arith, none))
+off_by false none = refl
+
+-- where their count is 0 there are none
+counted_none : (ps : List SentPacket) → count_by (λ p. is_owed p.fate) ps ≡ 0 → NoneOwed ps
+counted_none [] none = tt
+counted_none (p ∷ ps) none =
+    let sum : count_by (λ q. is_owed q.fate) (p ∷ ps) ≡ cond (is_owed p.fate) 1 0 + count_by (λ q. is_owed q.fate) ps = sum_by-cons (λ q. cond (is_owed q.fate) 1 0) p ps in
+    let parts = both_zero (cond (is_owed p.fate) 1 0) (count_by (λ q. is_owed q.fate) ps) (sym sum ∙ none) in
+    (off_by (is_owed p.fate) parts.0, counted_none ps parts.1)
+
+pub last_of_none : (ps : List SentPacket) → count_by (λ p. is_owed p.fate) ps ≡ 0 → None ≡ last_owed None ps
+last_of_none ps none = sym (last_none None ps (counted_none ps none))
+
+pub apart_of_none : (limit first : ℕ) (ps : List SentPacket) → count_by (λ p. is_owed p.fate) ps ≡ 0 → false ≡ are_apart limit first None ps
+apart_of_none limit first ps none = sym (apart_none limit first None ps (counted_none ps none))
+
 -- ---- their numbers
 
 owed_none : (xs : List SentPacket) → NoneOwed xs → owed_of xs ≡ []

@@ -44,6 +44,9 @@ impl SentPackets {
     pub fn last_owed(&self) -> Option<Micros>
         ensures { result ≡ walks.last_owed None self.now.packets }
     {
+        if self.losses.count == 0 {
+            return None;
+        }
         last_owed_in(&self.packets, self.owed_part())
     }
 
@@ -53,6 +56,9 @@ impl SentPackets {
     pub fn is_persistent(&self, limit: u64, first: Micros) -> bool
         ensures { result ≡ walks.are_apart limit first None self.now.packets }
     {
+        if self.losses.count == 0 {
+            return false;
+        }
         are_apart_in(&self.packets, self.owed_part(), limit, first)
     }
 }

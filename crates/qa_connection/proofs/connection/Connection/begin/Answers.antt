@@ -9,11 +9,11 @@ returns c = λ c' h of are.
     let k = c.args.self.now in
     let e = c.args.event.now in
     let s = of.settled in
-    let spaces = c.acknowledged-self.ensures in
+    let spaces = c.acknowledge.ensures in
     record {
       measured = record {
-        rtt = c.rtt_after-self.ensures ∙ sampled_of c' e h k.header k.confirmed c.args.acknowledged.now k.rtt s.header s.confirmed are of.measured.rtt;
-        largest = λ space. largest_of e h space (state_of space k.spaces) (state_of space c.acknowledged-self.result) (spaces space) (of.measured.largest space);
+        rtt = c.follow.ensures ∙ sampled_of c' e h k.header k.confirmed c.args.acknowledged.now k.rtt s.header s.confirmed are of.measured.rtt;
+        largest = λ space. largest_of e h space (state_of space k.spaces) (state_of space c.acknowledge.new.self) (spaces space) (of.measured.largest space);
       };
       settled = record {
         header = s.header;
