@@ -111,15 +111,13 @@ impl<L: Ledger + Drop> Checker<L> {
         if bytes.len() > LINE_LIMIT {
             return Err(self.stop(Fault::LineTooLong));
         }
-        match read_line(self.alloc, bytes) {
-            Ok(line) => {
-                let kind = line.kind();
-                match self.take(line) {
-                    Ok(()) => Ok(kind),
-                    Err(stop) => Err(stop),
-                }
-            }
-            Err(LineFault::Fault(fault)) => Err(self.stop(fault)),
+        let read = read_line(self.alloc, bytes);
+        match &read {
+            Ok(line) => match self.take(line) {
+                Ok(()) => Ok(line.kind()),
+                Err(stop) => Err(stop),
+            },
+            Err(LineFault::Fault(fault)) => Err(self.stop(*fault)),
             Err(LineFault::OutOfMemory) => {
                 self.failed = true;
                 Err(Stop::OutOfMemory)
@@ -191,23 +189,23 @@ impl<L: Ledger + Drop> Checker<L> {
     }
 
     /// Takes in what the next line says.
-    fn take(&mut self, line: Line) -> Result<(), Stop>
+    fn take(&mut self, line: &Line) -> Result<(), Stop>
         requires whole { self.old.failed ≡ false }
         requires undecided { self.old.verdict ≡ None }
         requires few { self.old.lines < 4294967295 }
-        requires fitting { line_fits line ≡ true }
+        requires fitting { line_fits line.now ≡ true }
         ensures failed { (result ≡ Err Stop.OutOfMemory) → self.new.failed ≡ true }
         ensures whole { (result ≢ Err Stop.OutOfMemory) → self.new.failed ≡ false }
-        ensures ok { OnOk result ((self.new.failed ≡ false) × TakesIn L.stands self.old self.new line) }
-        ensures decided { result ≡ Err Stop.Decided → StopsAt L.stands self.old self.new line }
+        ensures ok { OnOk result ((self.new.failed ≡ false) × TakesIn L.stands self.old self.new line.now) }
+        ensures decided { result ≡ Err Stop.Decided → StopsAt L.stands self.old self.new line.now }
     {
         match line {
             Line::Blank => {
                 self.lines += 1;
                 Ok(())
             }
-            Line::Header(header) => self.start(header),
-            Line::Event(event) => self.admit(&event),
+            Line::Header(header) => self.start(*header),
+            Line::Event(event) => self.admit(event),
         }
     }
 
