@@ -1,12 +1,11 @@
 -- The answers about the packets and the connection that are kept are those about the history.
-use Rattle.std.proofs.Common.{◌≡◌, ◌∙◌, ℕ, List, Option, Some, None, refl, sym, ap, find, sum_by, count_by}
+use Rattle.std.proofs.Common.{◌≡◌, ◌∙◌, ℕ, List, sym, ap, find, sum_by, count_by}
 use Rattle.std.specs.List.{list_any}
 use Rattle.qa_base.specs.declared.event.Event.{Event}
 use Rattle.qa_base.specs.declared.space.Space.{Space}
 use Rattle.qa_base.specs.declared.space.Space.TheVariants.{Initial, Handshake, App}
 use Rattle.qa_base.specs.machine.Estimates.{rtt}
 use Rattle.qa_base.specs.machine.Packets.{largest_acknowledged}
-use Rattle.qa_base.specs.machine.Rtt.{Estimate}
 use Rattle.qa_base.specs.machine.Rules.{IsRun}
 use Rattle.qa_base.specs.machine.State.{totals}
 use Rattle.qa_base.specs.values.Settings.{Settings}
@@ -21,7 +20,6 @@ use Rattle.qa_running.specs.Running.{IsAfter, State}
 use Rattle.qa_running.specs.Standing.{StandsFor}
 use Rattle.qa_sent.specs.Fates.{flight_bytes, is_awaiting, is_flying, is_owed}
 use Rattle.qa_sent.specs.Held.{Held}
-use Rattle.qa_sent.specs.declared.packet.SentPacket.{SentPacket}
 
 -- ---- what the timer asks
 

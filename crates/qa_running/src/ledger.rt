@@ -42,9 +42,8 @@ impl Running {
         let outcome = outcome(&self.packets, &self.connection);
         self.connection.end(event, &acknowledged, outcome);
         self.packets.drop_closed();
-        self.watch = self
-            .watch
-            .after(&self.connection, &self.packets, time_of(event));
+        self.watch
+            .follow(&self.connection, &self.packets, time_of(event));
         self.failed = false;
         Ok(())
     }

@@ -59,36 +59,30 @@ impl TimerWatch {
         }
     }
 
-    /// After an event that happened now, with what the timer is set for after it.
-    fn passed(self, due: Option<Due>, now: Micros) -> TimerWatch
-        ensures due { result.due ≡ due }
-        ensures since { result.since ≡ (if timers.is_same_due self.due due then self.since else now) }
+    /// Notes what the timer is set for after an event that happened now.
+    fn set(&mut self, due: Option<Due>, now: Micros)
+        ensures due { self.new.due ≡ due }
+        ensures since { self.new.since ≡ (if timers.is_same_due self.old.due due then self.old.since else now) }
     {
-        TimerWatch {
+        *self = TimerWatch {
             due,
             since: if is_same_due(self.due, due) {
                 self.since
             } else {
                 now
             },
-        }
+        };
     }
 
-    /// After an event that happened now, by what is kept of the connection and the packets after it.
-    /// Nothing is asked of them where the header has no limit.
-    pub(crate) fn after(
-        self,
-        connection: &Connection,
-        packets: &SentPackets,
-        now: Micros,
-    ) -> TimerWatch
+    /// Takes in an event that happened now, by what is kept of the connection and the packets after
+    /// it. Nothing is asked of them, and nothing changes, where the header has no limit.
+    pub(crate) fn follow(&mut self, connection: &Connection, packets: &SentPackets, now: Micros)
         ensures { (c : Settings) (e : AnEvent) (h : List AnEvent) → IsOf connection.now c (e ∷ h) → IsProperRun c (e ∷ h) → StandsFor packets.now c (e ∷ h)
-            → now ≡ events.time_of e → IsWatched self c h → IsWatched result c (e ∷ h) }
+            → now ≡ events.time_of e → IsWatched self.old c h → IsWatched self.new c (e ∷ h) }
     {
-        if connection.header.options().timer_late.is_none() {
-            return self;
+        if connection.header.options().timer_late.is_some() {
+            self.set(connection.deadline(&open_packets(packets)), now);
         }
-        self.passed(connection.deadline(&open_packets(packets)), now)
     }
 
     /// Whether a time is past a deadline by more than a limit in microseconds, where there is a

@@ -10,7 +10,7 @@ use Rattle.qa_running.proofs.running.Running.follow.Goals as goal
 
 -- the state after the event, for each history before it
 follows : (c : After-drop-acknowledged-2) (k : Settings) (h : List Event) → IsAfter c.args.self.now k h
-    → IsAfter (record { connection = c.end.new.self; packets = c.drop_closed.new.self; numbers = c.insert_sent.new.self; watch = c.after-self-inside.result; failed = false }) k (c.args.event.now ∷ h)
+    → IsAfter (record { connection = c.end.new.self; packets = c.drop_closed.new.self; numbers = c.insert_sent.new.self; watch = c.follow.new.self; failed = false }) k (c.args.event.now ∷ h)
 follows c k h after =
     let at = subst (λ (s : State). IsAfter s k h) (sym c.self.view_is) after in
     let works = ap (λ (s : State). s.failed) c.self.view_is ∙ c.requires.works in
@@ -28,7 +28,7 @@ follows c k h after =
     c.outcome-outcome.result (λ stands run measured header. c.outcome-outcome.ensures k (c.args.event.now ∷ h) stands run measured header)
     c.end.new.self (λ begun proper is out. c.end.ensures k h begun proper (c.deref-2.ensures.value ∙ is) out)
     c.drop_closed.new.self c.drop_closed.ensures
-    c.after-self-inside.result (λ of proper stands is. c.after-self-inside.ensures k c.args.event.now h of proper stands c.time_of-2.ensures is)
+    c.follow.new.self (λ of proper stands is. c.follow.ensures k c.args.event.now h of proper stands c.time_of-2.ensures is)
 
 -- some history before it, and what its state is
 before : (c : After-drop-acknowledged-2) → IsAfter c.args.self.now c.self.invariant.header c.self.invariant.history
