@@ -58,3 +58,9 @@ pub record IsValueOf (value : Data) (bytes rest : List ℕ) : Type 0 where
 -- the bytes are a value, and the rest
 abbrev pub IsValue : List ℕ → List ℕ → Type 0
 IsValue bytes rest = (value : Data) × IsValueOf value bytes rest
+
+-- the bytes are a colon, this value and the rest
+pub record IsBehindColon (value : Data) (bytes rest : List ℕ) : Type 0 where
+  pub middle : List ℕ
+  pub at_colon : Lexes bytes middle (colon ∷ [])
+  pub is : IsValueOf value middle rest

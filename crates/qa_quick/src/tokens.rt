@@ -8,15 +8,36 @@ ghost use Rattle.serde_json.specs.Written.{compact_text};
 ghost use Rattle.qa_base.specs.format.Written as written;
 ghost use Rattle.qa_quick.specs.Lexes.{Lexes, IsQuoted, is_plain as is_plain_byte};
 
-/// An integer below this has room for one more digit.
-const SHORT: u64 = 1_000_000_000_000_000_000;
+/// An integer of so many digits is below 2^64.
+const DIGITS: usize = 19;
 
 /// What follows the word, where the bytes begin with it.
 #[inline(always)]
 pub fn after<'a>(bytes: &'a [u8], word: &[u8]) -> Option<&'a [u8]>
     ensures { IfSome result (λ rest. bytes.now ≡ word.now ++ rest.now) }
 {
-    bytes.strip_prefix(word)
+    if bytes.len() < word.len() {
+        return None;
+    }
+    let mut i = 0;
+    while i < word.len() {
+        if bytes[i] != word[i] {
+            return None;
+        }
+        i += 1;
+    }
+    Some(&bytes[i..])
+}
+
+/// What follows the byte, where the bytes begin with it.
+#[inline(always)]
+fn after_byte(bytes: &[u8], byte: u8) -> Option<&[u8]>
+    ensures { IfSome result (λ rest. bytes.now ≡ byte ∷ rest.now) }
+{
+    let [first, rest @ ..] = bytes else {
+        return None;
+    };
+    if *first == byte { Some(rest) } else { None }
 }
 
 /// White space of JSON.
@@ -40,6 +61,19 @@ fn is_operator(byte: u8) -> bool
 fn skip_space(bytes: &[u8]) -> &[u8]
     ensures { Lexes bytes.now result.now [] }
 {
+    // Mostly there is none.
+    if let [first, ..] = bytes {
+        if *first <= b' ' {
+            return skip_spaces(bytes);
+        }
+    }
+    bytes
+}
+
+/// The same, byte by byte.
+fn skip_spaces(bytes: &[u8]) -> &[u8]
+    ensures { Lexes bytes.now result.now [] }
+{
     let mut i = 0;
     while i < bytes.len() {
         if !is_space(bytes[i]) {
@@ -55,7 +89,7 @@ fn skip_space(bytes: &[u8]) -> &[u8]
 pub fn begin_object(bytes: &[u8]) -> Option<&[u8]>
     ensures { IfSome result (λ rest. Lexes bytes.now rest.now (token tokens.begin_object ∷ [])) }
 {
-    let behind = after(skip_space(bytes), b"{")?;
+    let behind = after_byte(skip_space(bytes), b'{')?;
     Some(skip_space(behind))
 }
 
@@ -64,7 +98,7 @@ pub fn begin_object(bytes: &[u8]) -> Option<&[u8]>
 pub fn end_object(bytes: &[u8]) -> Option<&[u8]>
     ensures { IfSome result (λ rest. Lexes bytes.now rest.now (token tokens.end_object ∷ [])) }
 {
-    let behind = after(skip_space(bytes), b"}")?;
+    let behind = after_byte(skip_space(bytes), b'}')?;
     Some(skip_space(behind))
 }
 
@@ -73,7 +107,7 @@ pub fn end_object(bytes: &[u8]) -> Option<&[u8]>
 pub fn begin_array(bytes: &[u8]) -> Option<&[u8]>
     ensures { IfSome result (λ rest. Lexes bytes.now rest.now (token tokens.begin_array ∷ [])) }
 {
-    let behind = after(bytes, b"[")?;
+    let behind = after_byte(bytes, b'[')?;
     Some(skip_space(behind))
 }
 
@@ -82,7 +116,7 @@ pub fn begin_array(bytes: &[u8]) -> Option<&[u8]>
 pub fn end_array(bytes: &[u8]) -> Option<&[u8]>
     ensures { IfSome result (λ rest. Lexes bytes.now rest.now (token tokens.end_array ∷ [])) }
 {
-    let behind = after(skip_space(bytes), b"]")?;
+    let behind = after_byte(skip_space(bytes), b']')?;
     Some(behind)
 }
 
@@ -91,7 +125,7 @@ pub fn end_array(bytes: &[u8]) -> Option<&[u8]>
 pub fn colon(bytes: &[u8]) -> Option<&[u8]>
     ensures { IfSome result (λ rest. Lexes bytes.now rest.now (colon_lexeme ∷ [])) }
 {
-    let behind = after(skip_space(bytes), b":")?;
+    let behind = after_byte(skip_space(bytes), b':')?;
     Some(skip_space(behind))
 }
 
@@ -100,7 +134,7 @@ pub fn colon(bytes: &[u8]) -> Option<&[u8]>
 pub fn comma(bytes: &[u8]) -> Option<&[u8]>
     ensures { IfSome result (λ rest. Lexes bytes.now rest.now (comma_lexeme ∷ [])) }
 {
-    let behind = after(skip_space(bytes), b",")?;
+    let behind = after_byte(skip_space(bytes), b',')?;
     Some(skip_space(behind))
 }
 
@@ -130,10 +164,11 @@ fn digits(bytes: &[u8]) -> Option<(u64, &[u8])>
         return None;
     }
     let mut n = u64::from(*first - b'0');
+    let end = bytes.len().min(DIGITS);
     let mut i = 1;
-    while i < bytes.len() {
+    while i < end {
         let digit = bytes[i];
-        if digit < b'0' || b'9' < digit || SHORT <= n {
+        if digit < b'0' || b'9' < digit {
             break;
         }
         n = n * 10 + u64::from(digit - b'0');
@@ -200,7 +235,7 @@ fn is_plain(byte: u8) -> bool
 pub fn string(bytes: &[u8]) -> Option<(&[u8], &[u8])>
     ensures { IfSome result (λ found. (list_all is_plain_byte found.0.now ≡ true) × IsQuoted found.0.now bytes.now found.1.now) }
 {
-    let inside = after(bytes, b"\"")?;
+    let inside = after_byte(bytes, b'"')?;
     let mut i = 0;
     while i < inside.len() {
         if !is_plain(inside[i]) {
@@ -208,6 +243,6 @@ pub fn string(bytes: &[u8]) -> Option<(&[u8], &[u8])>
         }
         i += 1;
     }
-    let rest = after(&inside[i..], b"\"")?;
+    let rest = after_byte(&inside[i..], b'"')?;
     Some((&inside[..i], rest))
 }
