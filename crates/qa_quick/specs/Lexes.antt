@@ -14,6 +14,12 @@ pub record Lexes (bytes rest : List ℕ) (ls : List Lexeme) : Type 0 where
   pub lexes : lex between bytes ≡ ls ++ lex between rest
   pub utf8 : IsUtf8 rest → IsUtf8 bytes
 
+-- the bytes are this byte, white space and the rest
+pub record IsPast (byte : ℕ) (bytes rest : List ℕ) : Type 0 where
+  pub behind : List ℕ
+  pub is : bytes ≡ byte ∷ behind
+  pub spaced : Lexes behind rest []
+
 -- ---- strings
 
 -- printable ASCII that stands for itself in a string

@@ -63,7 +63,10 @@ impl Found {
             Key::Delay => self.delay(bytes),
             Key::Limited => self.limited(bytes),
             Key::Kind => self.kind(bytes),
-            Key::Metric(field) => self.reported(field, bytes),
+            Key::Metric(field) => {
+                let rest = self.reported(field, bytes)?;
+                Some(rest)
+            }
             _ => None,
         }
     }

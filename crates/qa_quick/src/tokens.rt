@@ -1,15 +1,44 @@
 //! White space, operators, integers, booleans and strings.
-ghost use Rattle.std.specs.Prelude.{◌≡◌, ◌<◌, ◌^◌, ◌++◌, ◌∷◌, [], true, decimal, IfSome};
+ghost use Rattle.std.specs.Prelude.{◌≡◌, ◌≤◌, ◌<◌, ◌+◌, ◌^◌, length, take, ◌++◌, ◌∷◌, [], true, decimal, IfSome};
 ghost use Rattle.std.specs.List.{list_all};
 ghost use Rattle.json.specs.Lex.{token, colon as colon_lexeme, comma as comma_lexeme};
 ghost use Rattle.json.specs.Token as tokens;
 ghost use Rattle.json.specs.Word as word;
 ghost use Rattle.serde_json.specs.Written.{compact_text};
 ghost use Rattle.qa_base.specs.format.Written as written;
-ghost use Rattle.qa_quick.specs.Lexes.{Lexes, IsQuoted, is_plain as is_plain_byte};
+ghost use Rattle.qa_quick.specs.Lexes.{Lexes, IsPast, IsQuoted, is_plain as is_plain_byte};
 
 /// An integer of so many digits is below 2^64.
 const DIGITS: usize = 19;
+
+/// Whether the next four bytes are the same in both.
+#[inline(always)]
+fn four_equal(bytes: &[u8], word: &[u8], i: usize) -> bool
+    requires { (i + 4 ≤ length bytes.now) × (i + 4 ≤ length word.now) }
+    ensures { result ≡ true → take i bytes.now ≡ take i word.now → take (i + 4) bytes.now ≡ take (i + 4) word.now }
+{
+    // Without branches between them, so that the four are compared at once.
+    (bytes[i] == word[i])
+        & (bytes[i + 1] == word[i + 1])
+        & (bytes[i + 2] == word[i + 2])
+        & (bytes[i + 3] == word[i + 3])
+}
+
+/// How many bytes of the word make whole fours, where the bytes begin with these.
+#[inline(always)]
+fn fours(bytes: &[u8], word: &[u8]) -> Option<usize>
+    requires { length word.now ≤ length bytes.now }
+    ensures { IfSome result (λ i. (i ≤ length word.now) × (take i bytes.now ≡ take i word.now)) }
+{
+    let mut i = 0;
+    while 4 <= word.len() - i {
+        if !four_equal(bytes, word, i) {
+            return None;
+        }
+        i += 4;
+    }
+    Some(i)
+}
 
 /// What follows the word, where the bytes begin with it.
 #[inline(always)]
@@ -19,7 +48,7 @@ pub fn after<'a>(bytes: &'a [u8], word: &[u8]) -> Option<&'a [u8]>
     if bytes.len() < word.len() {
         return None;
     }
-    let mut i = 0;
+    let mut i = fours(bytes, word)?;
     while i < word.len() {
         if bytes[i] != word[i] {
             return None;
@@ -84,13 +113,27 @@ fn skip_spaces(bytes: &[u8]) -> &[u8]
     &bytes[i..]
 }
 
+/// What follows the byte and the white space behind it, where the bytes begin with it.
+#[inline(always)]
+fn past(bytes: &[u8], byte: u8) -> Option<&[u8]>
+    ensures { IfSome result (λ rest. IsPast byte bytes.now rest.now) }
+{
+    let [first, behind @ ..] = bytes else {
+        return None;
+    };
+    if *first != byte {
+        return None;
+    }
+    Some(skip_space(behind))
+}
+
 /// What follows the brace that opens an object and the white space round it.
 #[inline(always)]
 pub fn begin_object(bytes: &[u8]) -> Option<&[u8]>
     ensures { IfSome result (λ rest. Lexes bytes.now rest.now (token tokens.begin_object ∷ [])) }
 {
-    let behind = after_byte(skip_space(bytes), b'{')?;
-    Some(skip_space(behind))
+    let rest = past(skip_space(bytes), b'{')?;
+    Some(rest)
 }
 
 /// What follows the brace that closes an object and the white space round it.
@@ -98,8 +141,8 @@ pub fn begin_object(bytes: &[u8]) -> Option<&[u8]>
 pub fn end_object(bytes: &[u8]) -> Option<&[u8]>
     ensures { IfSome result (λ rest. Lexes bytes.now rest.now (token tokens.end_object ∷ [])) }
 {
-    let behind = after_byte(skip_space(bytes), b'}')?;
-    Some(skip_space(behind))
+    let rest = past(skip_space(bytes), b'}')?;
+    Some(rest)
 }
 
 /// What follows the bracket that opens a list and the white space behind it.
@@ -107,8 +150,8 @@ pub fn end_object(bytes: &[u8]) -> Option<&[u8]>
 pub fn begin_array(bytes: &[u8]) -> Option<&[u8]>
     ensures { IfSome result (λ rest. Lexes bytes.now rest.now (token tokens.begin_array ∷ [])) }
 {
-    let behind = after_byte(bytes, b'[')?;
-    Some(skip_space(behind))
+    let rest = past(bytes, b'[')?;
+    Some(rest)
 }
 
 /// What follows the bracket that closes a list; white space may stand before it.
@@ -125,8 +168,8 @@ pub fn end_array(bytes: &[u8]) -> Option<&[u8]>
 pub fn colon(bytes: &[u8]) -> Option<&[u8]>
     ensures { IfSome result (λ rest. Lexes bytes.now rest.now (colon_lexeme ∷ [])) }
 {
-    let behind = after_byte(skip_space(bytes), b':')?;
-    Some(skip_space(behind))
+    let rest = past(skip_space(bytes), b':')?;
+    Some(rest)
 }
 
 /// What follows a comma and the white space round it.
@@ -134,8 +177,8 @@ pub fn colon(bytes: &[u8]) -> Option<&[u8]>
 pub fn comma(bytes: &[u8]) -> Option<&[u8]>
     ensures { IfSome result (λ rest. Lexes bytes.now rest.now (comma_lexeme ∷ [])) }
 {
-    let behind = after_byte(skip_space(bytes), b',')?;
-    Some(skip_space(behind))
+    let rest = past(skip_space(bytes), b',')?;
+    Some(rest)
 }
 
 /// Whether an integer or a literal ends before these bytes.
