@@ -63,10 +63,7 @@ impl Found {
             Key::Delay => self.delay(bytes),
             Key::Limited => self.limited(bytes),
             Key::Kind => self.kind(bytes),
-            Key::Metric(field) => {
-                let rest = self.reported(field, bytes)?;
-                Some(rest)
-            }
+            Key::Metric(field) => self.metric_value(field, bytes),
             _ => None,
         }
     }
@@ -193,7 +190,16 @@ impl Found {
         Some(rest)
     }
 
-    /// A reported value is found. Few lines have one, so it stands apart.
+    /// A reported value is found.
+    #[inline(always)]
+    fn metric_value<'a>(&mut self, field: Field, bytes: &'a [u8]) -> Option<&'a [u8]>
+        ensures { IfSome result (λ rest. Puts (field_name field) self.old self.new bytes.now rest.now) }
+    {
+        let rest = self.reported(field, bytes)?;
+        Some(rest)
+    }
+
+    /// The same. It stands apart, since few lines have such a value.
     #[inline(never)]
     fn reported<'a>(&mut self, field: Field, bytes: &'a [u8]) -> Option<&'a [u8]>
         ensures { IfSome result (λ rest. Puts (field_name field) self.old self.new bytes.now rest.now) }

@@ -11,6 +11,11 @@ ghost use Rattle.qa_quick.specs.Lexes.{Lexes, IsPast, IsQuoted, is_plain as is_p
 /// An integer of so many digits is below 2^64.
 const DIGITS: usize = 19;
 
+/// The digits zero and nine, as wide as the integer that is read.
+const ZERO: u64 = 48;
+
+const NINE: u64 = 57;
+
 /// Whether the next four bytes are the same in both.
 #[inline(always)]
 fn four_equal(bytes: &[u8], word: &[u8], i: usize) -> bool
@@ -90,16 +95,25 @@ fn is_operator(byte: u8) -> bool
 fn skip_space(bytes: &[u8]) -> &[u8]
     ensures { Lexes bytes.now result.now [] }
 {
-    // Mostly there is none.
-    if let [first, ..] = bytes {
-        if *first <= b' ' {
-            return skip_spaces(bytes);
+    let [first, behind @ ..] = bytes else {
+        return bytes;
+    };
+    // Mostly there is none, or one space.
+    if b' ' < *first {
+        return bytes;
+    }
+    if *first == b' ' {
+        if let [second, ..] = behind {
+            if b' ' < *second {
+                return behind;
+            }
         }
     }
-    bytes
+    skip_spaces(bytes)
 }
 
 /// The same, byte by byte.
+#[inline(never)]
 fn skip_spaces(bytes: &[u8]) -> &[u8]
     ensures { Lexes bytes.now result.now [] }
 {
@@ -200,21 +214,22 @@ fn digits(bytes: &[u8]) -> Option<(u64, &[u8])>
     let [first, rest @ ..] = bytes else {
         return None;
     };
-    if *first == b'0' {
+    let first = u64::from(*first);
+    if first == ZERO {
         return Some((0, rest));
     }
-    if *first < b'1' || b'9' < *first {
+    if first < ZERO || NINE < first {
         return None;
     }
-    let mut n = u64::from(*first - b'0');
+    let mut n = first - ZERO;
     let end = bytes.len().min(DIGITS);
     let mut i = 1;
     while i < end {
-        let digit = bytes[i];
-        if digit < b'0' || b'9' < digit {
+        let digit = u64::from(bytes[i]);
+        if digit < ZERO || NINE < digit {
             break;
         }
-        n = n * 10 + u64::from(digit - b'0');
+        n = n * 10 + (digit - ZERO);
         i += 1;
     }
     Some((n, &bytes[i..]))
