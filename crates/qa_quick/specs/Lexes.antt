@@ -14,11 +14,13 @@ pub record Lexes (bytes rest : List ℕ) (ls : List Lexeme) : Type 0 where
   pub lexes : lex between bytes ≡ ls ++ lex between rest
   pub utf8 : IsUtf8 rest → IsUtf8 bytes
 
--- the bytes are this byte, white space and the rest
+-- the bytes are this byte with white space round it, and the rest
 pub record IsPast (byte : ℕ) (bytes rest : List ℕ) : Type 0 where
+  pub before : List ℕ
   pub behind : List ℕ
-  pub is : bytes ≡ byte ∷ behind
-  pub spaced : Lexes behind rest []
+  pub spaced : Lexes bytes before []
+  pub is : before ≡ byte ∷ behind
+  pub spaced_behind : Lexes behind rest []
 
 -- ---- strings
 

@@ -139,7 +139,7 @@ impl Found {
     }
 
     /// What an object says with these keys, where it is an event.
-    #[inline(always)]
+    #[inline(never)]
     pub fn line_of(&mut self) -> Option<Line>
         ensures { IfSome result (λ line. SaysLine self.old line) }
     {

@@ -127,18 +127,35 @@ fn skip_spaces(bytes: &[u8]) -> &[u8]
     &bytes[i..]
 }
 
-/// What follows the byte and the white space behind it, where the bytes begin with it.
+/// What follows the byte and the white space round it.
 #[inline(always)]
 fn past(bytes: &[u8], byte: u8) -> Option<&[u8]>
     ensures { IfSome result (λ rest. IsPast byte bytes.now rest.now) }
 {
-    let [first, behind @ ..] = bytes else {
-        return None;
-    };
-    if *first != byte {
-        return None;
+    if let [first, behind @ ..] = bytes {
+        if *first == byte {
+            return Some(skip_space(behind));
+        }
     }
-    Some(skip_space(behind))
+    past_spaces(bytes, byte)
+}
+
+/// The same, mostly where white space stands before the byte.
+#[inline(always)]
+fn past_spaces(bytes: &[u8], byte: u8) -> Option<&[u8]>
+    ensures { IfSome result (λ rest. IsPast byte bytes.now rest.now) }
+{
+    let rest = past_many(bytes, byte)?;
+    Some(rest)
+}
+
+/// The same. It stands apart, since few lines have such white space.
+#[inline(never)]
+fn past_many(bytes: &[u8], byte: u8) -> Option<&[u8]>
+    ensures { IfSome result (λ rest. IsPast byte bytes.now rest.now) }
+{
+    let behind = after_byte(skip_spaces(bytes), byte)?;
+    Some(skip_spaces(behind))
 }
 
 /// What follows the brace that opens an object and the white space round it.
@@ -146,7 +163,7 @@ fn past(bytes: &[u8], byte: u8) -> Option<&[u8]>
 pub fn begin_object(bytes: &[u8]) -> Option<&[u8]>
     ensures { IfSome result (λ rest. Lexes bytes.now rest.now (token tokens.begin_object ∷ [])) }
 {
-    let rest = past(skip_space(bytes), b'{')?;
+    let rest = past(bytes, b'{')?;
     Some(rest)
 }
 
@@ -155,11 +172,11 @@ pub fn begin_object(bytes: &[u8]) -> Option<&[u8]>
 pub fn end_object(bytes: &[u8]) -> Option<&[u8]>
     ensures { IfSome result (λ rest. Lexes bytes.now rest.now (token tokens.end_object ∷ [])) }
 {
-    let rest = past(skip_space(bytes), b'}')?;
+    let rest = past(bytes, b'}')?;
     Some(rest)
 }
 
-/// What follows the bracket that opens a list and the white space behind it.
+/// What follows the bracket that opens a list and the white space round it.
 #[inline(always)]
 pub fn begin_array(bytes: &[u8]) -> Option<&[u8]>
     ensures { IfSome result (λ rest. Lexes bytes.now rest.now (token tokens.begin_array ∷ [])) }
@@ -182,7 +199,7 @@ pub fn end_array(bytes: &[u8]) -> Option<&[u8]>
 pub fn colon(bytes: &[u8]) -> Option<&[u8]>
     ensures { IfSome result (λ rest. Lexes bytes.now rest.now (colon_lexeme ∷ [])) }
 {
-    let rest = past(skip_space(bytes), b':')?;
+    let rest = past(bytes, b':')?;
     Some(rest)
 }
 
@@ -191,7 +208,7 @@ pub fn colon(bytes: &[u8]) -> Option<&[u8]>
 pub fn comma(bytes: &[u8]) -> Option<&[u8]>
     ensures { IfSome result (λ rest. Lexes bytes.now rest.now (comma_lexeme ∷ [])) }
 {
-    let rest = past(skip_space(bytes), b',')?;
+    let rest = past(bytes, b',')?;
     Some(rest)
 }
 

@@ -2,4 +2,4 @@ use Rattle.qa_quick.proofs.Lexing.{spaced, lexes_end_object}
 use Rattle.qa_quick.proofs.tokens.end_object.Goals as goal
 
 pub returns : goal.returns
-returns c = let past = c.in_ok-rest.ensures in spaced c.skip_space.ensures (lexes_end_object _ _ past.is) past.spaced
+returns c = let past = c.in_ok-rest.ensures in spaced past.spaced (lexes_end_object _ _ past.is) past.spaced_behind
