@@ -17,7 +17,6 @@ fn packet_fits(size: u64, eliciting: bool, in_flight: bool) -> bool
 
 impl Found {
     /// A packet that was sent, where its keys were found.
-    #[inline(never)]
     fn sent(&self) -> Option<Line>
         requires { self.now.event ≡ Some LineKind.Sent }
         ensures { IfSome result (λ line. SaysLine self.now line) }
@@ -44,7 +43,6 @@ impl Found {
     }
 
     /// An acknowledgment that came, where its keys were found.
-    #[inline(never)]
     fn ack(&mut self) -> Option<Line>
         requires { self.old.event ≡ Some LineKind.Ack }
         ensures { IfSome result (λ line. SaysLine self.old line) }
@@ -64,7 +62,6 @@ impl Found {
     }
 
     /// Packets that were declared lost, where their keys were found.
-    #[inline(never)]
     fn lost(&mut self) -> Option<Line>
         requires { self.old.event ≡ Some LineKind.Lost }
         ensures { IfSome result (λ line. SaysLine self.old line) }
@@ -80,7 +77,6 @@ impl Found {
     }
 
     /// A timer that fired, where its keys were found.
-    #[inline(never)]
     fn timer(&self) -> Option<Line>
         requires { self.now.event ≡ Some LineKind.Timer }
         ensures { IfSome result (λ line. SaysLine self.now line) }
@@ -92,7 +88,6 @@ impl Found {
     }
 
     /// Keys that were discarded, where their line's keys were found.
-    #[inline(never)]
     fn discard(&self) -> Option<Line>
         requires { self.now.event ≡ Some LineKind.Discard }
         ensures { IfSome result (λ line. SaysLine self.now line) }
@@ -108,7 +103,6 @@ impl Found {
     }
 
     /// The handshake that was confirmed, where the keys of its line were found.
-    #[inline(never)]
     fn confirmed(&self) -> Option<Line>
         requires { self.now.event ≡ Some LineKind.Confirmed }
         ensures { IfSome result (λ line. SaysLine self.now line) }
@@ -118,7 +112,6 @@ impl Found {
     }
 
     /// The keys of the Handshake space that came, where the keys of their line were found.
-    #[inline(never)]
     fn handshake_keys(&self) -> Option<Line>
         requires { self.now.event ≡ Some LineKind.Keys }
         ensures { IfSome result (λ line. SaysLine self.now line) }
@@ -128,7 +121,6 @@ impl Found {
     }
 
     /// A report of the sender's state, where the keys of its line were found.
-    #[inline(never)]
     fn metrics(&self) -> Option<Line>
         requires { self.now.event ≡ Some LineKind.Metrics }
         ensures { IfSome result (λ line. SaysLine self.now line) }
@@ -139,7 +131,6 @@ impl Found {
     }
 
     /// What an object says with these keys, where it is an event.
-    #[inline(never)]
     pub fn line_of(&mut self) -> Option<Line>
         ensures { IfSome result (λ line. SaysLine self.old line) }
     {

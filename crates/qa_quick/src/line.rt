@@ -17,7 +17,6 @@ mod tests;
 /// integers without sign of at most 19 digits, strings of printable ASCII without an escape, booleans or null. A line with
 /// a fault is never of this form, and neither are a header and a blank line. Only ranges take memory, and None comes where
 /// it was refused.
-#[inline(never)]
 pub fn quick_line(alloc: Global, bytes: &[u8]) -> Option<Line>
     ensures read { IfSome result (λ line. reading.reading bytes.now ≡ Ok line) }
     ensures fitting { IfSome result (λ line. line_fits line ≡ true) }

@@ -136,6 +136,9 @@ fn past(bytes: &[u8], byte: u8) -> Option<&[u8]>
         if *first == byte {
             return Some(skip_space(behind));
         }
+        if b' ' < *first {
+            return None;
+        }
     }
     past_spaces(bytes, byte)
 }
