@@ -76,6 +76,10 @@ space_byte x rest h = elim (or_cases _ _ h) [
   | inr e ↦ subst (λ y. Lexes (y ∷ rest) rest []) (sym (eqb-true x 13 e)) (ascii_word (13 ∷ []) [] _ rest refl refl refl)
 ]
 
+pub one_space : (bytes rest : List ℕ) → bytes ≡ 32 ∷ rest → Lexes bytes rest []
+unfolding lex
+one_space bytes rest is = ascii_word (32 ∷ []) [] bytes rest refl refl is
+
 -- one byte more of white space
 pub space_more : (bytes : List ℕ) (i : ℕ) → Lexes bytes (drop i bytes) [] → i < length bytes → is_space (get_or bytes i 0) ≡ true → Lexes bytes (drop (i + 1) bytes) []
 space_more bytes i before within blank =

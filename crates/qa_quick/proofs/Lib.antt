@@ -1,4 +1,5 @@
 -- Lemmas of the quick reader.
+pub mod Words
 pub mod Numerals
 pub mod Lexing
 pub mod Reading

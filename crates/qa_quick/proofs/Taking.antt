@@ -1,8 +1,9 @@
 -- Members that are found one after another, up to the end of their object.
-use Rattle.std.proofs.Common.{◌≡◌, ◌∙◌, ◌<◌, ◌≤◌, ◌^◌, ℕ, List, [], ◌∷◌, ◌++◌, Bool, true, false, Some, None, Ok, Equal, IsUtf8, decimal, codes, length, is_eq, option_map, option_and_then, refl, sym, ap, arith}
+use Rattle.std.proofs.Common.{◌≡◌, ◌∙◌, ◌<◌, ◌≤◌, ◌^◌, ℕ, List, [], ◌∷◌, ◌++◌, Bool, true, false, Some, None, Ok, Equal, IsUtf8, decimal, codes, length, is_eq, Option, option_map, option_and_then, refl, sym, ap, arith}
 use Rattle.std.specs.Cmp.Lexicographic.{slice_cmp}
 use Rattle.std.specs.Ordering.{nat_cmp}
 use Rattle.std.specs.List.{list_all}
+use Rattle.std.specs.Prelude.{IfSome}
 use Rattle.std.specs.Str.{bytes_eq}
 use Rattle.std.proofs.lemmas.Bool.{or_parts}
 use Rattle.std.proofs.lemmas.Map.Text.{is_eq-slice_cmp}
@@ -15,15 +16,15 @@ use Rattle.serde_json.specs.Data as json
 use Rattle.serde_json.specs.Data.{Data, Members, no_members, put}
 use Rattle.serde_json.specs.Read.{of_members}
 use Rattle.serde_json.proofs.Numbers.{number_of-decimal}
-use Rattle.qa_base.specs.declared.event.Event.{Event}
-use Rattle.qa_base.specs.declared.line.Line.TheVariants as line
+use Rattle.qa_base.specs.declared.line.Line.{Line}
 use Rattle.qa_base.specs.format.Reading.{json_of, reading_by, reading}
-use Rattle.qa_base.specs.format.Written.{integer, string, boolean}
+use Rattle.qa_base.specs.format.Written.{integer, string, boolean, line_fits}
 use Rattle.qa_base.specs.values.Proper.{IsWord}
 use Rattle.qa_base.proofs.format.AnyOrder.{get_put_other}
+use Rattle.qa_base.proofs.format.ProperReadings.{reading_fits}
 use Rattle.qa_quick.specs.declared.found.Found.{Found}
 use Rattle.qa_quick.specs.Lexes.{Lexes, lexemes, members_lexemes, is_plain, IsQuoted, IsValueOf, IsValue}
-use Rattle.qa_quick.specs.Found.{Holds, Keeps, Puts, Takes, TakesNothing, Follows, Says, is_known}
+use Rattle.qa_quick.specs.Found.{Holds, Keeps, Puts, Takes, TakesNothing, Follows, SaysLine, is_known}
 use Rattle.qa_quick.proofs.Lexing.{then, lexes_quoted}
 use Rattle.qa_quick.proofs.Reading.{json_of-lexemes, not_blank}
 
@@ -44,15 +45,14 @@ null_value bytes rest lexed = record { form = form.null; reads = refl; shallow =
 -- ---- members
 
 -- a key, a colon and a value
-pub takes : (key : List ℕ) (old new : Found) (bytes behind middle rest : List ℕ) → list_all is_plain key ≡ true → IsQuoted key bytes behind
-    → Lexes behind middle (colon ∷ []) → Puts key old new middle rest → Takes old new bytes rest
-takes key old new bytes behind middle rest all_plain is at_colon puts = record {
+pub takes : (key : List ℕ) (old new : Found) (bytes behind rest : List ℕ) → list_all is_plain key ≡ true → IsQuoted key bytes behind → Puts key old new behind rest → Takes old new bytes rest
+takes key old new bytes behind rest all_plain is puts = record {
   key = key;
   value = puts.value;
-  form = puts.is.form;
-  reads = puts.is.reads;
-  shallow = puts.is.shallow;
-  lexed = then (lexes_quoted key bytes behind all_plain is) (then at_colon puts.is.lexed);
+  form = puts.is.is.form;
+  reads = puts.is.is.reads;
+  shallow = puts.is.is.shallow;
+  lexed = then (lexes_quoted key bytes behind all_plain is) (then puts.is.at_colon puts.is.is.lexed);
   keeps = puts.keeps;
 }
 
@@ -107,7 +107,7 @@ other_keeps key value unknown f ms h =
 pub takes_nothing : (key bytes behind middle rest : List ℕ) → list_all is_plain key ≡ true → IsQuoted key bytes behind
     → Lexes behind middle (colon ∷ []) → is_known key ≡ false → IsValue middle rest → TakesNothing bytes rest
 takes_nothing key bytes behind middle rest all_plain is at_colon unknown one f =
-    takes key f f bytes behind middle rest all_plain is at_colon (record { value = one.0; is = one.1; keeps = other_keeps key one.0 unknown f })
+    takes key f f bytes behind rest all_plain is (record { value = one.0; is = record { middle = middle; at_colon = at_colon; is = one.1 }; keeps = other_keeps key one.0 unknown f })
 
 -- ---- the object
 
@@ -162,9 +162,21 @@ ends old new bytes rest behind end before one closed none =
     (closed.lexes ∙ ap (λ ls. token tokens.end_object ∷ ls) (ap (lex between) none ∙ lex-nil)) (closed.utf8 (rw none IsUtf8-nil))
 
 -- the line is what was found, where the object ends
-pub quick_says : (old new : Found) (e : Event) (bytes rest behind end : List ℕ) → Follows old bytes rest → Takes old new rest behind
-    → Lexes behind end (token tokens.end_object ∷ []) → length end ≡ 0 → Says new e → reading bytes ≡ Ok (line.Event e)
+quick_says : (old new : Found) (l : Line) (bytes rest behind end : List ℕ) → Follows old bytes rest → Takes old new rest behind
+    → Lexes behind end (token tokens.end_object ∷ []) → length end ≡ 0 → SaysLine new l → reading bytes ≡ Ok l
 unfolding reading_by
-quick_says old new e bytes rest behind end before one closed none says =
+quick_says old new l bytes rest behind end before one closed none says =
     let is = ends old new bytes rest behind end before one closed (none_left end none) in
     rw (not_blank bytes _ is, is) (says (put one.key one.value before.before) (one.keeps before.before before.holds))
+
+-- what the line is read as, and its values are in their ranges
+pub record Reads (bytes : List ℕ) (o : Option Line) : Type 0 where
+  pub read : IfSome o (λ l. reading bytes ≡ Ok l)
+  pub fitting : IfSome o (λ l. line_fits l ≡ true)
+
+pub quick_reads : (old new : Found) (o : Option Line) (bytes rest behind end : List ℕ) → Follows old bytes rest → Takes old new rest behind
+    → Lexes behind end (token tokens.end_object ∷ []) → length end ≡ 0 → IfSome o (λ l. SaysLine new l) → Reads bytes o
+quick_reads old new None bytes rest behind end before one closed none says = record { read = tt; fitting = tt }
+quick_reads old new (Some l) bytes rest behind end before one closed none says =
+    let read = quick_says old new l bytes rest behind end before one closed none says in
+    record { read = read; fitting = reading_fits bytes l read }

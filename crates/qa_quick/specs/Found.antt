@@ -12,6 +12,7 @@ use Rattle.serde_json.specs.Data.{Data, Members, put}
 use Rattle.serde_json.specs.Find.{get_member}
 use Rattle.serde_json.specs.Read.{of_json, of_members}
 use Rattle.qa_base.specs.declared.event.Event.{Event}
+use Rattle.qa_base.specs.declared.line.Line.{Line}
 use Rattle.qa_base.specs.declared.line.Line.TheVariants as line
 use Rattle.qa_base.specs.declared.line.LineKind.{LineKind}
 use Rattle.qa_base.specs.declared.space.Kind.{Kind}
@@ -23,7 +24,7 @@ use Rattle.qa_base.specs.values.Proper.{IsRange, AreWords}
 use Rattle.qa_base.specs.format.Reading.{json_of, object_says, reader_named}
 use Rattle.qa_base.specs.format.Written.{integer, string, boolean}
 use Rattle.qa_quick.specs.declared.found.Found.{Found}
-use Rattle.qa_quick.specs.Lexes.{Lexes, lexemes, members_lexemes, IsValueOf}
+use Rattle.qa_quick.specs.Lexes.{Lexes, lexemes, members_lexemes, IsBehindColon}
 use Rattle.qa_quick.specs.Ranges.{ranges_data}
 
 -- ---- values
@@ -100,10 +101,10 @@ pub record Holds (f : Found) (ms : Members) : Type 0 where
 abbrev pub Keeps : List ℕ → Data → Found → Found → Type 0
 Keeps key value old new = (ms : Members) → Holds old ms → Holds new (put key value ms)
 
--- the bytes are a value of this key and the rest, and the value is found
+-- the bytes are a colon, a value of this key and the rest, and the value is found
 pub record Puts (key : List ℕ) (old new : Found) (bytes rest : List ℕ) : Type 0 where
   pub value : Data
-  pub is : IsValueOf value bytes rest
+  pub is : IsBehindColon value bytes rest
   pub keeps : Keeps key value old new
 
 -- the bytes are a key, its value and the rest, and what was found is then found of this key too
@@ -129,6 +130,10 @@ pub record Follows (f : Found) (bytes rest : List ℕ) : Type 0 where
   pub reads : (key : List ℕ) (j : Json) (ms : form.Members) (all : Members) → members_depth (form.member key j ms) ≤ 2 → of_members (form.member key j ms) before ≡ Some all
       → lex between rest ≡ members_lexemes false (form.member key j ms) → IsUtf8 rest → json_of bytes ≡ Ok (json.object all)
 
+-- what was found says this line
+abbrev pub SaysLine : Found → Line → Type 0
+SaysLine f l = (ms : Members) → Holds f ms → object_says reader_named (json.object ms) ≡ Ok l
+
 -- what was found says this event
 abbrev pub Says : Found → Event → Type 0
-Says f e = (ms : Members) → Holds f ms → object_says reader_named (json.object ms) ≡ Ok (line.Event e)
+Says f e = SaysLine f (line.Event e)

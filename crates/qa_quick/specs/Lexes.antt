@@ -14,6 +14,14 @@ pub record Lexes (bytes rest : List ℕ) (ls : List Lexeme) : Type 0 where
   pub lexes : lex between bytes ≡ ls ++ lex between rest
   pub utf8 : IsUtf8 rest → IsUtf8 bytes
 
+-- the bytes are this byte with white space round it, and the rest
+pub record IsPast (byte : ℕ) (bytes rest : List ℕ) : Type 0 where
+  pub before : List ℕ
+  pub behind : List ℕ
+  pub spaced : Lexes bytes before []
+  pub is : before ≡ byte ∷ behind
+  pub spaced_behind : Lexes behind rest []
+
 -- ---- strings
 
 -- printable ASCII that stands for itself in a string
@@ -58,3 +66,9 @@ pub record IsValueOf (value : Data) (bytes rest : List ℕ) : Type 0 where
 -- the bytes are a value, and the rest
 abbrev pub IsValue : List ℕ → List ℕ → Type 0
 IsValue bytes rest = (value : Data) × IsValueOf value bytes rest
+
+-- the bytes are a colon, this value and the rest
+pub record IsBehindColon (value : Data) (bytes rest : List ℕ) : Type 0 where
+  pub middle : List ℕ
+  pub at_colon : Lexes bytes middle (colon ∷ [])
+  pub is : IsValueOf value middle rest

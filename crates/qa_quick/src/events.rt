@@ -1,15 +1,25 @@
 //! The events that were found.
-ghost use Rattle.std.specs.Prelude.{◌≡◌, IfSome, Some};
-ghost use Rattle.qa_quick.specs.Found.{Says};
+ghost use Rattle.std.specs.Prelude.{◌≡◌, ◌&&◌, ◌||◌, not, nat_le, IfSome, Some};
+ghost use Rattle.qa_base.specs.values.Limits.{max_packet_size};
+ghost use Rattle.qa_quick.specs.Found.{SaysLine};
 
 use crate::found::Found;
-use qa_base::{Event, Leave, LineKind, Micros, PacketNumber};
+use qa_base::limits::MAX_PACKET_SIZE;
+use qa_base::{Event, Leave, Line, LineKind, Micros, PacketNumber};
+
+/// Whether a packet may have these values: it has bytes, and is in flight if it is ack-eliciting.
+#[inline(always)]
+fn packet_fits(size: u64, eliciting: bool, in_flight: bool) -> bool
+    ensures { result ≡ (nat_le 1 size && nat_le size max_packet_size && (not eliciting || in_flight)) }
+{
+    1 <= size && size <= MAX_PACKET_SIZE && (!eliciting || in_flight)
+}
 
 impl Found {
     /// A packet that was sent, where its keys were found.
-    fn sent(&self) -> Option<Event>
+    fn sent(&self) -> Option<Line>
         requires { self.now.event ≡ Some LineKind.Sent }
-        ensures { IfSome result (λ event. Says self.now event) }
+        ensures { IfSome result (λ line. SaysLine self.now line) }
     {
         let time = Micros::new(self.time?)?;
         let space = self.space?;
@@ -18,7 +28,10 @@ impl Found {
         let eliciting = self.eliciting?;
         let in_flight = self.in_flight?;
         let leave = self.leave.unwrap_or(Leave::Window);
-        let event = Event::Sent {
+        if !packet_fits(size, eliciting, in_flight) {
+            return None;
+        }
+        Some(Line::Event(Event::Sent {
             time,
             space,
             number,
@@ -26,97 +39,100 @@ impl Found {
             eliciting,
             in_flight,
             leave,
-        };
-        if event.fits() { Some(event) } else { None }
+        }))
     }
 
     /// An acknowledgment that came, where its keys were found.
-    fn ack(self) -> Option<Event>
-        requires { self.event ≡ Some LineKind.Ack }
-        ensures { IfSome result (λ event. Says self event) }
+    fn ack(&mut self) -> Option<Line>
+        requires { self.old.event ≡ Some LineKind.Ack }
+        ensures { IfSome result (λ line. SaysLine self.old line) }
     {
         let time = Micros::new(self.time?)?;
         let space = self.space?;
         let delay = self.delay.unwrap_or(0);
         let limited = self.limited.unwrap_or(false);
-        let ranges = self.ranges?;
-        Some(Event::Ack {
+        let ranges = self.ranges.take()?;
+        Some(Line::Event(Event::Ack {
             time,
             space,
             ranges,
             delay,
             limited,
-        })
+        }))
     }
 
     /// Packets that were declared lost, where their keys were found.
-    fn lost(self) -> Option<Event>
-        requires { self.event ≡ Some LineKind.Lost }
-        ensures { IfSome result (λ event. Says self event) }
+    fn lost(&mut self) -> Option<Line>
+        requires { self.old.event ≡ Some LineKind.Lost }
+        ensures { IfSome result (λ line. SaysLine self.old line) }
     {
         let time = Micros::new(self.time?)?;
         let space = self.space?;
-        let ranges = self.ranges?;
-        Some(Event::Lost {
+        let ranges = self.ranges.take()?;
+        Some(Line::Event(Event::Lost {
             time,
             space,
             ranges,
-        })
+        }))
     }
 
     /// A timer that fired, where its keys were found.
-    fn timer(&self) -> Option<Event>
+    fn timer(&self) -> Option<Line>
         requires { self.now.event ≡ Some LineKind.Timer }
-        ensures { IfSome result (λ event. Says self.now event) }
+        ensures { IfSome result (λ line. SaysLine self.now line) }
     {
         let time = Micros::new(self.time?)?;
         let kind = self.kind?;
         let space = self.space?;
-        Some(Event::Timer { time, kind, space })
+        Some(Line::Event(Event::Timer { time, kind, space }))
     }
 
     /// Keys that were discarded, where their line's keys were found.
-    fn discard(&self) -> Option<Event>
+    fn discard(&self) -> Option<Line>
         requires { self.now.event ≡ Some LineKind.Discard }
-        ensures { IfSome result (λ event. Says self.now event) }
+        ensures { IfSome result (λ line. SaysLine self.now line) }
     {
         let time = Micros::new(self.time?)?;
         let space = self.space?;
         let event = Event::Discard { time, space };
-        if event.fits() { Some(event) } else { None }
+        if event.fits() {
+            Some(Line::Event(event))
+        } else {
+            None
+        }
     }
 
     /// The handshake that was confirmed, where the keys of its line were found.
-    fn confirmed(&self) -> Option<Event>
+    fn confirmed(&self) -> Option<Line>
         requires { self.now.event ≡ Some LineKind.Confirmed }
-        ensures { IfSome result (λ event. Says self.now event) }
+        ensures { IfSome result (λ line. SaysLine self.now line) }
     {
         let time = Micros::new(self.time?)?;
-        Some(Event::Confirmed { time })
+        Some(Line::Event(Event::Confirmed { time }))
     }
 
     /// The keys of the Handshake space that came, where the keys of their line were found.
-    fn handshake_keys(&self) -> Option<Event>
+    fn handshake_keys(&self) -> Option<Line>
         requires { self.now.event ≡ Some LineKind.Keys }
-        ensures { IfSome result (λ event. Says self.now event) }
+        ensures { IfSome result (λ line. SaysLine self.now line) }
     {
         let time = Micros::new(self.time?)?;
-        Some(Event::Keys { time })
+        Some(Line::Event(Event::Keys { time }))
     }
 
     /// A report of the sender's state, where the keys of its line were found.
-    fn metrics(&self) -> Option<Event>
+    fn metrics(&self) -> Option<Line>
         requires { self.now.event ≡ Some LineKind.Metrics }
-        ensures { IfSome result (λ event. Says self.now event) }
+        ensures { IfSome result (λ line. SaysLine self.now line) }
     {
         let time = Micros::new(self.time?)?;
         let values = self.values;
-        Some(Event::Metrics { time, values })
+        Some(Line::Event(Event::Metrics { time, values }))
     }
 
     /// What an object says with these keys, where it is an event.
-    pub fn event_of(self) -> Option<Event>
-        ensures { IfSome result (λ event. Says self event) }
+    pub fn line_of(&mut self) -> Option<Line>
+        ensures { IfSome result (λ line. SaysLine self.old line) }
     {
         match self.event? {
             LineKind::Header => None,

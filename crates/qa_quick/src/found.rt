@@ -7,8 +7,9 @@ ghost use Rattle.qa_quick.specs.Found.{Keeps, Puts, Takes};
 use crate::keys::event_key;
 use crate::names::{leave, line_kind, space, timer_kind};
 use crate::ranges::ranges;
-use crate::tokens::{boolean, colon, integer};
+use crate::tokens::colon;
 use crate::unknown::unknown_member;
+use crate::values::{boolean_value, integer_value};
 use qa_base::{Field, Key, Kind, Leave, LineKind, MetricValues, Space, Spans};
 use std::alloc::Global;
 
@@ -40,23 +41,30 @@ impl Found {
             let rest = unknown_member(bytes)?;
             return Some(rest);
         };
-        let rest = self.value(alloc, key, colon(rest)?)?;
+        let rest = self.value(alloc, key, rest)?;
         Some(rest)
     }
 
-    /// The value of a key is found; gives what follows it.
+    /// The value of a key is found behind a colon; gives what follows it.
     #[inline(always)]
     fn value<'a>(&mut self, alloc: Global, key: Key, bytes: &'a [u8]) -> Option<&'a [u8]>
         ensures { IfSome result (λ rest. Puts (key_name key) self.old self.new bytes.now rest.now) }
     {
         match key {
             Key::Event => self.event(bytes),
+            Key::Time => self.time(bytes),
             Key::Space => self.space(bytes),
+            Key::Number => self.number(bytes),
+            Key::Size => self.size(bytes),
+            Key::Eliciting => self.eliciting(bytes),
+            Key::InFlight => self.in_flight(bytes),
             Key::Leave => self.leave(bytes),
-            Key::Kind => self.kind(bytes),
             Key::Ranges => self.ranges(alloc, bytes),
-            Key::Eliciting | Key::InFlight | Key::Limited => self.boolean(key, bytes),
-            _ => self.integer(key, bytes),
+            Key::Delay => self.delay(bytes),
+            Key::Limited => self.limited(bytes),
+            Key::Kind => self.kind(bytes),
+            Key::Metric(field) => self.metric_value(field, bytes),
+            _ => None,
         }
     }
 
@@ -65,8 +73,18 @@ impl Found {
     fn event<'a>(&mut self, bytes: &'a [u8]) -> Option<&'a [u8]>
         ensures { IfSome result (λ rest. Puts (codes "event") self.old self.new bytes.now rest.now) }
     {
-        let (kind, rest) = line_kind(bytes)?;
+        let (kind, rest) = line_kind(colon(bytes)?)?;
         self.event = Some(kind);
+        Some(rest)
+    }
+
+    /// The time is found.
+    #[inline(always)]
+    fn time<'a>(&mut self, bytes: &'a [u8]) -> Option<&'a [u8]>
+        ensures { IfSome result (λ rest. Puts (codes "time") self.old self.new bytes.now rest.now) }
+    {
+        let (value, rest) = integer_value(bytes)?;
+        self.time = Some(value);
         Some(rest)
     }
 
@@ -75,8 +93,48 @@ impl Found {
     fn space<'a>(&mut self, bytes: &'a [u8]) -> Option<&'a [u8]>
         ensures { IfSome result (λ rest. Puts (codes "space") self.old self.new bytes.now rest.now) }
     {
-        let (found, rest) = space(bytes)?;
+        let (found, rest) = space(colon(bytes)?)?;
         self.space = Some(found);
+        Some(rest)
+    }
+
+    /// The packet number is found.
+    #[inline(always)]
+    fn number<'a>(&mut self, bytes: &'a [u8]) -> Option<&'a [u8]>
+        ensures { IfSome result (λ rest. Puts (codes "number") self.old self.new bytes.now rest.now) }
+    {
+        let (value, rest) = integer_value(bytes)?;
+        self.number = Some(value);
+        Some(rest)
+    }
+
+    /// The size of the packet is found.
+    #[inline(always)]
+    fn size<'a>(&mut self, bytes: &'a [u8]) -> Option<&'a [u8]>
+        ensures { IfSome result (λ rest. Puts (codes "size") self.old self.new bytes.now rest.now) }
+    {
+        let (value, rest) = integer_value(bytes)?;
+        self.size = Some(value);
+        Some(rest)
+    }
+
+    /// Whether the packet is ack-eliciting is found.
+    #[inline(always)]
+    fn eliciting<'a>(&mut self, bytes: &'a [u8]) -> Option<&'a [u8]>
+        ensures { IfSome result (λ rest. Puts (codes "eliciting") self.old self.new bytes.now rest.now) }
+    {
+        let (value, rest) = boolean_value(bytes)?;
+        self.eliciting = Some(value);
+        Some(rest)
+    }
+
+    /// Whether the packet is in flight is found.
+    #[inline(always)]
+    fn in_flight<'a>(&mut self, bytes: &'a [u8]) -> Option<&'a [u8]>
+        ensures { IfSome result (λ rest. Puts (codes "in_flight") self.old self.new bytes.now rest.now) }
+    {
+        let (value, rest) = boolean_value(bytes)?;
+        self.in_flight = Some(value);
         Some(rest)
     }
 
@@ -85,18 +143,8 @@ impl Found {
     fn leave<'a>(&mut self, bytes: &'a [u8]) -> Option<&'a [u8]>
         ensures { IfSome result (λ rest. Puts (codes "leave") self.old self.new bytes.now rest.now) }
     {
-        let (found, rest) = leave(bytes)?;
+        let (found, rest) = leave(colon(bytes)?)?;
         self.leave = Some(found);
-        Some(rest)
-    }
-
-    /// The kind of the timer is found.
-    #[inline(always)]
-    fn kind<'a>(&mut self, bytes: &'a [u8]) -> Option<&'a [u8]>
-        ensures { IfSome result (λ rest. Puts (codes "kind") self.old self.new bytes.now rest.now) }
-    {
-        let (found, rest) = timer_kind(bytes)?;
-        self.kind = Some(found);
         Some(rest)
     }
 
@@ -105,67 +153,63 @@ impl Found {
     fn ranges<'a>(&mut self, alloc: Global, bytes: &'a [u8]) -> Option<&'a [u8]>
         ensures { IfSome result (λ rest. Puts (codes "ranges") self.old self.new bytes.now rest.now) }
     {
+        let behind = colon(bytes)?;
         let mut spans = Spans::new(alloc);
-        let rest = ranges(&mut spans, bytes)?;
+        let rest = ranges(&mut spans, behind)?;
         self.ranges = Some(spans);
         Some(rest)
     }
 
-    /// The boolean of a key is found.
+    /// The delay of the acknowledgment is found.
     #[inline(always)]
-    fn boolean<'a>(&mut self, key: Key, bytes: &'a [u8]) -> Option<&'a [u8]>
-        ensures { IfSome result (λ rest. Puts (key_name key) self.old self.new bytes.now rest.now) }
+    fn delay<'a>(&mut self, bytes: &'a [u8]) -> Option<&'a [u8]>
+        ensures { IfSome result (λ rest. Puts (codes "delay") self.old self.new bytes.now rest.now) }
     {
-        let (value, rest) = boolean(bytes)?;
-        match key {
-            Key::Eliciting => {
-                self.eliciting = Some(value);
-                Some(rest)
-            }
-            Key::InFlight => {
-                self.in_flight = Some(value);
-                Some(rest)
-            }
-            Key::Limited => {
-                self.limited = Some(value);
-                Some(rest)
-            }
-            _ => None,
-        }
+        let (value, rest) = integer_value(bytes)?;
+        self.delay = Some(value);
+        Some(rest)
     }
 
-    /// The integer of a key is found.
+    /// Whether the sender was limited by the application is found.
     #[inline(always)]
-    fn integer<'a>(&mut self, key: Key, bytes: &'a [u8]) -> Option<&'a [u8]>
-        ensures { IfSome result (λ rest. Puts (key_name key) self.old self.new bytes.now rest.now) }
+    fn limited<'a>(&mut self, bytes: &'a [u8]) -> Option<&'a [u8]>
+        ensures { IfSome result (λ rest. Puts (codes "limited") self.old self.new bytes.now rest.now) }
     {
-        let (value, rest) = integer(bytes)?;
-        match key {
-            Key::Time => {
-                self.time = Some(value);
-                Some(rest)
-            }
-            Key::Number => {
-                self.number = Some(value);
-                Some(rest)
-            }
-            Key::Size => {
-                self.size = Some(value);
-                Some(rest)
-            }
-            Key::Delay => {
-                self.delay = Some(value);
-                Some(rest)
-            }
-            Key::Metric(field) => {
-                self.metric(field, value);
-                Some(rest)
-            }
-            _ => None,
-        }
+        let (value, rest) = boolean_value(bytes)?;
+        self.limited = Some(value);
+        Some(rest)
+    }
+
+    /// The kind of the timer is found.
+    #[inline(always)]
+    fn kind<'a>(&mut self, bytes: &'a [u8]) -> Option<&'a [u8]>
+        ensures { IfSome result (λ rest. Puts (codes "kind") self.old self.new bytes.now rest.now) }
+    {
+        let (found, rest) = timer_kind(colon(bytes)?)?;
+        self.kind = Some(found);
+        Some(rest)
     }
 
     /// A reported value is found.
+    #[inline(always)]
+    fn metric_value<'a>(&mut self, field: Field, bytes: &'a [u8]) -> Option<&'a [u8]>
+        ensures { IfSome result (λ rest. Puts (field_name field) self.old self.new bytes.now rest.now) }
+    {
+        let rest = self.reported(field, bytes)?;
+        Some(rest)
+    }
+
+    /// The same. It stands apart, since few lines have such a value.
+    #[inline(never)]
+    fn reported<'a>(&mut self, field: Field, bytes: &'a [u8]) -> Option<&'a [u8]>
+        ensures { IfSome result (λ rest. Puts (field_name field) self.old self.new bytes.now rest.now) }
+    {
+        let (value, rest) = integer_value(bytes)?;
+        self.metric(field, value);
+        Some(rest)
+    }
+
+    /// A reported value is put in its place.
     #[inline(always)]
     fn metric(&mut self, field: Field, value: u64)
         ensures { Keeps (field_name field) (written.integer value) self.old self.new }

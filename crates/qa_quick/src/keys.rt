@@ -7,13 +7,14 @@ ghost use Rattle.qa_quick.specs.Found as found;
 use crate::tokens::after;
 use qa_base::{Field, Key};
 
-/// The key, where the bytes begin with its name in quotes, and what follows it.
+/// The key, where the bytes begin with its name in quotes, and what follows it. The name comes in two parts, its quotes with
+/// them: the first is known when the key is, so that mostly the second alone is compared.
 #[inline(always)]
-fn key_if<'a>(key: Key, bytes: &'a [u8], quoted: &[u8]) -> Option<(Key, &'a [u8])>
-    requires { quoted.now ≡ 34 ∷ (key_name key ++ 34 ∷ []) }
+fn key_if<'a>(key: Key, bytes: &'a [u8], begins: &[u8], ends: &[u8]) -> Option<(Key, &'a [u8])>
+    requires { begins.now ++ ends.now ≡ 34 ∷ (key_name key ++ 34 ∷ []) }
     ensures { IfSome result (λ found. IsQuoted (key_name found.0) bytes.now found.1.now) }
 {
-    let rest = after(bytes, quoted)?;
+    let rest = after(after(bytes, begins)?, ends)?;
     Some((key, rest))
 }
 
@@ -27,29 +28,35 @@ pub fn event_key(bytes: &[u8]) -> Option<(Key, &[u8])>
     };
     // The first two letters tell the keys apart.
     match (*first, *second) {
-        (b't', b'i') => key_if(Key::Time, bytes, b"\"time\""),
-        (b's', b'p') => key_if(Key::Space, bytes, b"\"space\""),
-        (b'n', b'u') => key_if(Key::Number, bytes, b"\"number\""),
-        (b's', b'i') => key_if(Key::Size, bytes, b"\"size\""),
-        (b'e', b'v') => key_if(Key::Event, bytes, b"\"event\""),
-        (b'e', b'l') => key_if(Key::Eliciting, bytes, b"\"eliciting\""),
-        (b'i', b'n') => key_if(Key::InFlight, bytes, b"\"in_flight\""),
-        (b'l', b'e') => key_if(Key::Leave, bytes, b"\"leave\""),
-        (b'r', b'a') => key_if(Key::Ranges, bytes, b"\"ranges\""),
-        (b'd', b'e') => key_if(Key::Delay, bytes, b"\"delay\""),
-        (b'l', b'i') => key_if(Key::Limited, bytes, b"\"limited\""),
-        (b'k', b'i') => key_if(Key::Kind, bytes, b"\"kind\""),
-        (b'w', b'i') => key_if(Key::Metric(Field::Window), bytes, b"\"window\""),
-        (b's', b's') => key_if(Key::Metric(Field::Ssthresh), bytes, b"\"ssthresh\""),
+        (b't', b'i') => key_if(Key::Time, bytes, b"\"ti", b"me\""),
+        (b's', b'p') => key_if(Key::Space, bytes, b"\"sp", b"ace\""),
+        (b'n', b'u') => key_if(Key::Number, bytes, b"\"nu", b"mber\""),
+        (b's', b'i') => key_if(Key::Size, bytes, b"\"si", b"ze\""),
+        (b'e', b'v') => key_if(Key::Event, bytes, b"\"ev", b"ent\""),
+        (b'e', b'l') => key_if(Key::Eliciting, bytes, b"\"el", b"iciting\""),
+        (b'i', b'n') => key_if(Key::InFlight, bytes, b"\"in", b"_flight\""),
+        (b'l', b'e') => key_if(Key::Leave, bytes, b"\"le", b"ave\""),
+        (b'r', b'a') => key_if(Key::Ranges, bytes, b"\"ra", b"nges\""),
+        (b'd', b'e') => key_if(Key::Delay, bytes, b"\"de", b"lay\""),
+        (b'l', b'i') => key_if(Key::Limited, bytes, b"\"li", b"mited\""),
+        (b'k', b'i') => key_if(Key::Kind, bytes, b"\"ki", b"nd\""),
+        (b'w', b'i') => key_if(Key::Metric(Field::Window), bytes, b"\"wi", b"ndow\""),
+        (b's', b's') => key_if(Key::Metric(Field::Ssthresh), bytes, b"\"ss", b"thresh\""),
         (b'b', b'y') => key_if(
             Key::Metric(Field::BytesInFlight),
             bytes,
-            b"\"bytes_in_flight\"",
+            b"\"by",
+            b"tes_in_flight\"",
         ),
-        (b'l', b'a') => key_if(Key::Metric(Field::LatestRtt), bytes, b"\"latest_rtt\""),
-        (b'm', b'i') => key_if(Key::Metric(Field::MinRtt), bytes, b"\"min_rtt\""),
-        (b's', b'm') => key_if(Key::Metric(Field::SmoothedRtt), bytes, b"\"smoothed_rtt\""),
-        (b'r', b't') => key_if(Key::Metric(Field::Rttvar), bytes, b"\"rttvar\""),
+        (b'l', b'a') => key_if(Key::Metric(Field::LatestRtt), bytes, b"\"la", b"test_rtt\""),
+        (b'm', b'i') => key_if(Key::Metric(Field::MinRtt), bytes, b"\"mi", b"n_rtt\""),
+        (b's', b'm') => key_if(
+            Key::Metric(Field::SmoothedRtt),
+            bytes,
+            b"\"sm",
+            b"oothed_rtt\"",
+        ),
+        (b'r', b't') => key_if(Key::Metric(Field::Rttvar), bytes, b"\"rt", b"tvar\""),
         _ => None,
     }
 }

@@ -13,5 +13,6 @@ mod names;
 mod ranges;
 mod tokens;
 mod unknown;
+mod values;
 
 pub use line::quick_line;

@@ -52,7 +52,7 @@ pub fn quick_line(alloc: Global, bytes: &[u8]) -> Option<Line>
             if !end.is_empty() {
                 return None;
             }
-            return Some(Line::Event(found.event_of()?));
+            return found.line_of();
         };
         rest = more;
     }

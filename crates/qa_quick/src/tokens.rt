@@ -1,22 +1,77 @@
 //! White space, operators, integers, booleans and strings.
-ghost use Rattle.std.specs.Prelude.{◌≡◌, ◌<◌, ◌^◌, ◌++◌, ◌∷◌, [], true, decimal, IfSome};
+ghost use Rattle.std.specs.Prelude.{◌≡◌, ◌≤◌, ◌<◌, ◌+◌, ◌^◌, length, take, ◌++◌, ◌∷◌, [], true, decimal, IfSome};
 ghost use Rattle.std.specs.List.{list_all};
 ghost use Rattle.json.specs.Lex.{token, colon as colon_lexeme, comma as comma_lexeme};
 ghost use Rattle.json.specs.Token as tokens;
 ghost use Rattle.json.specs.Word as word;
 ghost use Rattle.serde_json.specs.Written.{compact_text};
 ghost use Rattle.qa_base.specs.format.Written as written;
-ghost use Rattle.qa_quick.specs.Lexes.{Lexes, IsQuoted, is_plain as is_plain_byte};
+ghost use Rattle.qa_quick.specs.Lexes.{Lexes, IsPast, IsQuoted, is_plain as is_plain_byte};
 
-/// An integer below this has room for one more digit.
-const SHORT: u64 = 1_000_000_000_000_000_000;
+/// An integer of so many digits is below 2^64.
+const DIGITS: usize = 19;
+
+/// The digits zero and nine, as wide as the integer that is read.
+const ZERO: u64 = 48;
+
+const NINE: u64 = 57;
+
+/// Whether the next four bytes are the same in both.
+#[inline(always)]
+fn four_equal(bytes: &[u8], word: &[u8], i: usize) -> bool
+    requires { (i + 4 ≤ length bytes.now) × (i + 4 ≤ length word.now) }
+    ensures { result ≡ true → take i bytes.now ≡ take i word.now → take (i + 4) bytes.now ≡ take (i + 4) word.now }
+{
+    // Without branches between them, so that the four are compared at once.
+    (bytes[i] == word[i])
+        & (bytes[i + 1] == word[i + 1])
+        & (bytes[i + 2] == word[i + 2])
+        & (bytes[i + 3] == word[i + 3])
+}
+
+/// How many bytes of the word make whole fours, where the bytes begin with these.
+#[inline(always)]
+fn fours(bytes: &[u8], word: &[u8]) -> Option<usize>
+    requires { length word.now ≤ length bytes.now }
+    ensures { IfSome result (λ i. (i ≤ length word.now) × (take i bytes.now ≡ take i word.now)) }
+{
+    let mut i = 0;
+    while 4 <= word.len() - i {
+        if !four_equal(bytes, word, i) {
+            return None;
+        }
+        i += 4;
+    }
+    Some(i)
+}
 
 /// What follows the word, where the bytes begin with it.
 #[inline(always)]
 pub fn after<'a>(bytes: &'a [u8], word: &[u8]) -> Option<&'a [u8]>
     ensures { IfSome result (λ rest. bytes.now ≡ word.now ++ rest.now) }
 {
-    bytes.strip_prefix(word)
+    if bytes.len() < word.len() {
+        return None;
+    }
+    let mut i = fours(bytes, word)?;
+    while i < word.len() {
+        if bytes[i] != word[i] {
+            return None;
+        }
+        i += 1;
+    }
+    Some(&bytes[i..])
+}
+
+/// What follows the byte, where the bytes begin with it.
+#[inline(always)]
+fn after_byte(bytes: &[u8], byte: u8) -> Option<&[u8]>
+    ensures { IfSome result (λ rest. bytes.now ≡ byte ∷ rest.now) }
+{
+    let [first, rest @ ..] = bytes else {
+        return None;
+    };
+    if *first == byte { Some(rest) } else { None }
 }
 
 /// White space of JSON.
@@ -40,6 +95,28 @@ fn is_operator(byte: u8) -> bool
 fn skip_space(bytes: &[u8]) -> &[u8]
     ensures { Lexes bytes.now result.now [] }
 {
+    let [first, behind @ ..] = bytes else {
+        return bytes;
+    };
+    // Mostly there is none, or one space.
+    if b' ' < *first {
+        return bytes;
+    }
+    if *first == b' ' {
+        if let [second, ..] = behind {
+            if b' ' < *second {
+                return behind;
+            }
+        }
+    }
+    skip_spaces(bytes)
+}
+
+/// The same, byte by byte.
+#[inline(never)]
+fn skip_spaces(bytes: &[u8]) -> &[u8]
+    ensures { Lexes bytes.now result.now [] }
+{
     let mut i = 0;
     while i < bytes.len() {
         if !is_space(bytes[i]) {
@@ -50,13 +127,47 @@ fn skip_space(bytes: &[u8]) -> &[u8]
     &bytes[i..]
 }
 
+/// What follows the byte and the white space round it.
+#[inline(always)]
+fn past(bytes: &[u8], byte: u8) -> Option<&[u8]>
+    ensures { IfSome result (λ rest. IsPast byte bytes.now rest.now) }
+{
+    if let [first, behind @ ..] = bytes {
+        if *first == byte {
+            return Some(skip_space(behind));
+        }
+        if b' ' < *first {
+            return None;
+        }
+    }
+    past_spaces(bytes, byte)
+}
+
+/// The same, mostly where white space stands before the byte.
+#[inline(always)]
+fn past_spaces(bytes: &[u8], byte: u8) -> Option<&[u8]>
+    ensures { IfSome result (λ rest. IsPast byte bytes.now rest.now) }
+{
+    let rest = past_many(bytes, byte)?;
+    Some(rest)
+}
+
+/// The same. It stands apart, since few lines have such white space.
+#[inline(never)]
+fn past_many(bytes: &[u8], byte: u8) -> Option<&[u8]>
+    ensures { IfSome result (λ rest. IsPast byte bytes.now rest.now) }
+{
+    let behind = after_byte(skip_spaces(bytes), byte)?;
+    Some(skip_spaces(behind))
+}
+
 /// What follows the brace that opens an object and the white space round it.
 #[inline(always)]
 pub fn begin_object(bytes: &[u8]) -> Option<&[u8]>
     ensures { IfSome result (λ rest. Lexes bytes.now rest.now (token tokens.begin_object ∷ [])) }
 {
-    let behind = after(skip_space(bytes), b"{")?;
-    Some(skip_space(behind))
+    let rest = past(bytes, b'{')?;
+    Some(rest)
 }
 
 /// What follows the brace that closes an object and the white space round it.
@@ -64,17 +175,17 @@ pub fn begin_object(bytes: &[u8]) -> Option<&[u8]>
 pub fn end_object(bytes: &[u8]) -> Option<&[u8]>
     ensures { IfSome result (λ rest. Lexes bytes.now rest.now (token tokens.end_object ∷ [])) }
 {
-    let behind = after(skip_space(bytes), b"}")?;
-    Some(skip_space(behind))
+    let rest = past(bytes, b'}')?;
+    Some(rest)
 }
 
-/// What follows the bracket that opens a list and the white space behind it.
+/// What follows the bracket that opens a list and the white space round it.
 #[inline(always)]
 pub fn begin_array(bytes: &[u8]) -> Option<&[u8]>
     ensures { IfSome result (λ rest. Lexes bytes.now rest.now (token tokens.begin_array ∷ [])) }
 {
-    let behind = after(bytes, b"[")?;
-    Some(skip_space(behind))
+    let rest = past(bytes, b'[')?;
+    Some(rest)
 }
 
 /// What follows the bracket that closes a list; white space may stand before it.
@@ -82,7 +193,7 @@ pub fn begin_array(bytes: &[u8]) -> Option<&[u8]>
 pub fn end_array(bytes: &[u8]) -> Option<&[u8]>
     ensures { IfSome result (λ rest. Lexes bytes.now rest.now (token tokens.end_array ∷ [])) }
 {
-    let behind = after(skip_space(bytes), b"]")?;
+    let behind = after_byte(skip_space(bytes), b']')?;
     Some(behind)
 }
 
@@ -91,8 +202,8 @@ pub fn end_array(bytes: &[u8]) -> Option<&[u8]>
 pub fn colon(bytes: &[u8]) -> Option<&[u8]>
     ensures { IfSome result (λ rest. Lexes bytes.now rest.now (colon_lexeme ∷ [])) }
 {
-    let behind = after(skip_space(bytes), b":")?;
-    Some(skip_space(behind))
+    let rest = past(bytes, b':')?;
+    Some(rest)
 }
 
 /// What follows a comma and the white space round it.
@@ -100,8 +211,8 @@ pub fn colon(bytes: &[u8]) -> Option<&[u8]>
 pub fn comma(bytes: &[u8]) -> Option<&[u8]>
     ensures { IfSome result (λ rest. Lexes bytes.now rest.now (comma_lexeme ∷ [])) }
 {
-    let behind = after(skip_space(bytes), b",")?;
-    Some(skip_space(behind))
+    let rest = past(bytes, b',')?;
+    Some(rest)
 }
 
 /// Whether an integer or a literal ends before these bytes.
@@ -123,20 +234,22 @@ fn digits(bytes: &[u8]) -> Option<(u64, &[u8])>
     let [first, rest @ ..] = bytes else {
         return None;
     };
-    if *first == b'0' {
+    let first = u64::from(*first);
+    if first == ZERO {
         return Some((0, rest));
     }
-    if *first < b'1' || b'9' < *first {
+    if first < ZERO || NINE < first {
         return None;
     }
-    let mut n = u64::from(*first - b'0');
+    let mut n = first - ZERO;
+    let end = bytes.len().min(DIGITS);
     let mut i = 1;
-    while i < bytes.len() {
-        let digit = bytes[i];
-        if digit < b'0' || b'9' < digit || SHORT <= n {
+    while i < end {
+        let digit = u64::from(bytes[i]);
+        if digit < ZERO || NINE < digit {
             break;
         }
-        n = n * 10 + u64::from(digit - b'0');
+        n = n * 10 + (digit - ZERO);
         i += 1;
     }
     Some((n, &bytes[i..]))
@@ -200,7 +313,7 @@ fn is_plain(byte: u8) -> bool
 pub fn string(bytes: &[u8]) -> Option<(&[u8], &[u8])>
     ensures { IfSome result (λ found. (list_all is_plain_byte found.0.now ≡ true) × IsQuoted found.0.now bytes.now found.1.now) }
 {
-    let inside = after(bytes, b"\"")?;
+    let inside = after_byte(bytes, b'"')?;
     let mut i = 0;
     while i < inside.len() {
         if !is_plain(inside[i]) {
@@ -208,6 +321,6 @@ pub fn string(bytes: &[u8]) -> Option<(&[u8], &[u8])>
         }
         i += 1;
     }
-    let rest = after(&inside[i..], b"\"")?;
+    let rest = after_byte(&inside[i..], b'"')?;
     Some((&inside[..i], rest))
 }

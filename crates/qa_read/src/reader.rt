@@ -1,5 +1,5 @@
 //! What a line says: a header, an event, or nothing.
-ghost use Rattle.std.specs.Prelude.{◌≡◌, true, Ok, IfOk, IsErrOf};
+ghost use Rattle.std.specs.Prelude.{◌≡◌, true, false, Ok, IfOk, IsErrOf};
 ghost use Rattle.std.specs.List.{list_all};
 ghost use Rattle.std.specs.Str.{is_utf8};
 ghost use Rattle.serde_json.specs.View.{view};
@@ -38,6 +38,21 @@ fn object_says(alloc: Global, value: &Value) -> Result<Line, LineFault>
     Ok(Line::Event(event))
 }
 
+/// What the bytes of a line that is not blank say, or the first of the line's faults, by way of a JSON value.
+///
+/// It stands apart, so that a line that is read quickly does not pay for its locals.
+#[cold]
+#[inline(never)]
+#[tactic(auto, unfolding(qa_base::specs::format::Reading::reading_by))]
+fn read_value(alloc: Global, bytes: &[u8]) -> Result<Line, LineFault>
+    requires { list_all reading.is_blank bytes.now ≡ false }
+    ensures read { Gives (λ line. line) result (reading.reading bytes.now) }
+    ensures memory { IsErrOf result LineFault.OutOfMemory → is_utf8 bytes.now ≡ true }
+{
+    let value = json_of(alloc, bytes)?;
+    object_says(alloc, &value)
+}
+
 /// What the bytes of a line say, its LF not among them, or the first of the line's faults.
 ///
 /// The values of the line are in the ranges of their tables, and its event fits (`Event::fits`).
@@ -57,6 +72,5 @@ pub fn read_line(alloc: Global, bytes: &[u8]) -> Result<Line, LineFault>
     if let Some(line) = quick_line(alloc, bytes) {
         return Ok(line);
     }
-    let value = json_of(alloc, bytes)?;
-    object_says(alloc, &value)
+    read_value(alloc, bytes)
 }

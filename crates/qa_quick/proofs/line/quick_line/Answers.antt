@@ -1,6 +1,5 @@
 use Rattle.std.proofs.Common.{rules}
-use Rattle.qa_base.proofs.format.ProperReadings.{reading_fits}
-use Rattle.qa_quick.proofs.Taking.{begins, goes_on, quick_says}
+use Rattle.qa_quick.proofs.Taking.{begins, goes_on, quick_reads}
 use Rattle.qa_quick.proofs.line.quick_line.Goals as goal
 
 pub loop-i-init : goal.loop-i-init
@@ -13,7 +12,7 @@ loop-i-preserved c =
 
 pub returns-in_default : goal.returns-in_default
 returns-in_default c =
-    let read =
-    quick_says c.loop-i.found c.member.new.self c.in_ok-event_of.field-0 c.args.bytes.now c.loop-i.rest.now c.in_ok-behind.behind.now c.in_ok-end.end.now
-    c.loop-i.invariant c.in_ok-behind.ensures c.in_ok-end.ensures (search rules) c.in_ok-event_of.ensures in
-    record { read = read; fitting = reading_fits c.args.bytes.now _ read }
+    let is =
+    quick_reads c.loop-i.found c.member.new.self c.line_of.result c.args.bytes.now c.loop-i.rest.now c.in_ok-behind.behind.now c.in_ok-end.end.now
+    c.loop-i.invariant c.in_ok-behind.ensures c.in_ok-end.ensures (search rules) c.line_of.ensures in
+    record { read = is.read; fitting = is.fitting }

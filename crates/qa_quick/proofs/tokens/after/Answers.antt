@@ -1,12 +1,15 @@
-use Rattle.std.proofs.Common.{Option, Some, None}
-use Rattle.std.proofs.lemmas.Bool.Decides.{Decides-eqb}
-use Rattle.std.proofs.lemmas.Slice.Eq.{strip_prefix_is}
-use Rattle.std.specs.Option.{MatchOption, IfSome}
+use Rattle.std.proofs.Common.{◌+◌, arith}
+use Rattle.qa_quick.proofs.Words.{same_more, word_then_rest}
 use Rattle.qa_quick.proofs.tokens.after.Goals as goal
 
-some_part : {A : Type 0} (P : Type 0) (Q : A → Type 0) (r : Option A) → MatchOption r P Q → IfSome r Q
-some_part P Q None h = tt
-some_part P Q (Some x) h = h
+pub loop-i-init : goal.loop-i-init
+loop-i-init c = record { within = c.in_ok-i.ensures.0; same = c.in_ok-i.ensures.1 }
+
+pub loop-i-preserved : goal.loop-i-preserved
+loop-i-preserved c = record {
+  within = omega arith;
+  same = same_more c.args.bytes.now c.args.word.now c.loop-i.i (c.loop-i.i + 1) c.loop-i.invariant.same (omega arith) (omega arith) (omega arith) (omega arith);
+}
 
 pub returns : goal.returns
-returns c = some_part _ _ c.strip_prefix.result (strip_prefix_is Decides-eqb c.args.bytes.now c.args.word.now c.strip_prefix.result c.strip_prefix.ensures.cases)
+returns c = word_then_rest c.args.bytes.now c.args.word.now c.loop-i.i (omega arith) (omega arith) c.loop-i.invariant.same

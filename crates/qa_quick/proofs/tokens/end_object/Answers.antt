@@ -2,4 +2,4 @@ use Rattle.qa_quick.proofs.Lexing.{spaced, lexes_end_object}
 use Rattle.qa_quick.proofs.tokens.end_object.Goals as goal
 
 pub returns : goal.returns
-returns c = spaced c.skip_space.ensures (lexes_end_object _ _ c.in_ok-behind.ensures) c.skip_space-2.ensures
+returns c = let past = c.in_ok-rest.ensures in spaced past.spaced (lexes_end_object _ _ past.is) past.spaced_behind

@@ -8,5 +8,5 @@ returns-in_default c = c.in_ok-rest.ensures c.args.self.now
 
 pub returns : goal.returns
 returns c =
-    takes (key_name c.in-Some.key) c.args.self.now c.value.new.self c.args.bytes.now c.in-Some.rest.now c.in_ok-colon.field-0.now c.in_ok-rest-2.rest.now
-    (key_is_plain c.in-Some.key) c.in-Some.ensures c.in_ok-colon.ensures c.in_ok-rest-2.ensures
+    takes (key_name c.in-Some.key) c.args.self.now c.value.new.self c.args.bytes.now c.in-Some.rest.now c.in_ok-rest-2.rest.now
+    (key_is_plain c.in-Some.key) c.in-Some.ensures c.in_ok-rest-2.ensures

@@ -1,6 +1,6 @@
 use Rattle.std.proofs.Common.{◌-◌, ◌≤◌, [], length, drop}
 use Rattle.qa_quick.specs.Lexes.{Lexes}
-use Rattle.qa_quick.proofs.tokens.skip_space.Given as goal
+use Rattle.qa_quick.proofs.tokens.skip_spaces.Given as goal
 
 abbrev pub invariant-loop-i : goal.invariant-loop-i
 invariant-loop-i l = record {
