@@ -74,12 +74,9 @@ fn cover_one(
     ensures next { lane.new.next ≡ lane.old.next }
 {
     let at = (place - dropped) as usize;
-    let packet = packets[at];
-    lane.take_off(&packet);
-    packets[at] = SentPacket {
-        fate: Fate::Covered,
-        ..packet
-    };
+    let packet = &mut packets[at];
+    lane.take_off(packet);
+    packet.fate = Fate::Covered;
     lane.uncovered.remove(&number);
 }
 

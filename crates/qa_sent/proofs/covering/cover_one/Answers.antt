@@ -13,14 +13,8 @@ use Rattle.qa_sent.proofs.covering.cover_one.Goals as goal
 pub overflow_sub-at : goal.overflow_sub-at
 overflow_sub-at c = (found_at c.args.space c.args.dropped c.args.number c.args.place c.args.packets.now.items c.args.lane.now.uncovered.entries c.requires.indexed.entries c.requires.found).0
 
-pub index-requires : goal.index-requires
-index-requires c =
-    let f = (found_at c.args.space c.args.dropped c.args.number c.args.place c.args.packets.now.items c.args.lane.now.uncovered.entries c.requires.indexed.entries c.requires.found).1 in
-    let len : deque_len c.args.packets.now ≡ length c.args.packets.now.items = c.args.packets.now.ok.0 in
-    omega (arith, f.within, len)
-
-pub index_mut-requires : goal.index_mut-requires
-index_mut-requires c =
+pub index_mut-packet-requires : goal.index_mut-packet-requires
+index_mut-packet-requires c =
     let f = (found_at c.args.space c.args.dropped c.args.number c.args.place c.args.packets.now.items c.args.lane.now.uncovered.entries c.requires.indexed.entries c.requires.found).1 in
     let len : deque_len c.args.packets.now ≡ length c.args.packets.now.items = c.args.packets.now.ok.0 in
     omega (arith, f.within, len)
@@ -30,25 +24,25 @@ take_off-requires-clause-in_flight c =
     let at = c.args.place - c.args.dropped in
     let ps = c.args.packets.now.items in
     let f = (found_at c.args.space c.args.dropped c.args.number c.args.place ps c.args.lane.now.uncovered.entries c.requires.indexed.entries c.requires.found).1 in
-    (weighed c.args.space c.args.dropped ps c.args.lane.now at c.index.result.now c.requires.indexed f.within c.index.ensures
-    (found_here c.args.space c.args.dropped c.args.number at ps c.index.result.now f c.index.ensures)).bytes
+    (weighed c.args.space c.args.dropped ps c.args.lane.now at c.index_mut-packet.result.now c.requires.indexed f.within c.index_mut-packet.ensures.value
+    (found_here c.args.space c.args.dropped c.args.number at ps c.index_mut-packet.result.now f c.index_mut-packet.ensures.value)).bytes
 
 pub take_off-requires-clause-awaiting : goal.take_off-requires-clause-awaiting
 take_off-requires-clause-awaiting c =
     let at = c.args.place - c.args.dropped in
     let ps = c.args.packets.now.items in
     let f = (found_at c.args.space c.args.dropped c.args.number c.args.place ps c.args.lane.now.uncovered.entries c.requires.indexed.entries c.requires.found).1 in
-    (weighed c.args.space c.args.dropped ps c.args.lane.now at c.index.result.now c.requires.indexed f.within c.index.ensures
-    (found_here c.args.space c.args.dropped c.args.number at ps c.index.result.now f c.index.ensures)).awaiting
+    (weighed c.args.space c.args.dropped ps c.args.lane.now at c.index_mut-packet.result.now c.requires.indexed f.within c.index_mut-packet.ensures.value
+    (found_here c.args.space c.args.dropped c.args.number at ps c.index_mut-packet.result.now f c.index_mut-packet.ensures.value)).awaiting
 
 pub returns-clause-packets : goal.returns-clause-packets
 returns-clause-packets c = λ lo hi low high.
     let at = c.args.place - c.args.dropped in
     let ps = c.args.packets.now.items in
-    let p = c.index.result.now in
+    let p = c.index_mut-packet.result.now in
     let f = (found_at c.args.space c.args.dropped c.args.number c.args.place ps c.args.lane.now.uncovered.entries c.requires.indexed.entries c.requires.found).1 in
-    cover_written c.args.space lo hi ps at p c.index.ensures (f.waits p c.index.ensures)
-    (ap (is_between lo hi) (f.number p c.index.ensures) ∙ in_range lo hi c.args.number low high)
+    cover_written c.args.space lo hi ps at p c.index_mut-packet.ensures.value (f.waits p c.index_mut-packet.ensures.value)
+    (ap (is_between lo hi) (f.number p c.index_mut-packet.ensures.value) ∙ in_range lo hi c.args.number low high)
 
 pub returns-clause-fewer : goal.returns-clause-fewer
 returns-clause-fewer c =
@@ -61,8 +55,8 @@ pub returns-clause-indexed : goal.returns-clause-indexed
 returns-clause-indexed c =
     let at = c.args.place - c.args.dropped in
     let ps = c.args.packets.now.items in
-    let p = c.index.result.now in
+    let p = c.index_mut-packet.result.now in
     let f = (found_at c.args.space c.args.dropped c.args.number c.args.place ps c.args.lane.now.uncovered.entries c.requires.indexed.entries c.requires.found).1 in
-    entry_closed c.args.space c.args.dropped ps c.args.lane.now _ c.args.number at p Covered refl c.requires.indexed f c.index.ensures
+    entry_closed c.args.space c.args.dropped ps c.args.lane.now _ c.args.number at p Covered refl c.requires.indexed f c.index_mut-packet.ensures.value
     (c.remove.ensures.entries ∙ ap (remove_entry (is_at (nat_cmp c.args.number))) c.take_off.ensures.entries)
     c.take_off.ensures.in_flight c.take_off.ensures.awaiting
