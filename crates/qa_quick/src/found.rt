@@ -190,7 +190,8 @@ impl Found {
         Some(rest)
     }
 
-    /// A reported value is found.
+    /// A reported value is found. The call is made in a function of its own, so that room for its result is made ready here
+    /// alone.
     #[inline(always)]
     fn metric_value<'a>(&mut self, field: Field, bytes: &'a [u8]) -> Option<&'a [u8]>
         ensures { IfSome result (λ rest. Puts (field_name field) self.old self.new bytes.now rest.now) }

@@ -8,15 +8,16 @@ ghost use Rattle.serde_json.specs.Written.{compact_text};
 ghost use Rattle.qa_base.specs.format.Written as written;
 ghost use Rattle.qa_quick.specs.Lexes.{Lexes, IsPast, IsQuoted, is_plain as is_plain_byte};
 
-/// An integer of so many digits is below 2^64.
+/// An integer of so many digits has room in 64 bits.
 const DIGITS: usize = 19;
 
-/// The digits zero and nine, as wide as the integer that is read.
+/// The byte of the digit zero, as wide as the integer that is read.
 const ZERO: u64 = 48;
 
+/// The byte of the digit nine, as wide as that.
 const NINE: u64 = 57;
 
-/// Whether the next four bytes are the same in both.
+/// Whether four bytes from this place on are the same in both.
 #[inline(always)]
 fn four_equal(bytes: &[u8], word: &[u8], i: usize) -> bool
     requires { (i + 4 ≤ length bytes.now) × (i + 4 ≤ length word.now) }
@@ -143,7 +144,8 @@ fn past(bytes: &[u8], byte: u8) -> Option<&[u8]>
     past_spaces(bytes, byte)
 }
 
-/// The same, mostly where white space stands before the byte.
+/// The same, where white space may stand before the byte. The call is made in a function of its own, so that room for its
+/// result is made ready here alone.
 #[inline(always)]
 fn past_spaces(bytes: &[u8], byte: u8) -> Option<&[u8]>
     ensures { IfSome result (λ rest. IsPast byte bytes.now rest.now) }

@@ -1,4 +1,4 @@
-use Rattle.std.proofs.Common.{◌-◌, ◌≡◌, ◌<◌, ◌≤◌, ◌^◌, length, take, decimal}
+use Rattle.std.proofs.Common.{◌-◌, ◌≡◌, ◌<◌, ◌≤◌, ◌^◌, take, decimal}
 use Rattle.qa_quick.proofs.tokens.digits.Given as goal
 
 abbrev pub invariant-loop-i : goal.invariant-loop-i

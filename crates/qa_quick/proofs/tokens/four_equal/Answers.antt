@@ -1,4 +1,4 @@
-use Rattle.std.proofs.Common.{sym, ◌∙◌, arith}
+use Rattle.std.proofs.Common.{arith}
 use Rattle.qa_quick.proofs.Words.{four_more}
 use Rattle.qa_quick.proofs.tokens.four_equal.Goals as goal
 

@@ -1,4 +1,4 @@
-use Rattle.std.proofs.Common.{refl, sym, ◌∙◌, arith}
+use Rattle.std.proofs.Common.{refl, arith}
 use Rattle.qa_quick.proofs.tokens.fours.Goals as goal
 
 pub loop-i-init : goal.loop-i-init
