@@ -14,7 +14,7 @@ use Rattle.qa_base.specs.values.Limits.{max_packet_size, least_datagram_size, gr
 abbrev pub no_options : Options
 no_options = record { timer_late = None; refresh_min_rtt = false; report_slack_us = 0; report_slack_bytes = 0 }
 
--- a sender's role and the parameters of its connection, and what a version 2 asks besides: sizes and the window in bytes, times in
+-- a sender's role and the parameters of its connection, and what version 2 asks besides: sizes and the window in bytes, times in
 -- microseconds
 pub record Settings : Type 0 where
   pub role : Role
