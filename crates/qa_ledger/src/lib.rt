@@ -5,8 +5,6 @@ mod ledger;
 mod metrics;
 mod rules;
 mod state;
-#[cfg(test)]
-mod tests;
 mod whole;
 
 pub use ledger::{Ledger, LedgerFault};

@@ -19,7 +19,7 @@ use qa_recovery::Rtt;
 use std::marker::Model;
 
 /// What is found out of a history once, before its packets are asked.
-#[derive(Clone, Copy, Debug, PartialEq, Eq)]
+#[derive(Clone, Copy)]
 pub struct Look {
     /// The estimate of the round-trip time with the last event's sample, before a refresh.
     pub rtt: Rtt,

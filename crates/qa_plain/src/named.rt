@@ -16,7 +16,7 @@ use crate::packet::{Packet, packet_of};
 use qa_base::{Event, Header, PacketNumber, Space, Span};
 
 /// The packets whose numbers are asked of.
-#[derive(Clone, Copy, Debug, PartialEq, Eq)]
+#[derive(Clone, Copy)]
 pub enum Choice {
     /// Those that are owed, by what is known of the history.
     Owed(Look),

@@ -7,7 +7,7 @@ use qa_base::{Event, Leave, Micros, PacketNumber, Space};
 use std::marker::Model;
 
 /// A packet, as the event tells it that sent it (RFC 9002, A.1).
-#[derive(Clone, Copy, Debug, PartialEq, Eq)]
+#[derive(Clone, Copy)]
 pub struct Packet {
     /// How many events stand before the one that sent it.
     pub place: usize,

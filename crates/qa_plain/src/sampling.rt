@@ -13,7 +13,7 @@ use qa_recovery::Rtt;
 use std::marker::Model;
 
 /// A sample of the round-trip time.
-#[derive(Clone, Copy, Debug, PartialEq, Eq)]
+#[derive(Clone, Copy)]
 pub struct Sample {
     /// How long the packet with the largest acknowledged number took.
     pub latest_rtt: Micros,

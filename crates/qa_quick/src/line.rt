@@ -8,9 +8,6 @@ use crate::tokens::{begin_object, comma, end_object};
 use qa_base::{Line, MetricValues};
 use std::alloc::Global;
 
-#[cfg(test)]
-mod tests;
-
 /// The event that the bytes of a line say, where the line has the form that most loggers write; None for any other line.
 ///
 /// The form is one object with the keys of an event, each with a value of its kind, and any other keys: their values are

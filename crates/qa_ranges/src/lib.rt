@@ -4,8 +4,6 @@
 mod ranges;
 mod sent;
 mod spans;
-#[cfg(test)]
-mod tests;
 
 pub use ranges::Ranges;
 pub use sent::SentNumbers;

@@ -7,8 +7,6 @@
 
 mod reno;
 mod rtt;
-#[cfg(test)]
-mod tests;
 
 pub use qa_base::Micros;
 pub use reno::Reno;

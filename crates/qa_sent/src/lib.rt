@@ -18,8 +18,6 @@ mod packet;
 mod packets;
 mod pushing;
 mod queries;
-#[cfg(test)]
-mod tests;
 
 pub use detecting::Lateness;
 pub use fate::Fate;

@@ -1,4 +1,6 @@
-//! What neither a clause nor a trace shows.
-mod keeping;
+//! What neither a clause nor a trace shows, and the examples of the README.
+mod arithmetic;
+mod lines;
+mod machine;
 mod streams;
 mod values;

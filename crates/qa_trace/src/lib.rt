@@ -4,9 +4,6 @@
 //! What it re-exports is proved in the crates below it, one for each of these three.
 #![tactic(auto)]
 
-#[cfg(test)]
-mod tests;
-
 pub use qa_base::{
     Event, Fault, Field, Header, Key, Kind, Leave, Line, LineKind, MetricValues, Micros,
     PacketNumber, RangeFault, Role, Space, Span, Spans,

@@ -6,11 +6,11 @@ ghost use Rattle.serde_json.specs.View.{view, members_view};
 ghost use Rattle.qa_base.specs.values.Events.{fits};
 ghost use Rattle.qa_base.specs.format.Lines.{has_lf};
 ghost use Rattle.qa_base.specs.values.Limits.{max_time, max_packet_number};
-ghost use Rattle.qa_base.specs.values.Names.{key_name};
 ghost use Rattle.qa_base.specs.values.Proper.{IsRange, IsWord, AreWords, IsProperEvent, IsProperLine};
 ghost use Rattle.qa_base.specs.format.Reading.{reading};
 ghost use Rattle.qa_base.specs.values.Settings.{AreInRange};
-ghost use Rattle.qa_base.specs.format.Written.{written, line_fits, object_of, header_pairs, event_pairs, integer_pairs, integer};
+ghost use Rattle.qa_base.specs.format.Written.{written, line_fits, object_of, header_pairs, event_pairs, integer_pairs, integer, string, boolean};
+ghost use Rattle.qa_write.specs.Members.{with, with_settings, with_options, event_members};
 
 use qa_base::{
     Event, Field, Header, Key, Kind, Leave, Line, LineKind, MetricValues, Micros, PacketNumber,
@@ -55,75 +55,93 @@ fn header_object(alloc: Global, header: &Header) -> Result<Value, AllocError>
     ensures object { IfOk result (λ v. view v ≡ object_of (header_pairs header.now)) }
     ensures proper { OnOk result (AreInRange header.now) }
 {
-    match header.version() {
-        Version::One => first_header_object(alloc, header),
-        Version::Two => match header.options().timer_late {
-            None => unlimited_header_object(alloc, header),
-            Some(limit) => limited_header_object(alloc, header, limit),
-        },
+    let mut map = Map::new(alloc);
+    put_text(&mut map, alloc, Key::Event, LineKind::Header.name())?;
+    put_settings(&mut map, alloc, header)?;
+    put_options(&mut map, alloc, header)?;
+    put_text(&mut map, alloc, Key::Role, header.role().name())?;
+    report(
+        &mut map,
+        alloc,
+        Key::TimerLateUs,
+        header.options().timer_late,
+    )?;
+    put_integer(&mut map, alloc, Key::Version, header.version().number())?;
+    Ok(Value::Object(map))
+}
+
+/// Puts the numbers that a header of each version has.
+fn put_settings(
+    map: &mut Map<String, Value>,
+    alloc: Global,
+    header: &Header,
+) -> Result<(), AllocError>
+    ensures { OnOk result (members_view map.new.entries ≡ with_settings header.now (members_view map.old.entries)) }
+{
+    put_integer(map, alloc, Key::InitialRtt, header.initial_rtt())?;
+    put_integer(map, alloc, Key::InitialWindow, header.initial_window())?;
+    put_integer(map, alloc, Key::MaxAckDelay, header.max_ack_delay())?;
+    put_integer(map, alloc, Key::MaxDatagramSize, header.max_datagram_size())
+}
+
+/// Puts the options that a header of version 2 always says.
+fn put_options(
+    map: &mut Map<String, Value>,
+    alloc: Global,
+    header: &Header,
+) -> Result<(), AllocError>
+    ensures { OnOk result (members_view map.new.entries
+        ≡ with_options header.now.version header.now.options (members_view map.old.entries)) }
+{
+    if header.version() == Version::One {
+        return Ok(());
     }
-}
-
-/// The object of a header of version 1.
-fn first_header_object(alloc: Global, header: &Header) -> Result<Value, AllocError>
-    requires { header.now.version ≡ Version.One }
-    ensures object { IfOk result (λ v. view v ≡ object_of (header_pairs header.now)) }
-    ensures proper { OnOk result (AreInRange header.now) }
-{
-    json!(in alloc; {
-        (Key::Event.name()): LineKind::Header.name(),
-        (Key::InitialRtt.name()): header.initial_rtt(),
-        (Key::InitialWindow.name()): header.initial_window(),
-        (Key::MaxAckDelay.name()): header.max_ack_delay(),
-        (Key::MaxDatagramSize.name()): header.max_datagram_size(),
-        (Key::Role.name()): header.role().name(),
-        (Key::Version.name()): Version::One.number(),
-    })
-}
-
-/// The object of a header of version 2 whose timers have no limit.
-fn unlimited_header_object(alloc: Global, header: &Header) -> Result<Value, AllocError>
-    requires second { header.now.version ≡ Version.Two }
-    requires unlimited { header.now.options.timer_late ≡ None }
-    ensures object { IfOk result (λ v. view v ≡ object_of (header_pairs header.now)) }
-    ensures proper { OnOk result (AreInRange header.now) }
-{
     let options = header.options();
-    json!(in alloc; {
-        (Key::Event.name()): LineKind::Header.name(),
-        (Key::InitialRtt.name()): header.initial_rtt(),
-        (Key::InitialWindow.name()): header.initial_window(),
-        (Key::MaxAckDelay.name()): header.max_ack_delay(),
-        (Key::MaxDatagramSize.name()): header.max_datagram_size(),
-        (Key::RefreshMinRtt.name()): options.refresh_min_rtt,
-        (Key::ReportSlackBytes.name()): options.report_slack_bytes,
-        (Key::ReportSlackUs.name()): options.report_slack_us,
-        (Key::Role.name()): header.role().name(),
-        (Key::Version.name()): Version::Two.number(),
-    })
+    put_flag(map, alloc, Key::RefreshMinRtt, options.refresh_min_rtt)?;
+    put_integer(
+        map,
+        alloc,
+        Key::ReportSlackBytes,
+        options.report_slack_bytes,
+    )?;
+    put_integer(map, alloc, Key::ReportSlackUs, options.report_slack_us)
 }
 
-/// The object of a header of version 2 with this limit for its timers, in microseconds.
-fn limited_header_object(alloc: Global, header: &Header, limit: u64) -> Result<Value, AllocError>
-    requires second { header.now.version ≡ Version.Two }
-    requires limited { header.now.options.timer_late ≡ Some limit }
-    ensures object { IfOk result (λ v. view v ≡ object_of (header_pairs header.now)) }
-    ensures proper { OnOk result (AreInRange header.now) }
+/// Puts a text at a key.
+fn put_text(
+    map: &mut Map<String, Value>,
+    alloc: Global,
+    key: Key,
+    text: &str,
+) -> Result<(), AllocError>
+    ensures { OnOk result (members_view map.new.entries ≡ with key (string text.now) (members_view map.old.entries)) }
 {
-    let options = header.options();
-    json!(in alloc; {
-        (Key::Event.name()): LineKind::Header.name(),
-        (Key::InitialRtt.name()): header.initial_rtt(),
-        (Key::InitialWindow.name()): header.initial_window(),
-        (Key::MaxAckDelay.name()): header.max_ack_delay(),
-        (Key::MaxDatagramSize.name()): header.max_datagram_size(),
-        (Key::RefreshMinRtt.name()): options.refresh_min_rtt,
-        (Key::ReportSlackBytes.name()): options.report_slack_bytes,
-        (Key::ReportSlackUs.name()): options.report_slack_us,
-        (Key::Role.name()): header.role().name(),
-        (Key::TimerLateUs.name()): limit,
-        (Key::Version.name()): Version::Two.number(),
-    })
+    let value = Value::try_from_str(alloc, text)?;
+    serde_json::put(map, alloc, key.name(), value)
+}
+
+/// Puts an integer at a key.
+fn put_integer(
+    map: &mut Map<String, Value>,
+    alloc: Global,
+    key: Key,
+    value: u64,
+) -> Result<(), AllocError>
+    ensures { OnOk result (members_view map.new.entries ≡ with key (integer value) (members_view map.old.entries)) }
+{
+    serde_json::put(map, alloc, key.name(), Value::from(value))
+}
+
+/// Puts a boolean at a key.
+fn put_flag(
+    map: &mut Map<String, Value>,
+    alloc: Global,
+    key: Key,
+    value: bool,
+) -> Result<(), AllocError>
+    ensures { OnOk result (members_view map.new.entries ≡ with key (boolean value) (members_view map.old.entries)) }
+{
+    serde_json::put(map, alloc, key.name(), Value::from(value))
 }
 
 /// The object of an event.
@@ -171,6 +189,17 @@ fn event_object(alloc: Global, event: &Event) -> Result<Value, AllocError>
     }
 }
 
+/// What each event says: its kind and its time.
+fn event_map(alloc: Global, kind: LineKind, time: Micros) -> Result<Map<String, Value>, AllocError>
+    ensures members { IfOk result (λ map. members_view map.entries ≡ event_members kind time) }
+    ensures in_time { OnOk result (time ≤ max_time) }
+{
+    let mut map = Map::new(alloc);
+    put_text(&mut map, alloc, Key::Event, kind.name())?;
+    put_integer(&mut map, alloc, Key::Time, time.get())?;
+    Ok(map)
+}
+
 /// What a sent line says of its packet, beside its time and its space.
 #[derive(Clone, Copy)]
 struct Packet {
@@ -194,16 +223,14 @@ fn sent_object(
     ensures in_time { OnOk result (time ≤ max_time) }
     ensures in_range { OnOk result (packet.number ≤ max_packet_number) }
 {
-    json!(in alloc; {
-        (Key::Eliciting.name()): packet.eliciting,
-        (Key::Event.name()): LineKind::Sent.name(),
-        (Key::InFlight.name()): packet.in_flight,
-        (Key::Leave.name()): packet.leave.name(),
-        (Key::Number.name()): packet.number.get(),
-        (Key::Size.name()): packet.size,
-        (Key::Space.name()): space.name(),
-        (Key::Time.name()): time.get(),
-    })
+    let mut map = event_map(alloc, LineKind::Sent, time)?;
+    put_flag(&mut map, alloc, Key::Eliciting, packet.eliciting)?;
+    put_flag(&mut map, alloc, Key::InFlight, packet.in_flight)?;
+    put_text(&mut map, alloc, Key::Leave, packet.leave.name())?;
+    put_integer(&mut map, alloc, Key::Number, packet.number.get())?;
+    put_integer(&mut map, alloc, Key::Size, packet.size)?;
+    put_text(&mut map, alloc, Key::Space, space.name())?;
+    Ok(Value::Object(map))
 }
 
 /// The object of an acknowledgment.
@@ -221,14 +248,12 @@ fn ack_object(
     ensures are_ranges { OnOk result (AllByRecursion IsRange ranges.now) }
 {
     let ranges = ranges_list(alloc, ranges)?;
-    json!(in alloc; {
-        (Key::Delay.name()): delay,
-        (Key::Event.name()): LineKind::Ack.name(),
-        (Key::Limited.name()): limited,
-        (Key::Ranges.name()): ranges,
-        (Key::Space.name()): space.name(),
-        (Key::Time.name()): time.get(),
-    })
+    let mut map = event_map(alloc, LineKind::Ack, time)?;
+    put_integer(&mut map, alloc, Key::Delay, delay)?;
+    put_flag(&mut map, alloc, Key::Limited, limited)?;
+    put_text(&mut map, alloc, Key::Space, space.name())?;
+    serde_json::put(&mut map, alloc, Key::Ranges.name(), ranges)?;
+    Ok(Value::Object(map))
 }
 
 /// The object of packets that were declared lost.
@@ -244,12 +269,10 @@ fn lost_object(
     ensures are_ranges { OnOk result (AllByRecursion IsRange ranges.now) }
 {
     let ranges = ranges_list(alloc, ranges)?;
-    json!(in alloc; {
-        (Key::Event.name()): LineKind::Lost.name(),
-        (Key::Ranges.name()): ranges,
-        (Key::Space.name()): space.name(),
-        (Key::Time.name()): time.get(),
-    })
+    let mut map = event_map(alloc, LineKind::Lost, time)?;
+    put_text(&mut map, alloc, Key::Space, space.name())?;
+    serde_json::put(&mut map, alloc, Key::Ranges.name(), ranges)?;
+    Ok(Value::Object(map))
 }
 
 /// The list of the ranges, each the list of its least and its greatest number.
@@ -271,12 +294,10 @@ fn timer_object(alloc: Global, time: Micros, kind: Kind, space: Space) -> Result
         ≡ object_of (event_pairs (Event.Timer time kind space))) }
     ensures in_time { OnOk result (time ≤ max_time) }
 {
-    json!(in alloc; {
-        (Key::Event.name()): LineKind::Timer.name(),
-        (Key::Kind.name()): kind.name(),
-        (Key::Space.name()): space.name(),
-        (Key::Time.name()): time.get(),
-    })
+    let mut map = event_map(alloc, LineKind::Timer, time)?;
+    put_text(&mut map, alloc, Key::Kind, kind.name())?;
+    put_text(&mut map, alloc, Key::Space, space.name())?;
+    Ok(Value::Object(map))
 }
 
 /// The object of keys that were discarded.
@@ -285,11 +306,9 @@ fn discard_object(alloc: Global, time: Micros, space: Space) -> Result<Value, Al
         ≡ object_of (event_pairs (Event.Discard time space))) }
     ensures in_time { OnOk result (time ≤ max_time) }
 {
-    json!(in alloc; {
-        (Key::Event.name()): LineKind::Discard.name(),
-        (Key::Space.name()): space.name(),
-        (Key::Time.name()): time.get(),
-    })
+    let mut map = event_map(alloc, LineKind::Discard, time)?;
+    put_text(&mut map, alloc, Key::Space, space.name())?;
+    Ok(Value::Object(map))
 }
 
 /// The object of a handshake that was confirmed.
@@ -297,10 +316,8 @@ fn confirmed_object(alloc: Global, time: Micros) -> Result<Value, AllocError>
     ensures object { IfOk result (λ v. view v ≡ object_of (event_pairs (Event.Confirmed time))) }
     ensures in_time { OnOk result (time ≤ max_time) }
 {
-    json!(in alloc; {
-        (Key::Event.name()): LineKind::Confirmed.name(),
-        (Key::Time.name()): time.get(),
-    })
+    let map = event_map(alloc, LineKind::Confirmed, time)?;
+    Ok(Value::Object(map))
 }
 
 /// The object of Handshake keys that are there.
@@ -308,10 +325,8 @@ fn keys_object(alloc: Global, time: Micros) -> Result<Value, AllocError>
     ensures object { IfOk result (λ v. view v ≡ object_of (event_pairs (Event.Keys time))) }
     ensures in_time { OnOk result (time ≤ max_time) }
 {
-    json!(in alloc; {
-        (Key::Event.name()): LineKind::Keys.name(),
-        (Key::Time.name()): time.get(),
-    })
+    let map = event_map(alloc, LineKind::Keys, time)?;
+    Ok(Value::Object(map))
 }
 
 /// The object of a sender's report, with the values that it reports.
@@ -325,36 +340,51 @@ fn metrics_object(alloc: Global, time: Micros, values: &MetricValues) -> Result<
     report(
         &mut map,
         alloc,
-        Field::BytesInFlight,
+        Key::Metric(Field::BytesInFlight),
         values.bytes_in_flight,
     )?;
     let name = Value::try_from_str(alloc, LineKind::Metrics.name())?;
     serde_json::put(&mut map, alloc, Key::Event.name(), name)?;
-    report(&mut map, alloc, Field::LatestRtt, values.latest_rtt)?;
-    report(&mut map, alloc, Field::MinRtt, values.min_rtt)?;
-    report(&mut map, alloc, Field::Rttvar, values.rttvar)?;
-    report(&mut map, alloc, Field::SmoothedRtt, values.smoothed_rtt)?;
-    report(&mut map, alloc, Field::Ssthresh, values.ssthresh)?;
+    report(
+        &mut map,
+        alloc,
+        Key::Metric(Field::LatestRtt),
+        values.latest_rtt,
+    )?;
+    report(&mut map, alloc, Key::Metric(Field::MinRtt), values.min_rtt)?;
+    report(&mut map, alloc, Key::Metric(Field::Rttvar), values.rttvar)?;
+    report(
+        &mut map,
+        alloc,
+        Key::Metric(Field::SmoothedRtt),
+        values.smoothed_rtt,
+    )?;
+    report(
+        &mut map,
+        alloc,
+        Key::Metric(Field::Ssthresh),
+        values.ssthresh,
+    )?;
     serde_json::put(&mut map, alloc, Key::Time.name(), Value::from(time.get()))?;
-    report(&mut map, alloc, Field::Window, values.window)?;
+    report(&mut map, alloc, Key::Metric(Field::Window), values.window)?;
     Ok(Value::Object(map))
 }
 
-/// Puts a value at its key, where it is reported.
+/// Puts a value at its key, where there is one.
 fn report(
     map: &mut Map<String, Value>,
     alloc: Global,
-    field: Field,
+    key: Key,
     value: Option<u64>,
 ) -> Result<(), AllocError>
     ensures put { OnOk result (MatchOption value
         (members_view map.new.entries ≡ members_view map.old.entries)
         (λ n. members_view map.new.entries
-        ≡ json.put (key_name (Key.Metric field)) (integer n) (members_view map.old.entries))) }
+        ≡ with key (integer n) (members_view map.old.entries))) }
     ensures is_word { OnOk result (IsWord value) }
 {
     match value {
-        Some(value) => serde_json::put(map, alloc, Key::Metric(field).name(), Value::from(value)),
+        Some(value) => put_integer(map, alloc, key, value),
         None => Ok(()),
     }
 }

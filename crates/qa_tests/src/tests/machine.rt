@@ -1,0 +1,82 @@
+//! Events that are judged one by one, worked out by hand from RFC 9002, and how much the ledger keeps
+//! that passes once over them.
+ghost use Rattle.std.specs.Prelude.{◌<◌, ◌≤◌, ◌+◌};
+
+use qa_base::{Event, Header, Leave, Micros, PacketNumber, Role, Rule, Space, Span, Spans};
+use qa_ledger::{Ledger, LedgerFault};
+use qa_running::Running;
+use std::alloc::Global;
+use std::test::Fail;
+
+/// An ack-eliciting packet of 1,200 bytes at time 0.
+fn sent(number: u64) -> Option<Event> {
+    Some(Event::Sent {
+        time: Micros::of(0),
+        space: Space::App,
+        number: PacketNumber::new(number)?,
+        size: 1200,
+        eliciting: true,
+        in_flight: true,
+        leave: Leave::Window,
+    })
+}
+
+/// An acknowledgment of one packet after 100 ms.
+fn ack(alloc: Global, number: u64) -> Option<Event> {
+    let number = PacketNumber::new(number)?;
+    let mut ranges = Spans::new(alloc);
+    ranges.push(Span::new(number, number)?).ok()?;
+    Some(Event::Ack {
+        time: Micros::of(100_000),
+        space: Space::App,
+        ranges,
+        delay: 0,
+        limited: false,
+    })
+}
+
+/// Hands an event to the ledger; None where there is none, or it does not fit.
+fn judged(ledger: &mut Running, event: Option<Event>) -> Option<Result<(), LedgerFault>>
+    requires few { ledger.old.connection.events < 4294967295 }
+    ensures { ledger.new.connection.events ≤ ledger.old.connection.events + 1 }
+{
+    let event = event?;
+    if !event.fits() {
+        return None;
+    }
+    Some(ledger.admit(&event))
+}
+
+/// A loss and what comes of it: this is an example of the README.
+#[test]
+fn a_loss(rt: HostRuntime) -> Result<(), Fail> {
+    let header = Header::new(Role::Server, 1200, None, None, None)?;
+    let mut ledger = Running::start(rt.alloc(), header);
+    judged(&mut ledger, sent(0));
+    judged(&mut ledger, sent(3));
+    // Packet 0 is three numbers below one that is acknowledged, so it is lost.
+    judged(&mut ledger, ack(rt.alloc(), 3));
+    assert!(rt; ledger.owes());
+    // Until it is declared, nothing else may happen: this is V2, loss-owed.
+    let answer = judged(&mut ledger, ack(rt.alloc(), 0));
+    assert_eq!(rt; answer, Some(Err(LedgerFault::Broken(Rule::LossOwed))));
+    Ok(())
+}
+
+/// Two packets are sent, and then acknowledged in turn.
+#[test]
+fn what_is_acknowledged_is_not_kept(rt: HostRuntime) -> Result<(), Fail> {
+    let header = Header::new(Role::Server, 1200, None, None, None)?;
+    let mut ledger = Running::start(rt.alloc(), header);
+    judged(&mut ledger, sent(0));
+    // The packet, its entry, and one run of numbers.
+    assert_eq!(rt; ledger.kept(), 3);
+    judged(&mut ledger, sent(1));
+    assert_eq!(rt; ledger.kept(), 5);
+    judged(&mut ledger, ack(rt.alloc(), 0));
+    assert_eq!(rt; ledger.kept(), 3);
+    judged(&mut ledger, ack(rt.alloc(), 1));
+    // The numbers that were sent stay.
+    assert_eq!(rt; ledger.kept(), 1);
+    Ok(())
+}
