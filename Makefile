@@ -14,12 +14,17 @@ example := examples/ten-packets.trace
 # The tests of the programs of conformance/, which mostly wait for one another's processes.
 runner_tests := test_run test_trials test_mutations test_simulate
 
-.PHONY: help build one_byte lines run test $(runner_tests) bench install clean
+# The programs of conformance/ over what the gate built, the longest first. None waits for another.
+conformance := conformance-cuts conformance-failing conformance-refusals conformance-simulate conformance-mutations \
+	conformance-malicious conformance-large conformance-run conformance-allocations
+
+.PHONY: help build one_byte lines run test conformance $(conformance) $(runner_tests) bench install clean
 
 help:
 	@echo 'make build     proves the program and builds $(program)'
 	@echo 'make run       builds it and audits $(example)'
 	@echo 'make test      runs the merge gate, and then the program over conformance/'
+	@echo 'make conformance runs the programs over conformance/ alone, once the gate has built them'
 	@echo 'make bench     builds it, measures it on long traces and compares it with others, in about five minutes'
 	@echo 'make install   builds it and installs it in $$(DESTDIR)$$(PREFIX)/bin, and its man page; PREFIX is $(PREFIX)'
 	@echo 'make clean     removes what was built'
@@ -40,22 +45,42 @@ run: build
 # `rt ci` proves all crates from nothing, and leaves each program built of what it proved.
 test:
 	rt ci
-	$(MAKE) --no-print-directory -j 4 $(runner_tests)
-	python3 conformance/lines/make.py --check
-	conformance/run $(program)
-	conformance/simulate $(program) $(program_by_one_byte)
-	conformance/mutations $(program) $(program_by_one_byte)
-	conformance/large $(program)
-	conformance/malicious $(program)
-	conformance/malicious --few $(program_by_one_byte)
-	conformance/refusals $(program)
-	conformance/refusals --traces $(program_by_one_byte)
+	$(MAKE) --no-print-directory -j 4 --output-sync=target conformance
+
+conformance: $(conformance) $(runner_tests)
+
+conformance-cuts:
+	conformance/cuts $(program)
+
+conformance-failing:
 	conformance/failing $(program)
 	conformance/failing --traces $(program_by_one_byte)
-	conformance/cuts $(program)
-	conformance/allocations $(program)
+
+conformance-refusals:
+	conformance/refusals $(program)
+	conformance/refusals --traces $(program_by_one_byte)
+
+conformance-simulate:
+	conformance/simulate $(program) $(program_by_one_byte)
+
+conformance-mutations:
+	conformance/mutations $(program) $(program_by_one_byte)
+
+conformance-malicious:
+	conformance/malicious $(program)
+	conformance/malicious --few $(program_by_one_byte)
+
+conformance-large:
+	conformance/large $(program)
+
+conformance-run:
+	conformance/run $(program)
 	conformance/run --traces $(program_by_one_byte)
+	python3 conformance/lines/make.py --check
 	conformance/run --lines $(program_of_lines)
+
+conformance-allocations:
+	conformance/allocations $(program)
 
 $(runner_tests):
 	python3 conformance/$@.py
