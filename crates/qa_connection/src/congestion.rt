@@ -15,7 +15,7 @@ use qa_sent::SentPacket;
 const GREATEST_WINDOW: u64 = 4_611_686_018_427_387_904;
 
 /// What an event found lost (RFC 9002, A.10).
-#[derive(Clone, Copy, Debug, PartialEq, Eq)]
+#[derive(Clone, Copy)]
 pub struct Outcome {
     /// When the last packet was sent that it found lost, where it found one.
     pub last_owed: Option<Micros>,

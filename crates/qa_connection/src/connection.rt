@@ -17,7 +17,7 @@ use qa_sent::SentPacket;
 ///
 /// An event is taken in two steps, since losses are looked for between them: `begin`, then
 /// detection over the packets, then `end`.
-#[derive(Clone, Copy, Debug, PartialEq, Eq)]
+#[derive(Clone, Copy)]
 pub struct Connection {
     /// The header of the trace.
     pub header: Header,

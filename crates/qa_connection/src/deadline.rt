@@ -16,7 +16,7 @@ use qa_recovery::Rtt;
 use qa_sent::SentPacket;
 
 /// What the timer asks of the open packets of a packet number space.
-#[derive(Clone, Copy, Debug, PartialEq, Eq)]
+#[derive(Clone, Copy)]
 pub struct OpenInSpace {
     /// Whether one of them is ack-eliciting.
     pub awaits: bool,
@@ -25,7 +25,7 @@ pub struct OpenInSpace {
 }
 
 /// What the timer asks of the open packets.
-#[derive(Clone, Copy, Debug, PartialEq, Eq)]
+#[derive(Clone, Copy)]
 pub struct OpenPackets {
     /// Of those of the Initial space.
     pub initial: OpenInSpace,

@@ -7,7 +7,7 @@ use crate::event::greatest;
 use qa_base::{Event, Micros, PacketNumber, Space};
 
 /// What is kept of a packet number space beside its packets.
-#[derive(Clone, Copy, Debug, PartialEq, Eq)]
+#[derive(Clone, Copy)]
 pub struct SpaceState {
     /// Whether its keys were discarded (RFC 9002, section 6.4).
     pub discarded: bool,
@@ -19,7 +19,7 @@ pub struct SpaceState {
 }
 
 /// What is kept of each packet number space.
-#[derive(Clone, Copy, Debug, PartialEq, Eq)]
+#[derive(Clone, Copy)]
 pub struct Spaces {
     /// Of the Initial space.
     pub initial: SpaceState,

@@ -16,7 +16,7 @@ use qa_sent::SentPackets;
 
 /// What the loss detection timer is set for, and since when. It is kept where the header has a limit
 /// for how late the timer may be.
-#[derive(Clone, Copy, Debug, PartialEq, Eq)]
+#[derive(Clone, Copy)]
 pub(crate) struct TimerWatch {
     /// What it is set for; None where it is not set.
     pub(crate) due: Option<Due>,

@@ -23,7 +23,7 @@ use std::marker::Model;
 // alone is its field.
 
 /// By what a detection tells which packets are late.
-#[derive(Clone, Copy, Debug, PartialEq, Eq)]
+#[derive(Clone, Copy)]
 pub struct Lateness {
     /// The estimate of the round-trip time.
     pub rtt: Rtt,

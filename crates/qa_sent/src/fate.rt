@@ -1,7 +1,7 @@
 //! What became of a packet.
 
 /// What became of a packet that was sent.
-#[derive(Clone, Copy, Debug, PartialEq, Eq)]
+#[derive(Clone, Copy, PartialEq, Eq)]
 pub enum Fate {
     /// Neither acknowledged nor found lost, and the keys of its space are there.
     Open,

@@ -3,7 +3,7 @@ use crate::fate::Fate;
 use qa_base::{Micros, PacketNumber, Space};
 
 /// A packet that was sent, and what became of it (RFC 9002, A.1.1).
-#[derive(Clone, Copy, Debug, PartialEq, Eq)]
+#[derive(Clone, Copy)]
 pub struct SentPacket {
     /// When it was sent.
     pub time: Micros,
