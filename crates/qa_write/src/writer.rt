@@ -7,14 +7,15 @@ ghost use Rattle.qa_base.specs.values.Events.{fits};
 ghost use Rattle.qa_base.specs.format.Lines.{has_lf};
 ghost use Rattle.qa_base.specs.values.Limits.{max_time, max_packet_number};
 ghost use Rattle.qa_base.specs.values.Proper.{IsRange, IsWord, AreWords, IsProperEvent, IsProperLine};
+ghost use Rattle.qa_base.specs.declared.fault.Key.TheVariants as key;
 ghost use Rattle.qa_base.specs.format.Reading.{reading};
 ghost use Rattle.qa_base.specs.values.Settings.{AreInRange};
-ghost use Rattle.qa_base.specs.format.Written.{written, line_fits, object_of, header_pairs, event_pairs, integer_pairs, integer, string, boolean};
+ghost use Rattle.qa_base.specs.format.Written.{written, line_fits, object_of, header_pairs, event_pairs, integer_pairs, integer_pair, integer, string, boolean};
 ghost use Rattle.qa_write.specs.Members.{with, with_settings, with_options, event_members};
 
 use qa_base::{
     Event, Field, Header, Key, Kind, Leave, Line, LineKind, MetricValues, Micros, PacketNumber,
-    Space, Spans, Version,
+    Space, Span, Spans, Version,
 };
 use serde_json::{Map, Value, json};
 use std::alloc::{AllocError, Global};
@@ -247,12 +248,11 @@ fn ack_object(
     ensures in_time { OnOk result (time ≤ max_time) }
     ensures are_ranges { OnOk result (AllByRecursion IsRange ranges.now) }
 {
-    let ranges = ranges_list(alloc, ranges)?;
     let mut map = event_map(alloc, LineKind::Ack, time)?;
     put_integer(&mut map, alloc, Key::Delay, delay)?;
     put_flag(&mut map, alloc, Key::Limited, limited)?;
+    put_ranges(&mut map, alloc, ranges)?;
     put_text(&mut map, alloc, Key::Space, space.name())?;
-    serde_json::put(&mut map, alloc, Key::Ranges.name(), ranges)?;
     Ok(Value::Object(map))
 }
 
@@ -268,11 +268,20 @@ fn lost_object(
     ensures in_time { OnOk result (time ≤ max_time) }
     ensures are_ranges { OnOk result (AllByRecursion IsRange ranges.now) }
 {
-    let ranges = ranges_list(alloc, ranges)?;
     let mut map = event_map(alloc, LineKind::Lost, time)?;
+    put_ranges(&mut map, alloc, ranges)?;
     put_text(&mut map, alloc, Key::Space, space.name())?;
-    serde_json::put(&mut map, alloc, Key::Ranges.name(), ranges)?;
     Ok(Value::Object(map))
+}
+
+/// Puts the list of the ranges at its key.
+fn put_ranges(map: &mut Map<String, Value>, alloc: Global, ranges: &Spans) -> Result<(), AllocError>
+    ensures put { OnOk result (members_view map.new.entries
+        ≡ with key.Ranges (json.array (integer_pairs ranges.now)) (members_view map.old.entries)) }
+    ensures are_ranges { OnOk result (AllByRecursion IsRange ranges.now) }
+{
+    let list = ranges_list(alloc, ranges)?;
+    serde_json::put(map, alloc, Key::Ranges.name(), list)
 }
 
 /// The list of the ranges, each the list of its least and its greatest number.
@@ -282,10 +291,18 @@ fn ranges_list(alloc: Global, ranges: &Spans) -> Result<Value, AllocError>
 {
     let mut list = Vec::new(alloc);
     for range in ranges.as_slice() {
-        let pair = json!(in alloc; [range.lo().get(), range.hi().get()])?;
+        let pair = pair_of(alloc, *range)?;
         list.push(pair)?;
     }
     Ok(Value::Array(list))
+}
+
+/// The list of the least and the greatest number of a range.
+fn pair_of(alloc: Global, range: Span) -> Result<Value, AllocError>
+    ensures pair { IfOk result (λ v. view v ≡ integer_pair range) }
+    ensures is_range { OnOk result (IsRange range) }
+{
+    json!(in alloc; [range.lo().get(), range.hi().get()])
 }
 
 /// The object of a timer that fired.
