@@ -38,11 +38,8 @@ fn declare_at(packets: &mut VecDeque<SentPacket>, at: usize)
     requires { at < length packets.old.items }
     ensures { (p : SentPacket) → p ≡ slice_index_or packets.old.items at p → packets.new.items ≡ slice_set packets.old.items at (declared p) }
 {
-    let packet = packets[at];
+    let packet = &mut packets[at];
     if packet.is_owed() {
-        packets[at] = SentPacket {
-            fate: Fate::DeclaredLost,
-            ..packet
-        };
+        packet.fate = Fate::DeclaredLost;
     }
 }

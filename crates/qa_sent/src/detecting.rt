@@ -143,13 +143,10 @@ fn pass(
     ensures count { count.new ≡ count_by (λ p. is_owed p.fate) packets.new.items }
     ensures next { lane.new.next ≡ lane.old.next }
 {
-    let packet = packets[at];
+    let packet = &mut packets[at];
     if packet.flies_in(space) {
-        lane.take_off(&packet);
-        packets[at] = SentPacket {
-            fate: Fate::Owed,
-            ..packet
-        };
+        lane.take_off(packet);
+        packet.fate = Fate::Owed;
         *count += 1;
     }
 }

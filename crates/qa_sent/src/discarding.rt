@@ -58,11 +58,8 @@ fn discard_at(packets: &mut VecDeque<SentPacket>, space: Space, at: usize)
     requires { at < length packets.old.items }
     ensures { (p : SentPacket) → p ≡ slice_index_or packets.old.items at p → packets.new.items ≡ slice_set packets.old.items at (discarded_in space p) }
 {
-    let packet = packets[at];
+    let packet = &mut packets[at];
     if packet.waits_in(space) {
-        packets[at] = SentPacket {
-            fate: Fate::Discarded,
-            ..packet
-        };
+        packet.fate = Fate::Discarded;
     }
 }
