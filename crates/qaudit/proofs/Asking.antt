@@ -7,10 +7,11 @@ use Rattle.std.specs.Prelude.{Box}
 use Rattle.std.specs.Box.{box_value}
 use Rattle.clap.proofs.WalkLemmas.{first_value-rows, raw_values-rows}
 use Rattle.clap.specs.Faults.{is_simple_and_free, check_fault, defaults_fault, entered_fault, fault_of, settle_fault, turn_fault, walk_fault}
-use Rattle.clap.specs.Kinds.{IsAmong, Kinds, or_else}
-use Rattle.clap.specs.Matches.{first_value, found_of, matched_of, raw_values, subcommand_name_of}
-use Rattle.clap.specs.Simple.{App, Shape, is_simple, matches_of, subcommand_rows, subcommand_rows_of, built, entered, names_of, rows_at, subcommand_of}
+use Rattle.clap.specs.Kinds.{FailsBy, IsAmong, Kinds, or_else}
+use Rattle.clap.specs.Matches.{first_value, matched_of, raw_values, subcommand_name_of}
+use Rattle.clap.specs.Simple.{App, HasMatchesOf, Shape, is_simple, subcommand_rows, subcommand_rows_of, built, entered, names_of, rows_at, subcommand_of}
 use Rattle.clap.specs.Walk.{Names, Row, Text, Walk, rows_of, all_of, finished, first_of, idle, nothing_held, settled, subcommand_met, walked}
+use Rattle.clap.specs.declared.error.Error.{Error}
 use Rattle.clap.specs.declared.error.kind.ErrorKind.{ErrorKind}
 use Rattle.clap.specs.declared.parser.matches.ArgMatches.{ArgMatches}
 use Rattle.clap.specs.declared.parser.matches.ArgMatches.TheViews.{out-SubCommand}
@@ -307,20 +308,18 @@ refused_with : (arguments : List Text) (k : ErrorKind) (failure : Failure) → f
 refused_with arguments k failure is none = elim (kind_or k) [ inl memory ↦ inl (is ∙ memory) | inr other ↦ inr (is ∙ other, none) ]
 
 -- the failure of a parse that is refused
-pub refusal : (app : App) (arguments : List Text) (k : ErrorKind) (failure : Failure) → app ≡ parser_of_arguments
-    → failure ≡ failure_of_kind k → (is_simple_and_free app ≡ true → (k ≡ kinds.OutOfMemory) ⊎ IsAmong k (fault_of app arguments))
-    → (failure ≡ OutOfMemory) ⊎ ((failure ≡ Arguments) × (asked arguments ≡ None))
-refusal app arguments k failure same is faults =
-    let fault : (k ≡ kinds.OutOfMemory) ⊎ IsAmong k (fault_of parser_of_arguments arguments) = rw same at (faults (ap is_simple_and_free same ∙ is_free)) in
+pub refusal : (arguments : List Text) (k : ErrorKind) (failure : Failure) → failure ≡ failure_of_kind k
+    → (k ≡ kinds.OutOfMemory) ⊎ IsAmong k (fault_of parser_of_arguments arguments) → (failure ≡ OutOfMemory) ⊎ ((failure ≡ Arguments) × (asked arguments ≡ None))
+refusal arguments k failure is fault =
     elim fault [
       | inl memory ↦ inl (is ∙ ap failure_of_kind memory)
       | inr among ↦ refused_with arguments k failure is (refuses arguments k among)
     ]
 
--- a parse that is not refused
-pub parsed : (app : App) (arguments : List Text) → app ≡ parser_of_arguments
-    → (is_simple_and_free app ≡ true → fault_of app arguments ≡ []) → Takes arguments
-parsed app arguments same fine = takes arguments (rw same at (fine (ap is_simple_and_free same ∙ is_free)))
+-- the faults of a parse, of which each is among these
+pub fails_by : {T : Type 0} (app : App) (arguments : List Text) (r : Result T Error) → app ≡ parser_of_arguments
+    → (is_simple_and_free app ≡ true → FailsBy (fault_of app arguments) r) → FailsBy (fault_of parser_of_arguments arguments) r
+fails_by app arguments r same fails = rw same at (fails (ap is_simple_and_free same ∙ is_free))
 
 module _ {Z : Type 0} where
   name_of_rows : (o : Option (Box SubCommand Z)) → option_map (λ b. (out-SubCommand (box_value b)).name.now) o ≡ option_map (λ (p : Text × List Row). p.0) (subcommand_rows o)
@@ -330,33 +329,22 @@ module _ {Z : Type 0} where
 some_is : {A : Type 0} (x y : A) → Some x ≡ Some y → x ≡ y
 some_is x y same = ap (λ (o : Option _). unwrap_or o x) same
 
--- its subcommand
-pub record Meets (arguments : List Text) (name : Text) (rows : List Row) : Type 0 where
-  pub names : List Text
-  pub asks : asked arguments ≡ Some (name, names)
-  pub files : HasFiles name names rows
-  pub is_command : IsCommand name
+-- the subcommand that it found
+pub found : (arguments : List Text) (m : ArgMatches) → (t : Takes arguments) → HasMatchesOf parser_of_arguments arguments m → subcommand_rows_of m ≡ Some (t.command, t.rows)
+found arguments m t matches = (matches is_simple_parser).1 ∙ t.subcommand
 
-pub meets : (app : App) (arguments : List Text) (m : ArgMatches) (name : Text) (rows : List Row) → app ≡ parser_of_arguments → Takes arguments
-    → (is_simple app ≡ true → (rows_of (found_of m) ≡ matches_of app arguments) × (subcommand_rows_of m ≡ subcommand_of app arguments))
-    → Some name ≡ subcommand_name_of m → Some rows ≡ option_map (λ (p : Text × List Row). p.1) (subcommand_rows_of m) → Meets arguments name rows
-meets app arguments m name rows same t matches named has_rows =
-    let met : subcommand_rows_of m ≡ Some (t.command, t.rows) = (matches (ap is_simple same ∙ is_simple_parser)).1 ∙ (ap (λ (a : App). subcommand_of a arguments) same ∙ t.subcommand) in
-    let name_is : name ≡ t.command = some_is name t.command (named ∙ (name_of_rows _ ∙ ap (option_map (λ (p : Text × List Row). p.0)) met)) in
-    let rows_are : rows ≡ t.rows = some_is rows t.rows (has_rows ∙ ap (option_map (λ (p : Text × List Row). p.1)) met) in
-    record {
-      names = t.names;
-      asks = t.asks ∙ ap (λ (n : Text). Some (n, t.names)) (sym name_is);
-      files = rw (name_is, rows_are) t.files;
-      is_command = rw name_is t.is_command;
-    }
+pub name_found : (m : ArgMatches) (name command : Text) (rows : List Row) → Some name ≡ subcommand_name_of m → subcommand_rows_of m ≡ Some (command, rows)
+    → name ≡ command
+name_found m name command rows named met = some_is name command (named ∙ (name_of_rows _ ∙ ap (option_map (λ (p : Text × List Row). p.0)) met))
 
-pub meets_none : (app : App) (arguments : List Text) (m : ArgMatches) → app ≡ parser_of_arguments → Takes arguments
-    → (is_simple app ≡ true → (rows_of (found_of m) ≡ matches_of app arguments) × (subcommand_rows_of m ≡ subcommand_of app arguments))
-    → None ≡ option_map (λ (p : Text × List Row). p.1) (subcommand_rows_of m) → ⊥
-meets_none app arguments m same t matches none =
-    let met : subcommand_rows_of m ≡ Some (t.command, t.rows) = (matches (ap is_simple same ∙ is_simple_parser)).1 ∙ (ap (λ (a : App). subcommand_of a arguments) same ∙ t.subcommand) in
-    let some : None ≡ Some t.rows = none ∙ ap (option_map (λ (p : Text × List Row). p.1)) met in
+pub rows_found : (m : ArgMatches) (has rows : List Row) (command : Text) → Some has ≡ option_map (λ (p : Text × List Row). p.1) (subcommand_rows_of m)
+    → subcommand_rows_of m ≡ Some (command, rows) → has ≡ rows
+rows_found m has rows command is met = some_is has rows (is ∙ ap (option_map (λ (p : Text × List Row). p.1)) met)
+
+pub none_found : (m : ArgMatches) → None ≡ option_map (λ (p : Text × List Row). p.1) (subcommand_rows_of m)
+    → (command : Text) (rows : List Row) → subcommand_rows_of m ≡ Some (command, rows) → IsCommand command → ⊥
+none_found m none command rows met is =
+    let some : None ≡ Some rows = none ∙ ap (option_map (λ (p : Text × List Row). p.1)) met in
     cc
 
 -- ---- the names that the subcommand's parser found
@@ -371,15 +359,45 @@ no_files_found f is = ap (λ (o : Option (List Text)). unwrap_or o []) (is ∙ r
 pub file_found : (f : Found) (name : Option Text) → name ≡ first_value f (codes "FILE") → option_to_list name ≡ option_to_list (first_of (codes "FILE") (rows_of f))
 file_found f name is = ap option_to_list (is ∙ first_value-rows f (codes "FILE"))
 
+-- ---- the subcommand that is made of the name and the files that were found
+
+pub check_of : (m : ArgMatches) (name : Text) (has : List Row) (files : List Text) → Some name ≡ subcommand_name_of m
+    → Some has ≡ option_map (λ (p : Text × List Row). p.1) (subcommand_rows_of m) → name ≡ codes "check" → files ≡ unwrap_or (all_of (codes "FILE") has) []
+    → (command : Text) (rows : List Row) (names : List Text) → subcommand_rows_of m ≡ Some (command, rows) → HasFiles command names rows
+    → ◌≡◌ {A = Text × List Text} (codes "check", files) (command, names)
+check_of m name has files named found_rows check files_are command rows names met meets =
+    let command_is : command ≡ codes "check" = sym (name_found m name command rows named met) ∙ check in
+    let rows_are : has ≡ rows = rows_found m has rows command found_rows met in
+    ap₂ (λ (c : Text) (all : List Text). (c, all)) (sym command_is)
+    (files_are ∙ (ap (λ (r : List Row). unwrap_or (all_of (codes "FILE") r) []) rows_are ∙ meets.all command_is))
+
+pub explain_of : (m : ArgMatches) (name : Text) (has : List Row) (files : List Text) → Some name ≡ subcommand_name_of m
+    → Some has ≡ option_map (λ (p : Text × List Row). p.1) (subcommand_rows_of m) → name ≡ codes "explain" → files ≡ option_to_list (first_of (codes "FILE") has)
+    → (command : Text) (rows : List Row) (names : List Text) → subcommand_rows_of m ≡ Some (command, rows) → HasFiles command names rows
+    → ◌≡◌ {A = Text × List Text} (codes "explain", files) (command, names)
+explain_of m name has files named found_rows explain files_are command rows names met meets =
+    let command_is : command ≡ codes "explain" = sym (name_found m name command rows named met) ∙ explain in
+    let rows_are : has ≡ rows = rows_found m has rows command found_rows met in
+    ap₂ (λ (c : Text) (all : List Text). (c, all)) (sym command_is)
+    (files_are ∙ (ap (λ (r : List Row). option_to_list (first_of (codes "FILE") r)) rows_are ∙ meets.first command_is))
+
+pub no_command_of : (m : ArgMatches) (name : Text) → Some name ≡ subcommand_name_of m → (name ≡ codes "check" → ⊥) → (name ≡ codes "explain" → ⊥)
+    → (command : Text) (rows : List Row) → subcommand_rows_of m ≡ Some (command, rows) → IsCommand command → ⊥
+no_command_of m name named not_check not_explain command rows met is =
+    let name_is : name ≡ command = name_found m name command rows named met in
+    elim is [ inl check ↦ not_check (name_is ∙ check) | inr explain ↦ not_explain (name_is ∙ explain) ]
+
 -- ---- what it returns
 
-pub request_of : (arguments : List Text) (name : Text) (rows : List Row) → Meets arguments name rows → (subcommand : Subcommand)
-    → ((names : List Text) → HasFiles name names rows → request subcommand ≡ (name, names)) → asked arguments ≡ Some (request subcommand)
-request_of arguments name rows met subcommand is = met.asks ∙ ap (λ (r : Text × List Text). Some r) (sym (is met.names met.files))
+pub request_of : (arguments : List Text) (t : Takes arguments) (m : ArgMatches) → subcommand_rows_of m ≡ Some (t.command, t.rows) → (subcommand : Subcommand)
+    → ((name : Text) (rows : List Row) (names : List Text) → subcommand_rows_of m ≡ Some (name, rows) → HasFiles name names rows → request subcommand ≡ (name, names))
+    → asked arguments ≡ Some (request subcommand)
+request_of arguments t m met subcommand is = t.asks ∙ ap (λ (r : Text × List Text). Some r) (sym (is t.command t.rows t.names met t.files))
 
-pub not_a_command : (arguments : List Text) (name : Text) (rows : List Row) → Meets arguments name rows → (failure : Failure)
-    → (failure ≡ OutOfMemory) ⊎ ((failure ≡ Arguments) × (IsCommand name → ⊥)) → (failure ≡ OutOfMemory) ⊎ ((failure ≡ Arguments) × (asked arguments ≡ None))
-not_a_command arguments name rows met failure is = elim is [ inl memory ↦ inl memory | inr other ↦ absurd (other.1 met.is_command) ]
+pub not_a_command : (arguments : List Text) (t : Takes arguments) (m : ArgMatches) → subcommand_rows_of m ≡ Some (t.command, t.rows) → (failure : Failure)
+    → (failure ≡ OutOfMemory) ⊎ ((failure ≡ Arguments) × ((name : Text) (rows : List Row) → subcommand_rows_of m ≡ Some (name, rows) → IsCommand name → ⊥))
+    → (failure ≡ OutOfMemory) ⊎ ((failure ≡ Arguments) × (asked arguments ≡ None))
+not_a_command arguments t m met failure is = elim is [ inl memory ↦ inl memory | inr other ↦ absurd (other.1 t.command t.rows met t.is_command) ]
 
 -- an error that was made of another
 pub err_of : {T E : Type 0} (r : Result T E) (P Q : E → Type 0) → IsErrAnd r P → ((e : E) → P e → Q e) → IfErr r Q

@@ -1,7 +1,9 @@
 //! The arguments of the command line.
-ghost use Rattle.std.specs.Prelude.{◌≡◌, ◌⊎◌, ℕ, List, [], Some, None, IfOk, IfErr, codes, map, string_bytes, unwrap_or};
-ghost use Rattle.clap.specs.Words.{all_of, app_of, found_of, rows_of};
-ghost use Rattle.qaudit.specs.Arguments.{asked, parser_of_arguments, request, HasFiles, IsCommand};
+ghost use Rattle.std.specs.Prelude.{◌≡◌, ◌⊎◌, ℕ, false, List, [], Some, None, IfOk, IfErr, codes, map, string_bytes, unwrap_or};
+ghost use Rattle.clap.specs.Words.{all_of, app_of, found_of, new_app, new_rule, rows_of, with_rule, with_subcommand, FailsBy, HasMatchesOf, Row, fault_of};
+ghost use Rattle.clap.specs.Simple.{subcommand_rows_of};
+ghost use Rattle.clap.specs.declared.builder.command.Command.TheViews.{out-Command as fields_of};
+ghost use Rattle.qaudit.specs.Arguments.{asked, parser_alone, parser_of_arguments, request, without_help, HasFiles, IsCommand};
 
 use crate::ending::Failure;
 use clap::error::ErrorKind;
@@ -18,7 +20,7 @@ const EXPLAIN: &str = "explain";
 const FILE: &str = "FILE";
 
 /// What the arguments ask for.
-#[derive(Debug, Drop)]
+#[derive(Drop)]
 pub enum Subcommand<'a> {
     /// Audit each of these files, or standard input where there is none.
     Check(Vec<&'a str>),
@@ -32,11 +34,13 @@ pub enum Subcommand<'a> {
 pub fn read_arguments(rt: &(impl Env + AllocGlobal)) -> Result<Vec<String>, Failure<'static>>
     ensures { IfErr result (λ failure. (failure ≡ Failure.OutOfMemory) ⊎ (failure ≡ Failure.Arguments)) }
 {
-    let arguments = env::args(rt).map_err(|error| match error.kind() {
-        io::ErrorKind::OutOfMemory => Failure::OutOfMemory,
-        _ => Failure::Arguments,
-    })?;
-    Ok(arguments.collect(rt.alloc())?)
+    match env::args(rt) {
+        Ok(arguments) => Ok(arguments.collect(rt.alloc())?),
+        Err(error) => match error.kind() {
+            io::ErrorKind::OutOfMemory => Err(Failure::OutOfMemory),
+            _ => Err(Failure::Arguments),
+        },
+    }
 }
 
 /// Reads what the arguments ask for. The first is the program's own name.
@@ -47,23 +51,28 @@ pub fn parse<'a>(alloc: Global, arguments: &'a [String]) -> Result<Subcommand<'a
     ensures err { IfErr result (λ failure. (failure ≡ Failure.OutOfMemory)
         ⊎ ((failure ≡ Failure.Arguments) × (asked (map string_bytes arguments.now) ≡ None))) }
 {
-    let matches = parser(alloc)?.try_get_matches_from(arguments)?;
-    match matches.subcommand() {
-        Some((name, found)) => subcommand_of(alloc, name, found),
-        None => Err(Failure::Arguments),
-    }
+    let matches = matches_of(alloc, arguments)?;
+    subcommand_of(alloc, &matches)
 }
 
-/// The subcommand of this name, with the files that its parser found.
-fn subcommand_of<'a>(
-    alloc: Global,
-    name: &str,
-    found: &ArgMatches<'a>,
-) -> Result<Subcommand<'a>, Failure<'a>>
-    ensures ok { IfOk result (λ subcommand. (names : List (List ℕ)) → HasFiles name.now names (rows_of (found_of found.now))
-        → request subcommand ≡ (name.now, names)) }
-    ensures err { IfErr result (λ failure. (failure ≡ Failure.OutOfMemory) ⊎ ((failure ≡ Failure.Arguments) × (IsCommand name.now → ⊥))) }
+/// What the parser finds in the arguments.
+fn matches_of<'a>(alloc: Global, arguments: &'a [String]) -> Result<ArgMatches<'a>, Error>
+    ensures matches { IfOk result (HasMatchesOf parser_of_arguments (map string_bytes arguments.now)) }
+    ensures kinds { FailsBy (fault_of parser_of_arguments (map string_bytes arguments.now)) result }
 {
+    parser(alloc)?.try_get_matches_from(arguments)
+}
+
+/// The subcommand that the parser found, with its files.
+fn subcommand_of<'a>(alloc: Global, matches: &ArgMatches<'a>) -> Result<Subcommand<'a>, Failure<'a>>
+    ensures ok { IfOk result (λ subcommand. (name : List ℕ) (rows : List Row) (names : List (List ℕ))
+        → subcommand_rows_of matches.now ≡ Some (name, rows) → HasFiles name names rows → request subcommand ≡ (name, names)) }
+    ensures err { IfErr result (λ failure. (failure ≡ Failure.OutOfMemory) ⊎ ((failure ≡ Failure.Arguments)
+        × ((name : List ℕ) (rows : List Row) → subcommand_rows_of matches.now ≡ Some (name, rows) → IsCommand name → ⊥))) }
+{
+    let Some((name, found)) = matches.subcommand() else {
+        return Err(Failure::Arguments);
+    };
     match name {
         CHECK => Ok(Subcommand::Check(files(alloc, found)?)),
         EXPLAIN => Ok(Subcommand::Explain(found.get_str(FILE))),
@@ -71,24 +80,51 @@ fn subcommand_of<'a>(
     }
 }
 
-/// The parser of the command line. It has no help of its own.
+/// The parser of the command line.
 fn parser<'a>(alloc: Global) -> Result<Command<'a>, AllocError>
     ensures { IfOk result (λ parser. app_of parser ≡ parser_of_arguments) }
 {
-    let files = Arg::new(alloc, FILE).action(ArgAction::Append);
-    let check = Command::new(alloc, CHECK)
-        .disable_help_flag(true)
-        .arg(files)?;
-    let file = Arg::new(alloc, FILE).action(ArgAction::Set);
-    let explain = Command::new(alloc, EXPLAIN)
-        .disable_help_flag(true)
-        .arg(file)?;
+    let with_check = with_files(alloc, program_parser(alloc), CHECK, ArgAction::Append)?;
+    with_files(alloc, with_check, EXPLAIN, ArgAction::Set)
+}
+
+/// The parser of the program with no subcommand yet, of which it requires one. It has no help.
+fn program_parser<'a>(alloc: Global) -> Command<'a>
+    ensures { app_of result ≡ parser_alone }
+{
     Command::new(alloc, "qaudit")
         .disable_help_flag(true)
         .disable_help_subcommand(true)
         .subcommand_required(true)
-        .subcommand(check)?
-        .subcommand(explain)
+}
+
+/// Adds to a parser the subcommand of this name. Its files are many by `ArgAction::Append`, and one
+/// at most by `ArgAction::Set`.
+fn with_files<'a>(
+    alloc: Global,
+    parser: Command<'a>,
+    name: &'a str,
+    action: ArgAction,
+) -> Result<Command<'a>, AllocError>
+    ensures { IfOk result (λ more. app_of more
+        ≡ with_subcommand (app_of parser.entry)
+        (with_rule (without_help (new_app name.entry.now)) (record (new_rule (codes "FILE")) { action = Some action })).top) }
+{
+    parser.subcommand(files_parser(alloc, name, action)?)
+}
+
+/// The parser of such a subcommand. It has no help.
+fn files_parser<'a>(
+    alloc: Global,
+    name: &'a str,
+    action: ArgAction,
+) -> Result<Command<'a>, AllocError>
+    ensures app { IfOk result (λ parser. app_of parser
+        ≡ with_rule (without_help (new_app name.entry.now)) (record (new_rule (codes "FILE")) { action = Some action })) }
+    ensures local { IfOk result (λ parser. (fields_of parser).has_globals ≡ false) }
+{
+    let file = Arg::new(alloc, FILE).action(action);
+    Command::new(alloc, name).disable_help_flag(true).arg(file)
 }
 
 /// The names of files that a subcommand was given.

@@ -7,7 +7,7 @@ use std::alloc::AllocError;
 use std::fmt;
 
 /// What a trace is read from.
-#[derive(Clone, Copy, Debug, PartialEq, Eq)]
+#[derive(Clone, Copy)]
 pub enum Origin<'a> {
     StandardInput,
     /// The file of this name.
@@ -17,7 +17,7 @@ pub enum Origin<'a> {
 /// Why there is no verdict on a trace.
 ///
 /// It is printed as the line on standard error, without the LF.
-#[derive(Clone, Copy, Debug, PartialEq, Eq)]
+#[derive(Clone, Copy)]
 pub enum Failure<'a> {
     /// The arguments were refused.
     Arguments,
@@ -79,14 +79,13 @@ impl fmt::Display for Failure<'_> {
 
     fn fmt<W: fmt::Write>(&self, f: &mut fmt::Formatter<W>) -> fmt::Result {
         match self {
-            Failure::Arguments => write!(
-                f,
-                "usage: qaudit check [FILE...] or qaudit explain [FILE]"
-            ),
+            Failure::Arguments => {
+                f.write_str("usage: qaudit check [FILE...] or qaudit explain [FILE]")
+            }
             Failure::Open(name) => write!(f, "qaudit: cannot open {name}"),
             Failure::Read(origin) => write!(f, "qaudit: read fault: {origin}"),
-            Failure::Write => write!(f, "qaudit: write fault"),
-            Failure::OutOfMemory => write!(f, "qaudit: out of memory"),
+            Failure::Write => f.write_str("qaudit: write fault"),
+            Failure::OutOfMemory => f.write_str("qaudit: out of memory"),
         }
     }
 }

@@ -30,11 +30,22 @@ fn command<R: Env + Files + Eprint + AllocGlobal, I: Source, O: Sink>(
 ) -> u8
     ensures { Commands (I.left input.old) (O.held output.old) (O.held output.new) result }
 {
-    let arguments = match read_arguments(rt) {
-        Ok(arguments) => arguments,
-        Err(failure) => return end(rt, &Err(failure)),
-    };
-    match parse(rt.alloc(), arguments.as_slice()) {
+    match read_arguments(rt) {
+        Ok(arguments) => perform(rt, arguments.as_slice(), input, output),
+        Err(failure) => end(rt, &Err(failure)),
+    }
+}
+
+/// Does what these arguments ask for, and returns the exit status.
+fn perform<R: Files + Eprint + AllocGlobal, I: Source, O: Sink>(
+    rt: &R,
+    arguments: &[String],
+    input: &mut I,
+    output: &mut O,
+) -> u8
+    ensures { Commands (I.left input.old) (O.held output.old) (O.held output.new) result }
+{
+    match parse(rt.alloc(), arguments) {
         Ok(Subcommand::Check(files)) => check(rt, files.as_slice(), input, output),
         Ok(Subcommand::Explain(file)) => explain(rt, file, input, output),
         Err(failure) => end(rt, &Err(failure)),
