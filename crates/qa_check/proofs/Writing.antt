@@ -26,7 +26,7 @@ use Rattle.qa_check.specs.declared.checker.Stop.TheVariants.{Decided, OutOfMemor
 use Rattle.qa_check.specs.declared.explaining.Progress.{Progress}
 use Rattle.qa_check.specs.declared.explaining.Progress.TheVariants.{Open as IsOpen, Fixed}
 use Rattle.qa_check.specs.declared.auditing.Outcome.{Outcome}
-use Rattle.qa_check.specs.Audit.{is_read_fault, outcome_of}
+use Rattle.qa_check.specs.Audit.{ReadsEnough, outcome_of}
 use Rattle.qa_check.proofs.Reading.{told_verdict}
 use Rattle.qa_check.specs.Writing.{Begins, BeginsRead, Explains, JudgesShown, Shows, Shown, ended_rows}
 use Rattle.qa_check.specs.Following.{FollowsBy, AnswersBy, Answers}
@@ -273,20 +273,24 @@ pub stopped_decided : (stop : Stop) (r : Result Progress AuditFault) → (stop �
 stopped_decided Decided r memory fixed = refl
 stopped_decided OutOfMemory r memory fixed = let e = memory refl in cc
 
--- a fault that is not the reader's
-pub not_read : (A B : Type 0) (f g : AuditFault) → ◌≡◌ {A = Result A AuditFault} (Err f) (Err g) → is_read_fault {A = B} (Err g) ≡ false → is_read_fault {A = B} (Err f) ≡ false
-not_read A B f g same no_fault = let e : f ≡ g = cc in rw e no_fault
-
 -- ---- the rows and the report
 
+-- what was read and is all that counts was explained
+abbrev pub ExplainsRead : Option (List ℕ) → Option (List ℕ) → Option (List ℕ) → Option (List ℕ) → Outcome → Type 0
+ExplainsRead old new held held' o = (read : List ℕ) × ReadsEnough old new read × Explains held held' o read
+
 -- the report was written behind the rows
-pub explained : (old new held mid held' : Option (List ℕ)) (v : Verdict) (o : Outcome) (bytes : List ℕ) → old ≡ Some bytes
-    → JudgesShown old new held mid v → Appends mid held' (report v) → o ≡ outcome_of v → Explains held held' o bytes
-explained old new held mid held' v o bytes tells (read, enough, is, written) report_written told =
+pub explained : (old new held mid held' : Option (List ℕ)) (v : Verdict) (o : Outcome) → JudgesShown old new held mid v
+    → Appends mid held' (report v) → o ≡ outcome_of v → ExplainsRead old new held held' o
+explained old new held mid held' v o (read, enough, is, written) report_written told =
     let all : Appends held held' (rows reading read ++ report v) = Appends-trans held mid held' _ _ written report_written in
-    let known : Appends held held' (explain reading read) = rw is at all in
-    let kind : verdict reading bytes ≡ v = told_verdict old new read bytes tells enough ∙ sym is in
-    (rw (told_explanation old new read bytes tells enough.0 enough.1) known, rw kind told)
+    (read, enough, (rw is at all, rw (← is) told))
+
+-- what explains what was read explains all the bytes that a reader tells
+pub told_explained : (old new held held' : Option (List ℕ)) (o : Outcome) (bytes : List ℕ) → old ≡ Some bytes
+    → ExplainsRead old new held held' o → Explains held held' o bytes
+told_explained old new held held' o bytes tells (read, enough, explains) =
+    (rw (told_explanation old new read bytes tells enough.0 enough.1) explains.0, rw (told_verdict old new read bytes tells enough) explains.1)
 
 -- it was begun
 pub report_begun : (old new held mid held' : Option (List ℕ)) (v : Verdict) → JudgesShown old new held mid v → (n : ℕ) × Appends mid held' (take n (report v))

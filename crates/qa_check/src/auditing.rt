@@ -2,6 +2,7 @@
 ghost use Rattle.std.specs.Prelude.{◌≡◌, ◌≢◌, ◌++◌, ℕ, List, true, false, Some, None, Ok, Err, OnOk, OnErr, IfOk, IfErr, IfSome, IfNone, take};
 ghost use Rattle.std.specs.Io.KnownBytes.{Appends};
 ghost use Rattle.qa_base.specs.format.Reading.{reading};
+ghost use Rattle.qa_base.specs.verdicts.Report as text;
 ghost use Rattle.qa_base.specs.verdicts.Verdict.{IsFixed, verdict};
 ghost use Rattle.qa_split.specs.Stream.{HasNoLine};
 ghost use Rattle.qa_check.specs.Audit.{outcome_of, Reads, ReadsEnough, JudgesRead, Reports, BeginsReport, is_read_fault, is_write_fault};
@@ -81,12 +82,10 @@ pub fn audit<L: Ledger + Drop, R: Source, W: Sink>(
     ensures read_failures { R.read_failures reader.new ≡ failures_after (is_read_fault result) (R.read_failures reader.old) }
     ensures write_failures { W.write_failures writer.new ≡ failures_after (is_write_fault result) (W.write_failures writer.old) }
 {
-    let verdict = judged::<L, R>(alloc, reader)?;
-    let Ok(text) = report(alloc, &verdict) else {
-        return Err(AuditFault::OutOfMemory);
-    };
-    write_whole(writer, text.as_bytes())?;
-    Ok(told(&verdict))
+    match judged::<L, R>(alloc, reader) {
+        Ok(verdict) => write_report(alloc, writer, &verdict),
+        Err(fault) => Err(fault),
+    }
 }
 
 /// The verdict of what is read.
@@ -211,6 +210,28 @@ pub fn verdict_of<L: Ledger + Drop>(checker: &Checker<L>) -> Result<Verdict, Aud
     ensures err { IfErr result (λ fault. fault ≡ AuditFault.OutOfMemory) }
 {
     checker.end().ok_or(AuditFault::OutOfMemory)
+}
+
+/// Writes the report of a verdict, and returns its kind.
+pub fn write_report<W: Sink>(
+    alloc: Global,
+    writer: &mut W,
+    verdict: &Verdict,
+) -> Result<Outcome, AuditFault>
+    ensures ok { IfOk result (λ outcome. Appends (W.held writer.old) (W.held writer.new) (text.report verdict.now)
+        × (outcome ≡ outcome_of verdict.now)) }
+    ensures begun { result ≡ Err AuditFault.Write → (n : ℕ) × Appends (W.held writer.old) (W.held writer.new) (take n (text.report verdict.now)) }
+    ensures unwritten { result ≢ Err AuditFault.Write → OnErr result (W.held writer.new ≡ W.held writer.old) }
+    ensures read { is_read_fault result ≡ false }
+    ensures failures { W.write_failures writer.new ≡ failures_after (is_write_fault result) (W.write_failures writer.old) }
+{
+    let Ok(text) = report(alloc, verdict) else {
+        return Err(AuditFault::OutOfMemory);
+    };
+    match write_whole(writer, text.as_bytes()) {
+        Ok(()) => Ok(told(verdict)),
+        Err(fault) => Err(fault),
+    }
 }
 
 /// Writes all of the bytes, in as many pieces as the writer takes. A failed write is not tried again.

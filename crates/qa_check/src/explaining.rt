@@ -13,17 +13,17 @@ ghost use Rattle.qa_check.specs.Writing.{Begins, Explains, ShowsRead, BeginsRead
 ghost use Rattle.qa_check.specs.Failures.{failures_after};
 ghost use Rattle.qa_check.specs.Following.{AnswersBy, IsReady};
 
-use crate::auditing::{AuditFault, Outcome, PIECE, told, verdict_of, write_whole};
+use crate::auditing::{AuditFault, Outcome, PIECE, verdict_of, write_report, write_whole};
 use crate::checker::{Checker, Stop};
 use crate::streams::{Sink, Source};
-use crate::text::{report, row};
+use crate::text::row;
 use qa_base::{LineKind, Totals, Verdict};
 use qa_ledger::Ledger;
 use qa_split::{SplitFault, Splitter};
 use std::alloc::Global;
 
 /// What lines made of the verdict.
-#[derive(Clone, Copy, Debug, PartialEq, Eq)]
+#[derive(Clone, Copy)]
 enum Progress {
     /// All were good.
     Open,
@@ -71,15 +71,8 @@ pub fn explain<L: Ledger + Drop, R: Source, W: Sink>(
     ensures read_failures { R.read_failures reader.new ≡ failures_after (is_read_fault result) (R.read_failures reader.old) }
     ensures write_failures { W.write_failures writer.new ≡ failures_after (is_write_fault result) (W.write_failures writer.old) }
 {
-    let verdict = match shown::<L, R, W>(alloc, reader, writer) {
-        Ok(verdict) => verdict,
-        Err(fault) => return Err(fault),
-    };
-    let Ok(text) = report(alloc, &verdict) else {
-        return Err(AuditFault::OutOfMemory);
-    };
-    match write_whole(writer, text.as_bytes()) {
-        Ok(()) => Ok(told(&verdict)),
+    match shown::<L, R, W>(alloc, reader, writer) {
+        Ok(verdict) => write_report(alloc, writer, &verdict),
         Err(fault) => Err(fault),
     }
 }
