@@ -268,11 +268,6 @@ on_progress (Ok IsOpen) f k = f refl
 on_progress (Ok Fixed) f k = k refl
 on_progress (Err e) f k = tt
 
--- where a stop fixes the verdict it did not come of memory
-pub stopped_decided : (stop : Stop) (r : Result Progress AuditFault) → (stop ≡ OutOfMemory → r ≡ Err faults.OutOfMemory) → r ≡ Ok Fixed → stop ≡ Decided
-stopped_decided Decided r memory fixed = refl
-stopped_decided OutOfMemory r memory fixed = let e = memory refl in cc
-
 -- ---- the rows and the report
 
 -- what was read and is all that counts was explained

@@ -105,12 +105,10 @@ fn judged<L: Ledger + Drop, R: Source>(alloc: Global, reader: &mut R) -> Result<
         if n == 0 {
             return conclude(&mut splitter, &mut checker);
         }
-        let found = match take_piece(&mut splitter, &mut checker, &piece[..n]) {
-            Ok(found) => found,
+        match take_piece(&mut splitter, &mut checker, &piece[..n]) {
+            Ok(None) => {}
+            Ok(Some(verdict)) => return Ok(verdict),
             Err(fault) => return Err(fault),
-        };
-        if let Some(verdict) = found {
-            return Ok(verdict);
         }
     }
     // A line more than a trace may have is not good, so that a reader without end is not read to here.
@@ -128,15 +126,15 @@ fn take_piece<L: Ledger + Drop>(
     ensures ready { IfOk result (λ found. IfNone found (IsReady splitter.new)) }
     ensures empty { IfOk result (λ found. IfNone found (HasNoLine splitter.new)) }
     ensures whole { IfOk result (λ found. IfNone found (checker.new.failed ≡ false)) }
-    ensures open { IfOk result (λ found. IfNone found ((bytes : List ℕ) → Follows L.stands splitter.old.bytes checker.old bytes
+    ensures follows { IfOk result (λ found. IfNone found ((bytes : List ℕ) → Follows L.stands splitter.old.bytes checker.old bytes
         → Follows L.stands splitter.new.bytes checker.new (bytes ++ piece.now))) }
     ensures decided { IfOk result (λ found. IfSome found (λ v. (bytes : List ℕ) → Follows L.stands splitter.old.bytes checker.old bytes
         → IsFixed reading (bytes ++ piece.now) × (v ≡ verdict reading (bytes ++ piece.now)))) }
     ensures err { IfErr result (λ fault. fault ≡ AuditFault.OutOfMemory) }
 {
-    if splitter.feed(piece).is_err() {
+    let Ok(()) = splitter.feed(piece) else {
         return Err(AuditFault::OutOfMemory);
-    }
+    };
     match drain(splitter, checker) {
         Ok(()) => Ok(None),
         Err(Stop::Decided) => match verdict_of(checker) {

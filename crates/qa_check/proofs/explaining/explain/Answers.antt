@@ -1,9 +1,9 @@
-use Rattle.std.proofs.Common.{◌≡◌, Err, refl}
+use Rattle.std.proofs.Common.{refl}
 use Rattle.std.proofs.lemmas.Result.{IfOk-weaker}
 use Rattle.qa_base.specs.declared.verdict.Verdict.{Verdict}
 use Rattle.qa_check.specs.declared.auditing.AuditFault.TheVariants.{Read, Write, OutOfMemory}
 use Rattle.qa_check.specs.declared.auditing.Outcome.{Outcome}
-use Rattle.qa_check.proofs.Faults.{same_read_fault, same_write_fault, not_read, no_read}
+use Rattle.qa_check.proofs.Faults.{same_read_fault, same_write_fault, same_fault, not_read, no_read, memory_not_write}
 use Rattle.qa_check.proofs.Writing.{explained, told_explained, report_begun, rows_written, rows_explain, told_begins}
 use Rattle.qa_check.proofs.explaining.explain.Goals as goal
 
@@ -17,7 +17,7 @@ returns-in-Ok g c =
       ok = IfOk-weaker c.write_report.result _ _ (λ outcome told. explained _ _ _ _ _ _ _ shown.verdict told.0 told.1) written.ok;
       reads = shown.reads;
       rows = λ is. absurd (not_read c.write_report.result written.read is);
-      out_of_memory = λ is. rw (rw is at (written.unwritten (λ other. cc))) (rows_written _ _ _ _ _ shown.verdict);
+      out_of_memory = λ is. rw (rw is at (written.unwritten (memory_not_write c.write_report.result is))) (rows_written _ _ _ _ _ shown.verdict);
       told_beginning = λ bytes tells is. told_begins _ _ _ _ bytes tells (report_begun _ _ _ _ _ _ shown.verdict (written.begun is));
       beginning = λ is. report_begun _ _ _ _ _ _ shown.verdict (written.begun is);
       read_failures = rw written.read shown.read_failures;
@@ -32,7 +32,7 @@ returns-in-Err g c =
       told = λ bytes tells. tt;
       ok = tt;
       reads = shown.reads;
-      rows = λ is. let e : fault ≡ Read = cc in shown.rows (rw e refl);
+      rows = λ is. shown.rows (same_fault Outcome Verdict fault Read is);
       out_of_memory = λ is. shown.begun (no_read Outcome Verdict fault OutOfMemory is refl);
       told_beginning = λ bytes tells is. told_begins _ _ _ _ bytes tells (rows_explain _ _ _ _ (shown.begun (no_read Outcome Verdict fault Write is refl)));
       beginning = λ is. rows_explain _ _ _ _ (shown.begun (no_read Outcome Verdict fault Write is refl));
