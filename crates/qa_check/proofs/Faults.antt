@@ -16,6 +16,16 @@ ok_is_no_err is = cc
 pub err_is_no_ok : {T E : Type 0} {x : T} {e : E} → Err e ≡ Ok x → ⊥
 err_is_no_ok is = cc
 
+-- the errors of equal results
+pub error_of : {T E : Type 0} {a b : E} → ◌≡◌ {A = Result T E} (Err a) (Err b) → a ≡ b
+error_of is = cc
+
+pub memory_is_not_decided : {T : Type 0} → ◌≡◌ {A = Result T Stop} (Err OutOfMemory) (Err Decided) → ⊥
+memory_is_not_decided is = cc
+
+pub decided_is_not_memory : {T : Type 0} → ◌≡◌ {A = Result T Stop} (Err Decided) (Err OutOfMemory) → ⊥
+decided_is_not_memory is = cc
+
 pub fixed_is_not_open : ◌≡◌ {A = Result Progress AuditFault} (Ok Fixed) (Ok Open) → ⊥
 fixed_is_not_open is = cc
 
