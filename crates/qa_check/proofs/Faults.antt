@@ -20,6 +20,9 @@ err_is_no_ok is = cc
 pub error_of : {T E : Type 0} {a b : E} → ◌≡◌ {A = Result T E} (Err a) (Err b) → a ≡ b
 error_of is = cc
 
+pub stops_differ : Decided ≡ OutOfMemory → ⊥
+stops_differ is = cc
+
 pub memory_is_not_decided : {T : Type 0} → ◌≡◌ {A = Result T Stop} (Err OutOfMemory) (Err Decided) → ⊥
 memory_is_not_decided is = cc
 

@@ -20,9 +20,6 @@ use Rattle.qa_base.specs.verdicts.Verdict.{verdict, first_stop, header_in, event
 use Rattle.qa_base.proofs.verdicts.Cuts.{Cut, cut_ended, cut_without_lf, ended_snoc, short_snoc, lines_at_end}
 use Rattle.qa_base.proofs.verdicts.Rows.{rows_begin, rows_of_fixed, rows_of-snoc, rows_same, explanation_begins, explanation_stays}
 use Rattle.qa_check.specs.declared.auditing.AuditFault.{AuditFault}
-use Rattle.qa_check.specs.declared.auditing.AuditFault.TheVariants as faults
-use Rattle.qa_check.specs.declared.checker.Stop.{Stop}
-use Rattle.qa_check.specs.declared.checker.Stop.TheVariants.{Decided, OutOfMemory}
 use Rattle.qa_check.specs.declared.explaining.Progress.{Progress}
 use Rattle.qa_check.specs.declared.explaining.Progress.TheVariants.{Open as IsOpen, Fixed}
 use Rattle.qa_check.specs.declared.auditing.Outcome.{Outcome}

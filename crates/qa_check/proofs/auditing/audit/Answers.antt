@@ -3,7 +3,6 @@ use Rattle.std.proofs.lemmas.Result.{IfOk-weaker}
 use Rattle.qa_base.specs.declared.verdict.Verdict.{Verdict}
 use Rattle.qa_base.specs.format.Reading.{reading}
 use Rattle.qa_base.specs.verdicts.Verdict.{verdict}
-use Rattle.qa_check.specs.declared.auditing.AuditFault.TheVariants.{Write}
 use Rattle.qa_check.specs.declared.auditing.Outcome.{Outcome}
 use Rattle.qa_check.proofs.Reading.{told_verdict}
 use Rattle.qa_check.proofs.Faults.{same_read_fault, same_write_fault, not_write}

@@ -1,5 +1,4 @@
-use Rattle.std.proofs.Common.{◌≡◌, ◌∙◌, Err, refl, ap}
-use Rattle.qa_check.specs.declared.checker.Stop.TheVariants.{Decided}
+use Rattle.std.proofs.Common.{◌∙◌, Err, refl, ap}
 use Rattle.qa_check.specs.declared.explaining.Progress.{Progress}
 use Rattle.qa_check.proofs.Faults.{StoppedAs, err_is_no_ok, open_is_not_fixed, same_read_fault, same_write_fault, stopped_is_not_open, stopped_decided, on_stopped, stopped_no_fault}
 use Rattle.qa_check.proofs.Writing.{on_err_of, show_good, show_begun, show_bad, show_none}

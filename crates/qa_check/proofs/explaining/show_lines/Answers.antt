@@ -1,4 +1,4 @@
-use Rattle.std.proofs.Common.{◌≡◌, ◌∙◌, refl}
+use Rattle.std.proofs.Common.{◌∙◌, refl}
 use Rattle.qa_check.specs.Writing.{Shows}
 use Rattle.qa_check.proofs.Faults.{StoppedAs, err_is_no_ok, fixed_is_not_open, open_is_not_fixed, stopped_is_not_open, stopped_decided, on_stopped, stopped_no_fault}
 use Rattle.qa_check.proofs.Following.{follow_line, decide_line, decide_long}

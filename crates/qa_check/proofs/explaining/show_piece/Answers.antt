@@ -1,4 +1,4 @@
-use Rattle.std.proofs.Common.{◌≡◌, ◌∙◌, ◌++◌, Option, refl}
+use Rattle.std.proofs.Common.{◌∙◌, ◌++◌, Option, refl}
 use Rattle.qa_base.specs.declared.verdict.Verdict.{Verdict}
 use Rattle.qa_check.specs.declared.explaining.Progress.{Progress}
 use Rattle.qa_check.specs.Writing.{Shows}
