@@ -1,5 +1,5 @@
 -- What lines and pieces do to the rows that were written.
-use Rattle.std.proofs.Common.{◌≡◌, ◌∙◌, ◌+◌, ℕ, List, [], ◌∷◌, ◌++◌, length, take, drop, Bool, false, ◌⊎◌, inl, inr, Option, Some, None, Result, Ok, Err, OnOk, OnErr, is_err, length-append, append_assoc, take-append-drop, refl, sym, ap}
+use Rattle.std.proofs.Common.{◌≡◌, ◌∙◌, ◌+◌, ℕ, List, [], ◌∷◌, ◌++◌, length, take, drop, Bool, false, ◌⊎◌, inl, inr, Option, Some, None, Result, Ok, Err, OnOk, OnErr, length-append, append_assoc, take-append-drop, refl, sym, ap}
 use Rattle.std.specs.Prelude.{option_map, IsSome}
 use Rattle.std.proofs.lemmas.List.{append-nil}
 use Rattle.std.proofs.KnownBytes.{Appends-nil, Appends-trans}
@@ -35,9 +35,6 @@ use Rattle.qa_check.specs.Standing.{Held, Stands, HoldsRun, Open, StandsBy, Stan
 pub begins_all : (a b : Option (List ℕ)) (text : List ℕ) → Appends a b text → Begins a b text
 begins_all a b text written = (text, [], sym (append-nil text), written)
 
-pub begins_none : (a : Option (List ℕ)) (text : List ℕ) → Begins a a text
-begins_none a text = ([], text, refl, Appends-nil a)
-
 -- a number of bytes was written
 pub begins_taken : (a b : Option (List ℕ)) (text : List ℕ) → (n : ℕ) × Appends a b (take n text) → Begins a b text
 begins_taken a b text (n, written) = (take n text, drop n text, sym (take-append-drop n text), written)
@@ -54,13 +51,7 @@ begins_longer a b text longer more is (begun, rest, parts, written) =
 
 -- ---- a row
 
--- without a header there is no row
-pub no_row : (a : Option (List ℕ)) (n : ℕ) (kind : LineKind) (o : Option Totals) → o ≡ None
-    → (header : Option Settings) (h : List Event) → o ≡ option_map (λ c. totals c h) header → Appends a a (row_of n (Some kind) header h)
-no_row a n kind o none None h is = Appends-nil a
-no_row a n kind o none (Some c) h is = cc
-
--- with one, it is the row of the state
+-- with a header, it is the row of the state
 pub one_row : (n : ℕ) (kind : LineKind) (o : Option Totals) (t : Totals) (text : List ℕ) → o ≡ Some t → text ≡ row n kind t
     → (header : Option Settings) (h : List Event) → o ≡ option_map (λ c. totals c h) header → row_of n (Some kind) header h ≡ text
 one_row n kind o t text some is None h says = cc
@@ -254,10 +245,6 @@ rows_explain old new held held' (read, consumes, further, begun) = (
 pub on_err_of : {T E P : Type 0} (r : Result T E) → P → OnErr r P
 on_err_of (Ok x) p = tt
 on_err_of (Err e) p = p
-
-pub on_ok_at : {T E P : Type 0} (r : Result T E) → is_err r ≡ false → OnOk r P → P
-on_ok_at (Ok x) good p = p
-on_ok_at (Err e) good p = cc
 
 -- each way that lines were taken
 pub on_progress : {Q : Type 0} (r : Result Progress AuditFault) → (r ≡ Ok IsOpen → Q) → (r ≡ Ok Fixed → Q) → OnOk r Q
