@@ -82,10 +82,8 @@ pub fn audit<L: Ledger + Drop, R: Source, W: Sink>(
     ensures read_failures { R.read_failures reader.new ≡ failures_after (is_read_fault result) (R.read_failures reader.old) }
     ensures write_failures { W.write_failures writer.new ≡ failures_after (is_write_fault result) (W.write_failures writer.old) }
 {
-    match judged::<L, R>(alloc, reader) {
-        Ok(verdict) => write_report(alloc, writer, &verdict),
-        Err(fault) => Err(fault),
-    }
+    let verdict = judged::<L, R>(alloc, reader)?;
+    write_report(alloc, writer, &verdict)
 }
 
 /// The verdict of what is read.
@@ -159,10 +157,7 @@ fn drain<L: Ledger + Drop>(splitter: &mut Splitter, checker: &mut Checker<L>) ->
 {
     'lines: loop {
         match splitter.next_line() {
-            Ok(Some(line)) => match checker.line(line) {
-                Ok(()) => {}
-                Err(stop) => return Err(stop),
-            },
+            Ok(Some(line)) => checker.line(line)?,
             Ok(None) => return Ok(()),
             Err(SplitFault::TooLong) => return Err(checker.too_long()),
             Err(SplitFault::OutOfMemory) => return Err(Stop::OutOfMemory),
@@ -229,10 +224,8 @@ pub fn write_report<W: Sink>(
     let Ok(text) = report(alloc, verdict) else {
         return Err(AuditFault::OutOfMemory);
     };
-    match write_whole(writer, text.as_bytes()) {
-        Ok(()) => Ok(told(verdict)),
-        Err(fault) => Err(fault),
-    }
+    write_whole(writer, text.as_bytes())?;
+    Ok(told(verdict))
 }
 
 /// Writes all of the bytes, in as many pieces as the writer takes. A failed write is not tried again.
