@@ -11,7 +11,7 @@ use Rattle.qa_base.proofs.verdicts.Fixed.{fixed_by_line, fixed_by_length}
 use Rattle.qa_base.proofs.verdicts.Rows.{rows_by}
 use Rattle.qa_base.proofs.verdicts.Stops.{good_are_few}
 use Rattle.qa_base.specs.verdicts.Explain.{rows_of}
-use Rattle.qa_split.specs.Stream.{IsFirstLine, IsLastLine, BeginsTooLong}
+use Rattle.qa_split.specs.Stream.{Stream, IsFirstLine, IsLastLine, BeginsTooLong}
 use Rattle.qa_check.specs.declared.checker.Stop.{Stop}
 use Rattle.qa_check.specs.declared.checker.Stop.TheVariants.{Decided, OutOfMemory}
 use Rattle.qa_check.specs.Following.{FollowsBy, AnswersBy}
@@ -62,6 +62,14 @@ decide_long P Q rest b adds bytes f =
     let fixed = fixed_by_length reading f.0 b.0 b.1 rest bytes f.3 f.4 b.4 b.2 b.3 q.1 in
     (fixed.0, (f.0 ++ l ∷ [], q.0, fixed.1, rows_by reading (f.0 ++ l ∷ []) bytes q.1 fixed))
 
+-- what is short enough for a line does not begin with more than a line may have
+pub short_not_long : (bytes : List ℕ) → IsShortLine bytes → BeginsTooLong bytes → ⊥
+short_not_long bytes short b =
+    let sum : length bytes ≡ length b.0 + length b.1 = ap length b.4 ∙ length-append b.0 b.1 in
+    let over = b.3 in
+    let within = short.1 in
+    omega arith
+
 -- ---- the end
 
 -- the last line, which no LF ends
@@ -91,6 +99,11 @@ either (Err OutOfMemory) never g b f k = absurd (never refl)
 
 pub follow_piece : (P : List (List ℕ) → Type 0) (rest piece bytes : List ℕ) → FollowsBy P rest bytes → FollowsBy P (rest ++ piece) (bytes ++ piece)
 follow_piece P rest piece bytes f = (f.0, f.1, f.2, f.3, ap (λ k. k ++ piece) f.4 ∙ append_assoc (ended f.0) rest piece)
+
+-- a splitter took it
+pub follow_fed : (P : List (List ℕ) → Type 0) (old new : Stream) (piece bytes : List ℕ) → new ≡ record old { bytes = old.bytes ++ piece }
+    → FollowsBy P old.bytes bytes → FollowsBy P new.bytes (bytes ++ piece)
+follow_fed P old new piece bytes is f = rw is (follow_piece P old.bytes piece bytes f)
 
 -- good lines and a rest that is no line have so many bytes at most
 pub follow_few : (P : List (List ℕ) → Type 0) (rest bytes : List ℕ) → FollowsBy P rest bytes → length rest ≤ 65536 → length bytes ≤ 281479271743488

@@ -30,6 +30,9 @@ use Rattle.qa_check.specs.Standing.{Held, Stands, HoldsRun, Open, StandsBy, Stan
 pub count_of : {L : Type 0} (a b : Held L) → a ≡ b → a.lines ≡ b.lines
 count_of a b same = ap (λ held. held.lines) same
 
+pub whole_of : {L : Type 0} (a b : Held L) → a ≡ b → (failed : Bool) → a.failed ≡ failed → b.failed ≡ failed
+whole_of a b same failed is = ap (λ held. held.failed) (sym same) ∙ is
+
 pub undecided : {L : Type 0} (a b : Held L) → a ≡ b → (test : Bool) → test ≡ is_some a.verdict → test ≡ false → b.verdict ≡ None
 undecided a b same test is fails = sym (ap (λ held. held.verdict) same) ∙ none_of a.verdict (sym is ∙ fails)
   where

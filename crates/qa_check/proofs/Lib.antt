@@ -1,4 +1,5 @@
 pub mod Appends
+pub mod Faults
 pub mod Growing
 pub mod Following
 pub mod Reading

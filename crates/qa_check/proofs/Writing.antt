@@ -1,5 +1,5 @@
 -- What lines and pieces do to the rows that were written.
-use Rattle.std.proofs.Common.{◌≡◌, ◌∙◌, ◌+◌, ℕ, List, [], ◌∷◌, ◌++◌, length, take, drop, Bool, false, ◌⊎◌, inl, inr, Option, Some, None, Result, Ok, Err, OnOk, OnErr, is_err, length-append, append_assoc, take-append-drop, refl, sym, ap}
+use Rattle.std.proofs.Common.{◌≡◌, ◌∙◌, ◌+◌, ℕ, List, [], ◌∷◌, ◌++◌, length, take, drop, Bool, false, ◌⊎◌, inl, inr, Option, Some, None, Result, Ok, Err, OnOk, OnErr, length-append, append_assoc, take-append-drop, refl, sym, ap}
 use Rattle.std.specs.Prelude.{option_map, IsSome}
 use Rattle.std.proofs.lemmas.List.{append-nil}
 use Rattle.std.proofs.KnownBytes.{Appends-nil, Appends-trans}
@@ -20,13 +20,10 @@ use Rattle.qa_base.specs.verdicts.Verdict.{verdict, first_stop, header_in, event
 use Rattle.qa_base.proofs.verdicts.Cuts.{Cut, cut_ended, cut_without_lf, ended_snoc, short_snoc, lines_at_end}
 use Rattle.qa_base.proofs.verdicts.Rows.{rows_begin, rows_of_fixed, rows_of-snoc, rows_same, explanation_begins, explanation_stays}
 use Rattle.qa_check.specs.declared.auditing.AuditFault.{AuditFault}
-use Rattle.qa_check.specs.declared.auditing.AuditFault.TheVariants as faults
-use Rattle.qa_check.specs.declared.checker.Stop.{Stop}
-use Rattle.qa_check.specs.declared.checker.Stop.TheVariants.{Decided, OutOfMemory}
 use Rattle.qa_check.specs.declared.explaining.Progress.{Progress}
 use Rattle.qa_check.specs.declared.explaining.Progress.TheVariants.{Open as IsOpen, Fixed}
 use Rattle.qa_check.specs.declared.auditing.Outcome.{Outcome}
-use Rattle.qa_check.specs.Audit.{is_read_fault, outcome_of}
+use Rattle.qa_check.specs.Audit.{ReadsEnough, outcome_of}
 use Rattle.qa_check.proofs.Reading.{told_verdict}
 use Rattle.qa_check.specs.Writing.{Begins, BeginsRead, Explains, JudgesShown, Shows, Shown, ended_rows}
 use Rattle.qa_check.specs.Following.{FollowsBy, AnswersBy, Answers}
@@ -37,9 +34,6 @@ use Rattle.qa_check.specs.Standing.{Held, Stands, HoldsRun, Open, StandsBy, Stan
 
 pub begins_all : (a b : Option (List ℕ)) (text : List ℕ) → Appends a b text → Begins a b text
 begins_all a b text written = (text, [], sym (append-nil text), written)
-
-pub begins_none : (a : Option (List ℕ)) (text : List ℕ) → Begins a a text
-begins_none a text = ([], text, refl, Appends-nil a)
 
 -- a number of bytes was written
 pub begins_taken : (a b : Option (List ℕ)) (text : List ℕ) → (n : ℕ) × Appends a b (take n text) → Begins a b text
@@ -57,13 +51,7 @@ begins_longer a b text longer more is (begun, rest, parts, written) =
 
 -- ---- a row
 
--- without a header there is no row
-pub no_row : (a : Option (List ℕ)) (n : ℕ) (kind : LineKind) (o : Option Totals) → o ≡ None
-    → (header : Option Settings) (h : List Event) → o ≡ option_map (λ c. totals c h) header → Appends a a (row_of n (Some kind) header h)
-no_row a n kind o none None h is = Appends-nil a
-no_row a n kind o none (Some c) h is = cc
-
--- with one, it is the row of the state
+-- with a header, it is the row of the state
 pub one_row : (n : ℕ) (kind : LineKind) (o : Option Totals) (t : Totals) (text : List ℕ) → o ≡ Some t → text ≡ row n kind t
     → (header : Option Settings) (h : List Event) → o ≡ option_map (λ c. totals c h) header → row_of n (Some kind) header h ≡ text
 one_row n kind o t text some is None h says = cc
@@ -258,35 +246,30 @@ pub on_err_of : {T E P : Type 0} (r : Result T E) → P → OnErr r P
 on_err_of (Ok x) p = tt
 on_err_of (Err e) p = p
 
-pub on_ok_at : {T E P : Type 0} (r : Result T E) → is_err r ≡ false → OnOk r P → P
-on_ok_at (Ok x) good p = p
-on_ok_at (Err e) good p = cc
-
 -- each way that lines were taken
 pub on_progress : {Q : Type 0} (r : Result Progress AuditFault) → (r ≡ Ok IsOpen → Q) → (r ≡ Ok Fixed → Q) → OnOk r Q
 on_progress (Ok IsOpen) f k = f refl
 on_progress (Ok Fixed) f k = k refl
 on_progress (Err e) f k = tt
 
--- where a stop fixes the verdict it did not come of memory
-pub stopped_decided : (stop : Stop) (r : Result Progress AuditFault) → (stop ≡ OutOfMemory → r ≡ Err faults.OutOfMemory) → r ≡ Ok Fixed → stop ≡ Decided
-stopped_decided Decided r memory fixed = refl
-stopped_decided OutOfMemory r memory fixed = let e = memory refl in cc
-
--- a fault that is not the reader's
-pub not_read : (A B : Type 0) (f g : AuditFault) → ◌≡◌ {A = Result A AuditFault} (Err f) (Err g) → is_read_fault {A = B} (Err g) ≡ false → is_read_fault {A = B} (Err f) ≡ false
-not_read A B f g same no_fault = let e : f ≡ g = cc in rw e no_fault
-
 -- ---- the rows and the report
 
+-- what was read and is all that counts was explained
+abbrev pub ExplainsRead : Option (List ℕ) → Option (List ℕ) → Option (List ℕ) → Option (List ℕ) → Outcome → Type 0
+ExplainsRead old new held held' o = (read : List ℕ) × ReadsEnough old new read × Explains held held' o read
+
 -- the report was written behind the rows
-pub explained : (old new held mid held' : Option (List ℕ)) (v : Verdict) (o : Outcome) (bytes : List ℕ) → old ≡ Some bytes
-    → JudgesShown old new held mid v → Appends mid held' (report v) → o ≡ outcome_of v → Explains held held' o bytes
-explained old new held mid held' v o bytes tells (read, enough, is, written) report_written told =
+pub explained : (old new held mid held' : Option (List ℕ)) (v : Verdict) (o : Outcome) → JudgesShown old new held mid v
+    → Appends mid held' (report v) → o ≡ outcome_of v → ExplainsRead old new held held' o
+explained old new held mid held' v o (read, enough, is, written) report_written told =
     let all : Appends held held' (rows reading read ++ report v) = Appends-trans held mid held' _ _ written report_written in
-    let known : Appends held held' (explain reading read) = rw is at all in
-    let kind : verdict reading bytes ≡ v = told_verdict old new read bytes tells enough ∙ sym is in
-    (rw (told_explanation old new read bytes tells enough.0 enough.1) known, rw kind told)
+    (read, enough, (rw is at all, rw (← is) told))
+
+-- what explains what was read explains all the bytes that a reader tells
+pub told_explained : (old new held held' : Option (List ℕ)) (o : Outcome) (bytes : List ℕ) → old ≡ Some bytes
+    → ExplainsRead old new held held' o → Explains held held' o bytes
+told_explained old new held held' o bytes tells (read, enough, explains) =
+    (rw (told_explanation old new read bytes tells enough.0 enough.1) explains.0, rw (told_verdict old new read bytes tells enough) explains.1)
 
 -- it was begun
 pub report_begun : (old new held mid held' : Option (List ℕ)) (v : Verdict) → JudgesShown old new held mid v → (n : ℕ) × Appends mid held' (take n (report v))

@@ -2,6 +2,7 @@
 ghost use Rattle.std.specs.Prelude.{◌≡◌, ◌≢◌, ◌++◌, ℕ, List, true, false, Some, None, Ok, Err, OnOk, OnErr, IfOk, IfErr, IfSome, IfNone, take};
 ghost use Rattle.std.specs.Io.KnownBytes.{Appends};
 ghost use Rattle.qa_base.specs.format.Reading.{reading};
+ghost use Rattle.qa_base.specs.verdicts.Report as text;
 ghost use Rattle.qa_base.specs.verdicts.Verdict.{IsFixed, verdict};
 ghost use Rattle.qa_split.specs.Stream.{HasNoLine};
 ghost use Rattle.qa_check.specs.Audit.{outcome_of, Reads, ReadsEnough, JudgesRead, Reports, BeginsReport, is_read_fault, is_write_fault};
@@ -82,11 +83,7 @@ pub fn audit<L: Ledger + Drop, R: Source, W: Sink>(
     ensures write_failures { W.write_failures writer.new ≡ failures_after (is_write_fault result) (W.write_failures writer.old) }
 {
     let verdict = judged::<L, R>(alloc, reader)?;
-    let Ok(text) = report(alloc, &verdict) else {
-        return Err(AuditFault::OutOfMemory);
-    };
-    write_whole(writer, text.as_bytes())?;
-    Ok(told(&verdict))
+    write_report(alloc, writer, &verdict)
 }
 
 /// The verdict of what is read.
@@ -106,12 +103,10 @@ fn judged<L: Ledger + Drop, R: Source>(alloc: Global, reader: &mut R) -> Result<
         if n == 0 {
             return conclude(&mut splitter, &mut checker);
         }
-        let found = match take_piece(&mut splitter, &mut checker, &piece[..n]) {
-            Ok(found) => found,
+        match take_piece(&mut splitter, &mut checker, &piece[..n]) {
+            Ok(None) => {}
+            Ok(Some(verdict)) => return Ok(verdict),
             Err(fault) => return Err(fault),
-        };
-        if let Some(verdict) = found {
-            return Ok(verdict);
         }
     }
     // A line more than a trace may have is not good, so that a reader without end is not read to here.
@@ -129,15 +124,15 @@ fn take_piece<L: Ledger + Drop>(
     ensures ready { IfOk result (λ found. IfNone found (IsReady splitter.new)) }
     ensures empty { IfOk result (λ found. IfNone found (HasNoLine splitter.new)) }
     ensures whole { IfOk result (λ found. IfNone found (checker.new.failed ≡ false)) }
-    ensures open { IfOk result (λ found. IfNone found ((bytes : List ℕ) → Follows L.stands splitter.old.bytes checker.old bytes
+    ensures follows { IfOk result (λ found. IfNone found ((bytes : List ℕ) → Follows L.stands splitter.old.bytes checker.old bytes
         → Follows L.stands splitter.new.bytes checker.new (bytes ++ piece.now))) }
     ensures decided { IfOk result (λ found. IfSome found (λ v. (bytes : List ℕ) → Follows L.stands splitter.old.bytes checker.old bytes
         → IsFixed reading (bytes ++ piece.now) × (v ≡ verdict reading (bytes ++ piece.now)))) }
     ensures err { IfErr result (λ fault. fault ≡ AuditFault.OutOfMemory) }
 {
-    if splitter.feed(piece).is_err() {
+    let Ok(()) = splitter.feed(piece) else {
         return Err(AuditFault::OutOfMemory);
-    }
+    };
     match drain(splitter, checker) {
         Ok(()) => Ok(None),
         Err(Stop::Decided) => match verdict_of(checker) {
@@ -211,6 +206,26 @@ pub fn verdict_of<L: Ledger + Drop>(checker: &Checker<L>) -> Result<Verdict, Aud
     ensures err { IfErr result (λ fault. fault ≡ AuditFault.OutOfMemory) }
 {
     checker.end().ok_or(AuditFault::OutOfMemory)
+}
+
+/// Writes the report of a verdict, and returns its kind.
+pub fn write_report<W: Sink>(
+    alloc: Global,
+    writer: &mut W,
+    verdict: &Verdict,
+) -> Result<Outcome, AuditFault>
+    ensures ok { IfOk result (λ outcome. Appends (W.held writer.old) (W.held writer.new) (text.report verdict.now)
+        × (outcome ≡ outcome_of verdict.now)) }
+    ensures begun { result ≡ Err AuditFault.Write → (n : ℕ) × Appends (W.held writer.old) (W.held writer.new) (take n (text.report verdict.now)) }
+    ensures unwritten { result ≢ Err AuditFault.Write → OnErr result (W.held writer.new ≡ W.held writer.old) }
+    ensures read { is_read_fault result ≡ false }
+    ensures failures { W.write_failures writer.new ≡ failures_after (is_write_fault result) (W.write_failures writer.old) }
+{
+    let Ok(text) = report(alloc, verdict) else {
+        return Err(AuditFault::OutOfMemory);
+    };
+    write_whole(writer, text.as_bytes())?;
+    Ok(told(verdict))
 }
 
 /// Writes all of the bytes, in as many pieces as the writer takes. A failed write is not tried again.

@@ -13,17 +13,17 @@ ghost use Rattle.qa_check.specs.Writing.{Begins, Explains, ShowsRead, BeginsRead
 ghost use Rattle.qa_check.specs.Failures.{failures_after};
 ghost use Rattle.qa_check.specs.Following.{AnswersBy, IsReady};
 
-use crate::auditing::{AuditFault, Outcome, PIECE, told, verdict_of, write_whole};
+use crate::auditing::{AuditFault, Outcome, PIECE, verdict_of, write_report, write_whole};
 use crate::checker::{Checker, Stop};
 use crate::streams::{Sink, Source};
-use crate::text::{report, row};
+use crate::text::row;
 use qa_base::{LineKind, Totals, Verdict};
 use qa_ledger::Ledger;
 use qa_split::{SplitFault, Splitter};
 use std::alloc::Global;
 
 /// What lines made of the verdict.
-#[derive(Clone, Copy, Debug, PartialEq, Eq)]
+#[derive(Clone, Copy)]
 enum Progress {
     /// All were good.
     Open,
@@ -71,15 +71,8 @@ pub fn explain<L: Ledger + Drop, R: Source, W: Sink>(
     ensures read_failures { R.read_failures reader.new ≡ failures_after (is_read_fault result) (R.read_failures reader.old) }
     ensures write_failures { W.write_failures writer.new ≡ failures_after (is_write_fault result) (W.write_failures writer.old) }
 {
-    let verdict = match shown::<L, R, W>(alloc, reader, writer) {
-        Ok(verdict) => verdict,
-        Err(fault) => return Err(fault),
-    };
-    let Ok(text) = report(alloc, &verdict) else {
-        return Err(AuditFault::OutOfMemory);
-    };
-    match write_whole(writer, text.as_bytes()) {
-        Ok(()) => Ok(told(&verdict)),
+    match shown::<L, R, W>(alloc, reader, writer) {
+        Ok(verdict) => write_report(alloc, writer, &verdict),
         Err(fault) => Err(fault),
     }
 }
@@ -109,12 +102,10 @@ fn shown<L: Ledger + Drop, R: Source, W: Sink>(
         if n == 0 {
             return show_rest(alloc, &mut splitter, &mut checker, writer);
         }
-        let found = match show_piece(alloc, &mut splitter, &mut checker, writer, &piece[..n]) {
-            Ok(found) => found,
+        match show_piece(alloc, &mut splitter, &mut checker, writer, &piece[..n]) {
+            Ok(None) => {}
+            Ok(Some(verdict)) => return Ok(verdict),
             Err(fault) => return Err(fault),
-        };
-        if let Some(verdict) = found {
-            return Ok(verdict);
         }
     }
     // A line more than a trace may have is not good, so that a reader without end is not read to here.
@@ -135,7 +126,7 @@ fn show_piece<L: Ledger + Drop, W: Sink>(
     ensures ready { IfOk result (λ found. IfNone found (IsReady splitter.new)) }
     ensures empty { IfOk result (λ found. IfNone found (HasNoLine splitter.new)) }
     ensures whole { IfOk result (λ found. IfNone found (checker.new.failed ≡ false)) }
-    ensures open { IfOk result (λ found. IfNone found ((start : Option (List ℕ)) (bytes : List ℕ)
+    ensures follows { IfOk result (λ found. IfNone found ((start : Option (List ℕ)) (bytes : List ℕ)
         → Shown L.stands splitter.old.bytes checker.old start (W.held writer.old) bytes
         → Shown L.stands splitter.new.bytes checker.new start (W.held writer.new) (bytes ++ piece.now))) }
     ensures decided { IfOk result (λ found. IfSome found (λ v. (start : Option (List ℕ)) (bytes : List ℕ)
@@ -148,9 +139,9 @@ fn show_piece<L: Ledger + Drop, W: Sink>(
     ensures read { is_read_fault result ≡ false }
     ensures failures { W.write_failures writer.new ≡ failures_after (is_write_fault result) (W.write_failures writer.old) }
 {
-    if splitter.feed(piece).is_err() {
+    let Ok(()) = splitter.feed(piece) else {
         return Err(AuditFault::OutOfMemory);
-    }
+    };
     match show_lines(alloc, splitter, checker, writer) {
         Ok(Progress::Open) => Ok(None),
         Ok(Progress::Fixed) => match verdict_of(checker) {
@@ -173,7 +164,7 @@ fn show_lines<L: Ledger + Drop, W: Sink>(
     ensures ready { result ≡ Ok Progress.Open → IsReady splitter.new }
     ensures empty { result ≡ Ok Progress.Open → HasNoLine splitter.new }
     ensures whole { OnOk result (checker.new.failed ≡ false) }
-    ensures open { result ≡ Ok Progress.Open → (start : Option (List ℕ)) (bytes : List ℕ)
+    ensures follows { result ≡ Ok Progress.Open → (start : Option (List ℕ)) (bytes : List ℕ)
         → Shown L.stands splitter.old.bytes checker.old start (W.held writer.old) bytes
         → Shown L.stands splitter.new.bytes checker.new start (W.held writer.new) bytes }
     ensures decided { result ≡ Ok Progress.Fixed → (start : Option (List ℕ)) (bytes : List ℕ)

@@ -1,19 +1,25 @@
 use Rattle.std.proofs.Common.{◌≡◌, ◌∙◌, sym}
+use Rattle.std.proofs.lemmas.Result.{IfOk-weaker}
 use Rattle.qa_base.specs.format.Reading.{reading}
 use Rattle.qa_base.specs.verdicts.Verdict.{verdict}
 use Rattle.qa_check.proofs.Reading.{told_verdict}
 use Rattle.qa_check.proofs.auditing.audit.Goals as goal
 
-pub returns-in_err-write_whole-clause-told_beginning : goal.returns-in_err-write_whole-clause-told_beginning
-returns-in_err-write_whole-clause-told_beginning g c = λ bytes tells is.
+pub returns : goal.returns
+returns g c =
     let judged = c.in_ok-verdict.ensures.verdict in
-    let same : verdict reading bytes ≡ c.in_ok-verdict.verdict = told_verdict _ _ judged.0 bytes tells judged.1 ∙ sym judged.2 in
-    let written = rw (c.as_bytes.ensures.value, c.in-Ok.ensures) at c.in_err-write_whole.ensures.err in
-    rw same written
-
-pub returns-clause-told : goal.returns-clause-told
-returns-clause-told g c = λ bytes tells.
-    let judged = c.in_ok-verdict.ensures.verdict in
-    let same : verdict reading bytes ≡ c.in_ok-verdict.verdict = told_verdict _ _ judged.0 bytes tells judged.1 ∙ sym judged.2 in
-    let written = rw (c.as_bytes.ensures.value, c.in-Ok.ensures) at c.in_ok-write_whole.ensures.ok in
-    rw same (written, c.told.ensures)
+    let written = c.write_report.ensures in
+    record {
+      told = λ bytes tells.
+          let same : verdict reading bytes ≡ c.in_ok-verdict.verdict = told_verdict _ _ judged.0 bytes tells judged.1 ∙ sym judged.2 in
+          rw same written.ok;
+      ok = IfOk-weaker c.write_report.result _ _ (λ outcome told. (judged.0, judged.1, rw (← judged.2) told)) written.ok;
+      reads = c.in_ok-verdict.ensures.reads;
+      told_beginning = λ bytes tells is.
+          let same : verdict reading bytes ≡ c.in_ok-verdict.verdict = told_verdict _ _ judged.0 bytes tells judged.1 ∙ sym judged.2 in
+          rw same (written.begun is);
+      beginning = λ is. (judged.0, judged.1, rw (← judged.2) (written.begun is));
+      unwritten = written.unwritten;
+      read_failures = rw written.read c.in_ok-verdict.ensures.failures;
+      write_failures = written.failures;
+    }

@@ -2,8 +2,12 @@ use Rattle.std.proofs.Common.{◌≡◌, ◌∙◌, Err}
 use Rattle.std.proofs.lemmas.Result.{err_from_is_err_and}
 use Rattle.qa_check.specs.Standing.{StandsFor}
 use Rattle.qa_check.specs.declared.checker.Stop.TheVariants.{Decided}
+use Rattle.qa_check.proofs.Faults.{ok_is_no_err, error_of, memory_is_not_decided}
 use Rattle.qa_check.proofs.Following.{follow_line, decide_line, decide_long}
 use Rattle.qa_check.proofs.auditing.drain.Goals as goal
+
+pub lines-init : goal.lines-init
+lines-init g c = record { ready = c.requires.ready; whole = c.requires.whole; follows = λ bytes f. f }
 
 pub returns-in_err-line-in-Ok-Some-clause-decided : goal.returns-in_err-line-in-Ok-Some-clause-decided
 returns-in_err-line-in-Ok-Some-clause-decided g c = λ h bytes f.
@@ -26,15 +30,29 @@ lines-preserved g c =
           (c.lines.invariant.follows bytes f);
     }
 
-pub returns-in-Ok-None-clause-good : goal.returns-in-Ok-None-clause-good
-returns-in-Ok-None-clause-good g c = λ bytes f.
+pub returns-in-Ok-None : goal.returns-in-Ok-None
+returns-in-Ok-None g c =
     let n = rw (c.in-Ok-None.is, c.in-Ok-None.field-0-is) at c.next_line.follows.holds-at-none.none in
-    rw n.1 (c.lines.invariant.follows bytes f)
+    record {
+      ready = rw n.1 c.lines.invariant.ready;
+      empty = rw n.1 n.0;
+      whole = c.lines.invariant.whole;
+      good = λ bytes f. rw n.1 (c.lines.invariant.follows bytes f);
+      decided = λ is. absurd (ok_is_no_err is);
+    }
 
-pub returns-in-Err-TooLong-clause-decided : goal.returns-in-Err-TooLong-clause-decided
-returns-in-Err-TooLong-clause-decided g c = λ h bytes f.
-    let long = c.next_line.ensures.too_long c.lines.invariant.ready.1 (rw c.in-Err-TooLong.field-0-is at c.in-Err-TooLong.is) in
-    let is : c.too_long.result ≡ Decided = cc in
-    let bad = c.too_long.ensures.decided is in
-    let d = decide_long (StandsFor g.L.Ledger.stands c.lines.checker) (StandsFor g.L.Ledger.stands c.too_long.new.self) _ long (λ l h. (bad l h).1) bytes (c.lines.invariant.follows bytes f) in
-    (d.0, ((bad _ long.3).0, d.1))
+pub returns-in-Err-TooLong : goal.returns-in-Err-TooLong
+returns-in-Err-TooLong g c = record {
+  ready = tt;
+  empty = tt;
+  whole = tt;
+  good = tt;
+  decided = λ is bytes f.
+      let long = c.next_line.ensures.too_long c.lines.invariant.ready.1 (rw c.in-Err-TooLong.field-0-is at c.in-Err-TooLong.is) in
+      let bad = c.too_long.ensures.decided (error_of is) in
+      let d = decide_long (StandsFor g.L.Ledger.stands c.lines.checker) (StandsFor g.L.Ledger.stands c.too_long.new.self) _ long (λ l h. (bad l h).1) bytes (c.lines.invariant.follows bytes f) in
+      (d.0, ((bad _ long.3).0, d.1));
+}
+
+pub returns-in-Err-OutOfMemory : goal.returns-in-Err-OutOfMemory
+returns-in-Err-OutOfMemory g c = record { ready = tt; empty = tt; whole = tt; good = tt; decided = λ is. absurd (memory_is_not_decided is) }
