@@ -1,3 +1,5 @@
+pub mod Searches
+pub mod Turns
 pub mod Owed
 pub mod Moved
 pub mod Entries

@@ -12,7 +12,7 @@ ghost use Rattle.qa_base.specs.values.Limits.{max_time, greatest_max_ack_delay};
 use crate::event::time_of;
 use crate::handshake::{has_keys, is_confirmed, is_validated};
 use crate::losses::{Look, is_open};
-use crate::packet::{Packet, packet_of};
+use crate::packet::{Packet, packet_in};
 use crate::settled::{acknowledges_new, largest_acknowledged};
 use qa_base::{Due, Event, Header, Kind, Micros, Space};
 
@@ -68,14 +68,15 @@ fn awaits_loss(header: &Header, events: &[Event], look: Look, packet: Packet) ->
 }
 
 /// When the first such packet of the space was sent.
+#[tactic(auto, using(crate::proofs::Turns::passing_more))]
 fn first_awaiting(header: &Header, events: &[Event], look: Look, space: Space) -> Option<Micros>
     requires seen { IsLook header.now (history_of events.now) look }
     ensures { result ≡ timers.least_of (map (λ p. p.time) (filter (timers.awaits_loss header.now (history_of events.now)) (packets_of (history_of events.now) space))) }
 {
     let mut least = None;
     for (place, event) in events.iter().enumerate() {
-        if let Some(packet) = packet_of(place, event) {
-            if space == packet.space && awaits_loss(header, events, look, packet) {
+        if let Some(packet) = packet_in(space, place, event) {
+            if awaits_loss(header, events, look, packet) {
                 least = Some(sooner(least, packet.time));
             }
         }
@@ -114,14 +115,15 @@ fn earliest_loss(header: &Header, events: &[Event], look: Look) -> Option<Due>
 }
 
 /// Whether an open packet of the space asks for an acknowledgment.
+#[tactic(auto, using(crate::proofs::Turns::passing_more))]
 fn some_awaits(header: &Header, events: &[Event], look: Look, space: Space) -> bool
     requires seen { IsLook header.now (history_of events.now) look }
     ensures { result ≡ list_any (timers.awaits_acknowledgment header.now (history_of events.now)) (packets_of (history_of events.now) space) }
 {
     let mut found = false;
     for (place, event) in events.iter().enumerate() {
-        if let Some(packet) = packet_of(place, event) {
-            if space == packet.space && packet.eliciting && is_open(header, events, look, packet) {
+        if let Some(packet) = packet_in(space, place, event) {
+            if packet.eliciting && is_open(header, events, look, packet) {
                 found = true;
             }
         }
@@ -130,13 +132,14 @@ fn some_awaits(header: &Header, events: &[Event], look: Look, space: Space) -> b
 }
 
 /// The time of the last ack-eliciting packet of the space, open or not.
+#[tactic(auto, using(crate::proofs::Turns::passing_more))]
 pub fn last_eliciting(events: &[Event], space: Space) -> Option<Micros>
     ensures { result ≡ timers.last_eliciting (history_of events.now) space }
 {
     let mut last = None;
     for (place, event) in events.iter().enumerate() {
-        if let Some(packet) = packet_of(place, event) {
-            if space == packet.space && packet.eliciting {
+        if let Some(packet) = packet_in(space, place, event) {
+            if packet.eliciting {
                 last = Some(packet.time);
             }
         }

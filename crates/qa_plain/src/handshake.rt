@@ -20,7 +20,12 @@ fn confirms(event: &Event) -> bool
 pub fn is_confirmed(events: &[Event]) -> bool
     ensures { result ≡ handshake.is_confirmed (history_of events.now) }
 {
-    events.iter().any(|event| confirms(event))
+    for event in events {
+        if confirms(event) {
+            return true;
+        }
+    }
+    false
 }
 
 /// Whether the event is an acknowledgment of Handshake packets.
@@ -37,7 +42,12 @@ fn acknowledges_handshake(event: &Event) -> bool
 fn is_handshake_acknowledged(events: &[Event]) -> bool
     ensures { result ≡ list_any handshake.acknowledges_handshake (history_of events.now) }
 {
-    events.iter().any(|event| acknowledges_handshake(event))
+    for event in events {
+        if acknowledges_handshake(event) {
+            return true;
+        }
+    }
+    false
 }
 
 /// Whether the peer has validated the sender's address: a server's peer always has (RFC 9002, A.8).
@@ -63,5 +73,10 @@ fn shows_keys(event: &Event) -> bool
 pub fn has_keys(events: &[Event]) -> bool
     ensures { result ≡ handshake.has_keys (history_of events.now) }
 {
-    events.iter().any(|event| shows_keys(event))
+    for event in events {
+        if shows_keys(event) {
+            return true;
+        }
+    }
+    false
 }
