@@ -61,7 +61,6 @@ fn are_ends(header: &Header, events: &[Event], rtt: Rtt, first: Packet, second: 
 }
 
 /// Whether the packet and one that is owed establish persistent congestion.
-#[tactic(auto, using(crate::proofs::Turns::passing_more))]
 fn has_end(header: &Header, events: &[Event], look: Look, first: Packet) -> bool
     ensures { result ≡ list_any (detections.are_ends look.rtt header.now (history_of events.now) first) (found_in (history_of events.now) look (history_of events.now)) }
 {
