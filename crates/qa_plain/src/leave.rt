@@ -122,7 +122,6 @@ fn unanswered_by(before: &[Event], event: &Event, due: Option<Space>) -> Option<
 }
 
 /// The space in which a probe is due.
-#[tactic(auto, using(qa_base::proofs::machine::Steps::probe_due_after))]
 pub fn probe_due(events: &[Event]) -> Option<Space>
     ensures { result ≡ probes.probe_due (history_of events.now) }
 {
