@@ -77,7 +77,6 @@ fn has_end(header: &Header, events: &[Event], look: Look, first: Packet) -> bool
 }
 
 /// Whether the last event establishes persistent congestion.
-#[tactic(auto, using(crate::proofs::Turns::passing_more))]
 pub fn is_persistent(header: &Header, events: &[Event], look: Look) -> bool
     requires seen { IsLook header.now (history_of events.now) look }
     ensures { result ≡ loss.is_persistent header.now (history_of events.now) }

@@ -164,7 +164,6 @@ pub fn found_of(events: &[Event], look: Look, place: usize, event: &Event) -> Op
 }
 
 /// How many packets the last event found lost.
-#[tactic(auto, using(crate::proofs::Turns::passing_more))]
 pub fn owed_count(header: &Header, events: &[Event], look: Look) -> u64
     requires seen { IsLook header.now (history_of events.now) look }
     ensures { result ≡ length (loss.owed header.now (history_of events.now)) }

@@ -7,5 +7,4 @@ abbrev pub invariant-loop-place : goal.invariant-loop-place
 invariant-loop-place l = record {
   count : l.count ≡ length (found_in (history_of l.events) l.look (history_of (take l.place l.events)));
   bound : l.count ≤ l.place;
-  long : length (history_of (take l.place l.events)) ≡ l.place;
 }
