@@ -36,7 +36,6 @@ fn has_next(events: &[Event], look: Look, range: Span, number: PacketNumber) -> 
 }
 
 /// Whether each of them has.
-#[tactic(auto, using(crate::proofs::Turns::passing_more))]
 fn has_no_gap(events: &[Event], look: Look, range: Span) -> bool
     ensures { result ≡ list_all (tests.has_next (numbers_found (history_of events.now) look (history_of events.now)) range.0 range.1) (numbers_found (history_of events.now) look (history_of events.now)) }
 {
@@ -66,7 +65,6 @@ fn has_all(events: &[Event], look: Look, ranges: &[Span]) -> bool
 }
 
 /// Whether the ranges name each of them.
-#[tactic(auto, using(crate::proofs::Turns::passing_more))]
 fn all_named(events: &[Event], look: Look, ranges: &[Span]) -> bool
     ensures { result ≡ list_all (questions.is_named ranges.now) (numbers_found (history_of events.now) look (history_of events.now)) }
 {

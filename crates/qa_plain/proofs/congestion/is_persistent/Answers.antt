@@ -19,9 +19,9 @@ loop-place-preserved c =
     let with = λ (r : Option Packet). any (listed r ++ rest) in
     let or = λ (b : Bool). b || any rest in
     elim c.match-found_of.branch [
-      in-Some+then-has_end w ↦ w.found-is ∙ sym (next ∙ (ap with w.in-Some.is ∙ ap or (sym w.has_end.ensures ∙ w.if-has_end.true)))
-    | in-Some+else-has_end w ↦ w.found-is ∙ (c.loop-place.invariant ∙ sym (next ∙ (ap with w.in-Some.is ∙ ap or (sym w.has_end.ensures ∙ w.if-has_end.false))))
-    | in_default w ↦ w.found-is ∙ (c.loop-place.invariant ∙ sym (next ∙ ap with w.in_default.is))
+      | in-Some+then-has_end w ↦ w.found-is ∙ sym (next ∙ (ap with w.in-Some.is ∙ ap or (sym w.has_end.ensures ∙ w.if-has_end.true)))
+      | in-Some+else-has_end w ↦ w.found-is ∙ (c.loop-place.invariant ∙ sym (next ∙ (ap with w.in-Some.is ∙ ap or (sym w.has_end.ensures ∙ w.if-has_end.false))))
+      | in_default w ↦ w.found-is ∙ (c.loop-place.invariant ∙ sym (next ∙ ap with w.in_default.is))
     ]
 
 pub returns : goal.returns

@@ -15,8 +15,8 @@ loop-place-preserved c =
     let with = λ (r : Option Packet). length (listed r ++ rest) in
     let was = c.loop-place.invariant.count in
     elim c.match-found_of.branch [
-      in-Some w ↦ let now = next ∙ ap with w.in-Some.is in record { count = omega (arith, now, was); bound = omega arith }
-    | in_default w ↦ let now = next ∙ ap with w.in_default.is in record { count = omega (arith, now, was); bound = omega arith }
+      | in-Some w ↦ let now = next ∙ ap with w.in-Some.is in record { count = omega (arith, now, was); bound = omega arith }
+      | in_default w ↦ let now = next ∙ ap with w.in_default.is in record { count = omega (arith, now, was); bound = omega arith }
     ]
 
 pub returns : goal.returns
