@@ -13,7 +13,7 @@ pub one_more : (events : List Event) (i : ℕ) (e : Event) → i < length events
 one_more events i e within is = fold_more (λ h e. e ∷ h) [] events i e within ∙ ap (λ x. x ∷ history_of (take i events)) (sym is)
 
 -- its packet is the first
-pub packets_more : (events : List Event) (i : ℕ) (e : Event) → i < length events → e ≡ get_or events i e
+packets_more : (events : List Event) (i : ℕ) (e : Event) → i < length events → e ≡ get_or events i e
     → packets (history_of (take (i + 1) events)) ≡ packet_of i e ++ packets (history_of (take i events))
 packets_more events i e within is =
     let before = history_of (take i events) in
@@ -21,7 +21,7 @@ packets_more events i e within is =
     ap packets (one_more events i e within is) ∙ ap (λ n. packet_of n e ++ packets before) place
 
 -- also among those that pass a test
-pub passing_more : (test : Packet → Bool) (events : List Event) (i : ℕ) (e : Event) → i < length events → e ≡ get_or events i e
+passing_more : (test : Packet → Bool) (events : List Event) (i : ℕ) (e : Event) → i < length events → e ≡ get_or events i e
     → filter test (packets (history_of (take (i + 1) events))) ≡ filter test (packet_of i e) ++ filter test (packets (history_of (take i events)))
 passing_more test events i e within is = ap (filter test) (packets_more events i e within is) ∙ filter-append test (packet_of i e) (packets (history_of (take i events)))
 

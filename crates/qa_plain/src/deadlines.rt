@@ -68,7 +68,6 @@ fn awaits_loss(header: &Header, events: &[Event], look: Look, packet: Packet) ->
 }
 
 /// When the first such packet of the space was sent.
-#[tactic(auto, using(crate::proofs::Turns::passing_more))]
 fn first_awaiting(header: &Header, events: &[Event], look: Look, space: Space) -> Option<Micros>
     requires seen { IsLook header.now (history_of events.now) look }
     ensures { result ≡ timers.least_of (map (λ p. p.time) (filter (timers.awaits_loss header.now (history_of events.now)) (packets_of (history_of events.now) space))) }
@@ -115,7 +114,6 @@ fn earliest_loss(header: &Header, events: &[Event], look: Look) -> Option<Due>
 }
 
 /// Whether an open packet of the space asks for an acknowledgment.
-#[tactic(auto, using(crate::proofs::Turns::passing_more))]
 fn some_awaits(header: &Header, events: &[Event], look: Look, space: Space) -> bool
     requires seen { IsLook header.now (history_of events.now) look }
     ensures { result ≡ list_any (timers.awaits_acknowledgment header.now (history_of events.now)) (packets_of (history_of events.now) space) }
@@ -132,7 +130,6 @@ fn some_awaits(header: &Header, events: &[Event], look: Look, space: Space) -> b
 }
 
 /// The time of the last ack-eliciting packet of the space, open or not.
-#[tactic(auto, using(crate::proofs::Turns::passing_more))]
 pub fn last_eliciting(events: &[Event], space: Space) -> Option<Micros>
     ensures { result ≡ timers.last_eliciting (history_of events.now) space }
 {

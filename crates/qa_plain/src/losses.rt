@@ -216,7 +216,6 @@ pub fn bytes_in_flight(header: &Header, events: &[Event], look: Look) -> u128
 }
 
 /// Whether a packet of the space is owed.
-#[tactic(auto, using(crate::proofs::Turns::passing_more))]
 pub fn owes_in(header: &Header, events: &[Event], look: Look, space: Space) -> bool
     requires seen { IsLook header.now (history_of events.now) look }
     ensures { result ≡ list_any (packets.is_of space) (loss.owed header.now (history_of events.now)) }

@@ -13,7 +13,6 @@ use crate::losses::{Look, found_of};
 use qa_base::{Event, Header, PacketNumber, Span};
 
 /// Whether one of the packets that are owed has this number.
-#[tactic(auto, using(crate::proofs::Turns::passing_more))]
 fn is_in(events: &[Event], look: Look, wanted: u64) -> bool
     ensures { result ≡ tests.is_in (numbers_found (history_of events.now) look (history_of events.now)) wanted }
 {

@@ -32,7 +32,6 @@ fn later(last: Option<Micros>, time: Micros) -> Micros
 }
 
 /// When the last of the packets was sent that the last event found lost.
-#[tactic(auto, using(crate::proofs::Turns::passing_more))]
 pub fn last_owed(header: &Header, events: &[Event], look: Look) -> Option<Micros>
     requires seen { IsLook header.now (history_of events.now) look }
     ensures { result ≡ last_sending (loss.owed header.now (history_of events.now)) }
