@@ -1,4 +1,3 @@
-pub mod Searches
 pub mod Turns
 pub mod Owed
 pub mod Moved

@@ -26,12 +26,9 @@ pub fn time_of(event: &Event) -> Micros
 pub fn is_named(ranges: &[Span], number: PacketNumber) -> bool
     ensures { result ≡ events.is_named ranges.now number }
 {
-    for range in ranges {
-        if range.lo() <= number && number <= range.hi() {
-            return true;
-        }
-    }
-    false
+    ranges
+        .iter()
+        .any(|range| range.lo() <= number && number <= range.hi())
 }
 
 /// Whether the event is an acknowledgment of this number in this space.

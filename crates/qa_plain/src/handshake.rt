@@ -20,12 +20,7 @@ fn confirms(event: &Event) -> bool
 pub fn is_confirmed(events: &[Event]) -> bool
     ensures { result ≡ handshake.is_confirmed (history_of events.now) }
 {
-    for event in events {
-        if confirms(event) {
-            return true;
-        }
-    }
-    false
+    events.iter().any(|event| confirms(event))
 }
 
 /// Whether the event is an acknowledgment of Handshake packets.
@@ -42,12 +37,7 @@ fn acknowledges_handshake(event: &Event) -> bool
 fn is_handshake_acknowledged(events: &[Event]) -> bool
     ensures { result ≡ list_any handshake.acknowledges_handshake (history_of events.now) }
 {
-    for event in events {
-        if acknowledges_handshake(event) {
-            return true;
-        }
-    }
-    false
+    events.iter().any(|event| acknowledges_handshake(event))
 }
 
 /// Whether the peer has validated the sender's address: a server's peer always has (RFC 9002, A.8).
@@ -73,10 +63,5 @@ fn shows_keys(event: &Event) -> bool
 pub fn has_keys(events: &[Event]) -> bool
     ensures { result ≡ handshake.has_keys (history_of events.now) }
 {
-    for event in events {
-        if shows_keys(event) {
-            return true;
-        }
-    }
-    false
+    events.iter().any(|event| shows_keys(event))
 }

@@ -34,7 +34,7 @@ pub use lateness::{is_late, set_since};
 pub use leave::{is_probe_due, probe_spent, recovery_spent};
 pub use packet::{Packet, packet_of};
 pub use questions::{
-    bytes_in_flight, deadline, names_owed, owed_count, owes, owes_in, packet_deadline,
+    bytes_in_flight, deadline, is_owed, names_owed, owed_count, owes, owes_in, packet_deadline,
 };
 pub use settled::{is_covered, is_gone, is_lost, is_newly_acknowledged, largest_acknowledged};
 pub use timer::backoff;

@@ -11,6 +11,7 @@ ghost use Rattle.qa_plain.specs.Looks.{IsLook};
 
 use crate::estimates::sampled;
 use crate::losses::{Look, look_at};
+use crate::packet::Packet;
 use crate::timer::backoff;
 use crate::{deadlines, losses, named};
 use qa_base::{Due, Event, Header, Space, Span};
@@ -22,13 +23,21 @@ fn look(header: &Header, events: &[Event]) -> Look
     look_at(header, events, sampled(header, events))
 }
 
-/// Whether the last event found a packet lost, so that the next has to declare it: an
+/// Whether the last event found the packet lost, so that the next has to declare it: an
 /// acknowledgment of something new and a loss timer look for losses (RFC 9002, section 6.1, A.10).
+#[tactic(auto, using(crate::proofs::Owed::found_by_is))]
+pub fn is_owed(header: &Header, events: &[Event], packet: Packet) -> bool
+    ensures { result ≡ loss.is_owed header.now (history_of events.now) packet }
+{
+    losses::is_found(events, look(header, events), packet)
+}
+
+/// Whether the last event found a packet lost.
 #[tactic(auto, using(crate::proofs::Owed::some_counted))]
 pub fn owes(header: &Header, events: &[Event]) -> bool
     ensures { result ≡ packets.is_some_packet (loss.owed header.now (history_of events.now)) }
 {
-    owed_count(header, events) > 0
+    0 < owed_count(header, events)
 }
 
 /// Whether the last event found a packet of the space lost.

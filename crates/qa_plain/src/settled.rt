@@ -1,5 +1,7 @@
 //! What became of packets: acknowledged, lost, or gone with their space.
 ghost use Rattle.std.specs.Prelude.{◌≡◌, ◌∷◌, ◌+◌, drop};
+ghost use Rattle.std.specs.List.{list_any};
+ghost use Rattle.qa_base.specs.values.Events as questions;
 ghost use Rattle.qa_base.specs.machine.Packets as packets;
 ghost use Rattle.qa_base.specs.machine.Packets.{history_of};
 ghost use Rattle.qa_plain.specs.Words as spec;
@@ -19,17 +21,30 @@ fn behind(events: &[Event], packet: Packet) -> &[Event]
     }
 }
 
+/// Whether one of the events acknowledges the packet's number in its space.
+fn some_acknowledges(events: &[Event], packet: Packet) -> bool
+    ensures { result ≡ list_any (questions.acknowledges packet.space packet.number) events.now }
+{
+    events
+        .iter()
+        .any(|event| acknowledges(event, packet.space, packet.number))
+}
+
+/// Whether one of the events declares the packet's number in its space lost.
+fn some_declares_lost(events: &[Event], packet: Packet) -> bool
+    ensures { result ≡ list_any (questions.declares_lost packet.space packet.number) events.now }
+{
+    events
+        .iter()
+        .any(|event| declares_lost(event, packet.space, packet.number))
+}
+
 /// Whether an acknowledgment that came after the packet covers its number in its space, also one
 /// that came after the packet was declared lost (RFC 9002, A.7).
 pub fn is_covered(events: &[Event], packet: Packet) -> bool
     ensures { result ≡ packets.is_covered (history_of events.now) packet }
 {
-    for event in behind(events, packet) {
-        if acknowledges(event, packet.space, packet.number) {
-            return true;
-        }
-    }
-    false
+    some_acknowledges(behind(events, packet), packet)
 }
 
 /// Whether the sender declared the packet lost after it was sent: a Lost line of its space names
@@ -37,24 +52,14 @@ pub fn is_covered(events: &[Event], packet: Packet) -> bool
 pub fn is_lost(events: &[Event], packet: Packet) -> bool
     ensures { result ≡ packets.is_lost (history_of events.now) packet }
 {
-    for event in behind(events, packet) {
-        if declares_lost(event, packet.space, packet.number) {
-            return true;
-        }
-    }
-    false
+    some_declares_lost(behind(events, packet), packet)
 }
 
 /// Whether the keys of the space were discarded (RFC 9002, section 6.4).
 pub fn is_gone(events: &[Event], space: Space) -> bool
     ensures { result ≡ packets.is_gone (history_of events.now) space }
 {
-    for event in events {
-        if discards(event, space) {
-            return true;
-        }
-    }
-    false
+    events.iter().any(|event| discards(event, space))
 }
 
 /// Whether an event after these newly acknowledges the packet: it acknowledges it, and the packet
