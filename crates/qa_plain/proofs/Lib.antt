@@ -1,3 +1,4 @@
+pub mod Turns
 pub mod Owed
 pub mod Moved
 pub mod Entries

@@ -1,5 +1,5 @@
 -- The moves of one event.
-use Rattle.std.proofs.Common.{◌≡◌, ◌∙◌, ◌≤◌, ◌<◌, ◌^◌, ℕ, max, List, [], ◌∷◌, ◌++◌, Bool, true, false, unwrap_or, refl, ap, map, reverse, filter, fold, take, length}
+use Rattle.std.proofs.Common.{arith, ◌≡◌, ◌∙◌, ◌≤◌, ◌<◌, ◌^◌, ℕ, max, List, [], ◌∷◌, ◌++◌, Bool, true, false, unwrap_or, refl, ap, map, reverse, filter, fold, length}
 use Rattle.std.proofs.lemmas.List.{map-append, reverse-append}
 use Rattle.std.proofs.lemmas.List.Sums.{fold-append}
 use Rattle.std.specs.List.{All}
@@ -12,7 +12,9 @@ use Rattle.qa_base.specs.machine.Widths.{Fits}
 use Rattle.qa_base.specs.values.Constants.{minimum_window}
 use Rattle.qa_base.specs.values.Settings.{Settings, AreInRange}
 use Rattle.qa_base.specs.machine.Reno.{Move, Hit, Grow, Control, hits, latest_sent, grows, moved, collapses, is_limited, moves_of_last, reno}
-use Rattle.qa_base.proofs.machine.WindowBound.{window_at}
+use Rattle.qa_base.proofs.machine.Histories.{length-history_of}
+use Rattle.qa_base.proofs.machine.Steps.{reno_after}
+use Rattle.qa_base.proofs.machine.WindowBound.{window_bound, fits_history}
 use Rattle.qa_plain.specs.Words.{last_sending, hits_at}
 
 latest_is : (ps : List Packet) → latest_sent ps ≡ unwrap_or (last_sending ps) 0
@@ -47,7 +49,7 @@ three : (d : ℕ) (r : Control) (xs ys zs : List Move) → fold (moved d) r ((xs
 three d r xs ys zs = fold-append (moved d) r (xs ++ ys) zs ∙ ap (λ (x : Control). fold (moved d) x zs) (fold-append (moved d) r xs ys)
 
 -- the moves of the last event, one kind after the other
-pub moves_are : (c : Settings) (e : Event) (h : List Event) (d : ℕ) (r : Control)
+moves_are : (c : Settings) (e : Event) (h : List Event) (d : ℕ) (r : Control)
     → fold (moved d) r (moves_of_last c (e ∷ h))
     ≡ fold (moved d) (fold (moved d) (fold (moved d) r (hits_at (time_of e) (last_sending (owed c (e ∷ h))))) (collapses (is_persistent c (e ∷ h)))) (if is_limited e then [] else grows (newly_acknowledged (e ∷ h)))
 moves_are c e h d r =
@@ -56,7 +58,14 @@ moves_are c e h d r =
     three d r (hits (time_of e) (owed c (e ∷ h))) ys zs
     ∙ ap (λ (xs : List Move). fold (moved d) (fold (moved d) (fold (moved d) r xs) ys) zs) (hits_is (time_of e) (owed c (e ∷ h)))
 
--- after the first so many events the window is in the range that its moves ask for
-pub window_in_range : (c : Settings) (events : List Event) (i : ℕ) (r : Control) → AreInRange c → All Fits events → length events < 2 ^ 32 → r ≡ reno c (history_of (take i events))
+-- the window after one more event, one kind of move after the other
+pub reno_moved : (c : Settings) (e : Event) (h : List Event)
+    → reno c (e ∷ h)
+    ≡ fold (moved c.max_datagram_size) (fold (moved c.max_datagram_size) (fold (moved c.max_datagram_size) (reno c h) (hits_at (time_of e) (last_sending (owed c (e ∷ h))))) (collapses (is_persistent c (e ∷ h)))) (if is_limited e then [] else grows (newly_acknowledged (e ∷ h)))
+reno_moved c e h = reno_after c e h ∙ moves_are c e h c.max_datagram_size (reno c h)
+
+-- the window is in the range that its moves ask for
+pub window_in_range : (c : Settings) (events : List Event) (r : Control) → AreInRange c → All Fits events → length events < 2 ^ 32 → r ≡ reno c (history_of events)
     → (minimum_window c.max_datagram_size ≤ r.window) × (r.window ≤ 2 ^ 60)
-window_in_range c events i r range fit few is = rw is (window_at c events i range fit few)
+window_in_range c events r range fit few is =
+    rw is (window_bound c (history_of events) range (fits_history events fit) (omega (arith, length-history_of events, few)))

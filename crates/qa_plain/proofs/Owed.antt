@@ -1,15 +1,17 @@
 -- What is owed, as one filter.
-use Rattle.std.proofs.Common.{◌≡◌, ◌∙◌, List, [], ◌∷◌, Bool, true, false, ◌&&◌, ℕ, Option, Some, None, refl, ap, filter}
-use Rattle.std.specs.Prelude.{if◌then◌else◌}
+use Rattle.std.proofs.Common.{◌≡◌, ◌∙◌, List, [], ◌∷◌, Bool, true, false, ◌&&◌, ℕ, Option, Some, None, length, refl, sym, ap, filter, arith}
+use Rattle.std.proofs.lemmas.Bool.{lt-ltb}
+use Rattle.std.specs.List.{list_any}
+use Rattle.std.specs.Prelude.{if◌then◌else◌, nat_lt}
 use Rattle.qa_base.specs.declared.event.Event.{Event}
 use Rattle.qa_base.specs.declared.space.Space.{Space}
 use Rattle.qa_base.specs.machine.Estimates.{sampled}
-use Rattle.qa_base.specs.machine.Detection.{is_found, is_found_at, found_at, detection}
-use Rattle.qa_base.specs.machine.Loss.{is_owed, owed}
-use Rattle.qa_base.specs.machine.Packets.{Packet, packets, is_of}
+use Rattle.qa_base.specs.machine.Detection.{is_found, is_found_at, found_at, detection, are_ends}
+use Rattle.qa_base.specs.machine.Loss.{is_owed, owed, is_persistent}
+use Rattle.qa_base.specs.machine.Packets.{Packet, packets, is_of, is_some_packet}
 use Rattle.qa_base.specs.machine.Rtt.{Estimate}
 use Rattle.qa_base.specs.values.Settings.{Settings}
-use Rattle.qa_plain.specs.Looks.{Seen, IsLook, largest_there, is_found_where, is_found_by}
+use Rattle.qa_plain.specs.Looks.{Seen, IsLook, largest_there, is_found_where, is_found_by, found_in}
 
 one_more : (found of_space : Packet → Bool) (p : Packet) (ps rest : List Packet) (a b : Bool) → found p ≡ b
     → filter found ps ≡ rest
@@ -50,8 +52,19 @@ each_found : (c : Settings) (h : List Event) (look : Seen) (ps : List Packet) �
 each_found c h look [] is = refl
 each_found c h look (p ∷ ps) is = rw (found_by_is c h look p is, each_found c h look ps is) refl
 
-pub owed_by : (c : Settings) (h : List Event) (look : Seen) → IsLook c h look → owed c h ≡ filter (is_found_by h look) (packets h)
+pub owed_by : (c : Settings) (h : List Event) (look : Seen) → IsLook c h look → owed c h ≡ found_in h look h
 owed_by c h look is = owed_is c h ∙ each_found c h look (packets h) is
+
+-- they establish persistent congestion
+pub persistent_by : (c : Settings) (h : List Event) (look : Seen) → IsLook c h look
+    → list_any (λ p. list_any (are_ends look.rtt c h p) (found_in h look h)) (found_in h look h) ≡ is_persistent c h
+persistent_by c h look is =
+    ap (λ (r : Estimate). list_any (λ p. list_any (are_ends r c h p) (found_in h look h)) (found_in h look h)) is.0
+    ∙ sym (ap (λ (ps : List Packet). list_any (λ p. list_any (are_ends (sampled c h) c h p) ps) ps) (owed_by c h look is))
+
+pub some_counted : (ps : List Packet) → is_some_packet ps ≡ nat_lt 0 (length ps)
+some_counted [] = refl
+some_counted (p ∷ ps) = sym (lt-ltb 0 (length (p ∷ ps)) (omega arith))
 
 -- ---- tests in another order
 

@@ -1,4 +1,3 @@
 pub mod Listed
 pub mod Words
-pub mod Choices
 pub mod Looks

@@ -1,10 +1,11 @@
 -- What is found out of a history once, before its packets are asked.
-use Rattle.std.specs.Prelude.{◌≡◌, ◌&&◌, ℕ, Bool, false, List, Option, Some, None}
+use Rattle.std.specs.Prelude.{◌≡◌, ◌&&◌, ℕ, Bool, false, List, Option, Some, None, filter}
 use Rattle.qa_base.specs.declared.event.Event.{Event}
 use Rattle.qa_base.specs.declared.space.Space.{Space}
 use Rattle.qa_base.specs.machine.Estimates.{sampled}
 use Rattle.qa_base.specs.machine.Detection.{detection, is_late, is_unsettled}
-use Rattle.qa_base.specs.machine.Packets.{Packet, is_of, largest_acknowledged}
+use Rattle.qa_base.specs.machine.Breaches.{numbers}
+use Rattle.qa_base.specs.machine.Packets.{Packet, packets, is_of, largest_acknowledged}
 use Rattle.qa_base.specs.machine.Rtt.{Estimate}
 use Rattle.qa_base.specs.values.Settings.{Settings}
 
@@ -30,3 +31,11 @@ is_found_where h r largest p (Some (s, now)) = is_of s p && (p.in_flight && is_u
 -- by what is seen, the last event found the packet lost
 abbrev pub is_found_by : List Event → Seen → Packet → Bool
 is_found_by h look p = is_found_where h look.rtt look.largest p look.detection
+
+-- the packets of a part of the history that it found lost
+abbrev pub found_in : List Event → Seen → List Event → List Packet
+found_in h look part = filter (is_found_by h look) (packets part)
+
+-- their numbers
+abbrev pub numbers_found : List Event → Seen → List Event → List ℕ
+numbers_found h look part = numbers (found_in h look part)

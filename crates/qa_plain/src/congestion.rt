@@ -2,15 +2,15 @@
 ghost use Rattle.std.specs.Prelude.{◌≡◌};
 ghost use Rattle.std.specs.List.{list_any};
 ghost use Rattle.qa_base.specs.machine.Detection as detections;
-ghost use Rattle.qa_base.specs.machine.Estimates.{sampled};
 ghost use Rattle.qa_base.specs.machine.Loss as loss;
 ghost use Rattle.qa_base.specs.machine.Packets.{history_of};
-ghost use Rattle.qa_plain.specs.Looks.{IsLook};
+ghost use Rattle.qa_plain.specs.Looks.{IsLook, found_in};
 
-use crate::losses::{Look, is_owed};
+use crate::losses::{Look, found_of};
 use crate::packet::{Packet, packet_of};
 use crate::settled::is_covered;
 use qa_base::{Event, Header, Micros};
+use qa_recovery::Rtt;
 
 /// Whether the packet was sent after the first sample.
 fn is_after(first: Option<Micros>, packet: Packet) -> bool
@@ -24,11 +24,10 @@ fn is_after(first: Option<Micros>, packet: Packet) -> bool
 
 /// Whether the packet can be an end of persistent congestion: ack-eliciting, and sent after the
 /// first sample.
-fn is_end(header: &Header, events: &[Event], look: Look, packet: Packet) -> bool
-    requires seen { IsLook header.now (history_of events.now) look }
-    ensures { result ≡ detections.is_end (sampled header.now (history_of events.now)) packet }
+fn is_end(rtt: Rtt, packet: Packet) -> bool
+    ensures { result ≡ detections.is_end rtt packet }
 {
-    packet.eliciting && is_after(look.rtt.first_rtt_sample, packet)
+    packet.eliciting && is_after(rtt.first_rtt_sample, packet)
 }
 
 /// Whether a packet that was sent between the two is acknowledged.
@@ -50,29 +49,26 @@ pub fn is_acknowledged_between(events: &[Event], first: Packet, second: Packet) 
 }
 
 /// Whether the two lie too far apart, and nothing that was sent between them was acknowledged.
-fn are_ends(header: &Header, events: &[Event], look: Look, first: Packet, second: Packet) -> bool
-    requires seen { IsLook header.now (history_of events.now) look }
-    ensures { result ≡ detections.are_ends (sampled header.now (history_of events.now)) header.now (history_of events.now) first second }
+fn are_ends(header: &Header, events: &[Event], rtt: Rtt, first: Packet, second: Packet) -> bool
+    ensures { result ≡ detections.are_ends rtt header.now (history_of events.now) first second }
 {
     let delay = Micros::of(header.max_ack_delay());
     let apart = second.time.get().saturating_sub(first.time.get());
-    is_end(header, events, look, first)
-        && is_end(header, events, look, second)
-        && look.rtt.persistent_after(delay) < apart
+    is_end(rtt, first)
+        && is_end(rtt, second)
+        && rtt.persistent_after(delay) < apart
         && !is_acknowledged_between(events, first, second)
 }
 
 /// Whether the packet and one that is owed establish persistent congestion.
 fn has_end(header: &Header, events: &[Event], look: Look, first: Packet) -> bool
-    requires seen { IsLook header.now (history_of events.now) look }
-    ensures { result ≡ list_any (detections.are_ends (sampled header.now (history_of events.now)) header.now (history_of events.now) first) (loss.owed header.now (history_of events.now)) }
+    ensures { result ≡ list_any (detections.are_ends look.rtt header.now (history_of events.now) first) (found_in (history_of events.now) look (history_of events.now)) }
 {
+    let rtt = look.rtt;
     let mut found = false;
     for (place, event) in events.iter().enumerate() {
-        if let Some(packet) = packet_of(place, event) {
-            if is_owed(header, events, look, packet)
-                && are_ends(header, events, look, first, packet)
-            {
+        if let Some(packet) = found_of(events, look, place, event) {
+            if are_ends(header, events, rtt, first, packet) {
                 found = true;
             }
         }
@@ -87,8 +83,8 @@ pub fn is_persistent(header: &Header, events: &[Event], look: Look) -> bool
 {
     let mut found = false;
     for (place, event) in events.iter().enumerate() {
-        if let Some(packet) = packet_of(place, event) {
-            if is_owed(header, events, look, packet) && has_end(header, events, look, packet) {
+        if let Some(packet) = found_of(events, look, place, event) {
+            if has_end(header, events, look, packet) {
                 found = true;
             }
         }

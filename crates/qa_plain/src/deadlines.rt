@@ -12,7 +12,7 @@ ghost use Rattle.qa_base.specs.values.Limits.{max_time, greatest_max_ack_delay};
 use crate::event::time_of;
 use crate::handshake::{has_keys, is_confirmed, is_validated};
 use crate::losses::{Look, is_open};
-use crate::packet::{Packet, packet_of};
+use crate::packet::{Packet, packet_in};
 use crate::settled::{acknowledges_new, largest_acknowledged};
 use qa_base::{Due, Event, Header, Kind, Micros, Space};
 
@@ -74,8 +74,8 @@ fn first_awaiting(header: &Header, events: &[Event], look: Look, space: Space) -
 {
     let mut least = None;
     for (place, event) in events.iter().enumerate() {
-        if let Some(packet) = packet_of(place, event) {
-            if space == packet.space && awaits_loss(header, events, look, packet) {
+        if let Some(packet) = packet_in(space, place, event) {
+            if awaits_loss(header, events, look, packet) {
                 least = Some(sooner(least, packet.time));
             }
         }
@@ -120,8 +120,8 @@ fn some_awaits(header: &Header, events: &[Event], look: Look, space: Space) -> b
 {
     let mut found = false;
     for (place, event) in events.iter().enumerate() {
-        if let Some(packet) = packet_of(place, event) {
-            if space == packet.space && packet.eliciting && is_open(header, events, look, packet) {
+        if let Some(packet) = packet_in(space, place, event) {
+            if packet.eliciting && is_open(header, events, look, packet) {
                 found = true;
             }
         }
@@ -135,8 +135,8 @@ pub fn last_eliciting(events: &[Event], space: Space) -> Option<Micros>
 {
     let mut last = None;
     for (place, event) in events.iter().enumerate() {
-        if let Some(packet) = packet_of(place, event) {
-            if space == packet.space && packet.eliciting {
+        if let Some(packet) = packet_in(space, place, event) {
+            if packet.eliciting {
                 last = Some(packet.time);
             }
         }

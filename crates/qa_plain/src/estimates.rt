@@ -34,6 +34,25 @@ pub fn refreshed_where_asked(header: &Header, events: &[Event], look: Look) -> R
     }
 }
 
+/// What is known after one more event, by the estimate before it.
+pub fn look_after(
+    header: &Header,
+    before: &[Event],
+    event: &Event,
+    after: &[Event],
+    rtt: Rtt,
+) -> Look
+    requires whole { history_of after.now ≡ event.now ∷ history_of before.now }
+    requires known { rtt ≡ estimates.rtt header.now (history_of before.now) }
+    ensures { IsLook header.now (history_of after.now) result }
+{
+    look_at(
+        header,
+        after,
+        updated(rtt, sample_of(header, before, event)),
+    )
+}
+
 /// The estimate after one more event. Only where the header asks for a refresh is it asked what the
 /// event found lost.
 #[tactic(auto, using(crate::proofs::Refreshed::rtt_unasked))]

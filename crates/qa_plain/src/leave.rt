@@ -12,12 +12,12 @@ ghost use Rattle.qa_base.specs.machine.Probes as probes;
 ghost use Rattle.qa_plain.specs.Words as words;
 ghost use Rattle.qa_base.specs.machine.Widths.{Fits};
 
-use crate::estimates::refreshed_where_asked;
-use crate::losses::{Look, look_at};
-use crate::sampling::{sample_of, start, updated};
+use crate::estimates::{look_after, refreshed_where_asked};
+use crate::losses::Look;
+use crate::sampling::start;
 use crate::settled::acknowledges_new;
 use crate::timer::{is_discard, is_pto};
-use crate::window::{last_owed, moved};
+use crate::window::{last_owed, reno_after};
 use qa_base::{Event, Header, Leave, Micros, Space};
 use qa_recovery::Reno;
 
@@ -122,7 +122,6 @@ fn unanswered_by(before: &[Event], event: &Event, due: Option<Space>) -> Option<
 }
 
 /// The space in which a probe is due.
-#[tactic(auto, using(qa_base::proofs::machine::Steps::probe_due_after))]
 pub fn probe_due(events: &[Event]) -> Option<Space>
     ensures { result ≡ probes.probe_due (history_of events.now) }
 {
@@ -238,10 +237,9 @@ pub fn recovery_spent(header: &Header, events: &[Event]) -> Option<u64>
     for (place, event) in events.iter().enumerate() {
         let before = &events[..place];
         let after = &events[..place + 1];
-        let sampled = updated(rtt, sample_of(header, before, event));
-        let seen = look_at(header, after, sampled);
+        let seen = look_after(header, before, event, after, rtt);
         spent = recovery_after(header, before, event, after, seen, reno, spent);
-        reno = moved(header, before, event, after, seen, reno);
+        reno = reno_after(header, before, event, after, seen, reno);
         rtt = refreshed_where_asked(header, after, seen);
     }
     spent

@@ -32,7 +32,6 @@ pub use event::time_of;
 pub use handshake::is_confirmed;
 pub use lateness::{is_late, set_since};
 pub use leave::{is_probe_due, probe_spent, recovery_spent};
-pub use named::{has_at_or_above, were_sent};
 pub use packet::{Packet, packet_of};
 pub use questions::{
     bytes_in_flight, deadline, is_owed, names_owed, owed_count, owes, owes_in, packet_deadline,

@@ -1,11 +1,12 @@
 //! Detection of losses, what is open, and the bytes in flight (RFC 9002, section 6.1, A.10).
-ghost use Rattle.std.specs.Prelude.{◌&&◌, ◌≡◌, ◌∷◌, ◌≤◌, ◌*◌, length};
+ghost use Rattle.std.specs.Prelude.{◌&&◌, ◌≡◌, ◌∷◌, ◌≤◌, ◌*◌, filter, length};
 ghost use Rattle.qa_base.specs.declared.space.Space.{Space};
 ghost use Rattle.qa_base.specs.machine.Detection as detections;
 ghost use Rattle.qa_base.specs.machine.Estimates as estimates;
 ghost use Rattle.qa_base.specs.machine.Loss as loss;
 ghost use Rattle.qa_base.specs.machine.Packets as packets;
 ghost use Rattle.qa_base.specs.machine.Packets.{history_of};
+ghost use Rattle.qa_plain.specs.Listed.{listed};
 ghost use Rattle.qa_plain.specs.Looks.{IsLook, is_found_by, largest_there as largest_there_of};
 ghost use Rattle.std.specs.List.{list_any};
 
@@ -152,13 +153,14 @@ pub fn is_found(events: &[Event], look: Look, packet: Packet) -> bool
     }
 }
 
-/// Whether the last event found the packet lost.
-#[tactic(auto, using(crate::proofs::Owed::found_by_is))]
-pub fn is_owed(header: &Header, events: &[Event], look: Look, packet: Packet) -> bool
-    requires seen { IsLook header.now (history_of events.now) look }
-    ensures { result ≡ loss.is_owed header.now (history_of events.now) packet }
+/// The packet that the event sent, where by what is known the last of the events found it lost.
+pub fn found_of(events: &[Event], look: Look, place: usize, event: &Event) -> Option<Packet>
+    ensures { listed result ≡ filter (is_found_by (history_of events.now) look) (packets.packet_of place event.now) }
 {
-    is_found(events, look, packet)
+    match packet_of(place, event) {
+        Some(packet) if is_found(events, look, packet) => Some(packet),
+        _ => None,
+    }
 }
 
 /// How many packets the last event found lost.
@@ -168,22 +170,21 @@ pub fn owed_count(header: &Header, events: &[Event], look: Look) -> u64
 {
     let mut count = 0;
     for (place, event) in events.iter().enumerate() {
-        if let Some(packet) = packet_of(place, event) {
-            if is_owed(header, events, look, packet) {
-                count += 1;
-            }
+        if let Some(_packet) = found_of(events, look, place, event) {
+            count += 1;
         }
     }
     count
 }
 
 /// Whether the packet is neither acknowledged nor lost, and its space not discarded.
+#[tactic(auto, using(crate::proofs::Owed::found_by_is))]
 pub fn is_open(header: &Header, events: &[Event], look: Look, packet: Packet) -> bool
     requires seen { IsLook header.now (history_of events.now) look }
     ensures { result ≡ loss.is_open header.now (history_of events.now) packet }
 {
     is_unsettled(events, packet)
-        && !is_owed(header, events, look, packet)
+        && !is_found(events, look, packet)
         && !is_gone(events, packet.space)
 }
 
@@ -214,22 +215,6 @@ pub fn bytes_in_flight(header: &Header, events: &[Event], look: Look) -> u128
     bytes
 }
 
-/// Whether a loss is owed.
-pub fn owes(header: &Header, events: &[Event], look: Look) -> bool
-    requires seen { IsLook header.now (history_of events.now) look }
-    ensures { result ≡ packets.is_some_packet (loss.owed header.now (history_of events.now)) }
-{
-    let mut found = false;
-    for (place, event) in events.iter().enumerate() {
-        if let Some(packet) = packet_of(place, event) {
-            if is_owed(header, events, look, packet) {
-                found = true;
-            }
-        }
-    }
-    found
-}
-
 /// Whether a packet of the space is owed.
 pub fn owes_in(header: &Header, events: &[Event], look: Look, space: Space) -> bool
     requires seen { IsLook header.now (history_of events.now) look }
@@ -237,8 +222,8 @@ pub fn owes_in(header: &Header, events: &[Event], look: Look, space: Space) -> b
 {
     let mut found = false;
     for (place, event) in events.iter().enumerate() {
-        if let Some(packet) = packet_of(place, event) {
-            if is_owed(header, events, look, packet) && space == packet.space {
+        if let Some(packet) = found_of(events, look, place, event) {
+            if space == packet.space {
                 found = true;
             }
         }

@@ -1,5 +1,5 @@
 //! Packets, as the events tell them that sent them.
-ghost use Rattle.std.specs.Prelude.{◌≡◌};
+ghost use Rattle.std.specs.Prelude.{◌≡◌, filter};
 ghost use Rattle.qa_base.specs.machine.Packets as packets;
 ghost use Rattle.qa_plain.specs.Listed.{listed};
 
@@ -79,6 +79,16 @@ pub fn packet_of(place: usize, event: &Event) -> Option<Packet>
             in_flight: *in_flight,
             leave: *leave,
         }),
+        _ => None,
+    }
+}
+
+/// The same, of an event that sent one of the space.
+pub fn packet_in(space: Space, place: usize, event: &Event) -> Option<Packet>
+    ensures { listed result ≡ filter (packets.is_of space) (packets.packet_of place event.now) }
+{
+    match packet_of(place, event) {
+        Some(packet) if space == packet.space => Some(packet),
         _ => None,
     }
 }

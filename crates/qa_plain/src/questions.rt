@@ -25,17 +25,19 @@ fn look(header: &Header, events: &[Event]) -> Look
 
 /// Whether the last event found the packet lost, so that the next has to declare it: an
 /// acknowledgment of something new and a loss timer look for losses (RFC 9002, section 6.1, A.10).
+#[tactic(auto, using(crate::proofs::Owed::found_by_is))]
 pub fn is_owed(header: &Header, events: &[Event], packet: Packet) -> bool
     ensures { result ≡ loss.is_owed header.now (history_of events.now) packet }
 {
-    losses::is_owed(header, events, look(header, events), packet)
+    losses::is_found(events, look(header, events), packet)
 }
 
 /// Whether the last event found a packet lost.
+#[tactic(auto, using(crate::proofs::Owed::some_counted))]
 pub fn owes(header: &Header, events: &[Event]) -> bool
     ensures { result ≡ packets.is_some_packet (loss.owed header.now (history_of events.now)) }
 {
-    losses::owes(header, events, look(header, events))
+    0 < owed_count(header, events)
 }
 
 /// Whether the last event found a packet of the space lost.

@@ -43,7 +43,6 @@ pub fn resets_count(header: &Header, before: &[Event], event: &Event, after: &[E
 /// The PTO count after the events: how many probe timeouts there were since the last event that
 /// sets it to 0 (RFC 9002, section 6.2.1). Those are a discard, and an acknowledgment of something
 /// new where the peer has validated the sender's address.
-#[tactic(auto, using(qa_base::proofs::machine::Steps::backoff_after))]
 pub fn backoff(header: &Header, events: &[Event]) -> u64
     ensures value { result ≡ timers.backoff header.now (history_of events.now) }
     ensures bound { result ≤ length events.now }

@@ -8,14 +8,15 @@ ghost use Rattle.qa_plain.specs.Looks.{IsLook};
 ghost use Rattle.qa_base.specs.machine.Widths.{Fits};
 ghost use Rattle.qa_base.specs.values.Constants.{minimum_window};
 ghost use Rattle.qa_base.specs.values.Limits.{max_packet_size};
+ghost use Rattle.qa_base.specs.values.Settings.{AreInRange};
 ghost use Rattle.qa_plain.specs.Words.{last_sending, hits_at};
 
 use crate::congestion::is_persistent;
-use crate::estimates::refreshed_where_asked;
+use crate::estimates::{look_after, refreshed_where_asked};
 use crate::event::time_of;
-use crate::losses::{Look, is_owed, look_at};
+use crate::losses::{Look, found_of};
 use crate::packet::packet_of;
-use crate::sampling::{sample_of, start, updated};
+use crate::sampling::start;
 use crate::settled::is_newly_acknowledged;
 use qa_base::{Event, Header, Micros};
 use qa_recovery::Reno;
@@ -37,10 +38,8 @@ pub fn last_owed(header: &Header, events: &[Event], look: Look) -> Option<Micros
 {
     let mut last = None;
     for (place, event) in events.iter().enumerate() {
-        if let Some(packet) = packet_of(place, event) {
-            if is_owed(header, events, look, packet) {
-                last = Some(later(last, packet.time));
-            }
+        if let Some(packet) = found_of(events, look, place, event) {
+            last = Some(later(last, packet.time));
         }
     }
     last
@@ -137,9 +136,9 @@ fn grown_unless_limited(header: &Header, before: &[Event], event: &Event, reno: 
     }
 }
 
-/// The window after the moves of an event: losses first, then growth.
-#[tactic(auto, using(crate::proofs::Moved::moves_are))]
-pub fn moved(
+/// The window after one more event: its losses count first, then its growth.
+#[tactic(auto, using(crate::proofs::Moved::reno_moved))]
+pub fn reno_after(
     header: &Header,
     before: &[Event],
     event: &Event,
@@ -149,15 +148,15 @@ pub fn moved(
 ) -> Reno
     requires whole { history_of after.now ≡ event.now ∷ history_of before.now }
     requires seen { IsLook header.now (history_of after.now) look }
-    requires low { minimum_window header.now.max_datagram_size ≤ reno.window }
-    requires high { reno.window ≤ 2 ^ 60 }
+    requires known { reno ≡ steps.reno header.now (history_of before.now) }
+    requires range { AreInRange header.now }
     requires few { length before.now < 2 ^ 32 }
     requires fit { All Fits before.now }
-    ensures { result ≡ fold (steps.moved header.now.max_datagram_size) reno (steps.moves_of_last header.now (event.now ∷ history_of before.now)) }
+    ensures { result ≡ steps.reno header.now (event.now ∷ history_of before.now) }
 {
-    let reno = hit_by(header, reno, last_owed(header, after, look), time_of(event));
-    let reno = collapsed(header, reno, is_persistent(header, after, look));
-    grown_unless_limited(header, before, event, reno)
+    let hit = hit_by(header, reno, last_owed(header, after, look), time_of(event));
+    let collapsed = collapsed(header, hit, is_persistent(header, after, look));
+    grown_unless_limited(header, before, event, collapsed)
 }
 
 /// The congestion window, the slow start threshold and recovery after the events (RFC 9002, section
@@ -175,9 +174,8 @@ pub fn reno(header: &Header, events: &[Event]) -> Reno
     for (place, event) in events.iter().enumerate() {
         let before = &events[..place];
         let after = &events[..place + 1];
-        let sampled = updated(rtt, sample_of(header, before, event));
-        let seen = look_at(header, after, sampled);
-        reno = moved(header, before, event, after, seen, reno);
+        let seen = look_after(header, before, event, after, rtt);
+        reno = reno_after(header, before, event, after, seen, reno);
         rtt = refreshed_where_asked(header, after, seen);
     }
     reno

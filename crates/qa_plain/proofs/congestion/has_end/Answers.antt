@@ -1,15 +1,29 @@
-use Rattle.std.proofs.Common.{◌≡◌, arith, filter}
-use Rattle.std.proofs.lemmas.Grind.{common_steps}
+use Rattle.std.proofs.Common.{◌∙◌, ◌||◌, ◌++◌, Bool, Option, sym, ap, take}
 use Rattle.std.specs.List.{list_any}
 use Rattle.qa_base.specs.machine.Detection.{are_ends}
-use Rattle.qa_base.specs.machine.Estimates.{sampled}
-use Rattle.qa_base.specs.machine.Loss.{is_owed}
-use Rattle.qa_base.specs.machine.Packets.{history_of, packets}
-use Rattle.qa_plain.proofs.Owed.{owed_is}
+use Rattle.qa_base.specs.machine.Packets.{Packet, history_of}
+use Rattle.qa_plain.specs.Listed.{listed}
+use Rattle.qa_plain.specs.Looks.{Seen, is_found_by, found_in}
+use Rattle.qa_plain.proofs.Turns.{passing_next, at_end}
 use Rattle.qa_plain.proofs.congestion.has_end.Goals as goal
+use Rattle.qa_plain.proofs.congestion.has_end.Goals.{in-Some+then-are_ends, in-Some+else-are_ends, in_default}
+
+pub loop-place-preserved : goal.loop-place-preserved
+loop-place-preserved c =
+    let h = history_of c.args.events.now in
+    let rest = found_in h c.args.look (history_of (take c.loop-place.place c.args.events.now)) in
+    let any = list_any (are_ends c.args.look.rtt c.args.header.now h c.args.first) in
+    let next = passing_next any (is_found_by h c.args.look) c.args.events.now c.loop-place.place c.index-events-place.result c.found_of.result c.loop-place-test.true c.index-events-place.is c.found_of.ensures in
+    let with = λ (r : Option Packet). any (listed r ++ rest) in
+    let or = λ (b : Bool). b || any rest in
+    let test = λ (p : Packet). ap (λ (l : Seen). are_ends l.rtt c.args.header.now h c.args.first p) c.look.view_is in
+    elim c.match-found_of.branch [
+      | in-Some+then-are_ends w ↦ w.found-is ∙ sym (next ∙ (ap with w.in-Some.is ∙ ap or (sym (test w.in-Some.packet) ∙ (sym w.are_ends.ensures ∙ w.if-are_ends.true))))
+      | in-Some+else-are_ends w ↦ w.found-is ∙ (c.loop-place.invariant ∙ sym (next ∙ (ap with w.in-Some.is ∙ ap or (sym (test w.in-Some.packet) ∙ (sym w.are_ends.ensures ∙ w.if-are_ends.false)))))
+      | in_default w ↦ w.found-is ∙ (c.loop-place.invariant ∙ sym (next ∙ ap with w.in_default.is))
+    ]
 
 pub returns : goal.returns
 returns c =
     let h = history_of c.args.events.now in
-    let all : c.loop-place.found ≡ list_any (are_ends (sampled c.args.header.now h) c.args.header.now h c.args.first) (filter (is_owed c.args.header.now h) (packets h)) = grind (arith, common_steps) in
-    rw owed_is all
+    c.loop-place.invariant ∙ at_end (λ part. list_any (are_ends c.args.look.rtt c.args.header.now h c.args.first) (found_in h c.args.look part)) c.args.events.now c.loop-place.place c.loop-place-test.false

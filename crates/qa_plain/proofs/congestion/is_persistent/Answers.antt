@@ -1,15 +1,32 @@
-use Rattle.std.proofs.Common.{◌≡◌, arith, ◌∙◌, filter, sym, ap, List}
-use Rattle.std.proofs.lemmas.Grind.{common_steps}
+use Rattle.std.proofs.Common.{◌∙◌, ◌||◌, ◌++◌, Bool, Option, sym, ap, take}
 use Rattle.std.specs.List.{list_any}
 use Rattle.qa_base.specs.machine.Detection.{are_ends}
-use Rattle.qa_base.specs.machine.Estimates.{sampled}
-use Rattle.qa_base.specs.machine.Loss.{is_owed, owed}
-use Rattle.qa_base.specs.machine.Packets.{Packet, history_of, packets}
-use Rattle.qa_plain.proofs.Owed.{owed_is}
+use Rattle.qa_base.specs.machine.Packets.{Packet, history_of}
+use Rattle.qa_plain.specs.Listed.{listed}
+use Rattle.qa_plain.specs.Looks.{is_found_by, found_in}
+use Rattle.qa_plain.proofs.Owed.{persistent_by}
+use Rattle.qa_plain.proofs.Turns.{passing_next, at_end}
 use Rattle.qa_plain.proofs.congestion.is_persistent.Goals as goal
+use Rattle.qa_plain.proofs.congestion.is_persistent.Goals.{in-Some+then-has_end, in-Some+else-has_end, in_default}
+
+pub loop-place-preserved : goal.loop-place-preserved
+loop-place-preserved c =
+    let h = history_of c.args.events.now in
+    let rest = found_in h c.args.look (history_of (take c.loop-place.place c.args.events.now)) in
+    let test : Packet → Bool = λ p. list_any (are_ends c.args.look.rtt c.args.header.now h p) (found_in h c.args.look h) in
+    let any = list_any test in
+    let next = passing_next any (is_found_by h c.args.look) c.args.events.now c.loop-place.place c.index-events-place.result c.found_of.result c.loop-place-test.true c.index-events-place.is c.found_of.ensures in
+    let with = λ (r : Option Packet). any (listed r ++ rest) in
+    let or = λ (b : Bool). b || any rest in
+    elim c.match-found_of.branch [
+      | in-Some+then-has_end w ↦ w.found-is ∙ sym (next ∙ (ap with w.in-Some.is ∙ ap or (sym w.has_end.ensures ∙ w.if-has_end.true)))
+      | in-Some+else-has_end w ↦ w.found-is ∙ (c.loop-place.invariant ∙ sym (next ∙ (ap with w.in-Some.is ∙ ap or (sym w.has_end.ensures ∙ w.if-has_end.false))))
+      | in_default w ↦ w.found-is ∙ (c.loop-place.invariant ∙ sym (next ∙ ap with w.in_default.is))
+    ]
 
 pub returns : goal.returns
 returns c =
     let h = history_of c.args.events.now in
-    let all : c.loop-place.found ≡ list_any (λ (p : Packet). list_any (are_ends (sampled c.args.header.now h) c.args.header.now h p) (owed c.args.header.now h)) (filter (is_owed c.args.header.now h) (packets h)) = grind (arith, common_steps) in
-    all ∙ sym (ap (λ (ps : List Packet). list_any (λ (p : Packet). list_any (are_ends (sampled c.args.header.now h) c.args.header.now h p) (owed c.args.header.now h)) ps) (owed_is c.args.header.now h))
+    let test : Packet → Bool = λ p. list_any (are_ends c.args.look.rtt c.args.header.now h p) (found_in h c.args.look h) in
+    c.loop-place.invariant ∙ (at_end (λ part. list_any test (found_in h c.args.look part)) c.args.events.now c.loop-place.place c.loop-place-test.false
+    ∙ persistent_by c.args.header.now h c.args.look c.requires.seen)

@@ -1,4 +1,4 @@
-use Rattle.std.proofs.Common.{◌≡◌, ◌≤◌, ◌*◌, take, length}
+use Rattle.std.proofs.Common.{◌≡◌, ◌≤◌, ◌*◌, take}
 use Rattle.qa_base.specs.machine.Packets.{history_of}
 use Rattle.std.specs.Option.{ForSome}
 use Rattle.qa_base.specs.machine.Leave.{probe_spent}
@@ -8,5 +8,4 @@ abbrev pub invariant-loop-place : goal.invariant-loop-place
 invariant-loop-place l = record {
   value : l.spent ≡ probe_spent (history_of (take l.place l.events));
   few : ForSome l.spent (λ n. n ≤ l.place * 18446744073709551615);
-  long : length (history_of (take l.place l.events)) ≡ l.place;
 }

@@ -1,4 +1,4 @@
-use Rattle.std.proofs.Common.{◌≡◌, ◌≤◌, take, length}
+use Rattle.std.proofs.Common.{◌≡◌, ◌≤◌, take}
 use Rattle.qa_base.specs.machine.Estimates.{rtt}
 use Rattle.qa_base.specs.machine.Packets.{history_of}
 use Rattle.std.specs.Option.{ForSome}
@@ -12,5 +12,4 @@ invariant-loop-place l = record {
   reno : l.reno ≡ reno l.header (history_of (take l.place l.events));
   value : l.spent ≡ recovery_spent l.header (history_of (take l.place l.events));
   few : ForSome l.spent (λ n. n ≤ l.place);
-  long : length (history_of (take l.place l.events)) ≡ l.place;
 }

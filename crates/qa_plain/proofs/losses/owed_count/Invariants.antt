@@ -1,11 +1,10 @@
-use Rattle.std.proofs.Common.{◌≡◌, ◌≤◌, take, length, filter}
-use Rattle.qa_base.specs.machine.Loss.{is_owed}
-use Rattle.qa_base.specs.machine.Packets.{history_of, packets}
+use Rattle.std.proofs.Common.{◌≡◌, ◌≤◌, take, length}
+use Rattle.qa_plain.specs.Looks.{found_in}
+use Rattle.qa_base.specs.machine.Packets.{history_of}
 use Rattle.qa_plain.proofs.losses.owed_count.Given as goal
 
 abbrev pub invariant-loop-place : goal.invariant-loop-place
 invariant-loop-place l = record {
-  count : l.count ≡ length (filter (is_owed l.header (history_of l.events)) (packets (history_of (take l.place l.events))));
+  count : l.count ≡ length (found_in (history_of l.events) l.look (history_of (take l.place l.events)));
   bound : l.count ≤ l.place;
-  long : length (history_of (take l.place l.events)) ≡ l.place;
 }

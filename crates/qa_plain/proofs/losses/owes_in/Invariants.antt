@@ -1,12 +1,12 @@
-use Rattle.std.proofs.Common.{◌≡◌, take, length, filter}
+use Rattle.std.proofs.Common.{◌≡◌, take, length}
 use Rattle.std.specs.List.{list_any}
-use Rattle.qa_base.specs.machine.Packets.{history_of, packets}
-use Rattle.qa_base.specs.machine.Loss.{is_owed}
+use Rattle.qa_base.specs.machine.Packets.{history_of}
+use Rattle.qa_plain.specs.Looks.{found_in}
 use Rattle.qa_base.specs.machine.Packets.{is_of}
 use Rattle.qa_plain.proofs.losses.owes_in.Given as goal
 
 abbrev pub invariant-loop-place : goal.invariant-loop-place
 invariant-loop-place l = record {
-  found : l.found ≡ list_any (is_of l.space) (filter (is_owed l.header (history_of l.events)) (packets (history_of (take l.place l.events))));
+  found : l.found ≡ list_any (is_of l.space) (found_in (history_of l.events) l.look (history_of (take l.place l.events)));
   long : length (history_of (take l.place l.events)) ≡ l.place;
 }

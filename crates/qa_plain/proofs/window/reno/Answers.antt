@@ -1,8 +1,13 @@
-use Rattle.qa_plain.proofs.Moved.{window_in_range}
+use Rattle.std.proofs.Common.{◌∙◌, sym, ap}
+use Rattle.qa_base.specs.machine.Reno.{reno}
+use Rattle.qa_plain.proofs.Turns.{one_more}
 use Rattle.qa_plain.proofs.window.reno.Goals as goal
 
-pub moved-reno-requires-clause-low : goal.moved-reno-requires-clause-low
-moved-reno-requires-clause-low c = (window_in_range c.args.header.now c.args.events.now c.loop-place.place c.loop-place.reno c.initial_window.ensures.range c.requires.fit c.requires.few c.loop-place.invariant.reno).0
+pub reno_after-reno-requires-clause-whole : goal.reno_after-reno-requires-clause-whole
+reno_after-reno-requires-clause-whole c = one_more c.args.events.now c.loop-place.place c.index-events-place.result c.loop-place-test.true c.index-events-place.is
 
-pub moved-reno-requires-clause-high : goal.moved-reno-requires-clause-high
-moved-reno-requires-clause-high c = (window_in_range c.args.header.now c.args.events.now c.loop-place.place c.loop-place.reno c.initial_window.ensures.range c.requires.fit c.requires.few c.loop-place.invariant.reno).1
+pub loop-place-preserved : goal.loop-place-preserved
+loop-place-preserved c = record {
+  rtt = c.refreshed_where_asked-rtt.ensures;
+  reno = c.reno_after-reno.ensures ∙ sym (ap (reno c.args.header.now) (one_more c.args.events.now c.loop-place.place c.index-events-place.result c.loop-place-test.true c.index-events-place.is));
+}
