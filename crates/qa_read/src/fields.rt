@@ -23,11 +23,12 @@ pub fn both<A: Drop, B: Drop>(
 ) -> Result<(A, B), Fault>
     ensures { result ≡ keys.both first second }
 {
-    match (first, second) {
-        (Ok(a), Ok(b)) => Ok((a, b)),
-        (Ok(_), Err(fault)) => Err(fault),
-        (Err(fault), Ok(_)) => Err(fault),
-        (Err(e), Err(f)) => Err(if stage(f) < stage(e) { f } else { e }),
+    match first {
+        Ok(a) => Ok((a, second?)),
+        Err(e) => match second {
+            Err(f) if stage(f) < stage(e) => Err(f),
+            _ => Err(e),
+        },
     }
 }
 

@@ -171,12 +171,12 @@ fn sent_fields(object: &Value) -> Result<SentFields, Fault>
 
 /// A packet that was sent.
 #[tactic(auto, unfolding(qa_base::specs::format::Tables::sent_of))]
-pub fn sent_of(object: &Value) -> Result<Event, Fault>
-    ensures { result ≡ tables.sent_of (view object.now) }
+pub fn sent_of(object: &Value) -> Result<Event, LineFault>
+    ensures { Gives (λ event. event) result (tables.sent_of (view object.now)) }
 {
     let (time, (space, (number, (size, (eliciting, (in_flight, leave)))))) = sent_fields(object)?;
     if eliciting && !in_flight {
-        return Err(Fault::FlagsClash);
+        return Err(LineFault::Fault(Fault::FlagsClash));
     }
     Ok(Event::Sent {
         time,
@@ -258,8 +258,8 @@ fn timer_fields(object: &Value) -> Result<TimerFields, Fault>
 
 /// The loss detection timer that fired.
 #[tactic(auto, unfolding(qa_base::specs::format::Tables::timer_of))]
-pub fn timer_of(object: &Value) -> Result<Event, Fault>
-    ensures { result ≡ tables.timer_of (view object.now) }
+pub fn timer_of(object: &Value) -> Result<Event, LineFault>
+    ensures { Gives (λ event. event) result (tables.timer_of (view object.now)) }
 {
     let (time, (kind, space)) = timer_fields(object)?;
     Ok(Event::Timer { time, kind, space })
@@ -267,8 +267,8 @@ pub fn timer_of(object: &Value) -> Result<Event, Fault>
 
 /// The keys of a space that were discarded.
 #[tactic(auto, unfolding(qa_base::specs::format::Tables::discard_of))]
-pub fn discard_of(object: &Value) -> Result<Event, Fault>
-    ensures { result ≡ tables.discard_of (view object.now) }
+pub fn discard_of(object: &Value) -> Result<Event, LineFault>
+    ensures { Gives (λ event. event) result (tables.discard_of (view object.now)) }
 {
     let (time, space) = both(fields::time(object), fields::discarded_space(object))?;
     Ok(Event::Discard { time, space })
@@ -276,8 +276,8 @@ pub fn discard_of(object: &Value) -> Result<Event, Fault>
 
 /// The handshake that was confirmed.
 #[tactic(auto, unfolding(qa_base::specs::format::Tables::confirmed_of))]
-pub fn confirmed_of(object: &Value) -> Result<Event, Fault>
-    ensures { result ≡ tables.confirmed_of (view object.now) }
+pub fn confirmed_of(object: &Value) -> Result<Event, LineFault>
+    ensures { Gives (λ event. event) result (tables.confirmed_of (view object.now)) }
 {
     let time = fields::time(object)?;
     Ok(Event::Confirmed { time })
@@ -285,8 +285,8 @@ pub fn confirmed_of(object: &Value) -> Result<Event, Fault>
 
 /// The keys of the Handshake space that came.
 #[tactic(auto, unfolding(qa_base::specs::format::Tables::keys_of))]
-pub fn keys_of(object: &Value) -> Result<Event, Fault>
-    ensures { result ≡ tables.keys_of (view object.now) }
+pub fn keys_of(object: &Value) -> Result<Event, LineFault>
+    ensures { Gives (λ event. event) result (tables.keys_of (view object.now)) }
 {
     let time = fields::time(object)?;
     Ok(Event::Keys { time })
@@ -328,8 +328,8 @@ fn metric_values(object: &Value) -> Result<MetricValues, Fault>
 
 /// A report of the sender's state.
 #[tactic(auto, unfolding(qa_base::specs::format::Tables::metrics_of))]
-pub fn metrics_of(object: &Value) -> Result<Event, Fault>
-    ensures { result ≡ tables.metrics_of (view object.now) }
+pub fn metrics_of(object: &Value) -> Result<Event, LineFault>
+    ensures { Gives (λ event. event) result (tables.metrics_of (view object.now)) }
 {
     let (time, values) = both(fields::time(object), metric_values(object))?;
     Ok(Event::Metrics { time, values })
