@@ -24,10 +24,13 @@ pub fn both<A: Drop, B: Drop>(
     ensures { result ≡ keys.both first second }
 {
     match first {
-        Ok(a) => Ok((a, second?)),
+        Ok(a) => match second {
+            Ok(b) => Ok((a, b)),
+            Err(fault) => Err(fault),
+        },
         Err(e) => match second {
-            Err(f) if stage(f) < stage(e) => Err(f),
-            _ => Err(e),
+            Ok(_) => Err(e),
+            Err(f) => Err(if stage(f) < stage(e) { f } else { e }),
         },
     }
 }
