@@ -11,7 +11,7 @@ use crate::fields::both;
 use crate::ranges::ranges;
 use qa_base::{
     Event, Fault, Field, Header, Key, Kind, Leave, MetricValues, Micros, Options, PacketNumber,
-    Role, Space, Spans, Version,
+    RangeFault, Role, Space, Spans, Version,
 };
 use serde_json::Value;
 use std::alloc::{AllocError, Global};
@@ -86,6 +86,16 @@ fn options(object: &Value) -> Result<Options, Fault>
     }
 }
 
+/// A header whose value is out of its range as a fault of the value's key.
+fn out_of_range(made: Result<Header, RangeFault>) -> Result<Header, Fault>
+    ensures { result ≡ tables.out_of_range made }
+{
+    match made {
+        Ok(header) => Ok(header),
+        Err(fault) => Err(Fault::OutOfRange(fault.0)),
+    }
+}
+
 /// The header in the version of this number.
 fn of_version(version: u64, options: Options, header: Header) -> Result<Header, Fault>
     ensures { result ≡ tables.of_version version options header }
@@ -94,31 +104,9 @@ fn of_version(version: u64, options: Options, header: Header) -> Result<Header, 
         return Ok(header);
     }
     if version == Version::Two.number() {
-        return header
-            .with(options)
-            .map_err(|fault| Fault::OutOfRange(fault.0));
+        return out_of_range(header.with(options));
     }
     Err(Fault::Version)
-}
-
-/// The header of these values, or the first key whose value is out of its range.
-fn settings(
-    role: Role,
-    max_datagram_size: u64,
-    max_ack_delay: Option<u64>,
-    initial_rtt: Option<u64>,
-    initial_window: Option<u64>,
-) -> Result<Header, Fault>
-    ensures { result ≡ tables.settings role max_datagram_size max_ack_delay initial_rtt initial_window }
-{
-    Header::new(
-        role,
-        max_datagram_size,
-        max_ack_delay,
-        initial_rtt,
-        initial_window,
-    )
-    .map_err(|fault| Fault::OutOfRange(fault.0))
 }
 
 /// What stands at all keys of a header.
@@ -137,14 +125,14 @@ pub fn header_of(object: &Value) -> Result<Header, Fault>
     let ((version, role), (most, initial)) = fields;
     let (max_datagram_size, max_ack_delay) = most;
     let (initial_rtt, initial_window) = initial;
-    let header = settings(
+    let header = Header::new(
         role,
         max_datagram_size,
         max_ack_delay,
         initial_rtt,
         initial_window,
-    )?;
-    of_version(version, options, header)
+    );
+    of_version(version, options, out_of_range(header)?)
 }
 
 // ---- packets
