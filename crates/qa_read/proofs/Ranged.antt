@@ -1,5 +1,6 @@
 -- A key that has to be there, read first as a string or an integer and then as one of those that it may have.
 use Rattle.std.proofs.Common.{◌≡◌, ◌∙◌, ℕ, List, Option, Result, Ok, Err, refl, ap}
+use Rattle.std.specs.Result.{IsErrAnd}
 use Rattle.serde_json.specs.Data.{Data}
 use Rattle.qa_base.specs.declared.fault.Fault.{Fault}
 use Rattle.qa_base.specs.declared.fault.Key.{Key}
@@ -17,3 +18,8 @@ string_at names k d r is = ap (λ s. s >>= λ t. ranged k (names t)) is ∙ regr
 pub integer_at : (lo hi : ℕ) (k : Key) (d : Data) (r : Result ℕ Fault) → r ≡ required integer k d
     → (r >>= λ n. ranged k (in_range lo hi n)) ≡ required (integer_from lo hi) k d
 integer_at lo hi k d r is = ap (λ s. s >>= λ n. ranged k (in_range lo hi n)) is ∙ regroup (required_value k d) (integer k) (λ n. ranged k (in_range lo hi n))
+
+-- a fault that is handed on
+pub handed_on : {A : Type 0} (r : Result A Fault) (e : Fault) → IsErrAnd r (λ f. f ≡ e) → r ≡ Err e
+handed_on (Ok x) e h = absurd h
+handed_on (Err f) e h = ap Err h

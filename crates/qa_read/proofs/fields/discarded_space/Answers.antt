@@ -10,6 +10,7 @@ use Rattle.qa_base.specs.declared.space.Space.TheVariants.{Initial, Handshake, A
 use Rattle.qa_base.specs.format.Keys.{◌>>=◌, ranged, required, required_value, string, string_among}
 use Rattle.qa_base.specs.format.Tables as tables
 use Rattle.qa_base.specs.values.Names.{discarded_named, space_name, space_named}
+use Rattle.qa_read.proofs.Ranged.{handed_on}
 use Rattle.qa_read.proofs.fields.discarded_space.Goals as goal
 
 -- a space whose keys are discarded
@@ -47,3 +48,8 @@ returns-in-App c = of_space (view c.args.object.now) (Ok App) (ap Ok (sym c.in-A
 
 pub returns-in_default : goal.returns-in_default
 returns-in_default c = not_app _ c.in_default.not-App ∙ of_space (view c.args.object.now) (Ok _) c.in_ok-discarded.ensures
+
+pub returns-in_err-discarded : goal.returns-in_err-discarded
+returns-in_err-discarded c =
+    handed_on c.from_residual.result c.in_err-discarded.field-0.0 c.from_residual.ensures.1
+    ∙ of_space (view c.args.object.now) (Err _) c.in_err-discarded.ensures
