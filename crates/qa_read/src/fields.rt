@@ -23,15 +23,11 @@ pub fn both<A: Drop, B: Drop>(
 ) -> Result<(A, B), Fault>
     ensures { result ≡ keys.both first second }
 {
-    match first {
-        Ok(a) => match second {
-            Ok(b) => Ok((a, b)),
-            Err(fault) => Err(fault),
-        },
-        Err(e) => match second {
-            Ok(_) => Err(e),
-            Err(f) => Err(if stage(f) < stage(e) { f } else { e }),
-        },
+    match (first, second) {
+        (Ok(a), Ok(b)) => Ok((a, b)),
+        (Ok(_), Err(fault)) => Err(fault),
+        (Err(fault), Ok(_)) => Err(fault),
+        (Err(e), Err(f)) => Err(if stage(f) < stage(e) { f } else { e }),
     }
 }
 
