@@ -162,10 +162,9 @@ pub fn space(object: &Value) -> Result<Space, Fault>
 pub fn discarded_space(object: &Value) -> Result<Space, Fault>
     ensures { result ≡ keys.required (keys.string_among discarded_named) Key.Space (view object.now) }
 {
-    match required_string(Key::Space, object)? {
-        "initial" => Ok(Space::Initial),
-        "handshake" => Ok(Space::Handshake),
-        _ => Err(Fault::OutOfRange(Key::Space)),
+    match space(object)? {
+        Space::App => Err(Fault::OutOfRange(Key::Space)),
+        discarded => Ok(discarded),
     }
 }
 

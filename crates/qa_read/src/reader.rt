@@ -15,6 +15,24 @@ use qa_quick::quick_line;
 use serde_json::Value;
 use std::alloc::Global;
 
+/// What the line of an object of this kind says.
+fn line_of(alloc: Global, kind: LineKind, object: &Value) -> Result<Line, LineFault>
+    ensures { Gives (λ line. line) result (reading.reader_of kind (view object.now)) }
+{
+    let event = match kind {
+        LineKind::Header => return Ok(Line::Header(tables::header_of(object)?)),
+        LineKind::Sent => tables::sent_of(object),
+        LineKind::Ack => tables::ack_of(alloc, object),
+        LineKind::Lost => tables::lost_of(alloc, object),
+        LineKind::Timer => tables::timer_of(object),
+        LineKind::Discard => tables::discard_of(object),
+        LineKind::Confirmed => tables::confirmed_of(object),
+        LineKind::Keys => tables::keys_of(object),
+        LineKind::Metrics => tables::metrics_of(object),
+    };
+    Ok(Line::Event(event?))
+}
+
 /// What an object says, by its key `event`.
 #[tactic(auto, unfolding(qa_base::specs::format::Reading::object_says))]
 fn object_says(alloc: Global, value: &Value) -> Result<Line, LineFault>
@@ -24,18 +42,8 @@ fn object_says(alloc: Global, value: &Value) -> Result<Line, LineFault>
         return Err(LineFault::Fault(Fault::NotObject));
     }
     let name = fields::required_string(Key::Event, value)?;
-    let event = match LineKind::named(name).ok_or(Fault::UnknownEvent)? {
-        LineKind::Header => return Ok(Line::Header(tables::header_of(value)?)),
-        LineKind::Sent => tables::sent_of(value)?,
-        LineKind::Ack => tables::ack_of(alloc, value)?,
-        LineKind::Lost => tables::lost_of(alloc, value)?,
-        LineKind::Timer => tables::timer_of(value)?,
-        LineKind::Discard => tables::discard_of(value)?,
-        LineKind::Confirmed => tables::confirmed_of(value)?,
-        LineKind::Keys => tables::keys_of(value)?,
-        LineKind::Metrics => tables::metrics_of(value)?,
-    };
-    Ok(Line::Event(event))
+    let kind = LineKind::named(name).ok_or(Fault::UnknownEvent)?;
+    line_of(alloc, kind, value)
 }
 
 /// What the bytes of a line that is not blank say, or the first of the line's faults, by way of a JSON value.

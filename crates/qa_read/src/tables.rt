@@ -11,7 +11,7 @@ use crate::fields::both;
 use crate::ranges::ranges;
 use qa_base::{
     Event, Fault, Field, Header, Key, Kind, Leave, MetricValues, Micros, Options, PacketNumber,
-    Role, Space, Spans, Version,
+    RangeFault, Role, Space, Spans, Version,
 };
 use serde_json::Value;
 use std::alloc::{AllocError, Global};
@@ -86,6 +86,16 @@ fn options(object: &Value) -> Result<Options, Fault>
     }
 }
 
+/// A header whose value is out of its range as a fault of the value's key.
+fn out_of_range(made: Result<Header, RangeFault>) -> Result<Header, Fault>
+    ensures { result ≡ tables.out_of_range made }
+{
+    match made {
+        Ok(header) => Ok(header),
+        Err(fault) => Err(Fault::OutOfRange(fault.0)),
+    }
+}
+
 /// The header in the version of this number.
 fn of_version(version: u64, options: Options, header: Header) -> Result<Header, Fault>
     ensures { result ≡ tables.of_version version options header }
@@ -94,31 +104,9 @@ fn of_version(version: u64, options: Options, header: Header) -> Result<Header, 
         return Ok(header);
     }
     if version == Version::Two.number() {
-        return header
-            .with(options)
-            .map_err(|fault| Fault::OutOfRange(fault.0));
+        return out_of_range(header.with(options));
     }
     Err(Fault::Version)
-}
-
-/// The header of these values, or the first key whose value is out of its range.
-fn settings(
-    role: Role,
-    max_datagram_size: u64,
-    max_ack_delay: Option<u64>,
-    initial_rtt: Option<u64>,
-    initial_window: Option<u64>,
-) -> Result<Header, Fault>
-    ensures { result ≡ tables.settings role max_datagram_size max_ack_delay initial_rtt initial_window }
-{
-    Header::new(
-        role,
-        max_datagram_size,
-        max_ack_delay,
-        initial_rtt,
-        initial_window,
-    )
-    .map_err(|fault| Fault::OutOfRange(fault.0))
 }
 
 /// What stands at all keys of a header.
@@ -137,14 +125,14 @@ pub fn header_of(object: &Value) -> Result<Header, Fault>
     let ((version, role), (most, initial)) = fields;
     let (max_datagram_size, max_ack_delay) = most;
     let (initial_rtt, initial_window) = initial;
-    let header = settings(
+    let header = Header::new(
         role,
         max_datagram_size,
         max_ack_delay,
         initial_rtt,
         initial_window,
-    )?;
-    of_version(version, options, header)
+    );
+    of_version(version, options, out_of_range(header)?)
 }
 
 // ---- packets
@@ -171,12 +159,12 @@ fn sent_fields(object: &Value) -> Result<SentFields, Fault>
 
 /// A packet that was sent.
 #[tactic(auto, unfolding(qa_base::specs::format::Tables::sent_of))]
-pub fn sent_of(object: &Value) -> Result<Event, Fault>
-    ensures { result ≡ tables.sent_of (view object.now) }
+pub fn sent_of(object: &Value) -> Result<Event, LineFault>
+    ensures { Gives (λ event. event) result (tables.sent_of (view object.now)) }
 {
     let (time, (space, (number, (size, (eliciting, (in_flight, leave)))))) = sent_fields(object)?;
     if eliciting && !in_flight {
-        return Err(Fault::FlagsClash);
+        return Err(LineFault::Fault(Fault::FlagsClash));
     }
     Ok(Event::Sent {
         time,
@@ -258,8 +246,8 @@ fn timer_fields(object: &Value) -> Result<TimerFields, Fault>
 
 /// The loss detection timer that fired.
 #[tactic(auto, unfolding(qa_base::specs::format::Tables::timer_of))]
-pub fn timer_of(object: &Value) -> Result<Event, Fault>
-    ensures { result ≡ tables.timer_of (view object.now) }
+pub fn timer_of(object: &Value) -> Result<Event, LineFault>
+    ensures { Gives (λ event. event) result (tables.timer_of (view object.now)) }
 {
     let (time, (kind, space)) = timer_fields(object)?;
     Ok(Event::Timer { time, kind, space })
@@ -267,8 +255,8 @@ pub fn timer_of(object: &Value) -> Result<Event, Fault>
 
 /// The keys of a space that were discarded.
 #[tactic(auto, unfolding(qa_base::specs::format::Tables::discard_of))]
-pub fn discard_of(object: &Value) -> Result<Event, Fault>
-    ensures { result ≡ tables.discard_of (view object.now) }
+pub fn discard_of(object: &Value) -> Result<Event, LineFault>
+    ensures { Gives (λ event. event) result (tables.discard_of (view object.now)) }
 {
     let (time, space) = both(fields::time(object), fields::discarded_space(object))?;
     Ok(Event::Discard { time, space })
@@ -276,8 +264,8 @@ pub fn discard_of(object: &Value) -> Result<Event, Fault>
 
 /// The handshake that was confirmed.
 #[tactic(auto, unfolding(qa_base::specs::format::Tables::confirmed_of))]
-pub fn confirmed_of(object: &Value) -> Result<Event, Fault>
-    ensures { result ≡ tables.confirmed_of (view object.now) }
+pub fn confirmed_of(object: &Value) -> Result<Event, LineFault>
+    ensures { Gives (λ event. event) result (tables.confirmed_of (view object.now)) }
 {
     let time = fields::time(object)?;
     Ok(Event::Confirmed { time })
@@ -285,8 +273,8 @@ pub fn confirmed_of(object: &Value) -> Result<Event, Fault>
 
 /// The keys of the Handshake space that came.
 #[tactic(auto, unfolding(qa_base::specs::format::Tables::keys_of))]
-pub fn keys_of(object: &Value) -> Result<Event, Fault>
-    ensures { result ≡ tables.keys_of (view object.now) }
+pub fn keys_of(object: &Value) -> Result<Event, LineFault>
+    ensures { Gives (λ event. event) result (tables.keys_of (view object.now)) }
 {
     let time = fields::time(object)?;
     Ok(Event::Keys { time })
@@ -328,8 +316,8 @@ fn metric_values(object: &Value) -> Result<MetricValues, Fault>
 
 /// A report of the sender's state.
 #[tactic(auto, unfolding(qa_base::specs::format::Tables::metrics_of))]
-pub fn metrics_of(object: &Value) -> Result<Event, Fault>
-    ensures { result ≡ tables.metrics_of (view object.now) }
+pub fn metrics_of(object: &Value) -> Result<Event, LineFault>
+    ensures { Gives (λ event. event) result (tables.metrics_of (view object.now)) }
 {
     let (time, values) = both(fields::time(object), metric_values(object))?;
     Ok(Event::Metrics { time, values })
