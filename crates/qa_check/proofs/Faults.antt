@@ -50,13 +50,7 @@ same_write_fault A B faults.OutOfMemory = refl
 pub same_fault : (A B : Type 0) (f g : AuditFault) → ◌≡◌ {A = Result A AuditFault} (Err f) (Err g) → ◌≡◌ {A = Result B AuditFault} (Err f) (Err g)
 same_fault A B f g is = cc
 
--- where the writer did not fail the fault is not its
-pub not_write : (A B : Type 0) (f : AuditFault) → is_write_fault {A = A} (Err f) ≡ false → ◌≡◌ {A = Result B AuditFault} (Err f) (Err faults.Write) → ⊥
-not_write A B faults.Read none is = cc
-not_write A B faults.Write none is = cc
-not_write A B faults.OutOfMemory none is = cc
-
--- nor is it the reader's where the reader did not fail
+-- where the reader did not fail the fault is not its
 pub not_read : {A : Type 0} (r : Result A AuditFault) → is_read_fault r ≡ false → r ≡ Err faults.Read → ⊥
 not_read (Ok x) none is = cc
 not_read (Err faults.Read) none is = cc
