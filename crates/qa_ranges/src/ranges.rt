@@ -56,7 +56,6 @@ impl Ranges {
     }
 
     /// Whether the number is in the set, by a binary search.
-    #[tactic(auto, using(crate::proofs::Sets::named_is_found))]
     pub fn contains(&self, number: PacketNumber) -> bool
         ensures { result ≡ is_named self.now number }
     {

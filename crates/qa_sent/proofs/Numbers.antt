@@ -9,7 +9,7 @@ use Rattle.qa_base.specs.values.Events.{is_named, is_space}
 use Rattle.qa_base.proofs.machine.Ranges.{names_exactly_is}
 use Rattle.qa_sent.specs.Fates.{is_owed}
 use Rattle.qa_sent.specs.Held.{AreOrdered, IsBefore}
-use Rattle.qa_sent.specs.Naming.{AreNext}
+use Rattle.qa_sent.specs.Naming.{AreNext, IsFirst}
 use Rattle.qa_sent.specs.Owing.{AreRising, IsOwedPart}
 use Rattle.qa_sent.specs.Walks.{owed_numbers, owed_of}
 use Rattle.qa_sent.specs.declared.packet.SentPacket.{SentPacket}
@@ -106,3 +106,29 @@ exactly_by_walk ranges ns all order rising by =
     }))
     (λ is. let names = law.0 is in by.1 (next_from (is_named ranges) ns 0 rising (λ n there. omega arith)
     (λ n low. same_tests (is_named ranges n) (is_in ns n) (names.only n) (names.each n))))
+
+-- ---- one number after another
+
+-- there is one first number
+first_same : (test : ℕ → Bool) (from m n : ℕ) → IsFirst test from m → IsFirst test from n → m ≡ n
+first_same test from m n one other = elim (cases_order m n) [
+  | inl here ↦ here
+  | inr (inl below) ↦ (let here = one.here in let before = other.before m one.low below in cc)
+  | inr (inr above) ↦ (let here = other.here in let before = one.before n other.low above in cc)
+]
+
+-- a packet that is owed has the first number of a walk, which goes on behind it
+pub next_owed : (test : ℕ → Bool) (from number after got : ℕ) (p : SentPacket) (ps : List SentPacket) → is_owed p.fate ≡ true → got ≡ p.number
+    → IsFirst test from number → after ≡ number + 1
+    → AreNext test from (owed_numbers (p ∷ ps)) ↔ (IsTrue (nat_eq number got) × AreNext test after (owed_numbers ps))
+next_owed test from number after got p ps owed is first behind =
+    let ns = owed_numbers ps in
+    let numbers : owed_numbers (p ∷ ps) ≡ p.number ∷ ns = ap (λ b. map (λ (x : SentPacket). x.number) (if b then p ∷ owed_of ps else owed_of ps)) owed in (
+      λ next.
+          let all = subst (AreNext test from) numbers next in
+          let same : number ≡ p.number = first_same test from number p.number first all.0 in
+          (eq-eqb number got (same ∙ sym is), subst (λ (n : ℕ). AreNext test n ns) (sym (behind ∙ ap (λ n. n + 1) same)) all.1),
+      λ both.
+          let same : number ≡ p.number = eqb-true number got both.0 ∙ is in
+          subst (AreNext test from) (sym numbers) (subst (IsFirst test from) same first, subst (λ (n : ℕ). AreNext test n ns) (behind ∙ ap (λ n. n + 1) same) both.1),
+    )

@@ -40,6 +40,28 @@ last_of_part ps from to part =
     ∙ (last_front None (take from ps) (slice_range ps from to ++ drop to ps) part.before
     ∙ last_rest None (slice_range ps from to) (drop to ps) part.behind)
 
+-- ---- one packet after another
+
+-- behind an acknowledged packet no end was met
+pub apart_covered : (limit first : ℕ) (p : SentPacket) (began : Option ℕ) (ps : List SentPacket) → is_covered p.fate ≡ true
+    → are_apart limit first began (p ∷ ps) ≡ are_apart limit first None ps
+apart_covered limit first p began ps covered =
+    ap (λ b. if b then are_apart limit first None ps else (if is_end first p then is_far_from limit began p.time || are_apart limit first (Some (earliest began p.time)) ps else are_apart limit first began ps)) covered
+
+-- one that is neither acknowledged nor an end changes nothing
+pub apart_other : (limit first : ℕ) (p : SentPacket) (began : Option ℕ) (ps : List SentPacket) → is_covered p.fate ≡ false → is_end first p ≡ false
+    → are_apart limit first began (p ∷ ps) ≡ are_apart limit first began ps
+apart_other limit first p began ps covered other =
+    ap (λ b. if b then are_apart limit first None ps else (if is_end first p then is_far_from limit began p.time || are_apart limit first (Some (earliest began p.time)) ps else are_apart limit first began ps)) covered
+    ∙ ap (λ b. if b then is_far_from limit began p.time || are_apart limit first (Some (earliest began p.time)) ps else are_apart limit first began ps) other
+
+-- an end
+pub apart_end : (limit first : ℕ) (p : SentPacket) (began : Option ℕ) (ps : List SentPacket) → is_covered p.fate ≡ false → is_end first p ≡ true
+    → are_apart limit first began (p ∷ ps) ≡ (is_far_from limit began p.time || are_apart limit first (Some (earliest began p.time)) ps)
+apart_end limit first p began ps covered end =
+    ap (λ b. if b then are_apart limit first None ps else (if is_end first p then is_far_from limit began p.time || are_apart limit first (Some (earliest began p.time)) ps else are_apart limit first began ps)) covered
+    ∙ ap (λ b. if b then is_far_from limit began p.time || are_apart limit first (Some (earliest began p.time)) ps else are_apart limit first began ps) end
+
 -- ---- two of them that lie apart
 
 not_end : (first : ℕ) (p : SentPacket) → is_owed p.fate ≡ false → is_end first p ≡ false

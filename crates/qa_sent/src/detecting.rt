@@ -1,7 +1,8 @@
 //! Detection of losses (RFC 9002, section 6.1, A.10): a walk along the packets of a space.
-ghost use Rattle.std.specs.Prelude.{◌≡◌, ◌≤◌, ◌<◌, ◌+◌, ◌-◌, ℕ, false, true, count_by, drop, length, map, slice_index_or, slice_set};
+ghost use Rattle.std.specs.Prelude.{◌≡◌, ◌≤◌, ◌<◌, ◌+◌, ◌-◌, ℕ, false, true, count_by, drop, length, map, nat_le, slice_index_or, slice_set};
 ghost use Rattle.std.specs.List.{AllByRecursion};
 ghost use Rattle.qa_base.specs.machine.Detection.{is_old};
+ghost use Rattle.qa_base.specs.values.Constants.{packet_threshold};
 ghost use Rattle.qa_sent.specs.Detection.{IsEnd, IsPassed, lost_in};
 ghost use Rattle.qa_sent.specs.Fates.{is_owed};
 ghost use Rattle.qa_sent.specs.Held.{AreLosses, AreOrdered, IsIndexed, IsLane};
@@ -54,7 +55,7 @@ impl Lateness {
             Some(largest) => {
                 let number = packet.number.get();
                 number < largest.get()
-                    && (PACKET_THRESHOLD <= largest.get() - number || self.is_old(packet))
+                    && (is_far_below(number, largest.get()) || self.is_old(packet))
             }
         }
     }
@@ -66,6 +67,14 @@ impl Lateness {
         let age = self.now.get().saturating_sub(packet.time.get());
         self.rtt.loss_delay() <= age
     }
+}
+
+/// Whether a number is below the largest acknowledged one by the packet threshold.
+fn is_far_below(number: u64, largest: u64) -> bool
+    requires { number ≤ largest }
+    ensures { result ≡ nat_le packet_threshold (largest - number) }
+{
+    PACKET_THRESHOLD <= largest - number
 }
 
 impl SentPackets {

@@ -1,4 +1,4 @@
-use Rattle.std.proofs.Common.{◌≡◌, ◌∙◌, ◌+◌, ℕ, Bool, true, false, ◌&&◌, ◌||◌, List, ◌∷◌, drop, sym, ap, rules}
+use Rattle.std.proofs.Common.{◌≡◌, ◌∙◌, ◌+◌, ℕ, Bool, true, false, ◌&&◌, ◌||◌, List, ◌∷◌, drop, sym, ap}
 use Rattle.std.specs.Prelude.{nat_le}
 use Rattle.std.proofs.lemmas.List.{at_drop_more, drop_all}
 use Rattle.std.proofs.lemmas.List.Sorted.{list_any-IsPermutation}
@@ -8,7 +8,7 @@ use Rattle.qa_ranges.proofs.ranges.Ranges.of_spans.Goals as goal
 pub loop-span-init : goal.loop-span-init
 loop-span-init c n =
     let named : List (ℕ × ℕ) → Bool = λ spans. is_named spans n in
-    let copied : c.in_ok-rising.rising.items ≡ c.args.spans.now = search rules in
+    let copied : c.in_ok-rising.rising.items ≡ c.args.spans.now = c.in_ok-rising.ensures.items_if_clones_equal (λ x y is. is) in
     let sorted = c.deref-span-items.result.now in
     ap (λ (runs : List (ℕ × ℕ)). named runs || named sorted) c.new-set.ensures
     ∙ (ap named c.deref-span-items.ensures.value
