@@ -69,7 +69,7 @@ impl Lateness {
     }
 }
 
-/// Whether a number is below the largest acknowledged one by the packet threshold.
+/// Whether a number lies below the largest acknowledged one by the packet threshold or more.
 fn is_far_below(number: u64, largest: u64) -> bool
     requires { number ≤ largest }
     ensures { result ≡ nat_le packet_threshold (largest - number) }
