@@ -1,4 +1,4 @@
-use Rattle.std.proofs.Common.{◌∙◌, ◌+◌, ℕ, Bool, ap, sym}
+use Rattle.std.proofs.Common.{◌∙◌, ◌+◌, Bool, ap, sym}
 use Rattle.std.specs.Prelude.{if◌then◌else◌}
 use Rattle.qa_base.specs.machine.Reno.{Control, growth}
 use Rattle.qa_recovery.proofs.reno.Reno.grow.Goals as goal
