@@ -244,7 +244,6 @@ impl Connection {
     /// is old enough to be lost, else a probe timeout; None where they do not set it. The timer that a
     /// client keeps until its address is validated is no part of it. `packets` is what the timer asks
     /// of the packets.
-    #[tactic(auto, using(crate::proofs::Due::packet_deadline_is))]
     pub fn packet_deadline(&self, packets: &OpenPackets) -> Option<Due>
         ensures value { result ≡ deadlines.packet_deadline self.now packets.now }
         ensures meaning { (c : Settings) (h : List Event) → IsOf self.now c h → IsProperRun c h → AreOpen packets.now c h → result ≡ timers.packet_deadline c h }

@@ -1,0 +1,5 @@
+use Rattle.std.proofs.Common.{refl}
+use Rattle.qa_recovery.proofs.rtt.Rtt.persistent_after.Goals as goal
+
+pub returns-clause-value : goal.returns-clause-value
+returns-clause-value c = rw (c.pto_base.ensures.value, c.get.ensures.value) refl
