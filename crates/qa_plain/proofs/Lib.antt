@@ -1,4 +1,5 @@
 pub mod Turns
+pub mod Eliciting
 pub mod Owed
 pub mod Moved
 pub mod Entries
