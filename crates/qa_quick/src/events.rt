@@ -17,7 +17,6 @@ fn packet_fits(size: u64, eliciting: bool, in_flight: bool) -> bool
 
 impl Found {
     /// The time that was found, where it is in its range.
-    #[inline(always)]
     fn micros(&self) -> Option<Micros>
         ensures { IfSome result (λ time. (self.now.time ≡ Some time) × (time ≤ max_time)) }
     {
