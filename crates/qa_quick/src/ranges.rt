@@ -12,11 +12,12 @@ fn range<'a>(spans: &mut Spans, bytes: &'a [u8]) -> Option<&'a [u8]>
 {
     let (lo, rest) = integer(begin_array(bytes)?)?;
     let (hi, rest) = integer(comma(rest)?)?;
+    let rest = end_array(rest)?;
     let span = Span::new(PacketNumber::new(lo)?, PacketNumber::new(hi)?)?;
     if spans.push(span).is_err() {
         return None;
     }
-    end_array(rest)
+    Some(rest)
 }
 
 /// A list of ranges; gives what follows it. None where memory is refused, too.
