@@ -31,24 +31,28 @@ range_is hi n m e =
     let below : n ≤ hi = leb-true n hi (and_parts (nat_le 0 n) (nat_le n hi) parts.0).1 in
     (parts.1, omega (arith, parts.1))
 
+-- a time in its range is the time that was found
+pub time_is : (found : Option ℕ) (u : ℕ) (o : Option ℕ) → found ≡ Some u → o ≡ in_range 0 max_time u → IfSome o (λ t. (found ≡ Some t) × (t ≤ max_time))
+time_is found u None is_found is = tt
+time_is found u (Some t) is_found is = let parts = range_is max_time u t (sym is) in (is_found ∙ ap Some parts.0, parts.1)
+
 ranges_are : (o : Option (List (ℕ × ℕ))) (rs : List (ℕ × ℕ)) → IfSome o (λ qs. (has_ranges qs ≡ true) × AllByRecursion IsRange qs) → o ≡ Some rs → (has_ranges rs ≡ true) × AllByRecursion IsRange rs
 ranges_are o rs h e = let P : Option (List (ℕ × ℕ)) → Type 0 = λ q. IfSome q (λ qs. (has_ranges qs ≡ true) × AllByRecursion IsRange qs) in subst P e h
 
 -- ---- events
 
-pub says_sent : (f : Found) (t u n m : ℕ) (s : Space) (size : ℕ) (eliciting in_flight : Bool) (leave : Leave)
-    → f.event ≡ Some kinds.Sent → f.time ≡ Some u → in_range 0 max_time u ≡ Some t → f.space ≡ Some s
+pub says_sent : (f : Found) (t n m : ℕ) (s : Space) (size : ℕ) (eliciting in_flight : Bool) (leave : Leave)
+    → f.event ≡ Some kinds.Sent → (f.time ≡ Some t) × (t ≤ max_time) → f.space ≡ Some s
     → f.number ≡ Some m → in_range 0 max_packet_number m ≡ Some n → f.size ≡ Some size → f.eliciting ≡ Some eliciting → f.in_flight ≡ Some in_flight
     → leave ≡ unwrap_or f.leave Window → fits (Sent t s n size eliciting in_flight leave) ≡ true
     → Says f (Sent t s n size eliciting in_flight leave)
-says_sent f t u n m s size eliciting in_flight leave is_event is_time in_time is_space is_number in_number is_size is_eliciting is_in_flight is_leave fitting =
-    let time_is = range_is max_time u t in_time in
+says_sent f t n m s size eliciting in_flight leave is_event time_is is_space is_number in_number is_size is_eliciting is_in_flight is_leave fitting =
     let number_is = range_is max_packet_number m n in_number in
     let P : Leave → Type 0 = λ l. fits (Sent t s n size eliciting in_flight l) ≡ true → Says f (Sent t s n size eliciting in_flight l) in
     subst P (sym is_leave) (λ fit ms h.
     sent_found ms t s n size eliciting in_flight f.leave
     (h.event ∙ ap (option_map line_kind_data) is_event)
-    (h.time ∙ ap (option_map integer) (is_time ∙ ap Some time_is.0))
+    (h.time ∙ ap (option_map integer) time_is.0)
     (h.space ∙ ap (option_map space_data) is_space)
     (h.number ∙ ap (option_map integer) (is_number ∙ ap Some number_is.0))
     (h.size ∙ ap (option_map integer) is_size)
@@ -57,16 +61,15 @@ says_sent f t u n m s size eliciting in_flight leave is_event is_time in_time is
     h.leave
     (record { fitting = fit; in_time = time_is.1; numbers = number_is.1 })) fitting
 
-pub says_ack : (f : Found) (t u : ℕ) (s : Space) (rs : List (ℕ × ℕ)) (delay : ℕ) (limited : Bool)
-    → f.event ≡ Some kinds.Ack → f.time ≡ Some u → in_range 0 max_time u ≡ Some t → f.space ≡ Some s → f.ranges ≡ Some rs
+pub says_ack : (f : Found) (t : ℕ) (s : Space) (rs : List (ℕ × ℕ)) (delay : ℕ) (limited : Bool)
+    → f.event ≡ Some kinds.Ack → (f.time ≡ Some t) × (t ≤ max_time) → f.space ≡ Some s → f.ranges ≡ Some rs
     → delay ≡ unwrap_or f.delay 0 → delay < 2 ^ 64 → limited ≡ unwrap_or f.limited false
     → Says f (Ack t s rs delay limited)
-says_ack f t u s rs delay limited is_event is_time in_time is_space is_ranges is_delay small is_limited = λ ms h.
-    let time_is = range_is max_time u t in_time in
+says_ack f t s rs delay limited is_event time_is is_space is_ranges is_delay small is_limited = λ ms h.
     let are = ranges_are f.ranges rs h.are_ranges is_ranges in
     let says = ack_found ms t s rs f.delay f.limited
     (h.event ∙ ap (option_map line_kind_data) is_event)
-    (h.time ∙ ap (option_map integer) (is_time ∙ ap Some time_is.0))
+    (h.time ∙ ap (option_map integer) time_is.0)
     (h.space ∙ ap (option_map space_data) is_space)
     (h.ranges ∙ ap (option_map ranges_data) is_ranges)
     h.delay
@@ -74,57 +77,51 @@ says_ack f t u s rs delay limited is_event is_time in_time is_space is_ranges is
     (record { fitting = are.0; in_time = time_is.1; numbers = (are.1, omega (arith, is_delay)) }) in
     rw (is_delay, is_limited) says
 
-pub says_lost : (f : Found) (t u : ℕ) (s : Space) (rs : List (ℕ × ℕ))
-    → f.event ≡ Some kinds.Lost → f.time ≡ Some u → in_range 0 max_time u ≡ Some t → f.space ≡ Some s → f.ranges ≡ Some rs
+pub says_lost : (f : Found) (t : ℕ) (s : Space) (rs : List (ℕ × ℕ))
+    → f.event ≡ Some kinds.Lost → (f.time ≡ Some t) × (t ≤ max_time) → f.space ≡ Some s → f.ranges ≡ Some rs
     → Says f (Lost t s rs)
-says_lost f t u s rs is_event is_time in_time is_space is_ranges = λ ms h.
-    let time_is = range_is max_time u t in_time in
+says_lost f t s rs is_event time_is is_space is_ranges = λ ms h.
     let are = ranges_are f.ranges rs h.are_ranges is_ranges in
     lost_found ms t s rs
     (h.event ∙ ap (option_map line_kind_data) is_event)
-    (h.time ∙ ap (option_map integer) (is_time ∙ ap Some time_is.0))
+    (h.time ∙ ap (option_map integer) time_is.0)
     (h.space ∙ ap (option_map space_data) is_space)
     (h.ranges ∙ ap (option_map ranges_data) is_ranges)
     (record { fitting = are.0; in_time = time_is.1; numbers = are.1 })
 
-pub says_timer : (f : Found) (t u : ℕ) (k : Kind) (s : Space)
-    → f.event ≡ Some kinds.Timer → f.time ≡ Some u → in_range 0 max_time u ≡ Some t → f.kind ≡ Some k → f.space ≡ Some s
+pub says_timer : (f : Found) (t : ℕ) (k : Kind) (s : Space)
+    → f.event ≡ Some kinds.Timer → (f.time ≡ Some t) × (t ≤ max_time) → f.kind ≡ Some k → f.space ≡ Some s
     → Says f (Timer t k s)
-says_timer f t u k s is_event is_time in_time is_kind is_space = λ ms h.
-    let time_is = range_is max_time u t in_time in
+says_timer f t k s is_event time_is is_kind is_space = λ ms h.
     timer_found ms t k s
     (h.event ∙ ap (option_map line_kind_data) is_event)
-    (h.time ∙ ap (option_map integer) (is_time ∙ ap Some time_is.0))
+    (h.time ∙ ap (option_map integer) time_is.0)
     (h.kind ∙ ap (option_map kind_data) is_kind)
     (h.space ∙ ap (option_map space_data) is_space)
     (record { fitting = refl; in_time = time_is.1; numbers = tt })
 
-pub says_discard : (f : Found) (t u : ℕ) (s : Space)
-    → f.event ≡ Some kinds.Discard → f.time ≡ Some u → in_range 0 max_time u ≡ Some t → f.space ≡ Some s → fits (Discard t s) ≡ true
+pub says_discard : (f : Found) (t : ℕ) (s : Space)
+    → f.event ≡ Some kinds.Discard → (f.time ≡ Some t) × (t ≤ max_time) → f.space ≡ Some s → fits (Discard t s) ≡ true
     → Says f (Discard t s)
-says_discard f t u s is_event is_time in_time is_space fitting = λ ms h.
-    let time_is = range_is max_time u t in_time in
+says_discard f t s is_event time_is is_space fitting = λ ms h.
     discard_found ms t s
     (h.event ∙ ap (option_map line_kind_data) is_event)
-    (h.time ∙ ap (option_map integer) (is_time ∙ ap Some time_is.0))
+    (h.time ∙ ap (option_map integer) time_is.0)
     (h.space ∙ ap (option_map space_data) is_space)
     (record { fitting = fitting; in_time = time_is.1; numbers = tt })
 
-pub says_confirmed : (f : Found) (t u : ℕ) → f.event ≡ Some kinds.Confirmed → f.time ≡ Some u → in_range 0 max_time u ≡ Some t → Says f (Confirmed t)
-says_confirmed f t u is_event is_time in_time = λ ms h.
-    let time_is = range_is max_time u t in_time in
-    confirmed_found ms t (h.event ∙ ap (option_map line_kind_data) is_event) (h.time ∙ ap (option_map integer) (is_time ∙ ap Some time_is.0))
+pub says_confirmed : (f : Found) (t : ℕ) → f.event ≡ Some kinds.Confirmed → (f.time ≡ Some t) × (t ≤ max_time) → Says f (Confirmed t)
+says_confirmed f t is_event time_is = λ ms h.
+    confirmed_found ms t (h.event ∙ ap (option_map line_kind_data) is_event) (h.time ∙ ap (option_map integer) time_is.0)
     (record { fitting = refl; in_time = time_is.1; numbers = tt })
 
-pub says_keys : (f : Found) (t u : ℕ) → f.event ≡ Some kinds.Keys → f.time ≡ Some u → in_range 0 max_time u ≡ Some t → Says f (Keys t)
-says_keys f t u is_event is_time in_time = λ ms h.
-    let time_is = range_is max_time u t in_time in
-    keys_found ms t (h.event ∙ ap (option_map line_kind_data) is_event) (h.time ∙ ap (option_map integer) (is_time ∙ ap Some time_is.0))
+pub says_keys : (f : Found) (t : ℕ) → f.event ≡ Some kinds.Keys → (f.time ≡ Some t) × (t ≤ max_time) → Says f (Keys t)
+says_keys f t is_event time_is = λ ms h.
+    keys_found ms t (h.event ∙ ap (option_map line_kind_data) is_event) (h.time ∙ ap (option_map integer) time_is.0)
     (record { fitting = refl; in_time = time_is.1; numbers = tt })
 
-pub says_metrics : (f : Found) (t u : ℕ) → f.event ≡ Some kinds.Metrics → f.time ≡ Some u → in_range 0 max_time u ≡ Some t → Says f (Metrics t f.values)
-says_metrics f t u is_event is_time in_time = λ ms h.
-    let time_is = range_is max_time u t in_time in
-    metrics_found ms t f.values (h.event ∙ ap (option_map line_kind_data) is_event) (h.time ∙ ap (option_map integer) (is_time ∙ ap Some time_is.0))
+pub says_metrics : (f : Found) (t : ℕ) → f.event ≡ Some kinds.Metrics → (f.time ≡ Some t) × (t ≤ max_time) → Says f (Metrics t f.values)
+says_metrics f t is_event time_is = λ ms h.
+    metrics_found ms t f.values (h.event ∙ ap (option_map line_kind_data) is_event) (h.time ∙ ap (option_map integer) time_is.0)
     h.window h.ssthresh h.bytes_in_flight h.latest_rtt h.min_rtt h.smoothed_rtt h.rttvar
     (record { fitting = refl; in_time = time_is.1; numbers = h.are_words })

@@ -1,6 +1,6 @@
 //! The events that were found.
-ghost use Rattle.std.specs.Prelude.{◌≡◌, ◌&&◌, ◌||◌, not, nat_le, IfSome, Some};
-ghost use Rattle.qa_base.specs.values.Limits.{max_packet_size};
+ghost use Rattle.std.specs.Prelude.{◌≡◌, ◌≤◌, ◌&&◌, ◌||◌, not, nat_le, IfSome, Some};
+ghost use Rattle.qa_base.specs.values.Limits.{max_packet_size, max_time};
 ghost use Rattle.qa_quick.specs.Found.{SaysLine};
 
 use crate::found::Found;
@@ -16,12 +16,19 @@ fn packet_fits(size: u64, eliciting: bool, in_flight: bool) -> bool
 }
 
 impl Found {
+    /// The time that was found, where it is in its range.
+    fn micros(&self) -> Option<Micros>
+        ensures { IfSome result (λ time. (self.now.time ≡ Some time) × (time ≤ max_time)) }
+    {
+        Micros::new(self.time?)
+    }
+
     /// A packet that was sent, where its keys were found.
     fn sent(&self) -> Option<Line>
         requires { self.now.event ≡ Some LineKind.Sent }
         ensures { IfSome result (λ line. SaysLine self.now line) }
     {
-        let time = Micros::new(self.time?)?;
+        let time = self.micros()?;
         let space = self.space?;
         let number = PacketNumber::new(self.number?)?;
         let size = self.size?;
@@ -47,7 +54,7 @@ impl Found {
         requires { self.old.event ≡ Some LineKind.Ack }
         ensures { IfSome result (λ line. SaysLine self.old line) }
     {
-        let time = Micros::new(self.time?)?;
+        let time = self.micros()?;
         let space = self.space?;
         let delay = self.delay.unwrap_or(0);
         let limited = self.limited.unwrap_or(false);
@@ -66,7 +73,7 @@ impl Found {
         requires { self.old.event ≡ Some LineKind.Lost }
         ensures { IfSome result (λ line. SaysLine self.old line) }
     {
-        let time = Micros::new(self.time?)?;
+        let time = self.micros()?;
         let space = self.space?;
         let ranges = self.ranges.take()?;
         Some(Line::Event(Event::Lost {
@@ -81,7 +88,7 @@ impl Found {
         requires { self.now.event ≡ Some LineKind.Timer }
         ensures { IfSome result (λ line. SaysLine self.now line) }
     {
-        let time = Micros::new(self.time?)?;
+        let time = self.micros()?;
         let kind = self.kind?;
         let space = self.space?;
         Some(Line::Event(Event::Timer { time, kind, space }))
@@ -92,7 +99,7 @@ impl Found {
         requires { self.now.event ≡ Some LineKind.Discard }
         ensures { IfSome result (λ line. SaysLine self.now line) }
     {
-        let time = Micros::new(self.time?)?;
+        let time = self.micros()?;
         let space = self.space?;
         let event = Event::Discard { time, space };
         if event.fits() {
@@ -107,7 +114,7 @@ impl Found {
         requires { self.now.event ≡ Some LineKind.Confirmed }
         ensures { IfSome result (λ line. SaysLine self.now line) }
     {
-        let time = Micros::new(self.time?)?;
+        let time = self.micros()?;
         Some(Line::Event(Event::Confirmed { time }))
     }
 
@@ -116,7 +123,7 @@ impl Found {
         requires { self.now.event ≡ Some LineKind.Keys }
         ensures { IfSome result (λ line. SaysLine self.now line) }
     {
-        let time = Micros::new(self.time?)?;
+        let time = self.micros()?;
         Some(Line::Event(Event::Keys { time }))
     }
 
@@ -125,7 +132,7 @@ impl Found {
         requires { self.now.event ≡ Some LineKind.Metrics }
         ensures { IfSome result (λ line. SaysLine self.now line) }
     {
-        let time = Micros::new(self.time?)?;
+        let time = self.micros()?;
         let values = self.values;
         Some(Line::Event(Event::Metrics { time, values }))
     }

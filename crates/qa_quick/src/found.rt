@@ -41,8 +41,7 @@ impl Found {
             let rest = unknown_member(bytes)?;
             return Some(rest);
         };
-        let rest = self.value(alloc, key, rest)?;
-        Some(rest)
+        self.value(alloc, key, rest)
     }
 
     /// The value of a key is found behind a colon; gives what follows it.

@@ -29,8 +29,7 @@ pub fn ranges<'a>(spans: &mut Spans, bytes: &'a [u8]) -> Option<&'a [u8]>
     for i in 0..u64::MAX {
         let behind = range(spans, rest)?;
         let Some(more) = comma(behind) else {
-            let end = end_array(behind)?;
-            return Some(end);
+            return end_array(behind);
         };
         rest = more;
     }

@@ -168,8 +168,7 @@ fn past_many(bytes: &[u8], byte: u8) -> Option<&[u8]>
 pub fn begin_object(bytes: &[u8]) -> Option<&[u8]>
     ensures { IfSome result (λ rest. Lexes bytes.now rest.now (token tokens.begin_object ∷ [])) }
 {
-    let rest = past(bytes, b'{')?;
-    Some(rest)
+    past(bytes, b'{')
 }
 
 /// What follows the brace that closes an object and the white space round it.
@@ -177,8 +176,7 @@ pub fn begin_object(bytes: &[u8]) -> Option<&[u8]>
 pub fn end_object(bytes: &[u8]) -> Option<&[u8]>
     ensures { IfSome result (λ rest. Lexes bytes.now rest.now (token tokens.end_object ∷ [])) }
 {
-    let rest = past(bytes, b'}')?;
-    Some(rest)
+    past(bytes, b'}')
 }
 
 /// What follows the bracket that opens a list and the white space round it.
@@ -186,8 +184,7 @@ pub fn end_object(bytes: &[u8]) -> Option<&[u8]>
 pub fn begin_array(bytes: &[u8]) -> Option<&[u8]>
     ensures { IfSome result (λ rest. Lexes bytes.now rest.now (token tokens.begin_array ∷ [])) }
 {
-    let rest = past(bytes, b'[')?;
-    Some(rest)
+    past(bytes, b'[')
 }
 
 /// What follows the bracket that closes a list; white space may stand before it.
@@ -195,8 +192,7 @@ pub fn begin_array(bytes: &[u8]) -> Option<&[u8]>
 pub fn end_array(bytes: &[u8]) -> Option<&[u8]>
     ensures { IfSome result (λ rest. Lexes bytes.now rest.now (token tokens.end_array ∷ [])) }
 {
-    let behind = after_byte(skip_space(bytes), b']')?;
-    Some(behind)
+    after_byte(skip_space(bytes), b']')
 }
 
 /// What follows a colon and the white space round it.
@@ -204,8 +200,7 @@ pub fn end_array(bytes: &[u8]) -> Option<&[u8]>
 pub fn colon(bytes: &[u8]) -> Option<&[u8]>
     ensures { IfSome result (λ rest. Lexes bytes.now rest.now (colon_lexeme ∷ [])) }
 {
-    let rest = past(bytes, b':')?;
-    Some(rest)
+    past(bytes, b':')
 }
 
 /// What follows a comma and the white space round it.
@@ -213,8 +208,7 @@ pub fn colon(bytes: &[u8]) -> Option<&[u8]>
 pub fn comma(bytes: &[u8]) -> Option<&[u8]>
     ensures { IfSome result (λ rest. Lexes bytes.now rest.now (comma_lexeme ∷ [])) }
 {
-    let rest = past(bytes, b',')?;
-    Some(rest)
+    past(bytes, b',')
 }
 
 /// Whether an integer or a literal ends before these bytes.

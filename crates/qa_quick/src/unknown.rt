@@ -14,8 +14,7 @@ pub fn unknown_member(bytes: &[u8]) -> Option<&[u8]>
     if is_known(key) {
         return None;
     }
-    let rest = simple_value(colon(rest)?)?;
-    Some(rest)
+    simple_value(colon(rest)?)
 }
 
 /// What follows an integer without sign, a string without an escape, a boolean or null.
@@ -34,10 +33,7 @@ fn simple_value(bytes: &[u8]) -> Option<&[u8]>
             let (_value, rest) = boolean(bytes)?;
             Some(rest)
         }
-        b'n' => {
-            let rest = null(bytes)?;
-            Some(rest)
-        }
+        b'n' => null(bytes),
         _ => {
             let (_value, rest) = integer(bytes)?;
             Some(rest)

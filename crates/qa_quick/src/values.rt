@@ -10,8 +10,7 @@ use crate::tokens::{boolean, colon, integer};
 pub fn integer_value(bytes: &[u8]) -> Option<(u64, &[u8])>
     ensures { IfSome result (λ found. (found.0 < 2 ^ 64) × IsBehindColon (written.integer found.0) bytes.now found.1.now) }
 {
-    let (n, rest) = integer(colon(bytes)?)?;
-    Some((n, rest))
+    integer(colon(bytes)?)
 }
 
 /// The boolean behind a colon, and what follows it.
@@ -19,6 +18,5 @@ pub fn integer_value(bytes: &[u8]) -> Option<(u64, &[u8])>
 pub fn boolean_value(bytes: &[u8]) -> Option<(bool, &[u8])>
     ensures { IfSome result (λ found. IsBehindColon (written.boolean found.0) bytes.now found.1.now) }
 {
-    let (value, rest) = boolean(colon(bytes)?)?;
-    Some((value, rest))
+    boolean(colon(bytes)?)
 }

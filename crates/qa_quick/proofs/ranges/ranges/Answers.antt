@@ -1,4 +1,5 @@
 use Rattle.std.proofs.Common.{sym, subst}
+use Rattle.std.proofs.lemmas.Option.{IfSome_then}
 use Rattle.qa_quick.specs.Ranges.{Spans, FollowsRanges}
 use Rattle.qa_quick.proofs.Listing.{ranges_begin, ranges_go_on, ranges_end}
 use Rattle.qa_quick.proofs.ranges.ranges.Goals as goal
@@ -14,4 +15,5 @@ loop-i-preserved c =
 
 pub returns-in_default : goal.returns-in_default
 returns-in_default c =
-    ranges_end c.loop-i.spans c.range.new.spans c.args.bytes.now c.loop-i.rest.now c.in_ok-behind.behind.now c.in_ok-end.end.now c.loop-i.invariant c.in_ok-behind.ensures c.in_ok-end.ensures
+    IfSome_then c.end_array.result c.end_array.ensures
+    (λ rest closed. ranges_end c.loop-i.spans c.range.new.spans c.args.bytes.now c.loop-i.rest.now c.in_ok-behind.behind.now rest.now c.loop-i.invariant c.in_ok-behind.ensures closed)

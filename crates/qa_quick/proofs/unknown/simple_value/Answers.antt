@@ -1,3 +1,4 @@
+use Rattle.std.proofs.lemmas.Option.{IfSome_then}
 use Rattle.serde_json.specs.Data as json
 use Rattle.qa_base.specs.format.Written.{integer, string, boolean}
 use Rattle.qa_quick.proofs.Taking.{integer_value, boolean_value, string_value, null_value}
@@ -13,8 +14,8 @@ returns-in_ok-_value-in-116 c =
     let b = c.in_ok-_value-in-116._value in
     (boolean b, boolean_value b c.args.bytes.now c.in_ok-_value-in-116.rest.now c.in_ok-_value-in-116.ensures)
 
-pub returns-in_ok-rest-in-110 : goal.returns-in_ok-rest-in-110
-returns-in_ok-rest-in-110 c = (json.null, null_value c.args.bytes.now c.in_ok-rest-in-110.rest.now c.in_ok-rest-in-110.ensures)
+pub returns-in-110 : goal.returns-in-110
+returns-in-110 c = IfSome_then c.null.result c.null.ensures (λ rest lexed. (json.null, null_value c.args.bytes.now rest.now lexed))
 
 pub returns-in_ok-_value-in_default-first : goal.returns-in_ok-_value-in_default-first
 returns-in_ok-_value-in_default-first c =

@@ -1,3 +1,4 @@
+use Rattle.std.proofs.lemmas.Option.{IfSome_then}
 use Rattle.qa_base.specs.values.Names.{key_name}
 use Rattle.qa_quick.proofs.Spelling.{key_is_plain}
 use Rattle.qa_quick.proofs.Taking.{takes}
@@ -8,5 +9,6 @@ returns-in_default c = c.in_ok-rest.ensures c.args.self.now
 
 pub returns : goal.returns
 returns c =
-    takes (key_name c.in-Some.key) c.args.self.now c.value.new.self c.args.bytes.now c.in-Some.rest.now c.in_ok-rest-2.rest.now
-    (key_is_plain c.in-Some.key) c.in-Some.ensures c.in_ok-rest-2.ensures
+    IfSome_then c.value.result c.value.ensures
+    (λ rest puts. takes (key_name c.in-Some.key) c.args.self.now c.value.new.self c.args.bytes.now c.in-Some.rest.now rest.now
+    (key_is_plain c.in-Some.key) c.in-Some.ensures puts)

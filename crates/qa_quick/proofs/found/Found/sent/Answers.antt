@@ -4,8 +4,8 @@ use Rattle.qa_quick.proofs.found.Found.sent.Goals as goal
 
 pub returns : goal.returns
 returns c =
-    says_sent c.args.self.now c.in_ok-time.time c.in_ok-self.field-0 c.in_ok-number.number c.in_ok-self-2.field-0 c.in_ok-space.space c.in_ok-size.size
+    says_sent c.args.self.now c.in_ok-time.time c.in_ok-number.number c.in_ok-self.field-0 c.in_ok-space.space c.in_ok-size.size
     c.in_ok-eliciting.eliciting c.in_ok-in_flight.in_flight c.unwrap_or-leave.result
-    c.requires c.in_ok-self.was (sym c.new.ensures ∙ c.in_ok-time.was) c.in_ok-space.was
-    c.in_ok-self-2.was (sym c.new-2.ensures ∙ c.in_ok-number.was) c.in_ok-size.was c.in_ok-eliciting.was c.in_ok-in_flight.was
+    c.requires c.in_ok-time.ensures c.in_ok-space.was
+    c.in_ok-self.was (sym c.new.ensures ∙ c.in_ok-number.was) c.in_ok-size.was c.in_ok-eliciting.was c.in_ok-in_flight.was
     c.unwrap_or-leave.ensures (sym c.packet_fits.ensures ∙ c.if-not-packet_fits.false)
