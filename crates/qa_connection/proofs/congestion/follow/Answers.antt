@@ -1,6 +1,6 @@
-use Rattle.std.proofs.Common.{refl}
+use Rattle.std.proofs.Common.{rules}
 use Rattle.qa_connection.proofs.congestion.follow.Goals as goal
 
+-- Written out, so that a wrong body is refused at this line.
 pub returns-clause-value : goal.returns-clause-value
-returns-clause-value c =
-    rw (c.grow_unless_limited.ensures, c.collapse.ensures, c.hit.ensures, c.time_of.ensures, c.max_datagram_size-max_datagram_size.ensures.value) refl
+returns-clause-value c = search rules

@@ -1,6 +1,6 @@
-use Rattle.std.proofs.Common.{ap}
-use Rattle.qa_base.specs.machine.Rtt.{pto_base}
+use Rattle.std.proofs.Common.{rules}
 use Rattle.qa_recovery.proofs.rtt.Rtt.pto_base.Goals as goal
 
+-- Written out, so that a wrong body is refused at this line.
 pub returns-clause-value : goal.returns-clause-value
-returns-clause-value c = rw (c.max.ensures, c.get.ensures.value, c.get-2.ensures.value) (ap pto_base c.self.view_is)
+returns-clause-value c = search rules

@@ -1,6 +1,6 @@
-use Rattle.std.proofs.Common.{ap}
-use Rattle.qa_base.specs.machine.Rtt.{refreshed}
+use Rattle.std.proofs.Common.{rules}
 use Rattle.qa_recovery.proofs.rtt.Rtt.refresh.Goals as goal
 
+-- Written out, so that a wrong body is refused at this line.
 pub returns : goal.returns
-returns c = ap refreshed c.self.view_is
+returns c = search rules
