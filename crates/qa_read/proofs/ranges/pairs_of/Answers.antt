@@ -1,4 +1,4 @@
-use Rattle.std.proofs.Common.{◌≡◌, ◌∙◌, ◌<◌, ◌+◌, ℕ, List, [], ◌∷◌, ◌++◌, get_or, length, drop, Option, Some, None, refl, sym, ap, arith}
+use Rattle.std.proofs.Common.{◌≡◌, ◌∙◌, ◌<◌, ◌+◌, ℕ, List, [], ◌∷◌, ◌++◌, get_or, length, drop, Option, Some, None, refl, sym, ap}
 use Rattle.std.proofs.lemmas.List.{append_assoc, append-nil, at_drop_all, at_drop_more}
 use Rattle.std.specs.Prelude.{option_and_then, option_map}
 use Rattle.serde_json.specs.View.{view, items_view}
@@ -36,7 +36,7 @@ returns-in_default c =
 pub returns : goal.returns
 returns c =
     let l = c.loop-value in
-    ap Some (sym (append-nil l.pairs.items)) ∙ sym (at_drop_all (after l.pairs.items) _ l.value-index (omega arith)) ∙ l.invariant
+    ap Some (sym (append-nil l.pairs.items)) ∙ sym (at_drop_all (after l.pairs.items) _ l.value-index c.loop-value-test.false) ∙ l.invariant
 
 pub loop-value-preserved : goal.loop-value-preserved
 loop-value-preserved c =
