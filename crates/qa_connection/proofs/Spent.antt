@@ -5,13 +5,9 @@ use Rattle.std.proofs.Math.Nat.{mul-le-mul}
 use Rattle.std.specs.List.{AllByRecursion}
 use Rattle.std.specs.Prelude.{◌&&◌, ◌||◌, not, if◌then◌else◌, nat_le}
 use Rattle.qa_base.specs.declared.event.Event.{Event}
-use Rattle.qa_base.specs.declared.event.Event.TheVariants.{Sent, Discard}
-use Rattle.qa_base.specs.declared.number.Micros.{Micros}
+use Rattle.qa_base.specs.declared.event.Event.TheVariants.{Sent}
 use Rattle.qa_base.specs.declared.space.Leave.TheVariants.{Probe}
-use Rattle.qa_base.specs.declared.space.Space.{Space}
-use Rattle.qa_base.specs.machine.Handshake.{is_validated}
 use Rattle.qa_base.specs.machine.Leave.{is_recovery_packet, probe_size, probe_spent, recovery_spent}
-use Rattle.qa_base.specs.machine.Packets.{acknowledges_new}
 use Rattle.qa_base.specs.machine.Reno.{is_entry}
 use Rattle.qa_base.specs.machine.Rules.{IsRun}
 use Rattle.qa_base.specs.machine.Timer.{backoff, is_pto, resets_count}
@@ -103,12 +99,6 @@ pub pto_count_is : (c : Settings) (e : Event) (h : List Event) → IsRun c h →
     → (if resets_count c (e ∷ h) then 0 else (if is_pto (e ∷ h) then capped (1 + backoff c h) else backoff c h)) ≡ backoff c (e ∷ h)
 pto_count_is c e h run timely =
     count_if (resets_count c (e ∷ h)) (is_pto (e ∷ h)) (backoff c h) (pto_count c h run timely) ∙ sym (backoff_after c e h)
-
--- what sets the PTO count to 0, but for a discard
-pub resets_if : (c : Settings) (e : Event) (h : List Event) → ((time : Micros) (space : Space) → e ≡ Discard time space → ⊥)
-    → resets_count c (e ∷ h) ≡ (acknowledges_new (e ∷ h) && is_validated c (e ∷ h))
-resets_if c (Discard time space) h other = absurd (other time space refl)
-resets_if c _ h other = refl
 
 -- ---- from what is kept
 
