@@ -18,7 +18,7 @@ runner_tests := test_run test_trials test_mutations test_simulate
 conformance := conformance-cuts conformance-failing conformance-refusals conformance-simulate conformance-mutations \
 	conformance-malicious conformance-large conformance-run conformance-allocations
 
-.PHONY: help build one_byte lines run test conformance $(conformance) $(runner_tests) bench install clean
+.PHONY: help build one_byte lines run test gate conformance $(conformance) $(runner_tests) bench install clean
 
 help:
 	@echo 'make build     proves the program and builds $(program)'
@@ -42,10 +42,14 @@ lines:
 run: build
 	@$(program) check < $(example)
 
-# `rt ci` proves all crates from nothing, and leaves each program built of what it proved.
+# The tests of the runners need no program of ours, so they run beside the gate, in its first minutes.
 test:
+	$(MAKE) --no-print-directory -j 2 gate $(runner_tests)
+	$(MAKE) --no-print-directory -j 4 --output-sync=target $(conformance)
+
+# `rt ci` proves all crates from nothing, and leaves each program built of what it proved.
+gate:
 	rt ci
-	$(MAKE) --no-print-directory -j 4 --output-sync=target conformance
 
 conformance: $(conformance) $(runner_tests)
 

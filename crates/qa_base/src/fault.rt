@@ -164,10 +164,10 @@ impl fmt::Display for Fault {
 
     #[tactic(auto, unfolding(crate::specs::verdicts::Report::fault_text))]
     fn fmt<W: fmt::Write>(&self, f: &mut fmt::Formatter<W>) -> fmt::Result {
-        write!(f, "F{} {}", self.number(), self.name())?;
+        let (number, name) = (self.number(), self.name());
         match self.key() {
-            Some(key) => write!(f, " {}", key.name()),
-            None => Ok(()),
+            Some(key) => write!(f, "F{number} {name} {}", key.name()),
+            None => write!(f, "F{number} {name}"),
         }
     }
 }

@@ -166,10 +166,10 @@ impl fmt::Display for Rule {
 
     #[tactic(auto, unfolding(crate::specs::verdicts::Report::rule_text))]
     fn fmt<W: fmt::Write>(&self, f: &mut fmt::Formatter<W>) -> fmt::Result {
-        write!(f, "V{} {}", self.number(), self.name())?;
+        let (number, name) = (self.number(), self.name());
         match self.field() {
-            Some(field) => write!(f, " {}", field.name()),
-            None => Ok(()),
+            Some(field) => write!(f, "V{number} {name} {}", field.name()),
+            None => write!(f, "V{number} {name}"),
         }
     }
 }

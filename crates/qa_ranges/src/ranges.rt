@@ -15,7 +15,7 @@ use std::marker::Model;
 ///
 /// It takes memory for each run, and not for each number. Contracts see it as those runs in rising
 /// order, and a number is in the set where it is in one of them.
-#[derive(Debug, Drop)]
+#[derive(Drop)]
 pub struct Ranges {
     pub(crate) runs: Vec<Span>,
 }

@@ -20,7 +20,7 @@ use std::marker::Model;
 ///
 /// It takes memory for each run of consecutive numbers. `AreSent` says of which history it has the
 /// numbers.
-#[derive(Debug, Drop)]
+#[derive(Drop)]
 pub struct SentNumbers {
     initial: Ranges,
     handshake: Ranges,
