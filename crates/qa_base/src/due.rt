@@ -3,7 +3,7 @@ use crate::space::{Kind, Space};
 use std::marker::Model;
 
 /// What the loss detection timer is set for (RFC 9002, A.8).
-#[derive(Clone, Copy, Debug, PartialEq, Eq)]
+#[derive(Clone, Copy, PartialEq, Eq)]
 pub struct Due {
     /// A packet old enough to be lost, or a probe timeout.
     pub kind: Kind,

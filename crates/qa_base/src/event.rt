@@ -12,7 +12,7 @@ use std::alloc::{AllocError, Global};
 /// What a sender reports of its own state, each value where it reports it.
 ///
 /// `window`, `ssthresh` and `bytes_in_flight` are in bytes, the others in microseconds.
-#[derive(Clone, Copy, Debug, PartialEq, Eq)]
+#[derive(Clone, Copy, PartialEq, Eq)]
 pub struct MetricValues {
     pub window: Option<u64>,
     pub ssthresh: Option<u64>,
@@ -24,7 +24,7 @@ pub struct MetricValues {
 }
 
 /// One thing that a sender did or learned, at a time.
-#[derive(Debug, PartialEq, Eq, Drop)]
+#[derive(PartialEq, Eq, Drop)]
 pub enum Event {
     /// A packet was sent (RFC 9002, A.5): `size` bytes, ack-eliciting or not, in flight or not.
     Sent {

@@ -17,7 +17,7 @@ use crate::space::Role;
 use std::marker::Model;
 
 /// The version of the trace format.
-#[derive(Clone, Copy, Debug, PartialEq, Eq)]
+#[derive(Clone, Copy, PartialEq, Eq)]
 pub enum Version {
     /// Timers may be late, `min_rtt` is never refreshed, and reported values are compared exactly.
     One,
@@ -41,7 +41,7 @@ impl Version {
 
 /// What a header of version 2 asks of the sender and of its reports. The default asks what version
 /// 1 does: no limit, no refresh and no slack.
-#[derive(Clone, Copy, Debug, Default, PartialEq, Eq)]
+#[derive(Clone, Copy, Default, PartialEq, Eq)]
 pub struct Options {
     /// By how many microseconds the timer may be late, 0 to 10^15; None: by any number.
     pub timer_late: Option<u64>,
@@ -58,7 +58,7 @@ pub struct Options {
 ///
 /// Each value is in its range, as `Header::new` and `Header::with` test it. A header of version 1
 /// has the default options.
-#[derive(Clone, Copy, Debug, PartialEq, Eq)]
+#[derive(Clone, Copy, PartialEq, Eq)]
 pub struct Header {
     role: Role,
     max_datagram_size: u64,

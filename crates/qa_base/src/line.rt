@@ -7,7 +7,7 @@ use crate::event::Event;
 use crate::header::Header;
 
 /// What one line of a trace says.
-#[derive(Debug, PartialEq, Eq, Drop)]
+#[derive(PartialEq, Eq, Drop)]
 pub enum Line {
     /// Nothing: the line has no byte but spaces, tabs and carriage returns.
     Blank,
@@ -31,7 +31,7 @@ impl Line {
 }
 
 /// The kinds of lines, by what stands at the key `event`.
-#[derive(Clone, Copy, Debug, PartialEq, Eq)]
+#[derive(Clone, Copy, PartialEq, Eq)]
 pub enum LineKind {
     Header,
     Sent,

@@ -57,7 +57,7 @@ impl Micros {
 }
 
 /// The number of a packet within its packet number space, from 0 to 2^62 - 1 (RFC 9000, section 12.3).
-#[derive(Clone, Copy, Debug, PartialEq, Eq, PartialOrd, Ord)]
+#[derive(Clone, Copy, PartialEq, Eq, PartialOrd, Ord)]
 pub struct PacketNumber {
     value: u64,
 }
@@ -100,7 +100,7 @@ impl PacketNumber {
 }
 
 /// The packet numbers from `lo` to `hi`, both of them in it; `lo` is not above `hi`.
-#[derive(Clone, Copy, Debug, PartialEq, Eq)]
+#[derive(Clone, Copy, PartialEq, Eq)]
 pub struct Span {
     lo: PacketNumber,
     hi: PacketNumber,
@@ -151,7 +151,7 @@ impl Span {
 ///
 /// It stands for a `Vec<Span>` in an event: contracts see it as the list of its pairs, so that an
 /// equal list of spans is an equal value.
-#[derive(Debug, Drop)]
+#[derive(Drop)]
 pub struct Spans {
     items: Vec<Span>,
 }

@@ -3,7 +3,7 @@ ghost use Rattle.std.specs.Prelude.{◌≡◌};
 ghost use Rattle.qa_base.specs.values.Names.{role_name, role_named, space_name, space_named, leave_name, leave_named, kind_name, kind_named};
 
 /// Which end of the connection the audited sender is.
-#[derive(Clone, Copy, Debug, PartialEq, Eq)]
+#[derive(Clone, Copy, PartialEq, Eq)]
 pub enum Role {
     Client,
     Server,
@@ -33,7 +33,7 @@ impl Role {
 }
 
 /// A packet number space (RFC 9002, section 4.1), in the order in which equal deadlines are taken.
-#[derive(Clone, Copy, Debug, PartialEq, Eq, PartialOrd, Ord)]
+#[derive(Clone, Copy, PartialEq, Eq, PartialOrd, Ord)]
 pub enum Space {
     Initial,
     Handshake,
@@ -67,7 +67,7 @@ impl Space {
 
 /// By whose leave an in-flight packet goes out: the congestion window's (RFC 9002, section 7), a
 /// probe timeout's (6.2.4), or that of the one packet on entering recovery (7.3.2).
-#[derive(Clone, Copy, Debug, PartialEq, Eq)]
+#[derive(Clone, Copy, PartialEq, Eq)]
 pub enum Leave {
     Window,
     Probe,
@@ -101,7 +101,7 @@ impl Leave {
 
 /// What the loss detection timer fires for (RFC 9002, A.8): a packet old enough to be lost, or a
 /// probe timeout.
-#[derive(Clone, Copy, Debug, PartialEq, Eq)]
+#[derive(Clone, Copy, PartialEq, Eq)]
 pub enum Kind {
     Loss,
     Pto,

@@ -28,7 +28,7 @@ fn a_line_is_written_and_read(rt: HostRuntime) -> Result<(), Fail> {
     assert!(rt; event.fits());
     let line = Line::Event(event);
     let text = write_line(rt.alloc(), &line)?;
-    assert_eq!(rt; read_line(rt.alloc(), text.as_bytes())?, line);
+    assert!(rt; read_line(rt.alloc(), text.as_bytes())? == line);
     Ok(())
 }
 
@@ -36,5 +36,5 @@ fn a_line_is_written_and_read(rt: HostRuntime) -> Result<(), Fail> {
 #[test]
 fn lf_is_not_blank(rt: HostRuntime) {
     let not_json = LineFault::Fault(Fault::NotJson);
-    assert_eq!(rt; read_line(rt.alloc(), b"\n"), Err(not_json));
+    assert_eq!(rt; read_line(rt.alloc(), b"\n").err(), Some(not_json));
 }

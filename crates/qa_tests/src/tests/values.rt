@@ -5,13 +5,10 @@ use std::test::Fail;
 
 #[test]
 fn spaces_and_numbers_are_ordered(rt: HostRuntime) -> Result<(), Fail> {
-    assert!(rt; Space::Initial < Space::Handshake && Space::Handshake < Space::App);
-    let low = Micros::new(999).ok_or("a time")?;
-    let high = Micros::new(1000).ok_or("a time")?;
-    assert!(rt; low < high);
     let first = PacketNumber::new(999).ok_or("a packet number")?;
     let second = PacketNumber::new(1000).ok_or("a packet number")?;
-    assert!(rt; first < second);
+    let spaces = Space::Initial < Space::Handshake && Space::Handshake < Space::App;
+    assert!(rt; spaces && Micros::of(999) < Micros::of(1000) && first < second);
     Ok(())
 }
 
