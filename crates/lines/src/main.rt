@@ -17,7 +17,7 @@ use std::process::ExitCode;
 use thiserror::Error;
 
 /// Why not every line was answered.
-#[derive(Clone, Copy, Debug, PartialEq, Eq, Error)]
+#[derive(Clone, Copy, Debug, Error)]
 enum Failure {
     #[error("read fault: standard input")]
     Read,
@@ -37,7 +37,7 @@ impl From<AllocError> for Failure {
 const PIECE: usize = 4096;
 
 /// Whether an answer to a line may follow.
-#[derive(Clone, Copy, Debug, PartialEq, Eq)]
+#[derive(Clone, Copy, PartialEq, Eq)]
 enum Answers {
     GoOn,
     /// A line was too long, and the splitter returns no more.
