@@ -1,8 +1,6 @@
 #!/usr/bin/env python3
 """Shows that conformance/mutations and malicious pass what is right and fail what is not."""
 
-import importlib.machinery
-import importlib.util
 import sys
 import tempfile
 import unittest
@@ -10,16 +8,9 @@ from pathlib import Path
 
 import mutants
 from processes import Outcome
+from test_run import script
 
 FOLDER = Path(__file__).resolve().parent
-
-
-def script(name):
-    """A script of this folder, as a module."""
-    loader = importlib.machinery.SourceFileLoader(name, str(FOLDER / name))
-    module = importlib.util.module_from_spec(importlib.util.spec_from_loader(name, loader))
-    loader.exec_module(module)
-    return module
 
 
 mutations, malicious = script("mutations"), script("malicious")

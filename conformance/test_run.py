@@ -2,15 +2,19 @@
 """Shows that conformance/run and large pass what is right and fail what is not.
 
 Each test gives a runner a small corpus of its own and a fake program, both
-in a temporary folder.
+in a temporary folder. Python starts without what is installed beside it, which
+none of them needs: for a machine may take longer for that than for the rest.
 """
 
+import importlib.machinery
+import importlib.util
 import json
 import subprocess
 import sys
 import tempfile
 import unittest
 from pathlib import Path
+from unittest import mock
 
 RUNNERS = Path(__file__).resolve().parent
 TRACE = b"a line\nanother line\n"
@@ -88,6 +92,14 @@ USAGE_CASE = {
 }
 
 
+def script(name):
+    """A script of this folder, as a module."""
+    loader = importlib.machinery.SourceFileLoader(name, str(RUNNERS / name))
+    module = importlib.util.module_from_spec(importlib.util.spec_from_loader(name, loader))
+    loader.exec_module(module)
+    return module
+
+
 class RunnerCase(unittest.TestCase):
     """A runner of a part of the corpus, which begins as a corpus that a right program passes."""
 
@@ -102,7 +114,7 @@ class RunnerCase(unittest.TestCase):
         self.program = self.corpus / "program"
 
     def write_program(self, body):
-        self.program.write_text(f"#!{sys.executable}\n{body}")
+        self.program.write_text(f"#!{sys.executable} -IS\n{body}")
         self.program.chmod(0o755)
 
     def write_files(self, folder, name, files):
@@ -113,7 +125,8 @@ class RunnerCase(unittest.TestCase):
 
     def lines(self, status):
         """Runs the runner, which must end with this status, and answers what it printed."""
-        command = [sys.executable, str(RUNNERS / self.runner), *self.part, str(self.program), str(self.corpus), *self.more]
+        runner = [sys.executable, "-S", str(RUNNERS / self.runner)]
+        command = [*runner, *self.part, str(self.program), str(self.corpus), *self.more]
         ended = subprocess.run(command, capture_output=True, text=True, check=False)
         self.assertEqual(ended.stderr, "")
         self.assertEqual(ended.returncode, status, ended.stdout)
@@ -351,7 +364,7 @@ class AuditorTest(RunnerCase):
         self.assert_case_passes("import resource\nprint(resource.getrlimit(resource.RLIMIT_DATA)[0])", {
             "memory": 1 << 30, "stdout": "1073741824\n",
         })
-        refused = "try:\n print(len(b'a' * (1 << 30)))\nexcept MemoryError:\n print('refused')"
+        refused = "try:\n print(len(bytes(1 << 30)))\nexcept MemoryError:\n print('refused')"
         self.assert_case_passes(refused, {"memory": 1 << 28, "stdout": "refused\n"})
 
     def test_case_that_takes_too_long(self):
@@ -507,12 +520,14 @@ class LargeTest(RunnerCase):
 import time
 def slowly(lines):
     for line in lines:
-        end = time.process_time() + 0.6 * (len(line) > 60000)
+        end = time.process_time() + 0.5 * (len(line) > 60000)
         while time.process_time() < end: pass
         yield line
 """ + ANSWERS.format(lines="slowly(sys.stdin.buffer)"))
-        self.more = ("long-lines-by-bytes",)
-        failure, _last = self.lines(1)
+        large = script("large")
+        # Of one long line, for each byte takes long.
+        with mock.patch.object(large, "BYTES_OF_LINES", large.LINE_LIMIT + 1):
+            failure = large.as_quick_as_short_lines([str(self.program), "check"])
         self.assertTrue(failure.endswith(" times the processor time of short lines"), failure)
 
     def test_program_that_counts_no_event(self):

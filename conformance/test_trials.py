@@ -1,14 +1,20 @@
 #!/usr/bin/env python3
 """Shows that conformance/refusals, failing and cuts pass what is right and fail what is not.
 
-Each test gives a runner a small corpus of its own and a fake auditor in C, both in a temporary folder.
+Each test gives a runner a small corpus of its own and a fake auditor in C, both in a temporary folder. What is
+compiled is compiled once: the library that is loaded before the auditors, and each of these.
 """
 
+import functools
 import os
+import shutil
 import subprocess
+import tempfile
 import unittest
+from pathlib import Path
 
-from test_run import RunnerCase
+from test_run import RunnerCase, script
+from trials import compiled
 
 TRACE = b"a line\nanother line\n"
 REPORT = b"accepted\nevents 0\n"
@@ -16,6 +22,9 @@ EXPLANATION = b"line 1 row\nline 2 row\n" + REPORT
 BAD_TRACE = b"a line\nbad\na third line\n"
 BAD_REPORT = b"refused line 2 V1 time-back\n"
 BAD_EXPLANATION = b"line 1 row\n" + BAD_REPORT
+# Of 600 bytes.
+LONGER_TRACE = (b"a" * 59 + b"\n") * 10
+LONG_TRACE = LONGER_TRACE * 8 + b"\r\n" * 20 + b"b\nc"
 
 # Reads lines, to the end or to one that says `bad`, and writes a row for each where it is to explain them. What it
 # does where something fails is set by macros.
@@ -125,21 +134,46 @@ RIGHT = {
 }
 
 
+def setUpModule():
+    """Compiles the library, which the runners then take."""
+    os.environ["TRIAL_LIBRARY"] = str(compiled(folder()))
+
+
+def tearDownModule():
+    del os.environ["TRIAL_LIBRARY"]
+    shutil.rmtree(folder())
+
+
+@functools.cache
+def folder():
+    """Of what is compiled."""
+    return Path(tempfile.mkdtemp())
+
+
+@functools.cache
+def auditor(text, *flags):
+    """A program of this text."""
+    program = folder() / f"auditor-{auditor.cache_info().currsize}"
+    command = [os.environ.get("CC", "cc"), *flags, "-o", program, "-x", "c", "-"]
+    subprocess.run(command, input=text.encode(), check=True)
+    return program
+
+
 class TrialCase(RunnerCase):
-    """A runner over two traces, of which the second is refused before its end."""
+    """A runner over two traces, of which one is refused before its end."""
+
+    other = "first-loss"
 
     def setUp(self):
         super().setUp()
         (self.corpus / "traces").mkdir()
-        self.write_files("traces", "first-loss", {"trace": TRACE, "report": REPORT, "explain": EXPLANATION})
+        self.write_files("traces", self.other, {"trace": TRACE, "report": REPORT, "explain": EXPLANATION})
         self.write_files("traces", "bad", {"trace": BAD_TRACE, "report": BAD_REPORT, "explain": BAD_EXPLANATION})
 
     def compile_program(self, text=AUDITOR, flags=(), **other):
         """The right auditor, but for these macros."""
-        source = self.corpus / "program.c"
-        source.write_text(text)
         macros = [f"-D{name}={value}" for name, value in {**RIGHT, **other}.items()]
-        subprocess.run([os.environ.get("CC", "cc"), *macros, *flags, "-o", self.program, source], check=True)
+        shutil.copy(auditor(text, *macros, *flags), self.program)
 
     def assert_first_failure(self, text):
         failure, *_others = self.lines(1)
@@ -153,6 +187,21 @@ class RefusalsTest(TrialCase):
         self.compile_program()
         # Of 5 allocations and none, with all after them, on two traces to two subcommands, files, and a usage.
         self.assert_passes((2 * 5 + 1) * 6)
+
+    def test_longer_trace_is_refused_an_allocation_or_all_in_turns(self):
+        self.write_files("traces", "longer", {"trace": LONGER_TRACE, "report": REPORT})
+        self.compile_program()
+        self.assert_passes((2 * 5 + 1) * 6 + (5 + 1) * 2)
+        self.more = ("all",)
+        self.assert_passes((2 * 5 + 1) * 8)
+
+    def test_program_that_ignores_a_refusal_on_a_longer_trace(self):
+        self.write_files("traces", "a-longer", {"trace": LONGER_TRACE, "report": REPORT})
+        self.compile_program(REFUSED='return report("unreadable\\n", 2)')
+        of_the_trace = [line.split(":")[1] for line in self.lines(1) if " check a-longer " in line]
+        self.assertEqual(of_the_trace[:2], [
+            " check a-longer without allocation 1", " check a-longer from allocation 2 on without memory",
+        ])
 
     def test_program_without_arguments(self):
         self.part = ("--traces",)
@@ -189,6 +238,10 @@ class RefusalsTest(TrialCase):
         self.compile_program(REFUSED='put(1, "refused\\n"); return fault("qaudit: out of memory", "")')
         self.assert_first_failure("check bad without allocation 1: status 3")
 
+    def test_program_that_writes_a_part_of_its_report_by_another_call(self):
+        self.compile_program(REFUSED='dprintf(1, "refused\\n"); return fault("qaudit: out of memory", "")')
+        self.assert_first_failure("check bad without allocation 1: status 3")
+
     def test_program_that_explains_a_part_of_a_row(self):
         part = 'put(1, explains ? "line 1" : ""); return fault("qaudit: out of memory", "")'
         self.compile_program(REFUSED=part)
@@ -199,18 +252,47 @@ class RefusalsTest(TrialCase):
         self.assert_first_failure("check bad without allocation 1: status 3, wanted 1")
 
 
+failing = script("failing")
+
+
 class FailingTest(TrialCase):
     runner = "failing"
     more = ("all",)
+    other = "header-alone"
 
     def test_right_program(self):
         self.compile_program()
         # The last read of the first trace meets its end, and the second is read no further than its second line.
         reads = (len(TRACE) + 2) * 2 + (len(b"a line\nbad\n") + 1) * 2
         writes = sum(len(text) + 1 for text in (REPORT, EXPLANATION, BAD_REPORT, BAD_EXPLANATION))
-        # Of two files each read fails once, and each write.
-        files = 2 * (len(TRACE) + 1) + 2 * len(b"file a\n" + REPORT) + 1
-        self.assert_passes(2 * reads + 3 * writes + files)
+        self.assert_passes(2 * reads + 3 * writes + self.OF_FILES)
+
+    # Of two files each read fails once, and each write.
+    OF_FILES = 2 * (len(TRACE) + 1) + 2 * len(b"file a\n" + REPORT) + 1
+
+    def write_traces(self):
+        """One trace by each of the names that are tried where none is given."""
+        self.more = ()
+        names = failing.TRACES + failing.LONGER_TRACES
+        for name in names:
+            self.write_files("traces", name, {"trace": TRACE, "report": REPORT, "explain": EXPLANATION})
+
+    def test_right_program_on_traces_that_are_not_named(self):
+        self.write_traces()
+        self.compile_program()
+        # The calls of each subcommand, and one that there is not.
+        reads = [len(TRACE) + 2] * 2
+        writes = [len(REPORT) + 1, len(EXPLANATION) + 1]
+        thirds = sum(len(range(1, calls, 3)) + 1 for calls in reads + writes)
+        short, longer = len(failing.TRACES), len(failing.LONGER_TRACES)
+        self.assert_passes(short * (2 * sum(reads) + 3 * sum(writes)) + longer * thirds + self.OF_FILES)
+
+    def test_ways_take_turns_on_a_longer_trace(self):
+        self.write_traces()
+        self.compile_program(GOES_ON_WRITING="errno == EINTR")
+        of_the_trace = [line.split(":")[1] for line in self.lines(1) if " check first-loss where " in line]
+        interrupted = range(4, len(REPORT) + 1, 3 * 3)
+        self.assertEqual(of_the_trace, [f" check first-loss where write {number} is interrupted" for number in interrupted])
 
     def test_program_without_arguments(self):
         self.part = ("--traces",)
@@ -266,11 +348,32 @@ class CutsTest(TrialCase):
         self.compile_program()
         self.assert_passes(2 * (len(BAD_TRACE) - 1 + 2))
 
-    def test_long_trace_is_cut_around_each_lf(self):
-        self.write_files("traces", "long", {"trace": b"a line\n" + b"\n" * 4096 + b"b\nc", "report": REPORT})
-        self.more = ("long",)
+    def of_others(self):
+        """How often the two other traces are run where none is named."""
+        return len(TRACE) - 1 + 2 + len(BAD_TRACE) - 1 + 2
+
+    def test_longer_trace_is_cut_around_each_lf_and_at_each_seventeenth_place(self):
+        self.write_files("traces", "longer", {"trace": LONGER_TRACE, "report": REPORT})
         self.compile_program()
-        self.assert_passes(2 * (len(b"\n" * 4096 + b"b\n") + 4))
+        length = len(LONGER_TRACE)
+        places = {*range(17, length, 17), *(end + by for end in range(60, length, 60) for by in (-1, 0, 1)), length - 1}
+        self.assert_passes(self.of_others() + len(places) + 2)
+        self.more = ("longer",)
+        self.assert_passes(2 * (length - 1 + 2))
+
+    def test_long_trace_is_cut_around_each_lf(self):
+        self.write_files("traces", "long", {"trace": LONG_TRACE, "report": REPORT})
+        self.compile_program()
+        # Around the LF of each `a` line, and of the last two bytes before the end.
+        self.assert_passes(self.of_others() + 3 * 80 + 2 + 2)
+        self.more = ("long",)
+        # Each place of the blank lines too: the first lies behind an `a` line, and the last before `b`.
+        self.assert_passes(2 * (3 * 80 + 2 * 20 + 1 + 2))
+
+    def test_trace_of_hundred_thousand_bytes_is_cut_where_it_is_named(self):
+        self.write_files("traces", "long", {"trace": LONG_TRACE * 21, "report": REPORT})
+        self.compile_program()
+        self.assert_passes(self.of_others() + 2)
 
     def test_program_that_loses_what_stood_before_a_cut(self):
         self.compile_program(AT_EACH_PIECE="length = 0")

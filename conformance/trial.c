@@ -2,8 +2,10 @@
    asked for. A trial refuses the copy some of its allocations, or has a read or a write of it be short or fail.
 
    TRIAL_DESCRIPTORS has five numbers with spaces between: of a pipe from which struct trial is read, of one to
-   which struct answer is written for each, and of the files that a copy has as its standard input, output and
-   error. A copy begins at the start of the first, and the other two are empty then. */
+   which struct answer is written for each, and of the files of a copy's standard input, output and error. Of the
+   first two `read` and `write` move the bytes in memory, without a call of the system for each: a copy that moves
+   single bytes makes thousands. What it reads or writes by other calls it does to the files. It begins at the start of
+   the first two, writes over what another copy wrote, and the file of its standard error is empty when it begins. */
 
 #define _GNU_SOURCE
 #include <dlfcn.h>
@@ -35,6 +37,8 @@ struct counts {
     long allocations;
     long reads;
     long writes;
+    /* Bytes of standard output. */
+    long written;
 };
 
 struct answer {
@@ -43,11 +47,14 @@ struct answer {
     struct counts counts;
 };
 
-enum { SECONDS = 60 };
+enum { SECONDS = 60, MOST_INPUT = 1 << 30, MOST_OUTPUT = 1 << 26 };
 
 static struct trial trial;
 static struct counts *counts;
+static const char *input;
+static long input_size;
 static long bytes_read;
+static char *output;
 
 static void stop(const char *message)
 {
@@ -64,6 +71,14 @@ static void begin(const int *files)
     alarm(SECONDS);
 }
 
+static long moved(int file, int whence)
+{
+    long place = lseek(file, 0, whence);
+    if (place < 0)
+        stop("lseek");
+    return place;
+}
+
 static void empty(int file)
 {
     if (ftruncate(file, 0) < 0 || lseek(file, 0, SEEK_SET) < 0)
@@ -75,8 +90,9 @@ static void serve(int requests, int answers, const int *files)
 {
     while (syscall(SYS_read, requests, &trial, sizeof trial) == sizeof trial) {
         memset(counts, 0, sizeof *counts);
-        lseek(files[0], 0, SEEK_SET);
-        empty(files[1]);
+        input_size = moved(files[0], SEEK_END);
+        moved(files[0], SEEK_SET);
+        moved(files[1], SEEK_SET);
         empty(files[2]);
         pid_t copy = fork();
         if (copy < 0)
@@ -88,11 +104,23 @@ static void serve(int requests, int answers, const int *files)
         int status;
         if (waitpid(copy, &status, 0) < 0)
             stop("waitpid");
+        /* What was written by other calls is seen too. */
+        long behind = moved(files[1], SEEK_CUR);
+        if (counts->written < behind)
+            counts->written = behind;
         struct answer answer = {status, *counts};
         if (syscall(SYS_write, answers, &answer, sizeof answer) != sizeof answer)
             stop("write");
     }
     _exit(0);
+}
+
+static void *mapped(size_t size, int protection, int flags, int file)
+{
+    void *memory = mmap(NULL, size, protection, MAP_SHARED | flags, file, 0);
+    if (memory == MAP_FAILED)
+        stop("mmap");
+    return memory;
 }
 
 __attribute__((constructor)) static void hold(void)
@@ -101,9 +129,11 @@ __attribute__((constructor)) static void hold(void)
     int requests, answers, files[3];
     if (!descriptors || sscanf(descriptors, "%d %d %d %d %d", &requests, &answers, &files[0], &files[1], &files[2]) != 5)
         return;
-    struct counts *shared = mmap(NULL, sizeof *counts, PROT_READ | PROT_WRITE, MAP_SHARED | MAP_ANONYMOUS, -1, 0);
-    if (shared == MAP_FAILED)
-        stop("mmap");
+    struct counts *shared = mapped(sizeof *counts, PROT_READ | PROT_WRITE, MAP_ANONYMOUS, -1);
+    input = mapped(MOST_INPUT, PROT_READ, 0, files[0]);
+    if (ftruncate(files[1], MOST_OUTPUT) < 0)
+        stop("ftruncate");
+    output = mapped(MOST_OUTPUT, PROT_READ | PROT_WRITE, 0, files[1]);
     unsetenv("LD_PRELOAD");
     unsetenv("TRIAL_DESCRIPTORS");
     counts = shared;
@@ -175,10 +205,35 @@ static size_t least(size_t size, long most)
     return most > 0 && (size_t)most < size ? (size_t)most : size;
 }
 
+static size_t at_most(size_t size, long room)
+{
+    return room < 0 ? 0 : (size_t)room < size ? (size_t)room : size;
+}
+
 static ssize_t failed(void)
 {
     errno = (int)trial.error;
     return trial.error ? -1 : 0;
+}
+
+/* A read of standard input. */
+static ssize_t take(char *bytes, size_t size)
+{
+    if (bytes_read < trial.read_cut)
+        size = least(size, trial.read_cut - bytes_read);
+    size = at_most(size, input_size - bytes_read);
+    memcpy(bytes, input + bytes_read, size);
+    bytes_read += size;
+    return size;
+}
+
+/* A write to standard output. */
+static ssize_t put(const char *bytes, size_t size)
+{
+    size = at_most(size, MOST_OUTPUT - counts->written);
+    memcpy(output + counts->written, bytes, size);
+    counts->written += size;
+    return size;
 }
 
 ssize_t read(int file, void *bytes, size_t size)
@@ -188,12 +243,7 @@ ssize_t read(int file, void *bytes, size_t size)
     if (++counts->reads == trial.read_fails)
         return failed();
     size = least(size, trial.read_most);
-    if (bytes_read < trial.read_cut)
-        size = least(size, trial.read_cut - bytes_read);
-    ssize_t count = syscall(SYS_read, file, bytes, size);
-    if (count > 0)
-        bytes_read += count;
-    return count;
+    return file == STDIN_FILENO ? take(bytes, size) : syscall(SYS_read, file, bytes, size);
 }
 
 ssize_t write(int file, const void *bytes, size_t size)
@@ -202,5 +252,5 @@ ssize_t write(int file, const void *bytes, size_t size)
         return syscall(SYS_write, file, bytes, size);
     if (++counts->writes == trial.write_fails)
         return failed();
-    return syscall(SYS_write, file, bytes, least(size, trial.write_most));
+    return put(bytes, least(size, trial.write_most));
 }

@@ -2,24 +2,24 @@
 
 import contextlib
 import errno
-import itertools
 import os
 import struct
 import subprocess
 import sys
 import tempfile
-from concurrent.futures import ThreadPoolExecutor
 from pathlib import Path
-from typing import Callable, Iterable, Iterator, NamedTuple, Optional
+from typing import Callable, Iterator, NamedTuple, Optional
 
 from processes import Outcome, differences, is_program, status_of, tell
 
 ALL = 2**62
 # The traces that are tried at each place: as long as those that `run` gives byte by byte.
 LONGEST = 4096
+# Of a longer one less is tried, where a program is not asked to try all.
+SHORT = 256
 PIECE = 4096
 LINE_LIMIT = 65536
-ANSWER = struct.Struct("4l")
+ANSWER = struct.Struct("5l")
 
 # Yields (name, failure) for each try; failure is empty where it passed.
 Tries = Iterator[tuple[str, str]]
@@ -67,7 +67,8 @@ class Held:
         asked, self.requests = os.pipe()
         self.answers, answered = os.pipe()
         theirs = (asked, answered, *self.files)
-        environment = {"LD_PRELOAD": str(library), "TRIAL_DESCRIPTORS": " ".join(map(str, theirs))}
+        # What is linked before the copies are made is not linked in each.
+        environment = {"LD_PRELOAD": str(library), "LD_BIND_NOW": "1", "TRIAL_DESCRIPTORS": " ".join(map(str, theirs))}
         self.child = subprocess.Popen(
             command, stdin=subprocess.DEVNULL, stdout=subprocess.DEVNULL, cwd=folder, env=environment, pass_fds=theirs
         )
@@ -96,13 +97,17 @@ class Held:
         answer = os.read(self.answers, ANSWER.size)
         if len(answer) < ANSWER.size:
             raise NotHeld("the program is not linked with the C library at run time")
-        status, *counts = ANSWER.unpack(answer)
-        output, error = (os.pread(file, os.fstat(file).st_size, 0) for file in self.files[1:])
-        return Run(Outcome(os.waitstatus_to_exitcode(status), output, error), *counts)
+        status, *counts, written = ANSWER.unpack(answer)
+        _, output, error = self.files
+        texts = os.pread(output, written, 0), os.pread(error, os.fstat(error).st_size, 0)
+        return Run(Outcome(os.waitstatus_to_exitcode(status), *texts), *counts)
 
 
 def compiled(folder: Path) -> Path:
-    """The library that is loaded before a program, which it compiles into a folder."""
+    """The library that is loaded before a program: the one that TRIAL_LIBRARY names, or else one that it compiles into
+    a folder."""
+    if "TRIAL_LIBRARY" in os.environ:
+        return Path(os.environ["TRIAL_LIBRARY"])
     library = folder / "trial.so"
     source = Path(__file__).resolve().parent / "trial.c"
     compiler = os.environ.get("CC", "cc")
@@ -185,12 +190,6 @@ def fixed_at(data: bytes, report: bytes) -> Optional[int]:
 def short_traces(folder: Path) -> Iterator[Path]:
     """The traces of a folder that are tried at each place."""
     return (path for path in sorted(folder.glob("*.trace")) if path.stat().st_size <= LONGEST)
-
-
-def side_by_side(function: Callable[..., Tries], jobs: Iterable) -> Tries:
-    """What the function yields for each job, one after another, by as many threads as there are processors."""
-    with ThreadPoolExecutor(len(os.sched_getaffinity(0))) as pool:
-        yield from itertools.chain.from_iterable(pool.map(lambda job: list(function(job)), jobs))
 
 
 def try_all(arguments: list[str], usage: str, tries: Callable[[Auditor, Path, Path, list[str]], Tries]) -> int:
