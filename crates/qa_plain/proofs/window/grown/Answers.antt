@@ -4,7 +4,7 @@ use Rattle.qa_base.specs.machine.Reno.{Control, Grow, moved, grows}
 use Rattle.qa_plain.specs.Listed.{listed}
 use Rattle.qa_plain.proofs.Filtered.{grows_passing, grows_later}
 use Rattle.qa_plain.proofs.Moved.{grown_by}
-use Rattle.qa_plain.proofs.Turns.{packet_next}
+use Rattle.qa_plain.proofs.Turns.{packet_next, at_end}
 use Rattle.qa_plain.proofs.window.grown.Goals as goal
 use Rattle.qa_plain.proofs.window.grown.Goals.{in-Some+then-is_newly_acknowledged+then-packet, in-Some+else-is_newly_acknowledged, in_default}
 
@@ -49,3 +49,8 @@ loop-place-preserved c =
             high = omega (arith, window_is, was.high);
           })
     ]
+
+pub returns-clause-value : goal.returns-clause-value
+returns-clause-value c =
+    let test = is_newly_acknowledged c.args.event.now (history_of c.args.before.now) in
+    c.loop-place.invariant.value ∙ at_end (λ part. fold (moved c.args.header.now.max_datagram_size) c.args.reno (grows (filter test (packets part)))) c.args.before.now c.loop-place.place c.loop-place-test.false
