@@ -8,3 +8,4 @@ pub mod Powers
 pub mod Followed
 pub mod Refreshed
 pub mod Late
+pub mod Filtered

@@ -41,10 +41,6 @@ pub grown_by : (d : ℕ) (r : Control) (p : Packet) (ps : List Packet) → p.in_
     → fold (moved d) r (grows (p ∷ ps)) ≡ moved d (fold (moved d) r (grows ps)) (Grow p.size p.time)
 grown_by d r p ps is = ap (fold (moved d) r) (grows_in_flight p ps is) ∙ fold-append (moved d) r (grows ps) (Grow p.size p.time ∷ [])
 
-pub grown_bare : (d : ℕ) (r : Control) (p : Packet) (ps : List Packet) → p.in_flight ≡ false
-    → fold (moved d) r (grows (p ∷ ps)) ≡ fold (moved d) r (grows ps)
-grown_bare d r p ps is = ap (fold (moved d) r) (grows_bare p ps is)
-
 three : (d : ℕ) (r : Control) (xs ys zs : List Move) → fold (moved d) r ((xs ++ ys) ++ zs) ≡ fold (moved d) (fold (moved d) (fold (moved d) r xs) ys) zs
 three d r xs ys zs = fold-append (moved d) r (xs ++ ys) zs ∙ ap (λ (x : Control). fold (moved d) x zs) (fold-append (moved d) r xs ys)
 

@@ -243,7 +243,6 @@ fn sets_timer(before: &[Event], event: &Event) -> bool
 }
 
 /// When the timer was last set.
-#[tactic(auto, using(qa_base::proofs::machine::Steps::last_set_after))]
 pub fn last_set(events: &[Event]) -> Option<Micros>
     ensures { result ≡ timers.last_set (history_of events.now) }
 {

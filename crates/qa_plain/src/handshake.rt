@@ -37,7 +37,7 @@ fn acknowledges_handshake(event: &Event) -> bool
 fn is_handshake_acknowledged(events: &[Event]) -> bool
     ensures { result ≡ list_any handshake.acknowledges_handshake (history_of events.now) }
 {
-    events.iter().any(|event| acknowledges_handshake(event))
+    events.iter().any(acknowledges_handshake)
 }
 
 /// Whether the peer has validated the sender's address: a server's peer always has (RFC 9002, A.8).
@@ -63,5 +63,5 @@ fn shows_keys(event: &Event) -> bool
 pub fn has_keys(events: &[Event]) -> bool
     ensures { result ≡ handshake.has_keys (history_of events.now) }
 {
-    events.iter().any(|event| shows_keys(event))
+    events.iter().any(shows_keys)
 }

@@ -90,7 +90,6 @@ fn grow_by(header: &Header, reno: Reno, size: u64, sent: Micros) -> Reno
 }
 
 /// The window after the packets that an event newly acknowledges, in the order of sending.
-#[tactic(auto, using(crate::proofs::Moved::grown_by, crate::proofs::Moved::grown_bare))]
 fn grown(header: &Header, before: &[Event], event: &Event, reno: Reno) -> Reno
     requires low { minimum_window header.now.max_datagram_size ≤ reno.window }
     requires high { reno.window ≤ 2 ^ 60 }

@@ -23,7 +23,7 @@ use Rattle.qa_base.specs.values.Proper.{IsWord}
 use Rattle.qa_base.proofs.format.AnyOrder.{get_put_other}
 use Rattle.qa_base.proofs.format.ProperReadings.{reading_fits}
 use Rattle.qa_quick.specs.declared.found.Found.{Found}
-use Rattle.qa_quick.specs.Lexes.{Lexes, lexemes, members_lexemes, is_plain, IsQuoted, IsValueOf, IsValue}
+use Rattle.qa_quick.specs.Lexes.{Lexes, lexemes, members_lexemes, is_plain, IsQuoted, IsKey, IsValueOf, IsValue}
 use Rattle.qa_quick.specs.Found.{Holds, Keeps, Puts, Takes, TakesNothing, Follows, SaysLine, is_known}
 use Rattle.qa_quick.proofs.Lexing.{then, lexes_quoted}
 use Rattle.qa_quick.proofs.Reading.{json_of-lexemes, not_blank}
@@ -44,15 +44,15 @@ null_value bytes rest lexed = record { form = form.null; reads = refl; shallow =
 
 -- ---- members
 
--- a key, a colon and a value
-pub takes : (key : List ℕ) (old new : Found) (bytes behind rest : List ℕ) → list_all is_plain key ≡ true → IsQuoted key bytes behind → Puts key old new behind rest → Takes old new bytes rest
+-- a key with its colon, and a value
+pub takes : (key : List ℕ) (old new : Found) (bytes behind rest : List ℕ) → list_all is_plain key ≡ true → IsKey key bytes behind → Puts key old new behind rest → Takes old new bytes rest
 takes key old new bytes behind rest all_plain is puts = record {
   key = key;
   value = puts.value;
-  form = puts.is.is.form;
-  reads = puts.is.is.reads;
-  shallow = puts.is.is.shallow;
-  lexed = then (lexes_quoted key bytes behind all_plain is) (then puts.is.at_colon puts.is.is.lexed);
+  form = puts.is.form;
+  reads = puts.is.reads;
+  shallow = puts.is.shallow;
+  lexed = then (lexes_quoted key bytes is.middle all_plain is.quoted) (then is.at_colon puts.is.lexed);
   keeps = puts.keeps;
 }
 
@@ -107,7 +107,7 @@ other_keeps key value unknown f ms h =
 pub takes_nothing : (key bytes behind middle rest : List ℕ) → list_all is_plain key ≡ true → IsQuoted key bytes behind
     → Lexes behind middle (colon ∷ []) → is_known key ≡ false → IsValue middle rest → TakesNothing bytes rest
 takes_nothing key bytes behind middle rest all_plain is at_colon unknown one f =
-    takes key f f bytes behind rest all_plain is (record { value = one.0; is = record { middle = middle; at_colon = at_colon; is = one.1 }; keeps = other_keeps key one.0 unknown f })
+    takes key f f bytes middle rest all_plain (record { middle = behind; quoted = is; at_colon = at_colon }) (record { value = one.0; is = one.1; keeps = other_keeps key one.0 unknown f })
 
 -- ---- the object
 

@@ -1,5 +1,5 @@
 -- Bytes that begin with a word.
-use Rattle.std.proofs.Common.{◌≡◌, ◌∙◌, ℕ, ◌+◌, ◌-◌, ◌<◌, ◌≤◌, List, [], ◌∷◌, ◌++◌, true, ◌&&◌, length, take, drop, get_or, sym, ap, arith, add-one, take-append-drop}
+use Rattle.std.proofs.Common.{◌≡◌, ◌∙◌, ℕ, ◌+◌, ◌-◌, ◌<◌, ◌≤◌, List, [], ◌∷◌, ◌++◌, true, ◌&&◌, length, take, drop, get_or, sym, ap, arith, add-one, take-append-drop, append_assoc}
 use Rattle.std.specs.Prelude.{nat_eq}
 use Rattle.std.proofs.lemmas.Bool.{and_parts, eqb-true}
 use Rattle.std.proofs.Math.Seq.{take-suc}
@@ -33,3 +33,9 @@ word_then_rest bs w i whole within same =
 pub byte_then_rest : (bs : List ℕ) (b : ℕ) → 1 ≤ length bs → get_or bs 0 0 ≡ b → bs ≡ b ∷ take (length bs - 1) (drop 1 bs)
 byte_then_rest [] b some is = absurd (omega arith)
 byte_then_rest (x ∷ bs) b some is = ap (λ y. y ∷ bs) is ∙ ap (λ rest. b ∷ rest) (sym (take_all (length (x ∷ bs) - 1) bs (omega arith)))
+
+-- a text in quotes, in two parts
+pub quoted_in_parts : (begins ends text bytes middle rest : List ℕ) → begins ++ ends ≡ 34 ∷ (text ++ 34 ∷ []) → bytes ≡ begins ++ middle → middle ≡ ends ++ rest → bytes ≡ 34 ∷ (text ++ 34 ∷ rest)
+quoted_in_parts begins ends text bytes middle rest parts first second =
+    first ∙ (ap (λ (l : List ℕ). begins ++ l) second ∙ (sym (append_assoc begins ends rest)
+    ∙ (ap (λ (l : List ℕ). l ++ rest) parts ∙ ap (λ (l : List ℕ). 34 ∷ l) (append_assoc text (34 ∷ []) rest))))

@@ -24,7 +24,7 @@ use Rattle.qa_base.specs.values.Proper.{IsRange, AreWords}
 use Rattle.qa_base.specs.format.Reading.{json_of, object_says, reader_named}
 use Rattle.qa_base.specs.format.Written.{integer, string, boolean}
 use Rattle.qa_quick.specs.declared.found.Found.{Found}
-use Rattle.qa_quick.specs.Lexes.{Lexes, lexemes, members_lexemes, IsBehindColon}
+use Rattle.qa_quick.specs.Lexes.{Lexes, lexemes, members_lexemes, IsValueOf}
 use Rattle.qa_quick.specs.Ranges.{ranges_data}
 
 -- ---- values
@@ -101,10 +101,10 @@ pub record Holds (f : Found) (ms : Members) : Type 0 where
 abbrev pub Keeps : List ℕ → Data → Found → Found → Type 0
 Keeps key value old new = (ms : Members) → Holds old ms → Holds new (put key value ms)
 
--- the bytes are a colon, a value of this key and the rest, and the value is found
+-- the bytes are a value of this key and the rest, and the value is found
 pub record Puts (key : List ℕ) (old new : Found) (bytes rest : List ℕ) : Type 0 where
   pub value : Data
-  pub is : IsBehindColon value bytes rest
+  pub is : IsValueOf value bytes rest
   pub keeps : Keeps key value old new
 
 -- the bytes are a key, its value and the rest, and what was found is then found of this key too

@@ -67,8 +67,10 @@ pub record IsValueOf (value : Data) (bytes rest : List ℕ) : Type 0 where
 abbrev pub IsValue : List ℕ → List ℕ → Type 0
 IsValue bytes rest = (value : Data) × IsValueOf value bytes rest
 
--- the bytes are a colon, this value and the rest
-pub record IsBehindColon (value : Data) (bytes rest : List ℕ) : Type 0 where
+-- ---- keys
+
+-- the bytes are this text in quotes, a colon and the rest
+pub record IsKey (text bytes rest : List ℕ) : Type 0 where
   pub middle : List ℕ
-  pub at_colon : Lexes bytes middle (colon ∷ [])
-  pub is : IsValueOf value middle rest
+  pub quoted : IsQuoted text bytes middle
+  pub at_colon : Lexes middle rest (colon ∷ [])

@@ -7,9 +7,8 @@ ghost use Rattle.qa_quick.specs.Found.{Keeps, Puts, Takes};
 use crate::keys::event_key;
 use crate::names::{leave, line_kind, space, timer_kind};
 use crate::ranges::ranges;
-use crate::tokens::colon;
+use crate::tokens::{boolean, integer};
 use crate::unknown::unknown_member;
-use crate::values::{boolean_value, integer_value};
 use qa_base::{Field, Key, Kind, Leave, LineKind, MetricValues, Space, Spans};
 use std::alloc::Global;
 
@@ -44,7 +43,7 @@ impl Found {
         self.value(alloc, key, rest)
     }
 
-    /// The value of a key is found behind a colon; gives what follows it.
+    /// The value of a key is found; gives what follows it.
     #[inline(always)]
     fn value<'a>(&mut self, alloc: Global, key: Key, bytes: &'a [u8]) -> Option<&'a [u8]>
         ensures { IfSome result (λ rest. Puts (key_name key) self.old self.new bytes.now rest.now) }
@@ -72,7 +71,7 @@ impl Found {
     fn event<'a>(&mut self, bytes: &'a [u8]) -> Option<&'a [u8]>
         ensures { IfSome result (λ rest. Puts (codes "event") self.old self.new bytes.now rest.now) }
     {
-        let (kind, rest) = line_kind(colon(bytes)?)?;
+        let (kind, rest) = line_kind(bytes)?;
         self.event = Some(kind);
         Some(rest)
     }
@@ -82,7 +81,7 @@ impl Found {
     fn time<'a>(&mut self, bytes: &'a [u8]) -> Option<&'a [u8]>
         ensures { IfSome result (λ rest. Puts (codes "time") self.old self.new bytes.now rest.now) }
     {
-        let (value, rest) = integer_value(bytes)?;
+        let (value, rest) = integer(bytes)?;
         self.time = Some(value);
         Some(rest)
     }
@@ -92,7 +91,7 @@ impl Found {
     fn space<'a>(&mut self, bytes: &'a [u8]) -> Option<&'a [u8]>
         ensures { IfSome result (λ rest. Puts (codes "space") self.old self.new bytes.now rest.now) }
     {
-        let (found, rest) = space(colon(bytes)?)?;
+        let (found, rest) = space(bytes)?;
         self.space = Some(found);
         Some(rest)
     }
@@ -102,7 +101,7 @@ impl Found {
     fn number<'a>(&mut self, bytes: &'a [u8]) -> Option<&'a [u8]>
         ensures { IfSome result (λ rest. Puts (codes "number") self.old self.new bytes.now rest.now) }
     {
-        let (value, rest) = integer_value(bytes)?;
+        let (value, rest) = integer(bytes)?;
         self.number = Some(value);
         Some(rest)
     }
@@ -112,7 +111,7 @@ impl Found {
     fn size<'a>(&mut self, bytes: &'a [u8]) -> Option<&'a [u8]>
         ensures { IfSome result (λ rest. Puts (codes "size") self.old self.new bytes.now rest.now) }
     {
-        let (value, rest) = integer_value(bytes)?;
+        let (value, rest) = integer(bytes)?;
         self.size = Some(value);
         Some(rest)
     }
@@ -122,7 +121,7 @@ impl Found {
     fn eliciting<'a>(&mut self, bytes: &'a [u8]) -> Option<&'a [u8]>
         ensures { IfSome result (λ rest. Puts (codes "eliciting") self.old self.new bytes.now rest.now) }
     {
-        let (value, rest) = boolean_value(bytes)?;
+        let (value, rest) = boolean(bytes)?;
         self.eliciting = Some(value);
         Some(rest)
     }
@@ -132,7 +131,7 @@ impl Found {
     fn in_flight<'a>(&mut self, bytes: &'a [u8]) -> Option<&'a [u8]>
         ensures { IfSome result (λ rest. Puts (codes "in_flight") self.old self.new bytes.now rest.now) }
     {
-        let (value, rest) = boolean_value(bytes)?;
+        let (value, rest) = boolean(bytes)?;
         self.in_flight = Some(value);
         Some(rest)
     }
@@ -142,7 +141,7 @@ impl Found {
     fn leave<'a>(&mut self, bytes: &'a [u8]) -> Option<&'a [u8]>
         ensures { IfSome result (λ rest. Puts (codes "leave") self.old self.new bytes.now rest.now) }
     {
-        let (found, rest) = leave(colon(bytes)?)?;
+        let (found, rest) = leave(bytes)?;
         self.leave = Some(found);
         Some(rest)
     }
@@ -152,9 +151,8 @@ impl Found {
     fn ranges<'a>(&mut self, alloc: Global, bytes: &'a [u8]) -> Option<&'a [u8]>
         ensures { IfSome result (λ rest. Puts (codes "ranges") self.old self.new bytes.now rest.now) }
     {
-        let behind = colon(bytes)?;
         let mut spans = Spans::new(alloc);
-        let rest = ranges(&mut spans, behind)?;
+        let rest = ranges(&mut spans, bytes)?;
         self.ranges = Some(spans);
         Some(rest)
     }
@@ -164,7 +162,7 @@ impl Found {
     fn delay<'a>(&mut self, bytes: &'a [u8]) -> Option<&'a [u8]>
         ensures { IfSome result (λ rest. Puts (codes "delay") self.old self.new bytes.now rest.now) }
     {
-        let (value, rest) = integer_value(bytes)?;
+        let (value, rest) = integer(bytes)?;
         self.delay = Some(value);
         Some(rest)
     }
@@ -174,7 +172,7 @@ impl Found {
     fn limited<'a>(&mut self, bytes: &'a [u8]) -> Option<&'a [u8]>
         ensures { IfSome result (λ rest. Puts (codes "limited") self.old self.new bytes.now rest.now) }
     {
-        let (value, rest) = boolean_value(bytes)?;
+        let (value, rest) = boolean(bytes)?;
         self.limited = Some(value);
         Some(rest)
     }
@@ -184,7 +182,7 @@ impl Found {
     fn kind<'a>(&mut self, bytes: &'a [u8]) -> Option<&'a [u8]>
         ensures { IfSome result (λ rest. Puts (codes "kind") self.old self.new bytes.now rest.now) }
     {
-        let (found, rest) = timer_kind(colon(bytes)?)?;
+        let (found, rest) = timer_kind(bytes)?;
         self.kind = Some(found);
         Some(rest)
     }
@@ -204,7 +202,7 @@ impl Found {
     fn reported<'a>(&mut self, field: Field, bytes: &'a [u8]) -> Option<&'a [u8]>
         ensures { IfSome result (λ rest. Puts (field_name field) self.old self.new bytes.now rest.now) }
     {
-        let (value, rest) = integer_value(bytes)?;
+        let (value, rest) = integer(bytes)?;
         self.metric(field, value);
         Some(rest)
     }

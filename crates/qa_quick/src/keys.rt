@@ -1,27 +1,27 @@
 //! The keys of events.
 ghost use Rattle.std.specs.Prelude.{◌≡◌, ◌++◌, ◌∷◌, [], bytes_eq, IfSome};
 ghost use Rattle.qa_base.specs.values.Names.{key_name};
-ghost use Rattle.qa_quick.specs.Lexes.{IsQuoted};
+ghost use Rattle.qa_quick.specs.Lexes.{IsKey};
 ghost use Rattle.qa_quick.specs.Found as found;
 
-use crate::tokens::after;
+use crate::tokens::{after, colon};
 use qa_base::{Field, Key};
 
-/// The key, where the bytes begin with its name in quotes, and what follows it. The name comes in two parts, its quotes with
-/// them: the first is known when the key is, so that mostly the second alone is compared.
+/// The key, where the bytes begin with its name in quotes and a colon, and what follows them. The name comes in two parts, its
+/// quotes with them: the first is known when the key is, so that mostly the second alone is compared.
 #[inline(always)]
 fn key_if<'a>(key: Key, bytes: &'a [u8], begins: &[u8], ends: &[u8]) -> Option<(Key, &'a [u8])>
     requires { begins.now ++ ends.now ≡ 34 ∷ (key_name key ++ 34 ∷ []) }
-    ensures { IfSome result (λ found. IsQuoted (key_name found.0) bytes.now found.1.now) }
+    ensures { IfSome result (λ found. IsKey (key_name found.0) bytes.now found.1.now) }
 {
-    let rest = after(after(bytes, begins)?, ends)?;
+    let rest = colon(after(after(bytes, begins)?, ends)?)?;
     Some((key, rest))
 }
 
-/// The key of an event that the bytes begin with, and what follows it.
+/// The key of an event that the bytes begin with, and what follows it and its colon.
 #[inline(always)]
 pub fn event_key(bytes: &[u8]) -> Option<(Key, &[u8])>
-    ensures { IfSome result (λ found. IsQuoted (key_name found.0) bytes.now found.1.now) }
+    ensures { IfSome result (λ found. IsKey (key_name found.0) bytes.now found.1.now) }
 {
     let [_, first, second, ..] = bytes else {
         return None;

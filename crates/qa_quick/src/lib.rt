@@ -13,6 +13,5 @@ mod names;
 mod ranges;
 mod tokens;
 mod unknown;
-mod values;
 
 pub use line::quick_line;

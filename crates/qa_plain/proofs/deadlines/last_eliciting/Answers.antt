@@ -1,4 +1,4 @@
-use Rattle.std.proofs.Common.{◌∙◌, ◌++◌, List, Option, Some, sym, ap, take, filter}
+use Rattle.std.proofs.Common.{◌∙◌, ◌++◌, Option, Some, sym, ap, take}
 use Rattle.qa_base.specs.machine.Packets.{Packet, history_of, packets_of, is_of}
 use Rattle.qa_base.specs.machine.Timer.{last_eliciting}
 use Rattle.qa_plain.specs.Listed.{listed}

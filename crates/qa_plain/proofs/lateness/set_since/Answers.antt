@@ -1,4 +1,4 @@
-use Rattle.std.proofs.Common.{◌∙◌, ◌∷◌, ◌+◌, Bool, List, sym, ap, take}
+use Rattle.std.proofs.Common.{◌∙◌, Bool, List, sym, ap, take}
 use Rattle.std.specs.Prelude.{if◌then◌else◌}
 use Rattle.qa_base.specs.declared.event.Event.{Event}
 use Rattle.qa_base.specs.values.Events.{time_of}

@@ -9,6 +9,6 @@ pub returns : goal.returns
 returns c =
     let kind = c.in_ok-kind.kind in record {
       value = line_kind_data kind;
-      is = record { middle = c.in_ok-colon.field-0.now; at_colon = c.in_ok-colon.ensures; is = string_value (line_kind_name kind) c.in_ok-colon.field-0.now c.in_ok-kind.rest.now (line_kind_is_plain kind) c.in_ok-kind.ensures };
+      is = string_value (line_kind_name kind) c.args.bytes.now c.in_ok-kind.rest.now (line_kind_is_plain kind) c.in_ok-kind.ensures;
       keeps = put_event c.args.self.now kind;
     }

@@ -7,6 +7,6 @@ pub returns : goal.returns
 returns c =
     let found = c.in_ok-rest.ensures in record {
       value = ranges_data c.ranges-2.new.spans;
-      is = record { middle = c.in_ok-behind.behind.now; at_colon = c.in_ok-behind.ensures; is = ranges_value c.ranges-2.new.spans c.in_ok-behind.behind.now c.in_ok-rest.rest.now found };
+      is = ranges_value c.ranges-2.new.spans c.args.bytes.now c.in_ok-rest.rest.now found;
       keeps = put_ranges c.args.self.now c.ranges-2.new.spans found.some found.are;
     }

@@ -9,6 +9,6 @@ pub returns : goal.returns
 returns c =
     let found = c.in_ok-found.found in record {
       value = space_data found;
-      is = record { middle = c.in_ok-colon.field-0.now; at_colon = c.in_ok-colon.ensures; is = string_value (space_name found) c.in_ok-colon.field-0.now c.in_ok-found.rest.now (space_is_plain found) c.in_ok-found.ensures };
+      is = string_value (space_name found) c.args.bytes.now c.in_ok-found.rest.now (space_is_plain found) c.in_ok-found.ensures;
       keeps = put_space c.args.self.now found;
     }
