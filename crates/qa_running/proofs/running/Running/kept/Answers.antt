@@ -1,7 +1,11 @@
-use Rattle.std.proofs.Common.{◌≡◌, ◌≤◌, ◌*◌, arith, length}
+use Rattle.std.proofs.Common.{◌≡◌, ◌≤◌, ◌*◌, arith, length, rules}
 use Rattle.qa_base.specs.machine.Kept.{kept_count, runs}
 use Rattle.qa_running.proofs.Dropping.{kept_is_held}
 use Rattle.qa_running.proofs.running.Running.kept.Goals as goal
+
+-- Written out, so that a wrong body is refused at this line.
+pub returns-clause-count : goal.returns-clause-count
+returns-clause-count c = search rules
 
 pub returns-clause-bound : goal.returns-clause-bound
 returns-clause-bound c = rw (← c.self.view_is) (λ settings h is.

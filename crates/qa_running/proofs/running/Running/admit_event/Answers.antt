@@ -1,0 +1,12 @@
+use Rattle.std.proofs.Common.{rules}
+use Rattle.qa_running.proofs.running.Running.admit_event.Goals as goal
+
+-- Written out, so that a wrong body is refused at these lines.
+pub returns-then-self-clause-ok : goal.returns-then-self-clause-ok
+returns-then-self-clause-ok c = search rules
+
+pub returns-then-self-clause-failed : goal.returns-then-self-clause-failed
+returns-then-self-clause-failed c = search rules
+
+pub returns-in-Ok-clause-broken : goal.returns-in-Ok-clause-broken
+returns-in-Ok-clause-broken c = search rules
