@@ -64,7 +64,6 @@ fn keep(
 
 impl Whole {
     /// Puts an event behind the others that breaks no rule after them.
-    #[tactic(auto, using(crate::proofs::Sound::sound_more))]
     fn push(&mut self, event: &Event) -> Result<(), AllocError>
         requires fit { Fits event.now }
         requires few { length self.old.events < max_lines }
