@@ -1,4 +1,3 @@
-pub mod Answered
 pub mod Told
 pub mod Grown
 pub mod Entries

@@ -1,8 +1,8 @@
 -- What one event makes of the values that are kept.
-use Rattle.std.specs.Prelude.{◌≤◌, ℕ, ◌-◌, ◌&&◌, ◌==◌, nat_le, min, fold, find, reverse, Bool, true, false, List, [], ◌∷◌, Option, Some, None, option_map, if◌then◌else◌}
+use Rattle.std.specs.Prelude.{◌≤◌, ℕ, ◌-◌, ◌&&◌, ◌==◌, nat_le, min, fold, find, reverse, Bool, false, List, [], ◌∷◌, Option, Some, None, option_map, if◌then◌else◌}
 use Rattle.std.specs.List.{list_any}
 use Rattle.qa_base.specs.declared.event.Event.{Event}
-use Rattle.qa_base.specs.declared.event.Event.TheVariants.{Ack, Discard}
+use Rattle.qa_base.specs.declared.event.Event.TheVariants.{Ack}
 use Rattle.qa_base.specs.machine.Packets.{Packet, greatest}
 use Rattle.qa_base.specs.machine.Reno.{Control, Move, Hit, collapses, grow, is_limited, is_outside_recovery, latest_sent, moved}
 use Rattle.qa_base.specs.machine.Rtt.{Estimate, Sample, refreshed}
@@ -13,11 +13,6 @@ use Rattle.qa_sent.specs.declared.packet.SentPacket.{SentPacket}
 -- a number, or the greatest of 64 bits where it is greater
 abbrev pub capped : ℕ → ℕ
 capped n = min n 18446744073709551615
-
--- the event discards the keys of a space
-abbrev pub is_discard : Event → Bool
-is_discard (Discard time space) = true
-is_discard _ = false
 
 -- ---- samples (RFC 9002, section 5.1)
 

@@ -1,5 +1,5 @@
 //! By whose leave packets may still go out past the window.
-ghost use Rattle.std.specs.Prelude.{◌≡◌, ◌∷◌, ◌+◌, ◌||◌, List, Some, None, option_map, if◌then◌else◌};
+ghost use Rattle.std.specs.Prelude.{◌≡◌, ◌∷◌, ◌+◌, List, Some, None, option_map, if◌then◌else◌};
 ghost use Rattle.qa_base.specs.declared.event.Event.{Event};
 ghost use Rattle.qa_base.specs.machine.Leave as leaves;
 ghost use Rattle.qa_base.specs.machine.Packets.{acknowledges_new};
@@ -7,8 +7,8 @@ ghost use Rattle.qa_base.specs.machine.Probes as probes;
 ghost use Rattle.qa_base.specs.machine.Timer as timers;
 ghost use Rattle.qa_connection.specs.Steps.{capped};
 
-use crate::event::{is_discard, is_pto};
-use qa_base::{Event, Leave, Space};
+use crate::event::is_pto;
+use qa_base::{Event, Kind, Leave, Space};
 
 // ---- probes (RFC 9002, sections 6.2.4 and 7.5)
 
@@ -47,35 +47,20 @@ pub(crate) fn spend_probe(spent: &mut Option<u64>, event: &Event)
     }
 }
 
-/// Whether the event sends an ack-eliciting packet of the space.
-fn is_probe_of(event: &Event, in_space: Space) -> bool
-    ensures { (h : List Event) → result ≡ leaves.is_probe_of in_space (event.now ∷ h) }
+/// Whether the event makes a probe of the space needless: an ack-eliciting packet of the space, an
+/// acknowledgment of something new, or a discard.
+fn answers_pto(event: &Event, is_new: bool, in_space: Space) -> bool
+    ensures { (h : List Event) → is_new ≡ acknowledges_new (event.now ∷ h) → result ≡ leaves.answers_pto in_space (event.now ∷ h) }
 {
     match event {
+        Event::Discard { .. } => true,
         Event::Sent {
             space,
             eliciting,
             ..
-        } => *eliciting && in_space == *space,
-        _ => false,
+        } => (*eliciting && in_space == *space) || is_new,
+        _ => is_new,
     }
-}
-
-/// Whether it does, or acknowledges something new.
-fn is_probe_or_new(event: &Event, is_new: bool, space: Space) -> bool
-    ensures { (h : List Event) → is_new ≡ acknowledges_new (event.now ∷ h)
-        → result ≡ (leaves.is_probe_of space (event.now ∷ h) || acknowledges_new (event.now ∷ h)) }
-{
-    is_probe_of(event, space) || is_new
-}
-
-/// Whether the event makes a probe of the space needless: such a packet, an acknowledgment of
-/// something new, or a discard.
-#[tactic(auto, using(crate::proofs::Answered::answers_is))]
-fn answers_pto(event: &Event, is_new: bool, space: Space) -> bool
-    ensures { (h : List Event) → is_new ≡ acknowledges_new (event.now ∷ h) → result ≡ leaves.answers_pto space (event.now ∷ h) }
-{
-    is_discard(event) || is_probe_or_new(event, is_new, space)
 }
 
 /// The space in which a probe is due is forgotten where the event makes it needless.
@@ -89,25 +74,18 @@ fn answer(due: &mut Option<Space>, event: &Event, is_new: bool)
     }
 }
 
-/// The space of a timer.
-fn timer_space(event: &Event) -> Option<Space>
-    ensures { (h : List Event) → result ≡ leaves.timer_space (event.now ∷ h) }
-{
-    match event {
-        Event::Timer { space, .. } => Some(*space),
-        _ => None,
-    }
-}
-
 /// The space in which a probe is due takes in an event.
 pub(crate) fn follow_due(due: &mut Option<Space>, event: &Event, is_new: bool)
     ensures { (h : List Event) → is_new ≡ acknowledges_new (event.now ∷ h)
         → due.new ≡ (if timers.is_pto (event.now ∷ h) then leaves.timer_space (event.now ∷ h) else probes.unanswered_by (event.now ∷ h) due.old) }
 {
-    if is_pto(event) {
-        *due = timer_space(event);
-    } else {
-        answer(due, event, is_new);
+    match event {
+        Event::Timer {
+            kind: Kind::Pto,
+            space,
+            ..
+        } => *due = Some(*space),
+        _ => answer(due, event, is_new),
     }
 }
 

@@ -40,15 +40,9 @@ fn earlier(due: Option<Due>, later: Option<Due>) -> Option<Due>
     ensures { result ≡ timers.earlier due later }
 {
     match (due, later) {
-        (None, later) => later,
-        (Some(due), None) => Some(due),
-        (Some(due), Some(later)) => {
-            if due.time <= later.time {
-                Some(due)
-            } else {
-                Some(later)
-            }
-        }
+        (None, _) => later,
+        (Some(first), Some(second)) if second.time < first.time => later,
+        _ => due,
     }
 }
 
@@ -84,18 +78,12 @@ fn loss_due(
     ensures { result ≡ deadlines.loss_due rtt largest space oldest }
 {
     match oldest {
-        None => None,
-        Some(packet) => {
-            if is_below_largest(packet.number, largest) {
-                Some(Due {
-                    kind: Kind::Loss,
-                    space,
-                    time: u128::from(packet.time.get() + rtt.loss_delay()),
-                })
-            } else {
-                None
-            }
-        }
+        Some(packet) if is_below_largest(packet.number, largest) => Some(Due {
+            kind: Kind::Loss,
+            space,
+            time: u128::from(packet.time.get() + rtt.loss_delay()),
+        }),
+        _ => None,
     }
 }
 

@@ -5,7 +5,6 @@ ghost use Rattle.qa_base.specs.machine.Packets as packets;
 ghost use Rattle.qa_base.specs.machine.Reno as steps;
 ghost use Rattle.qa_base.specs.machine.Timer as timers;
 ghost use Rattle.qa_base.specs.values.Events as events;
-ghost use Rattle.qa_connection.specs.Steps.{is_discard as is_discard_of};
 
 use qa_base::{Event, Kind, Micros, PacketNumber, Span};
 
@@ -34,16 +33,6 @@ pub(crate) fn is_pto(event: &Event) -> bool
             kind: Kind::Pto,
             ..
         } => true,
-        _ => false,
-    }
-}
-
-/// Whether the event discards the keys of a space.
-pub(crate) fn is_discard(event: &Event) -> bool
-    ensures { result ≡ is_discard_of event.now }
-{
-    match event {
-        Event::Discard { .. } => true,
         _ => false,
     }
 }

@@ -4,32 +4,12 @@ ghost use Rattle.qa_base.specs.machine.Handshake as handshake;
 
 use qa_base::{Event, Header, Role, Space};
 
-/// Whether the event confirms the handshake (RFC 9001, section 4.1.2).
-fn confirms(event: &Event) -> bool
-    ensures { result ≡ handshake.confirms event.now }
-{
-    match event {
-        Event::Confirmed { .. } => true,
-        _ => false,
-    }
-}
-
-/// Sets whether the handshake is confirmed, by an event or before it.
+/// Sets whether the handshake is confirmed, by an event or before it (RFC 9001, section 4.1.2).
 pub(crate) fn confirm(confirmed: &mut bool, event: &Event)
     ensures { confirmed.new ≡ (handshake.confirms event.now || confirmed.old) }
 {
-    if confirms(event) {
+    if let Event::Confirmed { .. } = event {
         *confirmed = true;
-    }
-}
-
-/// Whether the event is an acknowledgment of Handshake packets.
-fn acknowledges_handshake(event: &Event) -> bool
-    ensures { result ≡ handshake.acknowledges_handshake event.now }
-{
-    match event {
-        Event::Ack { space, .. } => *space == Space::Handshake,
-        _ => false,
     }
 }
 
@@ -37,29 +17,30 @@ fn acknowledges_handshake(event: &Event) -> bool
 pub(crate) fn acknowledge(acknowledged: &mut bool, event: &Event)
     ensures { acknowledged.new ≡ (handshake.acknowledges_handshake event.now || acknowledged.old) }
 {
-    if acknowledges_handshake(event) {
+    if let Event::Ack {
+        space: Space::Handshake,
+        ..
+    } = event
+    {
         *acknowledged = true;
     }
 }
 
-/// Whether the event shows that the keys of the Handshake space are there.
-fn shows_keys(event: &Event) -> bool
-    ensures { result ≡ handshake.shows_keys event.now }
-{
-    match event {
-        Event::Keys { .. } => true,
-        Event::Sent { space, .. } => *space == Space::Handshake,
-        Event::Discard { space, .. } => *space == Space::Initial,
-        _ => false,
-    }
-}
-
-/// Sets whether those keys are there, by an event or before it.
+/// Sets whether the keys of the Handshake space are there, as an event shows or one before it did.
 pub(crate) fn show_keys(has_keys: &mut bool, event: &Event)
     ensures { has_keys.new ≡ (handshake.shows_keys event.now || has_keys.old) }
 {
-    if shows_keys(event) {
-        *has_keys = true;
+    match event {
+        Event::Keys { .. }
+        | Event::Sent {
+            space: Space::Handshake,
+            ..
+        }
+        | Event::Discard {
+            space: Space::Initial,
+            ..
+        } => *has_keys = true,
+        _ => {}
     }
 }
 

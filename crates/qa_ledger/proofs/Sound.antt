@@ -1,5 +1,5 @@
 -- One more event that breaks no rule.
-use Rattle.std.proofs.Common.{◌≡◌, List, [], ◌∷◌, ◌++◌, ◌<◌, arith, None, sym, subst, length}
+use Rattle.std.proofs.Common.{◌≡◌, List, [], ◌∷◌, ◌++◌, ◌<◌, arith, None, Result, Ok, Err, OnOk, OnErr, sym, subst, length}
 use Rattle.std.proofs.lemmas.List.{length-append}
 use Rattle.std.proofs.lemmas.List.Elements.{All-from_recursion, recursion_from_All}
 use Rattle.std.specs.List.{AllByRecursion}
@@ -25,3 +25,10 @@ sound_more c events e old new sound allowed timely fit few more =
       few = omega (arith, few, length-append events (e ∷ []));
       sent = subst (λ (h : List Event). AreSent new h) longer (more (history_of events) sound.sent);
     }
+
+-- where it was out of memory, all is as it was
+pub sound_kept : {E : Type 0} (result : Result (Unit {0}) E) (c : Settings) (events after : List Event) (e : Event) (old new : BySpace) → IsSound c events old
+    → first_broken c (history_of events) e ≡ None → IsTimely e → Fits e → length events < max_lines → OnOk result (after ≡ events ++ e ∷ [])
+    → OnOk result ((h : List Event) → AreSent old h → AreSent new (e ∷ h)) → OnErr result (after ≡ events) → OnErr result (new ≡ old) → IsSound c after new
+sound_kept (Ok _) c events after e old new sound allowed timely fit few kept more same unsent = rw kept (sound_more c events e old new sound allowed timely fit few more)
+sound_kept (Err _) c events after e old new sound allowed timely fit few kept more same unsent = rw (same, unsent) sound

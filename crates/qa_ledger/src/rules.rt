@@ -5,12 +5,13 @@ ghost use Rattle.qa_base.specs.declared.event.Event.{Event as AnEvent};
 ghost use Rattle.qa_base.specs.machine.Breaches as breaches;
 ghost use Rattle.qa_base.specs.machine.Rules as rules;
 ghost use Rattle.qa_base.specs.values.Settings.{Settings};
-ghost use Rattle.qa_ledger.specs.Tests.{leave_tests, timer_tests, last_tests, late_tests};
+ghost use Rattle.qa_base.specs.declared.event.Event.TheVariants.{Timer};
+ghost use Rattle.qa_ledger.specs.Tests.{is_past, past_tests, fired_tests, leave_tests, timer_tests, last_tests, late_tests};
 
 use crate::metrics::metrics_rule;
 use crate::state::State;
 use qa_base::constants::PROBE_DATAGRAMS;
-use qa_base::{Due, Event, Kind, Leave, Rule, Space};
+use qa_base::{Due, Event, Kind, Leave, Micros, Rule, Space};
 use qa_plain::time_of;
 
 /// V1: the event is earlier than the one before it.
@@ -75,25 +76,6 @@ fn is_number_not_higher<S: State>(state: &S, event: &Event) -> bool
     }
 }
 
-/// V7: the packet takes the bytes in flight past the congestion window.
-fn is_past_window<S: State>(state: &S, event: &Event) -> bool
-    ensures { (c : Settings) (h : List AnEvent) → S.tells state.now c h → result ≡ breaches.is_past_window c h event.now }
-{
-    match event {
-        Event::Sent {
-            size,
-            in_flight,
-            leave: Leave::Window,
-            ..
-        } => {
-            *in_flight
-                && u128::from(state.window())
-                    < u128::from(state.bytes_in_flight()) + u128::from(*size)
-        }
-        _ => false,
-    }
-}
-
 /// Whether this is more than an allowance with what was spent of it, or there is none.
 fn is_over(allowance: u64, more: u64, spent: Option<u128>) -> bool
     requires room { ForSome spent (λ n. n ≤ 2 ^ 100) }
@@ -102,26 +84,6 @@ fn is_over(allowance: u64, more: u64, spent: Option<u128>) -> bool
     match spent {
         None => true,
         Some(spent) => u128::from(allowance) < spent + u128::from(more),
-    }
-}
-
-/// V8: a probe before any probe timeout, or past the datagrams that one allows.
-fn is_past_probe<S: State>(state: &S, event: &Event) -> bool
-    ensures { (c : Settings) (h : List AnEvent) → S.tells state.now c h → result ≡ breaches.is_past_probe c h event.now }
-{
-    match event {
-        Event::Sent {
-            size,
-            in_flight,
-            leave: Leave::Probe,
-            ..
-        } => *in_flight
-            && is_over(
-                PROBE_DATAGRAMS * state.max_datagram_size(),
-                *size,
-                state.probe_spent(),
-            ),
-        _ => false,
     }
 }
 
@@ -136,17 +98,41 @@ fn widened(spent: Option<u64>) -> Option<u128>
     }
 }
 
-/// V9: the packet of an entry into recovery, which was not or had its packet.
-fn is_past_recovery<S: State>(state: &S, event: &Event) -> bool
-    ensures { (c : Settings) (h : List AnEvent) → S.tells state.now c h → result ≡ breaches.is_past_recovery c h event.now }
+/// Whether a packet in flight of this size is past what it may leave by.
+fn is_past<S: State>(state: &S, leave: Leave, size: u64) -> bool
+    ensures { (c : Settings) (h : List AnEvent) → S.tells state.now c h → result ≡ is_past c h size leave }
+{
+    match leave {
+        Leave::Window => {
+            u128::from(state.window()) < u128::from(state.bytes_in_flight()) + u128::from(size)
+        }
+        Leave::Probe => is_over(
+            PROBE_DATAGRAMS * state.max_datagram_size(),
+            size,
+            state.probe_spent(),
+        ),
+        Leave::Recovery => is_over(1, 1, widened(state.recovery_spent())),
+    }
+}
+
+/// The rule of V7 to V9 that the event breaks: a packet takes the bytes in flight past the
+/// congestion window, is a probe before any probe timeout or past the datagrams that one allows, or
+/// is that of an entry into recovery, which was not or had its packet.
+fn past_rule<S: State>(state: &S, event: &Event) -> Option<Rule>
+    ensures { (c : Settings) (h : List AnEvent) → S.tells state.now c h → result ≡ rules.first_of (past_tests c h event.now) }
 {
     match event {
         Event::Sent {
-            in_flight,
-            leave: Leave::Recovery,
+            size,
+            in_flight: true,
+            leave,
             ..
-        } => *in_flight && is_over(1, 1, widened(state.recovery_spent())),
-        _ => false,
+        } if is_past(state, *leave, *size) => Some(match leave {
+            Leave::Window => Rule::PastWindow,
+            Leave::Probe => Rule::PastProbe,
+            Leave::Recovery => Rule::PastRecovery,
+        }),
+        _ => None,
     }
 }
 
@@ -180,74 +166,47 @@ fn is_before(time: u64, due: Option<Due>) -> bool
     }
 }
 
-/// V11: the timer fired where none is set.
-fn is_timer_not_set<S: State>(state: &S, event: &Event) -> bool
-    ensures { (c : Settings) (h : List AnEvent) → S.tells state.now c h → result ≡ breaches.is_timer_not_set c h event.now }
+/// The first of V11 to V14 that a timer breaks which fired: none is set, it is set for another cause
+/// or space or for later, or the probe of the last probe timeout is due.
+fn fired_rule<S: State>(state: &S, time: Micros, kind: Kind, space: Space) -> Option<Rule>
+    ensures { (c : Settings) (h : List AnEvent) → S.tells state.now c h → result ≡ rules.first_of (fired_tests c h (Timer time kind space)) }
 {
-    match event {
-        Event::Timer { .. } => state.deadline().is_none(),
-        _ => false,
+    let due = state.deadline();
+    if due.is_none() {
+        return Some(Rule::TimerNotSet);
+    }
+    if is_other(kind, space, due) {
+        return Some(Rule::TimerOther);
+    }
+    if is_before(time.get(), due) {
+        return Some(Rule::TimerEarly);
+    }
+    match kind {
+        Kind::Pto if state.is_probe_due() => Some(Rule::ProbeOwed),
+        _ => None,
     }
 }
 
-/// V12: the timer fired for another cause or space than it is set for.
-fn is_timer_other<S: State>(state: &S, event: &Event) -> bool
-    ensures { (c : Settings) (h : List AnEvent) → S.tells state.now c h → result ≡ breaches.is_timer_other c h event.now }
+/// The first of V11 to V15 that the event breaks. V15: the Handshake space is discarded before the
+/// handshake is confirmed.
+fn timer_rule<S: State>(state: &S, event: &Event) -> Option<Rule>
+    ensures { (c : Settings) (h : List AnEvent) → S.tells state.now c h → result ≡ rules.first_of (timer_tests c h event.now) }
 {
     match event {
-        Event::Timer { kind, space, .. } => is_other(*kind, *space, state.deadline()),
-        _ => false,
-    }
-}
-
-/// V13: the timer fired before it was due.
-fn is_timer_early<S: State>(state: &S, event: &Event) -> bool
-    ensures { (c : Settings) (h : List AnEvent) → S.tells state.now c h → result ≡ breaches.is_timer_early c h event.now }
-{
-    match event {
-        Event::Timer { time, .. } => is_before(time.get(), state.deadline()),
-        _ => false,
-    }
-}
-
-/// V14: a probe timeout while the probe of the last one is due.
-fn is_probe_owed<S: State>(state: &S, event: &Event) -> bool
-    ensures { (c : Settings) (h : List AnEvent) → S.tells state.now c h → result ≡ breaches.is_probe_owed h event.now }
-{
-    match event {
-        Event::Timer {
-            kind: Kind::Pto,
-            ..
-        } => state.is_probe_due(),
-        _ => false,
-    }
-}
-
-/// V15: the Handshake space is discarded before the handshake is confirmed.
-fn is_not_confirmed<S: State>(state: &S, event: &Event) -> bool
-    ensures { (c : Settings) (h : List AnEvent) → S.tells state.now c h → result ≡ breaches.is_not_confirmed h event.now }
-{
-    match event {
+        Event::Timer { time, kind, space } => fired_rule(state, *time, *kind, *space),
         Event::Discard {
             space: Space::Handshake,
             ..
-        } => !state.is_confirmed(),
-        _ => false,
+        } if !state.is_confirmed() => Some(Rule::NotConfirmed),
+        _ => None,
     }
 }
 
 /// V18: a timer that is set for packets should have fired before the event, by the header's limit.
-fn is_timer_late<S: State>(state: &S, event: &Event) -> bool
-    ensures { (c : Settings) (h : List AnEvent) → S.tells state.now c h → result ≡ breaches.is_timer_late c h event.now }
-{
-    state.is_late(time_of(event))
-}
-
-/// The rule of V18 where the event breaks it.
 fn late_rule<S: State>(state: &S, event: &Event) -> Option<Rule>
     ensures { (c : Settings) (h : List AnEvent) → S.tells state.now c h → result ≡ rules.first_of (late_tests c h event.now) }
 {
-    if is_timer_late(state, event) {
+    if state.is_late(time_of(event)) {
         return Some(Rule::TimerLate);
     }
     None
@@ -261,45 +220,20 @@ fn last_rule<S: State>(state: &S, event: &Event) -> Option<Rule>
     metrics_rule(state, event).or(late_rule(state, event))
 }
 
-/// The first rule from V11 on that the event breaks.
-fn timer_rule<S: State>(state: &S, event: &Event) -> Option<Rule>
-    ensures { (c : Settings) (h : List AnEvent) → S.tells state.now c h → result ≡ rules.first_of (timer_tests c h event.now) }
-{
-    if is_timer_not_set(state, event) {
-        return Some(Rule::TimerNotSet);
-    }
-    if is_timer_other(state, event) {
-        return Some(Rule::TimerOther);
-    }
-    if is_timer_early(state, event) {
-        return Some(Rule::TimerEarly);
-    }
-    if is_probe_owed(state, event) {
-        return Some(Rule::ProbeOwed);
-    }
-    if is_not_confirmed(state, event) {
-        return Some(Rule::NotConfirmed);
-    }
-    last_rule(state, event)
-}
-
 /// The first rule from V7 on that the event breaks.
 fn leave_rule<S: State>(state: &S, event: &Event) -> Option<Rule>
     ensures { (c : Settings) (h : List AnEvent) → S.tells state.now c h → result ≡ rules.first_of (leave_tests c h event.now) }
 {
-    if is_past_window(state, event) {
-        return Some(Rule::PastWindow);
-    }
-    if is_past_probe(state, event) {
-        return Some(Rule::PastProbe);
-    }
-    if is_past_recovery(state, event) {
-        return Some(Rule::PastRecovery);
+    if let Some(rule) = past_rule(state, event) {
+        return Some(rule);
     }
     if is_ack_unsent(state, event) {
         return Some(Rule::AckUnsent);
     }
-    timer_rule(state, event)
+    if let Some(rule) = timer_rule(state, event) {
+        return Some(rule);
+    }
+    last_rule(state, event)
 }
 
 /// The first rule that the event breaks after these events, V1 to V16 and V18 in their order.

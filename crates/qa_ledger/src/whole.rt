@@ -54,17 +54,16 @@ fn keep(
     ensures err { OnErr result (events.new.items ≡ events.old.items) }
     ensures unsent { OnErr result (sent.new ≡ sent.old) }
 {
-    let copy = event.duplicate(alloc)?;
     events.reserve(1)?;
+    let copy = event.duplicate(alloc)?;
     sent.insert_sent(event)?;
-    // It has room, so that nothing is left half done.
-    events.push(copy)?;
+    // There is room, so that nothing is left half done.
+    events.push_reserved(copy);
     Ok(())
 }
 
 impl Whole {
     /// Puts an event behind the others that breaks no rule after them.
-    #[tactic(auto, using(crate::proofs::Sound::sound_more))]
     fn push(&mut self, event: &Event) -> Result<(), AllocError>
         requires fit { Fits event.now }
         requires few { length self.old.events < max_lines }
@@ -141,7 +140,10 @@ impl State for Whole {
     }
 
     fn last_time(&self) -> Option<Micros> {
-        self.events.last().map(|event| time_of(event))
+        match self.events.last() {
+            None => None,
+            Some(event) => Some(time_of(event)),
+        }
     }
 
     fn has_owed(&self) -> bool {

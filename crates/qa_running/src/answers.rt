@@ -112,7 +112,10 @@ impl State for Running {
     }
 
     fn probe_spent(&self) -> Option<u128> {
-        self.connection.probe_spent.map(|spent| u128::from(spent))
+        match self.connection.probe_spent {
+            None => None,
+            Some(spent) => Some(u128::from(spent)),
+        }
     }
 
     fn recovery_spent(&self) -> Option<u64> {

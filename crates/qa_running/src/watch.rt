@@ -32,8 +32,7 @@ fn is_same_due(due: Option<Due>, other: Option<Due>) -> bool
         (Some(due), Some(other)) => {
             due.kind == other.kind && due.space == other.space && due.time == other.time
         }
-        (None, _) => false,
-        (Some(_), None) => false,
+        _ => false,
     }
 }
 

@@ -1,5 +1,5 @@
 -- A packet more behind the others: what lanes, losses and order make of it.
-use Rattle.std.proofs.Common.{◌≡◌, ◌∙◌, ℕ, zero, suc, ◌+◌, ◌-◌, ◌≤◌, ◌<◌, Bool, true, false, ◌&&◌, List, [], ◌∷◌, ◌++◌, length, take, drop, length-append, refl, sym, ap, arith, inl, inr, cond}
+use Rattle.std.proofs.Common.{◌≡◌, ◌∙◌, ℕ, zero, suc, ◌+◌, ◌-◌, ◌≤◌, ◌<◌, Bool, true, false, ◌&&◌, List, [], ◌∷◌, ◌++◌, length, take, drop, Result, Ok, Err, OnOk, OnErr, length-append, refl, sym, ap, arith, inl, inr, cond}
 use Rattle.std.specs.Prelude.{if◌then◌else◌}
 use Rattle.std.specs.List.{AllByRecursion}
 use Rattle.qa_base.specs.declared.space.Space.{Space}
@@ -163,3 +163,12 @@ pub sound_push : (d : ℕ) (ps : List SentPacket) (p : SentPacket) (losses : Los
 sound_push d ps p losses lanes lane is small before few sound own =
     sound_with d (ps ++ p ∷ []) losses lanes p.space lane (beside_push d ps p losses is small before few (beside d ps losses lanes sound)) own
     (λ t out. lane_elsewhere t d ps p (lane_of t lanes) out (lane_sound d ps losses lanes sound t))
+
+-- where it was out of memory, all is as it was
+pub sound_added : {E : Type 0} (result : Result (Unit {0}) E) (d : ℕ) (ps after : List SentPacket) (p : SentPacket) (losses : Losses) (lanes : Lanes) (lane : Lane) → p.fate ≡ Open
+    → p.size ≤ max_packet_size → AllByRecursion (λ q. IsBefore p q) ps → d + length ps < 4294967295 → IsSound d ps losses lanes → OnOk result (after ≡ ps ++ p ∷ []) → OnErr result (after ≡ ps)
+    → IsLane p.space d after lane → IsSound d after losses (with_lane p.space lanes lane)
+sound_added (Ok _) d ps after p losses lanes lane is small before few sound added same own =
+    rw added (sound_push d ps p losses lanes lane is small before few sound (rw added at own))
+sound_added (Err _) d ps after p losses lanes lane is small before few sound added same own =
+    rw same (sound_with d ps losses lanes p.space lane (beside d ps losses lanes sound) (rw same at own) (λ t out. lane_sound d ps losses lanes sound t))

@@ -94,7 +94,9 @@ impl NamedNumbers {
         ensures walk { IsWalk spans.now self.new }
     {
         if self.to <= self.from {
-            let stretch = self.next_stretch(spans)?;
+            let Some(stretch) = self.next_stretch(spans) else {
+                return None;
+            };
             self.from = stretch.start;
             self.to = stretch.end;
         }

@@ -25,8 +25,7 @@ impl SentPackets {
         ensures err { OnErr result (self.new ≡ self.old) }
     {
         let lane = self.lanes.of_mut(packet.space);
-        add(&mut self.packets, self.dropped, lane, packet)?;
-        Ok(())
+        add(&mut self.packets, self.dropped, lane, packet)
     }
 }
 

@@ -33,11 +33,15 @@ impl SentPackets {
         ensures { result ≡ find (is_flying space) self.now.packets }
     {
         let at = (self.lanes.of(space).next - self.dropped) as usize;
-        let packet = *self.packets.get(at)?;
-        if packet.flies_in(space) {
-            Some(packet)
-        } else {
-            None
+        match self.packets.get(at) {
+            None => None,
+            Some(packet) => {
+                if packet.flies_in(space) {
+                    Some(*packet)
+                } else {
+                    None
+                }
+            }
         }
     }
 

@@ -1,4 +1,4 @@
-use Rattle.std.proofs.Common.{◌≡◌, ◌∙◌, ◌-◌, ◌≤◌, ◌<◌, None, length, sym, ap, arith, rules}
+use Rattle.std.proofs.Common.{◌≡◌, ◌∙◌, ◌-◌, ◌≤◌, ◌<◌, length, sym, ap, arith, rules}
 use Rattle.std.specs.Prelude.{find}
 use Rattle.std.specs.VecDeque.{deque_len}
 use Rattle.qa_sent.specs.Fates.{is_flying}
@@ -7,16 +7,15 @@ use Rattle.qa_sent.proofs.Sound.{lane_sound}
 use Rattle.qa_sent.proofs.Totals.{find_nowhere, find_not, find_there}
 use Rattle.qa_sent.proofs.packets.SentPackets.first_flying.Goals as goal
 
-pub returns-in_err-packet : goal.returns-in_err-packet
-returns-in_err-packet c =
+pub returns-in-None : goal.returns-in-None
+returns-in-None c =
     let held = c.self.inside in
     let s = c.args.space in
     let lane : IsLane s held.dropped held.packets.items c.of.result.now = rw c.of.ensures (lane_sound held.dropped held.packets.items held.losses held.lanes c.self.invariant s) in
     let at = c.of.result.now.next - held.dropped in
-    let none : c.from_residual.result ≡ None = search rules in
     let past : deque_len held.packets ≤ at = search rules in
     let len : deque_len held.packets ≡ length held.packets.items = held.packets.ok.0 in
-    none ∙ (sym (find_nowhere s at held.packets.items lane.behind.none (omega (arith, past, len))) ∙ ap (λ (h : Held). find (is_flying s) h.packets) c.self.view_is)
+    sym (find_nowhere s at held.packets.items lane.behind.none (omega (arith, past, len))) ∙ ap (λ (h : Held). find (is_flying s) h.packets) c.self.view_is
 
 pub returns-then-flies_in : goal.returns-then-flies_in
 returns-then-flies_in c =
@@ -26,7 +25,7 @@ returns-then-flies_in c =
     let at = c.of.result.now.next - held.dropped in
     let within : at < deque_len held.packets = search rules in
     let len : deque_len held.packets ≡ length held.packets.items = held.packets.ok.0 in
-    sym (find_there s at held.packets.items c.in_ok-packet.field-0.now lane.behind.none (omega (arith, within, len)) c.in_ok-packet.ensures.lookup (sym c.flies_in.ensures ∙ c.if-flies_in.true))
+    sym (find_there s at held.packets.items c.in-Some.packet.now lane.behind.none (omega (arith, within, len)) c.in-Some.ensures.lookup (sym c.flies_in.ensures ∙ c.if-flies_in.true))
     ∙ ap (λ (h : Held). find (is_flying s) h.packets) c.self.view_is
 
 pub returns-else-flies_in : goal.returns-else-flies_in
@@ -37,5 +36,5 @@ returns-else-flies_in c =
     let at = c.of.result.now.next - held.dropped in
     let within : at < deque_len held.packets = search rules in
     let len : deque_len held.packets ≡ length held.packets.items = held.packets.ok.0 in
-    sym (find_not s at held.packets.items c.in_ok-packet.field-0.now lane.behind.none lane.first (omega (arith, within, len)) c.in_ok-packet.ensures.lookup (sym c.flies_in.ensures ∙ c.if-flies_in.false))
+    sym (find_not s at held.packets.items c.in-Some.packet.now lane.behind.none lane.first (omega (arith, within, len)) c.in-Some.ensures.lookup (sym c.flies_in.ensures ∙ c.if-flies_in.false))
     ∙ ap (λ (h : Held). find (is_flying s) h.packets) c.self.view_is
