@@ -24,6 +24,7 @@ help:
 	@echo 'make build     proves the program and builds $(program)'
 	@echo 'make run       builds it and audits $(example)'
 	@echo 'make test      runs the merge gate, and then the program over conformance/'
+	@echo 'make gate      runs the merge gate alone'
 	@echo 'make conformance runs the programs over conformance/ alone, once the gate has built them'
 	@echo 'make bench     builds it, measures it on long traces and compares it with others, in about five minutes'
 	@echo 'make install   builds it and installs it in $$(DESTDIR)$$(PREFIX)/bin, and its man page; PREFIX is $(PREFIX)'
