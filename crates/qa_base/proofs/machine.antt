@@ -6,5 +6,3 @@ pub mod Ranges
 pub mod Steps
 pub mod PtoCount
 pub mod WindowBound
-pub mod FirstVersion
-pub mod Slack

@@ -1,4 +1,2 @@
 pub mod values
 pub mod machine
-pub mod format
-pub mod verdicts

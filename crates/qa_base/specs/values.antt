@@ -5,4 +5,3 @@ pub mod Names
 pub mod Settings
 pub mod Events
 pub mod Kinds
-pub mod Proper

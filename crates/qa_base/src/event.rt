@@ -4,7 +4,7 @@ ghost use Rattle.qa_base.specs.values.Events.{fits as fits_of};
 ghost use Rattle.qa_base.specs.values.Kinds.{event_kind};
 
 use crate::limits::MAX_PACKET_SIZE;
-use crate::line::LineKind;
+use crate::line_kind::LineKind;
 use crate::number::{Micros, PacketNumber, Spans};
 use crate::space::{Kind, Leave, Space};
 use std::alloc::{AllocError, Global};

@@ -7,7 +7,7 @@ use crate::constants::{
     DEFAULT_INITIAL_RTT, DEFAULT_MAX_ACK_DELAY, INITIAL_WINDOW_BYTES, INITIAL_WINDOW_DATAGRAMS,
     minimum_window,
 };
-use crate::fault::{Key, RangeFault};
+use crate::key::{Key, RangeFault};
 use crate::limits::{
     GREATEST_INITIAL_RTT, GREATEST_INITIAL_WINDOW, GREATEST_MAX_ACK_DELAY,
     GREATEST_REPORT_SLACK_BYTES, GREATEST_REPORT_SLACK_US, GREATEST_TIMER_LATE,

@@ -160,11 +160,11 @@ impl Rule {
 /// The rule as a report has it: its number, its name, and the reported value that differs.
 impl fmt::Display for Rule {
     ghost use Rattle.std.specs.Prelude.{Some};
-    ghost use Rattle.qa_base.specs.verdicts.Report.{rule_text};
+    ghost use Rattle.qa_base.specs.values.Names.{rule_text};
 
     ghost output = { λ rule. Some (rule_text rule) };
 
-    #[tactic(auto, unfolding(crate::specs::verdicts::Report::rule_text))]
+    #[tactic(auto, unfolding(crate::specs::values::Names::rule_text))]
     fn fmt<W: fmt::Write>(&self, f: &mut fmt::Formatter<W>) -> fmt::Result {
         let (number, name) = (self.number(), self.name());
         match self.field() {

@@ -2,15 +2,15 @@
 use Rattle.std.proofs.Common.{◌≡◌, ◌∙◌, ◌+◌, ◌<◌, ◌≤◌, ◌⊎◌, inl, inr, ℕ, List, [], ◌∷◌, ◌++◌, length, Bool, true, false, Option, Some, None, Result, Ok, Err, length-append, append_assoc, refl, sym, ap, arith}
 use Rattle.std.specs.Prelude.{OnOk, is_some}
 use Rattle.std.proofs.lemmas.List.{append-nil}
-use Rattle.qa_base.specs.declared.verdict.Verdict.{Verdict}
-use Rattle.qa_base.specs.format.Lines.{has_lf, line_limit, cut, ended_lines, unended, lines, ended, IsShortLine}
-use Rattle.qa_base.specs.format.Reading.{reading}
-use Rattle.qa_base.specs.verdicts.Verdict.{first_stop, verdict_of, AreGood, AreDecided, IsFixed}
-use Rattle.qa_base.proofs.verdicts.Cuts.{Cut, cut_without_lf, cut_ended, first_line, first_line_is_long, short_snoc, ended_snoc, lines_at_end, lines_at_lf, lf_inside, length-ended}
-use Rattle.qa_base.proofs.verdicts.Fixed.{fixed_by_line, fixed_by_length}
-use Rattle.qa_base.proofs.verdicts.Rows.{rows_by}
-use Rattle.qa_base.proofs.verdicts.Stops.{good_are_few}
-use Rattle.qa_base.specs.verdicts.Explain.{rows_of}
+use Rattle.qa_format.specs.declared.verdict.Verdict.{Verdict}
+use Rattle.qa_format.specs.format.Lines.{has_lf, line_limit, cut, ended_lines, unended, lines, ended, IsShortLine}
+use Rattle.qa_format.specs.format.Reading.{reading}
+use Rattle.qa_format.specs.verdicts.Verdict.{first_stop, verdict_of, AreGood, AreDecided, IsFixed}
+use Rattle.qa_format.proofs.verdicts.Cuts.{Cut, cut_without_lf, cut_ended, first_line, first_line_is_long, short_snoc, ended_snoc, lines_at_end, lines_at_lf, lf_inside, length-ended}
+use Rattle.qa_format.proofs.verdicts.Fixed.{fixed_by_line, fixed_by_length}
+use Rattle.qa_format.proofs.verdicts.Rows.{rows_by}
+use Rattle.qa_format.proofs.verdicts.Stops.{good_are_few}
+use Rattle.qa_format.specs.verdicts.Explain.{rows_of}
 use Rattle.qa_split.specs.Stream.{Stream, IsFirstLine, IsLastLine, BeginsTooLong}
 use Rattle.qa_check.specs.declared.checker.Stop.{Stop}
 use Rattle.qa_check.specs.declared.checker.Stop.TheVariants.{Decided, OutOfMemory}

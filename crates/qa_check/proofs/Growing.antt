@@ -6,22 +6,22 @@ use Rattle.std.proofs.lemmas.Bool.{le-leb, lt-leb, lt-ltb}
 use Rattle.std.specs.Option.{option_or}
 use Rattle.std.specs.Prelude.{filter_map, IsSome, if◌then◌else◌}
 use Rattle.qa_base.specs.declared.event.Event.{Event}
-use Rattle.qa_base.specs.declared.fault.Fault.{Fault}
-use Rattle.qa_base.specs.declared.fault.Fault.TheVariants.{HeaderPlace, LineTooLong, TooManyLines}
-use Rattle.qa_base.specs.declared.line.Line.{Line}
-use Rattle.qa_base.specs.declared.line.Line.TheVariants as line
+use Rattle.qa_format.specs.declared.fault.Fault.{Fault}
+use Rattle.qa_format.specs.declared.fault.Fault.TheVariants.{HeaderPlace, LineTooLong, TooManyLines}
+use Rattle.qa_format.specs.declared.line.Line.{Line}
+use Rattle.qa_format.specs.declared.line.Line.TheVariants as line
 use Rattle.qa_base.specs.declared.rule.Rule.TheVariants.{OwedAtEnd}
-use Rattle.qa_base.specs.declared.verdict.Totals.{Totals}
-use Rattle.qa_base.specs.declared.verdict.Verdict.{Verdict}
-use Rattle.qa_base.specs.declared.verdict.Verdict.TheVariants.{Accepted, Refused, Unreadable}
+use Rattle.qa_base.specs.declared.totals.Totals.{Totals}
+use Rattle.qa_format.specs.declared.verdict.Verdict.{Verdict}
+use Rattle.qa_format.specs.declared.verdict.Verdict.TheVariants.{Accepted, Refused, Unreadable}
 use Rattle.qa_base.specs.machine.Loss.{owed}
 use Rattle.qa_base.specs.machine.Packets.{history_of, is_some_packet}
-use Rattle.qa_base.specs.format.Reading.{reading}
+use Rattle.qa_format.specs.format.Reading.{reading}
 use Rattle.qa_base.specs.values.Settings.{Settings}
 use Rattle.qa_base.specs.machine.State.{totals}
-use Rattle.qa_base.specs.verdicts.Verdict.{header_said, event_said, header_in, events_in, said, stop_at, stop_after, first_stop, line_behind, last_event_line, verdict_of, unreadable, AreGood, AreDecided}
+use Rattle.qa_format.specs.verdicts.Verdict.{header_said, event_said, header_in, events_in, said, stop_at, stop_after, first_stop, line_behind, last_event_line, verdict_of, unreadable, AreGood, AreDecided}
 use Rattle.qa_base.proofs.machine.Histories.{history_of-snoc}
-use Rattle.qa_base.proofs.verdicts.Stops.{or_none, first_stop-snoc, verdict_at_stop, verdict_stays, decided_stays, header_in-snoc, said_reading}
+use Rattle.qa_format.proofs.verdicts.Stops.{or_none, first_stop-snoc, verdict_at_stop, verdict_stays, decided_stays, header_in-snoc, said_reading}
 use Rattle.qa_check.specs.Standing.{Held, Stands, HoldsRun, Open, StandsBy, StandsFor, TakesIn, StopsAt, header_after, history_after, last_after}
 
 -- ---- what one test says of a checker

@@ -4,10 +4,10 @@ use Rattle.std.specs.Prelude.{⊤}
 use Rattle.std.proofs.lemmas.List.{append-nil, take_rest, take-take, drop-take}
 use Rattle.std.proofs.KnownBytes.{Appends-trans, Consumes-trans}
 use Rattle.std.specs.Io.KnownBytes.{Appends, Consumes, IsAtEnd, Keeps}
-use Rattle.qa_base.specs.declared.verdict.Verdict.{Verdict}
-use Rattle.qa_base.specs.format.Reading.{reading}
-use Rattle.qa_base.specs.verdicts.Verdict.{verdict, IsFixed}
-use Rattle.qa_base.proofs.verdicts.Fixed.{fixed_stays}
+use Rattle.qa_format.specs.declared.verdict.Verdict.{Verdict}
+use Rattle.qa_format.specs.format.Reading.{reading}
+use Rattle.qa_format.specs.verdicts.Verdict.{verdict, IsFixed}
+use Rattle.qa_format.proofs.verdicts.Fixed.{fixed_stays}
 use Rattle.qa_check.specs.Audit.{Reads, ReadsEnough, JudgesRead, IsReadNoFurther}
 use Rattle.qa_check.specs.Failures.{failures_after, write_failed}
 

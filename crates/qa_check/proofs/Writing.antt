@@ -6,19 +6,19 @@ use Rattle.std.proofs.KnownBytes.{Appends-nil, Appends-trans}
 use Rattle.std.specs.Io.KnownBytes.{Appends, Consumes, IsAtEnd}
 use Rattle.std.specs.List.{AllByRecursion}
 use Rattle.qa_base.specs.declared.event.Event.{Event}
-use Rattle.qa_base.specs.declared.line.LineKind.{LineKind}
-use Rattle.qa_base.specs.declared.verdict.Totals.{Totals}
-use Rattle.qa_base.specs.declared.verdict.Verdict.{Verdict}
-use Rattle.qa_base.specs.format.Lines.{has_lf, ended_lines, unended, last_line, lines, ended, IsShortLine}
-use Rattle.qa_base.specs.format.Reading.{reading}
+use Rattle.qa_base.specs.declared.line_kind.LineKind.{LineKind}
+use Rattle.qa_base.specs.declared.totals.Totals.{Totals}
+use Rattle.qa_format.specs.declared.verdict.Verdict.{Verdict}
+use Rattle.qa_format.specs.format.Lines.{has_lf, ended_lines, unended, last_line, lines, ended, IsShortLine}
+use Rattle.qa_format.specs.format.Reading.{reading}
 use Rattle.qa_base.specs.machine.Packets.{history_of}
 use Rattle.qa_base.specs.machine.State.{totals}
 use Rattle.qa_base.specs.values.Settings.{Settings}
-use Rattle.qa_base.specs.verdicts.Explain.{row, row_of, kind_said, row_after, rows_of, rows, explain}
-use Rattle.qa_base.specs.verdicts.Report.{report}
-use Rattle.qa_base.specs.verdicts.Verdict.{verdict, first_stop, header_in, events_in, AreGood, AreDecided, IsFixed}
-use Rattle.qa_base.proofs.verdicts.Cuts.{Cut, cut_ended, cut_without_lf, ended_snoc, short_snoc, lines_at_end}
-use Rattle.qa_base.proofs.verdicts.Rows.{rows_begin, rows_of_fixed, rows_of-snoc, rows_same, explanation_begins, explanation_stays}
+use Rattle.qa_format.specs.verdicts.Explain.{row, row_of, kind_said, row_after, rows_of, rows, explain}
+use Rattle.qa_format.specs.verdicts.Report.{report}
+use Rattle.qa_format.specs.verdicts.Verdict.{verdict, first_stop, header_in, events_in, AreGood, AreDecided, IsFixed}
+use Rattle.qa_format.proofs.verdicts.Cuts.{Cut, cut_ended, cut_without_lf, ended_snoc, short_snoc, lines_at_end}
+use Rattle.qa_format.proofs.verdicts.Rows.{rows_begin, rows_of_fixed, rows_of-snoc, rows_same, explanation_begins, explanation_stays}
 use Rattle.qa_check.specs.declared.auditing.AuditFault.{AuditFault}
 use Rattle.qa_check.specs.declared.explaining.Progress.{Progress}
 use Rattle.qa_check.specs.declared.explaining.Progress.TheVariants.{Open as IsOpen, Fixed}

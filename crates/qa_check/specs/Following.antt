@@ -1,10 +1,10 @@
 -- What a splitter and a checker stand for to which bytes were fed.
 use Rattle.std.specs.Prelude.{◌≡◌, ◌++◌, ℕ, false, List, None}
 use Rattle.std.specs.List.{AllByRecursion}
-use Rattle.qa_base.specs.format.Lines.{ended, IsShortLine}
-use Rattle.qa_base.specs.format.Reading.{reading}
-use Rattle.qa_base.specs.verdicts.Explain.{rows_of, rows}
-use Rattle.qa_base.specs.verdicts.Verdict.{verdict, verdict_of, AreGood}
+use Rattle.qa_format.specs.format.Lines.{ended, IsShortLine}
+use Rattle.qa_format.specs.format.Reading.{reading}
+use Rattle.qa_format.specs.verdicts.Explain.{rows_of, rows}
+use Rattle.qa_format.specs.verdicts.Verdict.{verdict, verdict_of, AreGood}
 use Rattle.qa_split.specs.Stream.{Stream}
 use Rattle.qa_check.specs.Standing.{Held, Stands, StandsFor}
 

@@ -1,13 +1,13 @@
 -- The lines that a checker stands for.
 use Rattle.std.specs.Prelude.{◌≡◌, ◌++◌, ◌+◌, ℕ, Bool, false, List, [], ◌∷◌, length, Option, Some, None, Ok, IsSome}
 use Rattle.qa_base.specs.declared.event.Event.{Event}
-use Rattle.qa_base.specs.declared.line.Line.{Line}
-use Rattle.qa_base.specs.declared.line.Line.TheVariants as line
-use Rattle.qa_base.specs.declared.verdict.Verdict.{Verdict}
-use Rattle.qa_base.specs.format.Reading.{reading}
+use Rattle.qa_format.specs.declared.line.Line.{Line}
+use Rattle.qa_format.specs.declared.line.Line.TheVariants as line
+use Rattle.qa_format.specs.declared.verdict.Verdict.{Verdict}
+use Rattle.qa_format.specs.format.Reading.{reading}
 use Rattle.qa_base.specs.machine.Packets.{history_of}
 use Rattle.qa_base.specs.values.Settings.{Settings}
-use Rattle.qa_base.specs.verdicts.Verdict.{stop_at, header_in, events_in, last_event_line, verdict_of, AreGood, AreDecided}
+use Rattle.qa_format.specs.verdicts.Verdict.{stop_at, header_in, events_in, last_event_line, verdict_of, AreGood, AreDecided}
 
 -- ---- what a checker holds
 

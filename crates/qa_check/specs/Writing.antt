@@ -1,11 +1,11 @@
 -- What an explanation reads, writes and tells.
 use Rattle.std.specs.Prelude.{◌≡◌, ◌⊎◌, ◌++◌, ℕ, List, Option}
 use Rattle.std.specs.Io.KnownBytes.{Appends, Consumes, IsAtEnd}
-use Rattle.qa_base.specs.format.Lines.{ended_lines}
-use Rattle.qa_base.specs.format.Reading.{reading}
-use Rattle.qa_base.specs.verdicts.Explain.{rows_of, rows, explain}
-use Rattle.qa_base.specs.verdicts.Verdict.{verdict, IsFixed}
-use Rattle.qa_base.specs.declared.verdict.Verdict.{Verdict}
+use Rattle.qa_format.specs.format.Lines.{ended_lines}
+use Rattle.qa_format.specs.format.Reading.{reading}
+use Rattle.qa_format.specs.verdicts.Explain.{rows_of, rows, explain}
+use Rattle.qa_format.specs.verdicts.Verdict.{verdict, IsFixed}
+use Rattle.qa_format.specs.declared.verdict.Verdict.{Verdict}
 use Rattle.qa_check.specs.declared.auditing.Outcome.{Outcome}
 use Rattle.qa_check.specs.Audit.{outcome_of, IsReadNoFurther, ReadsEnough}
 use Rattle.qa_check.specs.Following.{FollowsBy}

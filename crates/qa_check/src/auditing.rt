@@ -1,9 +1,9 @@
 //! The audit: from a reader of bytes to a report on a writer.
 ghost use Rattle.std.specs.Prelude.{◌≡◌, ◌≢◌, ◌++◌, ℕ, List, true, false, Some, None, Ok, Err, OnOk, OnErr, IfOk, IfErr, IfSome, IfNone, take};
 ghost use Rattle.std.specs.Io.KnownBytes.{Appends};
-ghost use Rattle.qa_base.specs.format.Reading.{reading};
-ghost use Rattle.qa_base.specs.verdicts.Report as text;
-ghost use Rattle.qa_base.specs.verdicts.Verdict.{IsFixed, verdict};
+ghost use Rattle.qa_format.specs.format.Reading.{reading};
+ghost use Rattle.qa_format.specs.verdicts.Report as text;
+ghost use Rattle.qa_format.specs.verdicts.Verdict.{IsFixed, verdict};
 ghost use Rattle.qa_split.specs.Stream.{HasNoLine};
 ghost use Rattle.qa_check.specs.Audit.{outcome_of, Reads, ReadsEnough, JudgesRead, Reports, BeginsReport, is_read_fault, is_write_fault};
 ghost use Rattle.qa_check.specs.Failures.{failures_after};
@@ -12,7 +12,7 @@ ghost use Rattle.qa_check.specs.Following.{Follows, Answers, IsReady};
 use crate::checker::{Checker, Stop};
 use crate::streams::{Sink, Source};
 use crate::text::report;
-use qa_base::Verdict;
+use qa_format::Verdict;
 use qa_ledger::Ledger;
 use qa_split::{SplitFault, Splitter};
 use std::alloc::Global;

@@ -1,17 +1,18 @@
 //! The verdict of lines that come one after another.
 ghost use Rattle.std.specs.Prelude.{◌≡◌, ◌≢◌, ◌≤◌, ◌<◌, ◌+◌, ◌++◌, [], ◌∷◌, length, List, ℕ, true, false, Some, None, Option, Ok, Err, OnOk, IfOk, not, is_some, IsSome, option_map};
 ghost use Rattle.qa_base.specs.declared.event.Event.{Event as AnEvent};
-ghost use Rattle.qa_base.specs.format.Lines.{line_limit};
-ghost use Rattle.qa_base.specs.format.Reading.{reading};
-ghost use Rattle.qa_base.specs.format.Written.{line_fits};
+ghost use Rattle.qa_format.specs.format.Lines.{line_limit};
+ghost use Rattle.qa_format.specs.format.Reading.{reading};
+ghost use Rattle.qa_format.specs.format.Written.{line_fits};
 ghost use Rattle.qa_base.specs.values.Events.{fits};
 ghost use Rattle.qa_base.specs.values.Settings.{Settings};
 ghost use Rattle.qa_base.specs.machine.State as state;
-ghost use Rattle.qa_base.specs.verdicts.Explain.{kind_said};
-ghost use Rattle.qa_base.specs.verdicts.Verdict as verdicts;
+ghost use Rattle.qa_format.specs.verdicts.Explain.{kind_said};
+ghost use Rattle.qa_format.specs.verdicts.Verdict as verdicts;
 ghost use Rattle.qa_check.specs.Standing.{StandsFor, HoldsRun, AddsGood, AddsBad, TakesIn, StopsAt};
 
-use qa_base::{Event, Fault, Header, Line, LineKind, Rule, Totals, Verdict};
+use qa_base::{Event, Header, LineKind, Rule, Totals};
+use qa_format::{Fault, Line, Verdict};
 use qa_ledger::{Ledger, LedgerFault};
 use qa_read::{LineFault, read_line};
 use qa_split::LINE_LIMIT;

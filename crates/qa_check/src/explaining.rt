@@ -2,11 +2,11 @@
 ghost use Rattle.std.specs.Prelude.{◌≡◌, ◌≢◌, ◌++◌, ℕ, List, [], ◌∷◌, Option, true, false, Some, None, Ok, Err, OnOk, OnErr, IfOk, IfSome, IfNone, option_map};
 ghost use Rattle.std.specs.Io.KnownBytes.{Appends};
 ghost use Rattle.qa_base.specs.declared.event.Event.{Event as AnEvent};
-ghost use Rattle.qa_base.specs.format.Reading.{reading};
+ghost use Rattle.qa_format.specs.format.Reading.{reading};
 ghost use Rattle.qa_base.specs.machine.State as state;
 ghost use Rattle.qa_base.specs.values.Settings.{Settings};
-ghost use Rattle.qa_base.specs.verdicts.Explain as explanation;
-ghost use Rattle.qa_base.specs.verdicts.Verdict.{IsFixed, AreGood, AreDecided, verdict};
+ghost use Rattle.qa_format.specs.verdicts.Explain as explanation;
+ghost use Rattle.qa_format.specs.verdicts.Verdict.{IsFixed, AreGood, AreDecided, verdict};
 ghost use Rattle.qa_split.specs.Stream.{HasNoLine};
 ghost use Rattle.qa_check.specs.Audit.{Reads, ReadsEnough, is_read_fault, is_write_fault};
 ghost use Rattle.qa_check.specs.Writing.{Begins, Explains, ShowsRead, BeginsRead, JudgesShown, Shows, Shown, ended_rows};
@@ -17,7 +17,8 @@ use crate::auditing::{AuditFault, Outcome, PIECE, verdict_of, write_report, writ
 use crate::checker::{Checker, Stop};
 use crate::streams::{Sink, Source};
 use crate::text::row;
-use qa_base::{LineKind, Totals, Verdict};
+use qa_base::{LineKind, Totals};
+use qa_format::Verdict;
 use qa_ledger::Ledger;
 use qa_split::{SplitFault, Splitter};
 use std::alloc::Global;

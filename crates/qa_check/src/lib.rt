@@ -10,6 +10,7 @@ mod text;
 pub use auditing::{AuditFault, Outcome, audit, write_whole};
 pub use checker::{Checker, Stop};
 pub use explaining::explain;
-pub use qa_base::{Fault, Line, Totals, Verdict};
+pub use qa_base::Totals;
+pub use qa_format::{Fault, Line, Verdict};
 pub use streams::{Metered, Sink, Source};
 pub use text::report;

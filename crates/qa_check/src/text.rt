@@ -1,10 +1,11 @@
 //! The texts of reports and of rows.
 ghost use Rattle.std.specs.Prelude.{◌≡◌, ◌++◌, IfOk, OnOk, string_bytes, decimal};
-ghost use Rattle.qa_base.specs.verdicts.Explain as explanation;
-ghost use Rattle.qa_base.specs.verdicts.Report as text;
+ghost use Rattle.qa_format.specs.verdicts.Explain as explanation;
+ghost use Rattle.qa_format.specs.verdicts.Report as text;
 
 use itoa::Buffer;
-use qa_base::{LineKind, Totals, Verdict};
+use qa_base::{LineKind, Totals};
+use qa_format::Verdict;
 use std::alloc::{AllocError, Global};
 
 fn push_number(out: &mut String, number: u64) -> Result<(), AllocError>
@@ -16,7 +17,7 @@ fn push_number(out: &mut String, number: u64) -> Result<(), AllocError>
 
 // ---- the first line
 
-#[tactic(auto, unfolding(qa_base::specs::verdicts::Report::verdict_text, qa_base::specs::verdicts::Report::place_text))]
+#[tactic(auto, unfolding(qa_format::specs::verdicts::Report::verdict_text, qa_format::specs::verdicts::Report::place_text))]
 fn verdict_line(alloc: Global, verdict: &Verdict) -> Result<String, AllocError>
     ensures { IfOk result (λ line. string_bytes line ≡ text.verdict_text verdict.now) }
 {
@@ -31,7 +32,7 @@ fn verdict_line(alloc: Global, verdict: &Verdict) -> Result<String, AllocError>
 
 // ---- the totals
 
-#[tactic(auto, unfolding(qa_base::specs::verdicts::Report::number_line))]
+#[tactic(auto, unfolding(qa_format::specs::verdicts::Report::number_line))]
 fn push_number_line(out: &mut String, name: &str, number: u64) -> Result<(), AllocError>
     ensures { OnOk result (string_bytes out.new ≡ string_bytes out.old ++ text.number_line name.now number) }
 {
@@ -41,7 +42,7 @@ fn push_number_line(out: &mut String, name: &str, number: u64) -> Result<(), All
     out.push_str("\n")
 }
 
-#[tactic(auto, unfolding(qa_base::specs::verdicts::Report::ssthresh_line))]
+#[tactic(auto, unfolding(qa_format::specs::verdicts::Report::ssthresh_line))]
 fn push_ssthresh(out: &mut String, ssthresh: Option<u64>) -> Result<(), AllocError>
     ensures { OnOk result (string_bytes out.new ≡ string_bytes out.old ++ text.ssthresh_line ssthresh) }
 {
@@ -51,7 +52,7 @@ fn push_ssthresh(out: &mut String, ssthresh: Option<u64>) -> Result<(), AllocErr
     }
 }
 
-#[tactic(auto, unfolding(qa_base::specs::verdicts::Report::bytes_text))]
+#[tactic(auto, unfolding(qa_format::specs::verdicts::Report::bytes_text))]
 fn push_bytes(out: &mut String, totals: &Totals) -> Result<(), AllocError>
     ensures { OnOk result (string_bytes out.new ≡ string_bytes out.old ++ text.bytes_text totals.now) }
 {
@@ -61,7 +62,7 @@ fn push_bytes(out: &mut String, totals: &Totals) -> Result<(), AllocError>
     push_number_line(out, "bytes_in_flight", totals.bytes_in_flight)
 }
 
-#[tactic(auto, unfolding(qa_base::specs::verdicts::Report::times_text))]
+#[tactic(auto, unfolding(qa_format::specs::verdicts::Report::times_text))]
 fn push_times(out: &mut String, totals: &Totals) -> Result<(), AllocError>
     ensures { OnOk result (string_bytes out.new ≡ string_bytes out.old ++ text.times_text totals.now) }
 {
@@ -73,7 +74,7 @@ fn push_times(out: &mut String, totals: &Totals) -> Result<(), AllocError>
     push_number_line(out, "owed", totals.owed)
 }
 
-#[tactic(auto, unfolding(qa_base::specs::verdicts::Report::totals_text))]
+#[tactic(auto, unfolding(qa_format::specs::verdicts::Report::totals_text))]
 fn push_totals(out: &mut String, totals: &Totals) -> Result<(), AllocError>
     ensures { OnOk result (string_bytes out.new ≡ string_bytes out.old ++ text.totals_text totals.now) }
 {
@@ -86,7 +87,7 @@ fn push_totals(out: &mut String, totals: &Totals) -> Result<(), AllocError>
 /// The report of a verdict: a line that says it, and the totals, where a header was read.
 ///
 /// `AllocError` comes only where it is out of memory.
-#[tactic(auto, unfolding(qa_base::specs::verdicts::Report::report, qa_base::specs::verdicts::Report::known_totals_text))]
+#[tactic(auto, unfolding(qa_format::specs::verdicts::Report::report, qa_format::specs::verdicts::Report::known_totals_text))]
 pub fn report(alloc: Global, verdict: &Verdict) -> Result<String, AllocError>
     ensures { IfOk result (λ s. string_bytes s ≡ text.report verdict.now) }
 {
@@ -102,7 +103,7 @@ pub fn report(alloc: Global, verdict: &Verdict) -> Result<String, AllocError>
 
 // ---- rows
 
-#[tactic(auto, unfolding(qa_base::specs::verdicts::Explain::number_text))]
+#[tactic(auto, unfolding(qa_format::specs::verdicts::Explain::number_text))]
 fn push_number_text(out: &mut String, name: &str, number: u64) -> Result<(), AllocError>
     ensures { OnOk result (string_bytes out.new ≡ string_bytes out.old ++ explanation.number_text name.now number) }
 {
@@ -112,7 +113,7 @@ fn push_number_text(out: &mut String, name: &str, number: u64) -> Result<(), All
     push_number(out, number)
 }
 
-#[tactic(auto, unfolding(qa_base::specs::verdicts::Explain::state_text))]
+#[tactic(auto, unfolding(qa_format::specs::verdicts::Explain::state_text))]
 fn push_state(out: &mut String, totals: &Totals) -> Result<(), AllocError>
     ensures { OnOk result (string_bytes out.new ≡ string_bytes out.old ++ explanation.state_text totals.now) }
 {
@@ -127,7 +128,7 @@ fn push_state(out: &mut String, totals: &Totals) -> Result<(), AllocError>
 /// The row of the line of this number and kind, with the state after it.
 ///
 /// `AllocError` comes only where it is out of memory.
-#[tactic(auto, unfolding(qa_base::specs::verdicts::Explain::row))]
+#[tactic(auto, unfolding(qa_format::specs::verdicts::Explain::row))]
 pub fn row(alloc: Global, line: u64, kind: LineKind, totals: &Totals) -> Result<String, AllocError>
     ensures { IfOk result (λ s. string_bytes s ≡ explanation.row line kind totals.now) }
 {

@@ -24,3 +24,5 @@ pub mod ConductOfLosses
 pub mod ConductOfWindows
 pub mod ConductOfTimers
 pub mod ConductOfSends
+pub mod FirstVersion
+pub mod Slack

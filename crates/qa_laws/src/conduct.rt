@@ -6,19 +6,19 @@ ghost use Rattle.qa_base.specs.declared.event.Event.TheVariants as events;
 ghost use Rattle.qa_base.specs.declared.space.Kind.TheVariants as kinds;
 ghost use Rattle.qa_base.specs.declared.space.Leave.TheVariants as leaves;
 ghost use Rattle.qa_base.specs.declared.space.Space.{Space};
-ghost use Rattle.qa_base.specs.declared.verdict.Totals.{Totals};
-ghost use Rattle.qa_base.specs.declared.verdict.Verdict.TheVariants as verdicts;
-ghost use Rattle.qa_base.specs.format.Lines.{lines};
-ghost use Rattle.qa_base.specs.format.Reading.{reading};
+ghost use Rattle.qa_base.specs.declared.totals.Totals.{Totals};
+ghost use Rattle.qa_format.specs.declared.verdict.Verdict.TheVariants as verdicts;
+ghost use Rattle.qa_format.specs.format.Lines.{lines};
+ghost use Rattle.qa_format.specs.format.Reading.{reading};
 ghost use Rattle.qa_base.specs.machine.Loss.{bytes_in_flight, owed};
 ghost use Rattle.qa_base.specs.machine.Packets.{history_of};
 ghost use Rattle.qa_base.specs.machine.Reno.{is_entry, reno};
 ghost use Rattle.qa_base.specs.machine.Rules.{IsRun};
 ghost use Rattle.qa_base.specs.values.Constants.{probe_datagrams};
 ghost use Rattle.qa_base.specs.values.Events.{is_named, time_of};
-ghost use Rattle.qa_base.specs.values.Proper.{IsProperEvent};
+ghost use Rattle.qa_format.specs.format.Proper.{IsProperEvent};
 ghost use Rattle.qa_base.specs.values.Settings.{Settings};
-ghost use Rattle.qa_base.specs.verdicts.Verdict.{sayings, trace_of, verdict};
+ghost use Rattle.qa_format.specs.verdicts.Verdict.{sayings, trace_of, verdict};
 ghost use Rattle.qa_laws.specs.machine.Conduct.{is_entered_by, HasMoment, IsAmong, IsConduct, IsLostRightly, IsSentAfter, NoCollapse, is_probe, is_pto_event, is_recovery, probe_bytes};
 
 /// In a run each number that a Lost line names is that of an in-flight packet of its space that was

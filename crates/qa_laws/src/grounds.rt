@@ -1,16 +1,16 @@
 //! On what ground each verdict stands, in terms of what the lines say.
 ghost use Rattle.std.specs.Prelude.{◌≡◌, ◌≢◌, ◌↔◌, ◌⊎◌, List, ℕ, Option, Some};
 ghost use Rattle.qa_base.specs.declared.event.Event.{Event};
-ghost use Rattle.qa_base.specs.declared.fault.Fault.{Fault};
+ghost use Rattle.qa_format.specs.declared.fault.Fault.{Fault};
 ghost use Rattle.qa_base.specs.declared.rule.Rule.{Rule};
 ghost use Rattle.qa_base.specs.declared.rule.Rule.TheVariants as rules;
-ghost use Rattle.qa_base.specs.declared.verdict.Totals.{Totals};
-ghost use Rattle.qa_base.specs.declared.verdict.Verdict.{Verdict};
-ghost use Rattle.qa_base.specs.declared.verdict.Verdict.TheVariants as verdicts;
-ghost use Rattle.qa_base.specs.format.Lines.{lines};
+ghost use Rattle.qa_base.specs.declared.totals.Totals.{Totals};
+ghost use Rattle.qa_format.specs.declared.verdict.Verdict.{Verdict};
+ghost use Rattle.qa_format.specs.declared.verdict.Verdict.TheVariants as verdicts;
+ghost use Rattle.qa_format.specs.format.Lines.{lines};
 ghost use Rattle.qa_base.specs.machine.Rules.{first_broken};
 ghost use Rattle.qa_base.specs.values.Settings.{Settings};
-ghost use Rattle.qa_base.specs.verdicts.Verdict.{Reading, verdict};
+ghost use Rattle.qa_format.specs.verdicts.Verdict.{Reading, verdict};
 ghost use Rattle.qa_laws.specs.verdicts.Grounds.{BreaksAt, FailsAt, IsGround, OwesAtEnd, SaysNothing};
 
 /// Bytes are refused at a line by a rule with some totals exactly where the lines before it are good,

@@ -4,14 +4,14 @@ use Rattle.std.specs.Cmp.Lexicographic.{slice_cmp}
 use Rattle.std.specs.List.{AllByRecursion}
 use Rattle.serde_json.specs.Data.{Data, Members, put}
 use Rattle.serde_json.specs.Find.{get_member}
-use Rattle.qa_base.specs.declared.line.LineKind.{LineKind}
+use Rattle.qa_base.specs.declared.line_kind.LineKind.{LineKind}
 use Rattle.qa_base.specs.declared.space.Kind.{Kind}
 use Rattle.qa_base.specs.declared.space.Leave.{Leave}
 use Rattle.qa_base.specs.declared.space.Space.{Space}
 use Rattle.qa_base.specs.values.Events.{has_ranges}
-use Rattle.qa_base.specs.values.Proper.{IsRange, IsWord}
-use Rattle.qa_base.specs.format.Written.{integer, boolean}
-use Rattle.qa_base.proofs.format.AnyOrder.{get_put, get_put_other}
+use Rattle.qa_format.specs.format.Proper.{IsRange, IsWord}
+use Rattle.qa_format.specs.format.Written.{integer, boolean}
+use Rattle.qa_format.proofs.format.AnyOrder.{get_put, get_put_other}
 use Rattle.qa_quick.specs.declared.found.Found.{Found}
 use Rattle.qa_quick.specs.Found.{Keeps, line_kind_data, space_data, leave_data, kind_data}
 use Rattle.qa_quick.specs.Ranges.{Spans, ranges_data}

@@ -12,9 +12,9 @@ use Rattle.json.specs.Lex.{Lexeme, token, comma, colon, string_token, Mode, betw
 use Rattle.json.proofs.Printed.Decimals.{IsNumber-decimal}
 use Rattle.json.proofs.Printed.Numbers.{lex-number, in_word-ended}
 use Rattle.serde_json.specs.Written.{compact_text}
-use Rattle.qa_base.specs.format.Simple.{is_ascii}
-use Rattle.qa_base.specs.format.Written.{boolean}
-use Rattle.qa_base.proofs.format.Compact.{IsUtf8-is_ascii}
+use Rattle.qa_format.specs.format.Simple.{is_ascii}
+use Rattle.qa_format.specs.format.Written.{boolean}
+use Rattle.qa_format.proofs.format.Compact.{IsUtf8-is_ascii}
 use Rattle.qa_quick.specs.Lexes.{Lexes, is_plain, IsQuoted}
 
 -- ---- one after another

@@ -6,12 +6,12 @@ use Rattle.std.proofs.lemmas.Bool.{leb-true}
 use Rattle.json.specs.Lex.{token, comma, between, lex}
 use Rattle.json.specs.Token as tokens
 use Rattle.serde_json.specs.Written.{outline}
-use Rattle.qa_base.specs.format.Written.{integer_pair}
+use Rattle.qa_format.specs.format.Written.{integer_pair}
 use Rattle.qa_base.specs.values.Events.{has_ranges}
 use Rattle.qa_base.specs.values.Limits.{max_packet_number, in_range}
-use Rattle.qa_base.specs.values.Proper.{IsRange}
-use Rattle.qa_base.proofs.format.Compact.{of_json-outline, depth-outline}
-use Rattle.qa_base.proofs.format.KeysWritten.{ranges_are_kept}
+use Rattle.qa_format.specs.format.Proper.{IsRange}
+use Rattle.qa_format.proofs.format.Compact.{of_json-outline, depth-outline}
+use Rattle.qa_format.proofs.format.KeysWritten.{ranges_are_kept}
 use Rattle.qa_quick.specs.Lexes.{Lexes, lexemes, IsValueOf}
 use Rattle.qa_quick.specs.Ranges.{Spans, ranges_data, TakesRange, TakesRanges, FollowsRanges}
 use Rattle.qa_quick.proofs.Lexing.{then}

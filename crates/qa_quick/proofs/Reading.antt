@@ -4,7 +4,7 @@ use Rattle.std.proofs.lemmas.Str.{is_utf8-from_IsUtf8}
 use Rattle.std.specs.List.{list_all}
 use Rattle.std.proofs.lemmas.Bool.{and_parts, or_cases, eqb-true, cases_Bool}
 use Rattle.std.specs.Str.{is_utf8}
-use Rattle.qa_base.specs.declared.fault.Fault.TheVariants.{NotJson}
+use Rattle.qa_format.specs.declared.fault.Fault.TheVariants.{NotJson}
 use Rattle.json.specs.Json as form
 use Rattle.json.specs.Json.{Json}
 use Rattle.json.specs.Lex.{Lexeme, token, between, lex, tokens, Place, fresh, after_value, after_comma, begins_colon, punctuate}
@@ -13,7 +13,7 @@ use Rattle.json.specs.Tree.{json_tokens, items_tokens, members_tokens, members_d
 use Rattle.json.proofs.Printed.Trees.{value-json_tokens}
 use Rattle.serde_json.specs.Data.{Data, object, Members, no_members}
 use Rattle.serde_json.specs.Read.{of_json, of_members, read}
-use Rattle.qa_base.specs.format.Reading.{json_of, is_blank}
+use Rattle.qa_format.specs.format.Reading.{json_of, is_blank}
 use Rattle.qa_quick.specs.Lexes.{lexemes, items_lexemes, members_lexemes}
 
 -- ---- the tokens of a value's lexemes

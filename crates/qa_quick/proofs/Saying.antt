@@ -10,11 +10,11 @@ use Rattle.qa_base.specs.declared.space.Leave.TheVariants.{Window}
 use Rattle.qa_base.specs.declared.space.Space.{Space}
 use Rattle.qa_base.specs.values.Events.{fits, has_ranges}
 use Rattle.qa_base.specs.values.Limits.{max_time, max_packet_number, in_range}
-use Rattle.qa_base.specs.values.Proper.{IsRange}
-use Rattle.qa_base.specs.format.Written.{integer, boolean}
-use Rattle.qa_base.proofs.format.KeysFound.{sent_found, ack_found, lost_found, timer_found, discard_found, confirmed_found, keys_found, metrics_found}
+use Rattle.qa_format.specs.format.Proper.{IsRange}
+use Rattle.qa_format.specs.format.Written.{integer, boolean}
+use Rattle.qa_format.proofs.format.KeysFound.{sent_found, ack_found, lost_found, timer_found, discard_found, confirmed_found, keys_found, metrics_found}
 use Rattle.qa_quick.specs.declared.found.Found.{Found}
-use Rattle.qa_base.specs.declared.line.LineKind.TheVariants as kinds
+use Rattle.qa_base.specs.declared.line_kind.LineKind.TheVariants as kinds
 use Rattle.qa_quick.specs.Found.{line_kind_data, space_data, kind_data, Says}
 use Rattle.qa_quick.specs.Ranges.{ranges_data}
 

@@ -1,12 +1,12 @@
 -- The names of events, spaces, reasons and timers are plain bytes, and so are the keys.
 use Rattle.std.proofs.Common.{◌≡◌, true, refl}
 use Rattle.std.specs.List.{list_all}
-use Rattle.qa_base.specs.declared.fault.Key.{Key}
-use Rattle.qa_base.specs.declared.fault.Key.TheVariants as key
+use Rattle.qa_base.specs.declared.key.Key.{Key}
+use Rattle.qa_base.specs.declared.key.Key.TheVariants as key
 use Rattle.qa_base.specs.declared.rule.Field.{Field}
 use Rattle.qa_base.specs.declared.rule.Field.TheVariants as field
-use Rattle.qa_base.specs.declared.line.LineKind.{LineKind}
-use Rattle.qa_base.specs.declared.line.LineKind.TheVariants as kinds
+use Rattle.qa_base.specs.declared.line_kind.LineKind.{LineKind}
+use Rattle.qa_base.specs.declared.line_kind.LineKind.TheVariants as kinds
 use Rattle.qa_base.specs.declared.space.Kind.{Kind}
 use Rattle.qa_base.specs.declared.space.Kind.TheVariants.{Loss, Pto}
 use Rattle.qa_base.specs.declared.space.Leave.{Leave}

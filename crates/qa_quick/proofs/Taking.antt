@@ -16,12 +16,12 @@ use Rattle.serde_json.specs.Data as json
 use Rattle.serde_json.specs.Data.{Data, Members, no_members, put}
 use Rattle.serde_json.specs.Read.{of_members}
 use Rattle.serde_json.proofs.Numbers.{number_of-decimal}
-use Rattle.qa_base.specs.declared.line.Line.{Line}
-use Rattle.qa_base.specs.format.Reading.{json_of, reading_by, reading}
-use Rattle.qa_base.specs.format.Written.{integer, string, boolean, line_fits}
-use Rattle.qa_base.specs.values.Proper.{IsWord}
-use Rattle.qa_base.proofs.format.AnyOrder.{get_put_other}
-use Rattle.qa_base.proofs.format.ProperReadings.{reading_fits}
+use Rattle.qa_format.specs.declared.line.Line.{Line}
+use Rattle.qa_format.specs.format.Reading.{json_of, reading_by, reading}
+use Rattle.qa_format.specs.format.Written.{integer, string, boolean, line_fits}
+use Rattle.qa_format.specs.format.Proper.{IsWord}
+use Rattle.qa_format.proofs.format.AnyOrder.{get_put_other}
+use Rattle.qa_format.proofs.format.ProperReadings.{reading_fits}
 use Rattle.qa_quick.specs.declared.found.Found.{Found}
 use Rattle.qa_quick.specs.Lexes.{Lexes, lexemes, members_lexemes, is_plain, IsQuoted, IsKey, IsValueOf, IsValue}
 use Rattle.qa_quick.specs.Found.{Holds, Keeps, Puts, Takes, TakesNothing, Follows, SaysLine, is_known}

@@ -12,17 +12,17 @@ use Rattle.serde_json.specs.Data.{Data, Members, put}
 use Rattle.serde_json.specs.Find.{get_member}
 use Rattle.serde_json.specs.Read.{of_json, of_members}
 use Rattle.qa_base.specs.declared.event.Event.{Event}
-use Rattle.qa_base.specs.declared.line.Line.{Line}
-use Rattle.qa_base.specs.declared.line.Line.TheVariants as line
-use Rattle.qa_base.specs.declared.line.LineKind.{LineKind}
+use Rattle.qa_format.specs.declared.line.Line.{Line}
+use Rattle.qa_format.specs.declared.line.Line.TheVariants as line
+use Rattle.qa_base.specs.declared.line_kind.LineKind.{LineKind}
 use Rattle.qa_base.specs.declared.space.Kind.{Kind}
 use Rattle.qa_base.specs.declared.space.Leave.{Leave}
 use Rattle.qa_base.specs.declared.space.Space.{Space}
 use Rattle.qa_base.specs.values.Events.{has_ranges}
 use Rattle.qa_base.specs.values.Names.{line_kind_name, space_name, leave_name, kind_name}
-use Rattle.qa_base.specs.values.Proper.{IsRange, AreWords}
-use Rattle.qa_base.specs.format.Reading.{json_of, object_says, reader_named}
-use Rattle.qa_base.specs.format.Written.{integer, string, boolean}
+use Rattle.qa_format.specs.format.Proper.{IsRange, AreWords}
+use Rattle.qa_format.specs.format.Reading.{json_of, object_says, reader_named}
+use Rattle.qa_format.specs.format.Written.{integer, string, boolean}
 use Rattle.qa_quick.specs.declared.found.Found.{Found}
 use Rattle.qa_quick.specs.Lexes.{Lexes, lexemes, members_lexemes, IsValueOf}
 use Rattle.qa_quick.specs.Ranges.{ranges_data}

@@ -5,7 +5,8 @@ ghost use Rattle.qa_quick.specs.Found.{SaysLine};
 
 use crate::found::Found;
 use qa_base::limits::MAX_PACKET_SIZE;
-use qa_base::{Event, Leave, Line, LineKind, Micros, PacketNumber};
+use qa_base::{Event, Leave, LineKind, Micros, PacketNumber};
+use qa_format::Line;
 
 /// Whether a packet may have these values: it has bytes, and is in flight if it is ack-eliciting.
 #[inline(always)]

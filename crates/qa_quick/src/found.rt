@@ -1,7 +1,7 @@
 //! What was found at the keys of an object.
 ghost use Rattle.std.specs.Prelude.{IfSome, codes};
 ghost use Rattle.qa_base.specs.values.Names.{field_name, key_name};
-ghost use Rattle.qa_base.specs.format.Written as written;
+ghost use Rattle.qa_format.specs.format.Written as written;
 ghost use Rattle.qa_quick.specs.Found.{Keeps, Puts, Takes};
 
 use crate::keys::event_key;

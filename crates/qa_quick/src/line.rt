@@ -1,11 +1,12 @@
 //! A line.
 ghost use Rattle.std.specs.Prelude.{◌≡◌, true, Ok, IfSome};
-ghost use Rattle.qa_base.specs.format.Reading as reading;
-ghost use Rattle.qa_base.specs.format.Written.{line_fits};
+ghost use Rattle.qa_format.specs.format.Reading as reading;
+ghost use Rattle.qa_format.specs.format.Written.{line_fits};
 
 use crate::found::Found;
 use crate::tokens::{begin_object, comma, end_object};
-use qa_base::{Line, MetricValues};
+use qa_base::MetricValues;
+use qa_format::Line;
 use std::alloc::Global;
 
 /// The event that the bytes of a line say, where the line has the form that most loggers write; None for any other line.

@@ -5,7 +5,7 @@ ghost use Rattle.json.specs.Lex.{token, colon as colon_lexeme, comma as comma_le
 ghost use Rattle.json.specs.Token as tokens;
 ghost use Rattle.json.specs.Word as word;
 ghost use Rattle.serde_json.specs.Written.{compact_text};
-ghost use Rattle.qa_base.specs.format.Written as written;
+ghost use Rattle.qa_format.specs.format.Written as written;
 ghost use Rattle.qa_quick.specs.Lexes.{Lexes, IsPast, IsQuoted, is_plain as is_plain_byte};
 
 /// An integer of so many digits has room in 64 bits.

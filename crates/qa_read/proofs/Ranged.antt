@@ -2,9 +2,9 @@
 use Rattle.std.proofs.Common.{◌≡◌, ◌∙◌, ℕ, List, Option, Result, Ok, Err, refl, ap}
 use Rattle.std.specs.Result.{IsErrAnd}
 use Rattle.serde_json.specs.Data.{Data}
-use Rattle.qa_base.specs.declared.fault.Fault.{Fault}
-use Rattle.qa_base.specs.declared.fault.Key.{Key}
-use Rattle.qa_base.specs.format.Keys.{◌>>=◌, integer, integer_from, ranged, required, required_value, string, string_among}
+use Rattle.qa_format.specs.declared.fault.Fault.{Fault}
+use Rattle.qa_base.specs.declared.key.Key.{Key}
+use Rattle.qa_format.specs.format.Keys.{◌>>=◌, integer, integer_from, ranged, required, required_value, string, string_among}
 use Rattle.qa_base.specs.values.Limits.{in_range}
 
 regroup : {A B C : Type 0} (r : Result A Fault) (f : A → Result B Fault) (g : B → Result C Fault) → ((r >>= f) >>= g) ≡ (r >>= λ x. (f x >>= g))

@@ -1,6 +1,6 @@
 -- What a function that may run out of memory answers of a reading.
 use Rattle.std.specs.Prelude.{◌≡◌, Result, Ok, Err}
-use Rattle.qa_base.specs.declared.fault.Fault.{Fault}
+use Rattle.qa_format.specs.declared.fault.Fault.{Fault}
 use Rattle.qa_read.specs.declared.fault.LineFault.{LineFault}
 use Rattle.qa_read.specs.declared.fault.LineFault.TheVariants as errors
 

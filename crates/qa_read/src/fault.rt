@@ -2,7 +2,7 @@
 ghost use Rattle.std.specs.Prelude.{◌≡◌};
 ghost use Rattle.qa_read.specs.declared.fault.LineFault.TheVariants as errors;
 
-use qa_base::Fault;
+use qa_format::Fault;
 use std::alloc::AllocError;
 use thiserror::Error;
 

@@ -5,13 +5,14 @@
 ghost use Rattle.std.specs.Prelude.{◌≡◌, option_map, false, Ok, Err};
 ghost use Rattle.std.specs.Result.{result_map_both};
 ghost use Rattle.serde_json.specs.View.{view};
-ghost use Rattle.qa_base.specs.format.Keys as keys;
+ghost use Rattle.qa_format.specs.format.Keys as keys;
 ghost use Rattle.qa_base.specs.values.Limits.{max_packet_number, max_packet_size};
 ghost use Rattle.qa_base.specs.values.Names.{role_named, discarded_named, leave_named, kind_named};
-ghost use Rattle.qa_base.specs.format.Tables as tables;
+ghost use Rattle.qa_format.specs.format.Tables as tables;
 
 use qa_base::limits::MAX_PACKET_SIZE;
-use qa_base::{Fault, Field, Key, Kind, Leave, Micros, PacketNumber, Role, Space};
+use qa_base::{Field, Key, Kind, Leave, Micros, PacketNumber, Role, Space};
+use qa_format::Fault;
 use serde_json::Value;
 
 /// The values of both keys, or the fault that counts. The first key stands before the second in

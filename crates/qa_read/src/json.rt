@@ -3,11 +3,11 @@ ghost use Rattle.std.specs.Prelude.{◌≡◌, true, IsErrOf};
 ghost use Rattle.std.specs.List.{list_all};
 ghost use Rattle.std.specs.Str.{is_utf8};
 ghost use Rattle.serde_json.specs.View.{view};
-ghost use Rattle.qa_base.specs.format.Reading as reading;
+ghost use Rattle.qa_format.specs.format.Reading as reading;
 ghost use Rattle.qa_read.specs.Gives.{Gives};
 
 use crate::fault::LineFault;
-use qa_base::Fault;
+use qa_format::Fault;
 use serde_json::Value;
 use std::alloc::Global;
 
@@ -21,7 +21,7 @@ pub fn is_blank(bytes: &[u8]) -> bool
 }
 
 /// The JSON value that the bytes are. `Fault::NotJson` where they are none or are not UTF-8.
-#[tactic(auto, unfolding(qa_base::specs::format::Reading::json_of))]
+#[tactic(auto, unfolding(qa_format::specs::format::Reading::json_of))]
 pub fn json_of(alloc: Global, bytes: &[u8]) -> Result<Value, LineFault>
     ensures read { Gives view result (reading.json_of bytes.now) }
     ensures memory { IsErrOf result LineFault.OutOfMemory → is_utf8 bytes.now ≡ true }

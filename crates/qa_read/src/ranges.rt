@@ -5,10 +5,11 @@
 ghost use Rattle.std.specs.Prelude.{◌≡◌, Some, None, IfOk, option_map, if◌then◌else◌};
 ghost use Rattle.std.specs.List.{list_all};
 ghost use Rattle.serde_json.specs.View.{view, items_view};
-ghost use Rattle.qa_base.specs.format.Keys as keys;
+ghost use Rattle.qa_format.specs.format.Keys as keys;
 
 use crate::fields;
-use qa_base::{Fault, Key, PacketNumber, Span, Spans};
+use qa_base::{Key, PacketNumber, Span, Spans};
+use qa_format::Fault;
 use serde_json::Value;
 use std::alloc::{AllocError, Global};
 

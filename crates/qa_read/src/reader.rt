@@ -3,14 +3,15 @@ ghost use Rattle.std.specs.Prelude.{◌≡◌, true, false, Ok, IfOk, IsErrOf};
 ghost use Rattle.std.specs.List.{list_all};
 ghost use Rattle.std.specs.Str.{is_utf8};
 ghost use Rattle.serde_json.specs.View.{view};
-ghost use Rattle.qa_base.specs.format.Reading as reading;
-ghost use Rattle.qa_base.specs.format.Written.{line_fits};
+ghost use Rattle.qa_format.specs.format.Reading as reading;
+ghost use Rattle.qa_format.specs.format.Written.{line_fits};
 ghost use Rattle.qa_read.specs.Gives.{Gives};
 
 use crate::fault::LineFault;
 use crate::json::{is_blank, json_of};
 use crate::{fields, tables};
-use qa_base::{Fault, Key, Line, LineKind};
+use qa_base::{Key, LineKind};
+use qa_format::{Fault, Line};
 use qa_quick::quick_line;
 use serde_json::Value;
 use std::alloc::Global;
@@ -34,7 +35,7 @@ fn line_of(alloc: Global, kind: LineKind, object: &Value) -> Result<Line, LineFa
 }
 
 /// What an object says, by its key `event`.
-#[tactic(auto, unfolding(qa_base::specs::format::Reading::object_says))]
+#[tactic(auto, unfolding(qa_format::specs::format::Reading::object_says))]
 fn object_says(alloc: Global, value: &Value) -> Result<Line, LineFault>
     ensures { Gives (λ line. line) result (reading.object_says reading.reader_named (view value.now)) }
 {
@@ -51,7 +52,7 @@ fn object_says(alloc: Global, value: &Value) -> Result<Line, LineFault>
 /// It stands apart, so that a line that is read quickly does not pay for its locals.
 #[cold]
 #[inline(never)]
-#[tactic(auto, unfolding(qa_base::specs::format::Reading::reading_by))]
+#[tactic(auto, unfolding(qa_format::specs::format::Reading::reading_by))]
 fn read_value(alloc: Global, bytes: &[u8]) -> Result<Line, LineFault>
     requires { list_all reading.is_blank bytes.now ≡ false }
     ensures read { Gives (λ line. line) result (reading.reading bytes.now) }
@@ -67,7 +68,7 @@ fn read_value(alloc: Global, bytes: &[u8]) -> Result<Line, LineFault>
 /// A line of any length is read: how long a line of a trace may be is for its splitter to say.
 /// `LineFault::OutOfMemory` comes where memory was refused, and then the call can be made again; a
 /// blank line and bytes that are not UTF-8 take no memory.
-#[tactic(auto, unfolding(qa_base::specs::format::Reading::reading_by))]
+#[tactic(auto, unfolding(qa_format::specs::format::Reading::reading_by))]
 pub fn read_line(alloc: Global, bytes: &[u8]) -> Result<Line, LineFault>
     ensures read { Gives (λ line. line) result (reading.reading bytes.now) }
     ensures fitting { IfOk result (λ line. line_fits line ≡ true) }

@@ -1,8 +1,8 @@
 //! The keys of each kind of line, read in the order of their table, and what the line then says.
 ghost use Rattle.std.specs.Prelude.{◌≡◌, false, IfOk};
 ghost use Rattle.serde_json.specs.View.{view};
-ghost use Rattle.qa_base.specs.format.Keys as keys;
-ghost use Rattle.qa_base.specs.format.Tables as tables;
+ghost use Rattle.qa_format.specs.format.Keys as keys;
+ghost use Rattle.qa_format.specs.format.Tables as tables;
 ghost use Rattle.qa_read.specs.Gives.{Gives};
 
 use crate::fault::LineFault;
@@ -10,9 +10,10 @@ use crate::fields;
 use crate::fields::both;
 use crate::ranges::ranges;
 use qa_base::{
-    Event, Fault, Field, Header, Key, Kind, Leave, MetricValues, Micros, Options, PacketNumber,
+    Event, Field, Header, Key, Kind, Leave, MetricValues, Micros, Options, PacketNumber,
     RangeFault, Role, Space, Spans, Version,
 };
+use qa_format::Fault;
 use serde_json::Value;
 use std::alloc::{AllocError, Global};
 
@@ -117,7 +118,7 @@ fn header_values(object: &Value) -> Result<(HeaderFields, Options), Fault>
 }
 
 /// The header of a trace.
-#[tactic(auto, unfolding(qa_base::specs::format::Tables::header_of))]
+#[tactic(auto, unfolding(qa_format::specs::format::Tables::header_of))]
 pub fn header_of(object: &Value) -> Result<Header, Fault>
     ensures { result ≡ tables.header_of (view object.now) }
 {
@@ -158,7 +159,7 @@ fn sent_fields(object: &Value) -> Result<SentFields, Fault>
 }
 
 /// A packet that was sent.
-#[tactic(auto, unfolding(qa_base::specs::format::Tables::sent_of))]
+#[tactic(auto, unfolding(qa_format::specs::format::Tables::sent_of))]
 pub fn sent_of(object: &Value) -> Result<Event, LineFault>
     ensures { Gives (λ event. event) result (tables.sent_of (view object.now)) }
 {
@@ -194,7 +195,7 @@ fn ack_fields(alloc: Global, object: &Value) -> Result<Result<AckFields, Fault>,
 }
 
 /// An acknowledgment that came.
-#[tactic(auto, unfolding(qa_base::specs::format::Tables::ack_of))]
+#[tactic(auto, unfolding(qa_format::specs::format::Tables::ack_of))]
 pub fn ack_of(alloc: Global, object: &Value) -> Result<Event, LineFault>
     ensures { Gives (λ event. event) result (tables.ack_of (view object.now)) }
 {
@@ -220,7 +221,7 @@ fn lost_fields(alloc: Global, object: &Value) -> Result<Result<LostFields, Fault
 }
 
 /// Packets that were declared lost.
-#[tactic(auto, unfolding(qa_base::specs::format::Tables::lost_of))]
+#[tactic(auto, unfolding(qa_format::specs::format::Tables::lost_of))]
 pub fn lost_of(alloc: Global, object: &Value) -> Result<Event, LineFault>
     ensures { Gives (λ event. event) result (tables.lost_of (view object.now)) }
 {
@@ -245,7 +246,7 @@ fn timer_fields(object: &Value) -> Result<TimerFields, Fault>
 }
 
 /// The loss detection timer that fired.
-#[tactic(auto, unfolding(qa_base::specs::format::Tables::timer_of))]
+#[tactic(auto, unfolding(qa_format::specs::format::Tables::timer_of))]
 pub fn timer_of(object: &Value) -> Result<Event, LineFault>
     ensures { Gives (λ event. event) result (tables.timer_of (view object.now)) }
 {
@@ -254,7 +255,7 @@ pub fn timer_of(object: &Value) -> Result<Event, LineFault>
 }
 
 /// The keys of a space that were discarded.
-#[tactic(auto, unfolding(qa_base::specs::format::Tables::discard_of))]
+#[tactic(auto, unfolding(qa_format::specs::format::Tables::discard_of))]
 pub fn discard_of(object: &Value) -> Result<Event, LineFault>
     ensures { Gives (λ event. event) result (tables.discard_of (view object.now)) }
 {
@@ -263,7 +264,7 @@ pub fn discard_of(object: &Value) -> Result<Event, LineFault>
 }
 
 /// The handshake that was confirmed.
-#[tactic(auto, unfolding(qa_base::specs::format::Tables::confirmed_of))]
+#[tactic(auto, unfolding(qa_format::specs::format::Tables::confirmed_of))]
 pub fn confirmed_of(object: &Value) -> Result<Event, LineFault>
     ensures { Gives (λ event. event) result (tables.confirmed_of (view object.now)) }
 {
@@ -272,7 +273,7 @@ pub fn confirmed_of(object: &Value) -> Result<Event, LineFault>
 }
 
 /// The keys of the Handshake space that came.
-#[tactic(auto, unfolding(qa_base::specs::format::Tables::keys_of))]
+#[tactic(auto, unfolding(qa_format::specs::format::Tables::keys_of))]
 pub fn keys_of(object: &Value) -> Result<Event, LineFault>
     ensures { Gives (λ event. event) result (tables.keys_of (view object.now)) }
 {
@@ -315,7 +316,7 @@ fn metric_values(object: &Value) -> Result<MetricValues, Fault>
 }
 
 /// A report of the sender's state.
-#[tactic(auto, unfolding(qa_base::specs::format::Tables::metrics_of))]
+#[tactic(auto, unfolding(qa_format::specs::format::Tables::metrics_of))]
 pub fn metrics_of(object: &Value) -> Result<Event, LineFault>
     ensures { Gives (λ event. event) result (tables.metrics_of (view object.now)) }
 {

@@ -1,6 +1,6 @@
 -- What a splitter holds, and how it gives a line.
 use Rattle.std.specs.Prelude.{◌≡◌, ◌⊎◌, ◌<◌, ◌≤◌, ◌+◌, ◌++◌, ℕ, Bool, true, false, List, [], ◌∷◌, length, take, drop, Option, None}
-use Rattle.qa_base.specs.format.Lines.{has_lf, line_limit, IsShortLine}
+use Rattle.qa_format.specs.format.Lines.{has_lf, line_limit, IsShortLine}
 use Rattle.qa_split.specs.declared.split.SplitFault.{SplitFault}
 
 -- the bytes that were fed and not returned yet, whether no more come, and the error with which it failed

@@ -1,6 +1,6 @@
 //! Lines out of bytes that come in pieces.
 ghost use Rattle.std.specs.Prelude.{◌≡◌, ◌≤◌, drop, length, false, MatchOption};
-ghost use Rattle.qa_base.specs.format.Lines.{has_lf};
+ghost use Rattle.qa_format.specs.format.Lines.{has_lf};
 ghost use Rattle.qa_split.specs.Stream.{AreSearched, IsFirstLf};
 
 use memchr::memchr;

@@ -5,9 +5,10 @@
 #![tactic(auto)]
 
 pub use qa_base::{
-    Event, Fault, Field, Header, Key, Kind, Leave, Line, LineKind, MetricValues, Micros,
-    PacketNumber, RangeFault, Role, Space, Span, Spans,
+    Event, Field, Header, Key, Kind, Leave, LineKind, MetricValues, Micros, PacketNumber,
+    RangeFault, Role, Space, Span, Spans,
 };
+pub use qa_format::{Fault, Line};
 pub use qa_read::{LineFault, read_line};
 pub use qa_split::{LINE_LIMIT, SplitFault, Splitter};
 pub use qa_write::write_line;

@@ -4,11 +4,11 @@ use Rattle.std.proofs.lemmas.Cmp.{nat_list_cmp_total}
 use Rattle.std.specs.Cmp.Lexicographic.{slice_cmp}
 use Rattle.std.specs.Ordering.{ordering_reverse}
 use Rattle.serde_json.specs.Data.{Data, Members, no_members, member, put}
-use Rattle.qa_base.specs.declared.fault.Key.{Key}
-use Rattle.qa_base.specs.declared.fault.Key.TheVariants as key
+use Rattle.qa_base.specs.declared.key.Key.{Key}
+use Rattle.qa_base.specs.declared.key.Key.TheVariants as key
 use Rattle.qa_base.specs.declared.rule.Field.{Field}
 use Rattle.qa_base.specs.values.Names.{key_name}
-use Rattle.qa_base.specs.format.Written.{Pairs, members, reported, integer}
+use Rattle.qa_format.specs.format.Written.{Pairs, members, reported, integer}
 
 -- the text comes before the other, in the order of their bytes
 abbrev pub IsBefore : List ℕ → List ℕ → Type 0

@@ -5,13 +5,13 @@ use Rattle.serde_json.specs.Data.{Data}
 use Rattle.serde_json.specs.Written.{has_float, items_have_float, members_have_float}
 use Rattle.qa_base.specs.declared.event.Event.{Event}
 use Rattle.qa_base.specs.declared.event.Event.TheVariants.{Sent, Ack, Lost, Timer, Discard, Confirmed, Keys, Metrics}
-use Rattle.qa_base.specs.declared.fault.Key.{Key}
-use Rattle.qa_base.specs.declared.fault.Key.TheVariants as key
-use Rattle.qa_base.specs.declared.line.LineKind.TheVariants as kinds
+use Rattle.qa_base.specs.declared.key.Key.{Key}
+use Rattle.qa_base.specs.declared.key.Key.TheVariants as key
+use Rattle.qa_base.specs.declared.line_kind.LineKind.TheVariants as kinds
 use Rattle.qa_base.specs.declared.rule.Field.{Field}
 use Rattle.qa_base.specs.declared.rule.Field.TheVariants.{Window, Ssthresh, BytesInFlight, LatestRtt, MinRtt, SmoothedRtt, Rttvar}
 use Rattle.qa_base.specs.values.Names.{line_kind_name}
-use Rattle.qa_base.specs.format.Written.{Pairs, integer_pairs, reported, members, object_of, event_pairs, string, integer}
+use Rattle.qa_format.specs.format.Written.{Pairs, integer_pairs, reported, members, object_of, event_pairs, string, integer}
 
 -- no value of the pairs has a float
 record HaveNone (ps : Pairs) : Type 0 where

@@ -1,15 +1,15 @@
 -- Members with one more, or several.
 use Rattle.std.specs.Prelude.{ℕ}
 use Rattle.serde_json.specs.Data.{Data, Members, no_members, put}
-use Rattle.qa_base.specs.declared.fault.Key.{Key}
-use Rattle.qa_base.specs.declared.fault.Key.TheVariants as key
+use Rattle.qa_base.specs.declared.key.Key.{Key}
+use Rattle.qa_base.specs.declared.key.Key.TheVariants as key
 use Rattle.qa_base.specs.declared.header.Options.{Options}
 use Rattle.qa_base.specs.declared.header.Version.{Version}
 use Rattle.qa_base.specs.declared.header.Version.TheVariants.{One, Two}
-use Rattle.qa_base.specs.declared.line.LineKind.{LineKind}
+use Rattle.qa_base.specs.declared.line_kind.LineKind.{LineKind}
 use Rattle.qa_base.specs.values.Names.{key_name, line_kind_name}
 use Rattle.qa_base.specs.values.Settings.{Settings}
-use Rattle.qa_base.specs.format.Written.{integer, boolean, string}
+use Rattle.qa_format.specs.format.Written.{integer, boolean, string}
 
 -- the members with this one
 abbrev pub with : Key → Data → Members → Members

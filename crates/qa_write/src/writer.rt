@@ -4,19 +4,20 @@ ghost use Rattle.std.specs.List.{AllByRecursion};
 ghost use Rattle.serde_json.specs.Data as json;
 ghost use Rattle.serde_json.specs.View.{view, members_view};
 ghost use Rattle.qa_base.specs.values.Events.{fits};
-ghost use Rattle.qa_base.specs.format.Lines.{has_lf};
+ghost use Rattle.qa_format.specs.format.Lines.{has_lf};
 ghost use Rattle.qa_base.specs.values.Limits.{max_time, max_packet_number};
-ghost use Rattle.qa_base.specs.values.Proper.{IsRange, IsWord, AreWords, IsProperEvent, IsProperLine};
-ghost use Rattle.qa_base.specs.declared.fault.Key.TheVariants as key;
-ghost use Rattle.qa_base.specs.format.Reading.{reading};
+ghost use Rattle.qa_format.specs.format.Proper.{IsRange, IsWord, AreWords, IsProperEvent, IsProperLine};
+ghost use Rattle.qa_base.specs.declared.key.Key.TheVariants as key;
+ghost use Rattle.qa_format.specs.format.Reading.{reading};
 ghost use Rattle.qa_base.specs.values.Settings.{AreInRange};
-ghost use Rattle.qa_base.specs.format.Written.{written, line_fits, object_of, header_pairs, event_pairs, integer_pairs, integer_pair, integer, string, boolean};
+ghost use Rattle.qa_format.specs.format.Written.{written, line_fits, object_of, header_pairs, event_pairs, integer_pairs, integer_pair, integer, string, boolean};
 ghost use Rattle.qa_write.specs.Members.{with, with_settings, with_options, event_members};
 
 use qa_base::{
-    Event, Field, Header, Key, Kind, Leave, Line, LineKind, MetricValues, Micros, PacketNumber,
-    Space, Span, Spans, Version,
+    Event, Field, Header, Key, Kind, Leave, LineKind, MetricValues, Micros, PacketNumber, Space,
+    Span, Spans, Version,
 };
+use qa_format::Line;
 use serde_json::{Map, Value, json};
 use std::alloc::{AllocError, Global};
 

@@ -2,10 +2,10 @@
 use Rattle.std.proofs.Common.{◌≡◌, inl, inr, Bool, true, false, ℕ, List, [], ◌++◌, Option, Some, None, Result, Ok, Err, refl}
 use Rattle.std.specs.Borrow.{Bor}
 use Rattle.std.specs.Io.KnownBytes.{Appends}
-use Rattle.qa_base.specs.format.Lines.{ended_lines, unended, last_line}
-use Rattle.qa_base.specs.format.Reading.{reading}
-use Rattle.qa_base.specs.verdicts.Explain as explanation
-use Rattle.qa_base.proofs.verdicts.Rows.{rows_begin, explanation_begins}
+use Rattle.qa_format.specs.format.Lines.{ended_lines, unended, last_line}
+use Rattle.qa_format.specs.format.Reading.{reading}
+use Rattle.qa_format.specs.verdicts.Explain as explanation
+use Rattle.qa_format.proofs.verdicts.Rows.{rows_begin, explanation_begins}
 use Rattle.qa_check.specs.declared.auditing.Outcome.{Outcome}
 use Rattle.qa_check.specs.declared.auditing.AuditFault.{AuditFault}
 use Rattle.qa_check.specs.declared.auditing.AuditFault.TheVariants as faults

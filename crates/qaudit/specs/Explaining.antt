@@ -2,8 +2,8 @@
 use Rattle.std.specs.Prelude.{◌≡◌, ◌⊎◌, ℕ, List, Option, Some, None, Result, Ok, Err}
 use Rattle.std.specs.Borrow.{Bor}
 use Rattle.std.specs.Io.KnownBytes.{Appends}
-use Rattle.qa_base.specs.format.Reading.{reading}
-use Rattle.qa_base.specs.verdicts.Explain as explanation
+use Rattle.qa_format.specs.format.Reading.{reading}
+use Rattle.qa_format.specs.verdicts.Explain as explanation
 use Rattle.qa_check.specs.Writing as writing
 use Rattle.qa_check.specs.Writing.{Begins, ended_rows}
 use Rattle.qa_check.specs.declared.auditing.Outcome.{Outcome}

@@ -7,7 +7,7 @@ use Rattle.qa_base.specs.declared.event.MetricValues.{MetricValues}
 use Rattle.qa_base.specs.declared.rule.Field.TheVariants.{Window, Ssthresh, BytesInFlight, LatestRtt, MinRtt, SmoothedRtt, Rttvar}
 use Rattle.qa_base.specs.declared.rule.Rule.{Rule}
 use Rattle.qa_base.specs.declared.rule.Rule.TheVariants.{Metric}
-use Rattle.qa_base.specs.declared.verdict.Totals.{Totals}
+use Rattle.qa_base.specs.declared.totals.Totals.{Totals}
 use Rattle.qa_base.specs.machine.Rtt.{Estimate, start, sample_of, updated}
 use Rattle.qa_base.specs.machine.State.{totals}
 use Rattle.qa_base.specs.values.Settings.{Settings}

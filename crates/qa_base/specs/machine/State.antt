@@ -1,7 +1,7 @@
 -- What the machine holds after a history.
 use Rattle.std.specs.Prelude.{List, length}
 use Rattle.qa_base.specs.declared.event.Event.{Event}
-use Rattle.qa_base.specs.declared.verdict.Totals.{Totals}
+use Rattle.qa_base.specs.declared.totals.Totals.{Totals}
 use Rattle.qa_base.specs.machine.Estimates.{rtt}
 use Rattle.qa_base.specs.machine.Loss.{bytes_in_flight, owed}
 use Rattle.qa_base.specs.machine.Reno.{reno}

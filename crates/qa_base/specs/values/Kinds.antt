@@ -1,11 +1,8 @@
--- The kind of a line, by what stands at its key `event`.
-use Rattle.std.specs.Prelude.{Option, Some, None}
+-- The kind of a line that says an event, by what stands at its key `event`.
 use Rattle.qa_base.specs.declared.event.Event.{Event}
 use Rattle.qa_base.specs.declared.event.Event.TheVariants.{Sent, Ack, Lost, Timer, Discard, Confirmed, Keys, Metrics}
-use Rattle.qa_base.specs.declared.line.Line.{Line}
-use Rattle.qa_base.specs.declared.line.Line.TheVariants as line
-use Rattle.qa_base.specs.declared.line.LineKind.{LineKind}
-use Rattle.qa_base.specs.declared.line.LineKind.TheVariants as kinds
+use Rattle.qa_base.specs.declared.line_kind.LineKind.{LineKind}
+use Rattle.qa_base.specs.declared.line_kind.LineKind.TheVariants as kinds
 
 abbrev pub event_kind : Event → LineKind
 event_kind (Sent time space number size eliciting in_flight leave) = kinds.Sent
@@ -16,9 +13,3 @@ event_kind (Discard time space) = kinds.Discard
 event_kind (Confirmed time) = kinds.Confirmed
 event_kind (Keys time) = kinds.Keys
 event_kind (Metrics time values) = kinds.Metrics
-
--- a blank line has no kind
-abbrev pub line_kind : Line → Option LineKind
-line_kind line.Blank = None
-line_kind (line.Header c) = Some kinds.Header
-line_kind (line.Event e) = Some (event_kind e)

@@ -1,13 +1,11 @@
--- The names and numbers of keys, fields, choices, rules and faults, and what a string names.
-use Rattle.std.specs.Prelude.{ℕ, List, [], ◌∷◌, codes, bytes_eq, Option, Some, None, if◌then◌else◌}
-use Rattle.qa_base.specs.declared.fault.Key.{Key}
-use Rattle.qa_base.specs.declared.fault.Key.TheVariants as key
-use Rattle.qa_base.specs.declared.fault.Fault.{Fault}
-use Rattle.qa_base.specs.declared.fault.Fault.TheVariants as fault
+-- The names and numbers of keys, fields, choices and rules, and what a string names.
+use Rattle.std.specs.Prelude.{ℕ, List, [], ◌∷◌, ◌++◌, codes, decimal, bytes_eq, Option, Some, None, if◌then◌else◌}
+use Rattle.qa_base.specs.declared.key.Key.{Key}
+use Rattle.qa_base.specs.declared.key.Key.TheVariants as key
 use Rattle.qa_base.specs.declared.header.Version.{Version}
 use Rattle.qa_base.specs.declared.header.Version.TheVariants.{One, Two}
-use Rattle.qa_base.specs.declared.line.LineKind.{LineKind}
-use Rattle.qa_base.specs.declared.line.LineKind.TheVariants as kinds
+use Rattle.qa_base.specs.declared.line_kind.LineKind.{LineKind}
+use Rattle.qa_base.specs.declared.line_kind.LineKind.TheVariants as kinds
 use Rattle.qa_base.specs.declared.rule.Field.{Field}
 use Rattle.qa_base.specs.declared.rule.Field.TheVariants as field
 use Rattle.qa_base.specs.declared.rule.Rule.{Rule}
@@ -174,37 +172,11 @@ abbrev pub field_of : Rule → Option Field
 field_of (rule.Metric f) = Some f
 field_of _ = None
 
--- ---- faults
+-- the field that a rule is about, behind a space
+abbrev pub field_text : Option Field → List ℕ
+field_text None = []
+field_text (Some f) = codes " " ++ field_name f
 
-abbrev pub fault_name : Fault → List ℕ
-fault_name fault.NotJson = codes "not-json"
-fault_name fault.NotObject = codes "not-object"
-fault_name (fault.Missing k) = codes "missing"
-fault_name (fault.WrongKind k) = codes "wrong-kind"
-fault_name (fault.OutOfRange k) = codes "out-of-range"
-fault_name fault.UnknownEvent = codes "unknown-event"
-fault_name fault.HeaderPlace = codes "header-place"
-fault_name fault.LineTooLong = codes "line-too-long"
-fault_name fault.FlagsClash = codes "flags-clash"
-fault_name fault.Version = codes "version"
-fault_name fault.TooManyLines = codes "too-many-lines"
-
-abbrev pub fault_number : Fault → ℕ
-fault_number fault.NotJson = 1
-fault_number fault.NotObject = 2
-fault_number (fault.Missing k) = 3
-fault_number (fault.WrongKind k) = 4
-fault_number (fault.OutOfRange k) = 5
-fault_number fault.UnknownEvent = 6
-fault_number fault.HeaderPlace = 7
-fault_number fault.LineTooLong = 8
-fault_number fault.FlagsClash = 9
-fault_number fault.Version = 10
-fault_number fault.TooManyLines = 11
-
--- the key that a fault is about
-abbrev pub key_of : Fault → Option Key
-key_of (fault.Missing k) = Some k
-key_of (fault.WrongKind k) = Some k
-key_of (fault.OutOfRange k) = Some k
-key_of _ = None
+-- the rule as a report has it
+unfoldable pub rule_text : Rule → List ℕ
+rule_text r = codes "V" ++ decimal (rule_number r) ++ codes " " ++ rule_name r ++ field_text (field_of r)

@@ -1,8 +1,8 @@
 -- What a header says.
 use Rattle.std.specs.Prelude.{◌≡◌, ℕ, ◌≤◌, ◌*◌, ◌||◌, min, max, nat_lt, Bool, false, Option, None, unwrap_or, Result, Ok, Err, if◌then◌else◌}
 use Rattle.std.specs.Option.{ForSome}
-use Rattle.qa_base.specs.declared.fault.Key.TheVariants as key
-use Rattle.qa_base.specs.declared.fault.RangeFault.{RangeFault}
+use Rattle.qa_base.specs.declared.key.Key.TheVariants as key
+use Rattle.qa_base.specs.declared.key.RangeFault.{RangeFault}
 use Rattle.qa_base.specs.declared.header.Options.{Options}
 use Rattle.qa_base.specs.declared.header.Version.{Version}
 use Rattle.qa_base.specs.declared.header.Version.TheVariants.{One, Two}

@@ -14,7 +14,7 @@ use Rattle.qa_base.specs.machine.Detection.{is_found, is_found_at, detection, is
 use Rattle.qa_base.specs.machine.Loss.{owed}
 use Rattle.qa_base.specs.machine.Numbers.{has_all}
 use Rattle.qa_base.specs.machine.Packets.{Packet, packet_of, packets, packets_of, is_of, is_covered, greatest, greatest_in, largest_acknowledged}
-use Rattle.qa_base.specs.values.Proper.{IsRange, IsProperEvent}
+use Rattle.qa_format.specs.format.Proper.{IsRange, IsProperEvent}
 use Rattle.qa_base.specs.machine.Rules.{IsRun}
 use Rattle.qa_base.specs.values.Settings.{Settings}
 use Rattle.qa_base.specs.machine.Timer.{loss_delay}

@@ -20,7 +20,7 @@ use Rattle.qa_base.specs.machine.Reno.{reno, is_entry}
 use Rattle.qa_base.specs.machine.Rules.{IsRun}
 use Rattle.qa_base.specs.values.Settings.{Settings}
 use Rattle.qa_base.specs.machine.Timer.{is_pto}
-use Rattle.qa_base.proofs.verdicts.Accepted.{no_packet}
+use Rattle.qa_format.proofs.verdicts.Accepted.{no_packet}
 use Rattle.qa_base.proofs.machine.Quiet.{bytes_in_flight-sent, moves_of_last-quiet, moves-quiet}
 use Rattle.qa_base.proofs.machine.RunLaws.{all_hold}
 use Rattle.qa_base.proofs.machine.Steps.{sum_since}

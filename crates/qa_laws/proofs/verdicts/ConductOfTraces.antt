@@ -4,18 +4,18 @@ use Rattle.std.specs.List.{AllByRecursion}
 use Rattle.std.specs.Prelude.{if◌then◌else◌}
 use Rattle.qa_base.specs.declared.event.Event.{Event}
 use Rattle.qa_base.specs.declared.event.Event.TheVariants.{Sent, Lost}
-use Rattle.qa_base.specs.declared.fault.Fault.{Fault}
-use Rattle.qa_base.specs.declared.line.Line.{Line}
-use Rattle.qa_base.specs.declared.verdict.Totals.{Totals}
-use Rattle.qa_base.specs.declared.verdict.Verdict.TheVariants.{Accepted}
+use Rattle.qa_format.specs.declared.fault.Fault.{Fault}
+use Rattle.qa_format.specs.declared.line.Line.{Line}
+use Rattle.qa_base.specs.declared.totals.Totals.{Totals}
+use Rattle.qa_format.specs.declared.verdict.Verdict.TheVariants.{Accepted}
 use Rattle.qa_laws.specs.machine.Conduct.{IsConduct}
-use Rattle.qa_base.specs.format.Lines.{lines}
+use Rattle.qa_format.specs.format.Lines.{lines}
 use Rattle.qa_base.specs.machine.Packets.{history_of}
-use Rattle.qa_base.specs.values.Proper.{IsProperEvent, IsProperLine}
+use Rattle.qa_format.specs.format.Proper.{IsProperEvent, IsProperLine}
 use Rattle.qa_base.specs.machine.Rules.{IsRun}
 use Rattle.qa_base.specs.values.Settings.{Settings}
-use Rattle.qa_base.specs.verdicts.Verdict.{Reading, verdict, is_saying, sayings, event_line, trace_of}
-use Rattle.qa_base.proofs.verdicts.Accepted.{accepted_is_run}
+use Rattle.qa_format.specs.verdicts.Verdict.{Reading, verdict, is_saying, sayings, event_line, trace_of}
+use Rattle.qa_format.proofs.verdicts.Accepted.{accepted_is_run}
 use Rattle.qa_laws.proofs.machine.ConductOfLosses.{lost_rightly}
 use Rattle.qa_laws.proofs.machine.ConductOfSends.{past_window_by_leave}
 use Rattle.qa_laws.proofs.machine.ConductOfWindows.{halved_once}

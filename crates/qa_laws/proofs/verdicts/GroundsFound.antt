@@ -8,17 +8,17 @@ use Rattle.std.specs.Option.{option_or}
 use Rattle.std.specs.Prelude.{map, filter_map, option_map, nat_le, nat_lt, if◌then◌else◌, is_some}
 use Rattle.qa_base.specs.declared.event.Event.{Event}
 use Rattle.qa_base.specs.declared.event.Event.TheVariants.{Metrics}
-use Rattle.qa_base.specs.declared.fault.Fault.{Fault}
-use Rattle.qa_base.specs.declared.fault.Fault.TheVariants.{HeaderPlace, LineTooLong, TooManyLines}
-use Rattle.qa_base.specs.declared.line.Line.{Line}
-use Rattle.qa_base.specs.declared.line.Line.TheVariants as line
+use Rattle.qa_format.specs.declared.fault.Fault.{Fault}
+use Rattle.qa_format.specs.declared.fault.Fault.TheVariants.{HeaderPlace, LineTooLong, TooManyLines}
+use Rattle.qa_format.specs.declared.line.Line.{Line}
+use Rattle.qa_format.specs.declared.line.Line.TheVariants as line
 use Rattle.qa_base.specs.declared.rule.Rule.{Rule}
 use Rattle.qa_base.specs.declared.rule.Rule.TheVariants.{OwedAtEnd, TimerLate}
-use Rattle.qa_base.specs.declared.verdict.Totals.{Totals}
-use Rattle.qa_base.specs.declared.verdict.Verdict.{Verdict}
-use Rattle.qa_base.specs.declared.verdict.Verdict.TheVariants.{Accepted, Refused, Unreadable}
+use Rattle.qa_base.specs.declared.totals.Totals.{Totals}
+use Rattle.qa_format.specs.declared.verdict.Verdict.{Verdict}
+use Rattle.qa_format.specs.declared.verdict.Verdict.TheVariants.{Accepted, Refused, Unreadable}
 use Rattle.qa_laws.specs.verdicts.Grounds.{AreGoodLines, BreaksAt, IsOutOfPlace, HasFault, FailsAt, OwesAtEnd, SaysNothing, IsGround}
-use Rattle.qa_base.specs.format.Lines.{line_limit, max_lines, lines}
+use Rattle.qa_format.specs.format.Lines.{line_limit, max_lines, lines}
 use Rattle.qa_base.specs.machine.Loss.{owed}
 use Rattle.qa_base.specs.machine.Packets.{Packet, history_of, is_some_packet}
 use Rattle.qa_base.specs.machine.Breaches.{is_timer_late}
@@ -26,11 +26,11 @@ use Rattle.qa_base.specs.machine.Metrics.{metric_tests}
 use Rattle.qa_base.specs.machine.Rules.{broken, first_of, first_broken}
 use Rattle.qa_base.specs.values.Settings.{Settings}
 use Rattle.qa_base.specs.machine.State.{totals}
-use Rattle.qa_base.specs.verdicts.Verdict.{Reading, IsWithinLimit, AreGood, event_said, header_in, events_in, said, stop_at, stop_after, first_stop, line_behind, last_event_line, end_at, end_of, verdict_of, verdict, is_saying, sayings, event_line, opening, IsRunBy}
-use Rattle.qa_base.proofs.verdicts.Accepted.{good_run}
-use Rattle.qa_base.proofs.verdicts.Fixed.{long_verdict}
-use Rattle.qa_base.proofs.verdicts.RunsAccepted.{read_as_said, events_in-snoc, stop_of_reading, longer, no_stop_yet, events_of_lines, accepted_exactly_runs}
-use Rattle.qa_base.proofs.verdicts.Stops.{header_in-snoc, good_are_few, good_are_short, first_stop-snoc, first_stop-append}
+use Rattle.qa_format.specs.verdicts.Verdict.{Reading, IsWithinLimit, AreGood, event_said, header_in, events_in, said, stop_at, stop_after, first_stop, line_behind, last_event_line, end_at, end_of, verdict_of, verdict, is_saying, sayings, event_line, opening, IsRunBy}
+use Rattle.qa_format.proofs.verdicts.Accepted.{good_run}
+use Rattle.qa_format.proofs.verdicts.Fixed.{long_verdict}
+use Rattle.qa_format.proofs.verdicts.RunsAccepted.{read_as_said, events_in-snoc, stop_of_reading, longer, no_stop_yet, events_of_lines, accepted_exactly_runs}
+use Rattle.qa_format.proofs.verdicts.Stops.{header_in-snoc, good_are_few, good_are_short, first_stop-snoc, first_stop-append}
 
 -- ---- good lines, by what they say and by the first that is not
 

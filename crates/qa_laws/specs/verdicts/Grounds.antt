@@ -2,22 +2,22 @@
 use Rattle.std.specs.Prelude.{◌≡◌, ◌≢◌, ℕ, ◌+◌, ◌⊎◌, ◌<◌, ◌≤◌, List, [], ◌∷◌, ◌++◌, length, Option, Some, None, option_map, Result, Ok, Err}
 use Rattle.std.specs.List.{AllByRecursion}
 use Rattle.qa_base.specs.declared.event.Event.{Event}
-use Rattle.qa_base.specs.declared.fault.Fault.{Fault}
-use Rattle.qa_base.specs.declared.fault.Fault.TheVariants.{HeaderPlace, LineTooLong, TooManyLines}
-use Rattle.qa_base.specs.declared.line.Line.{Line}
-use Rattle.qa_base.specs.declared.line.Line.TheVariants as line
+use Rattle.qa_format.specs.declared.fault.Fault.{Fault}
+use Rattle.qa_format.specs.declared.fault.Fault.TheVariants.{HeaderPlace, LineTooLong, TooManyLines}
+use Rattle.qa_format.specs.declared.line.Line.{Line}
+use Rattle.qa_format.specs.declared.line.Line.TheVariants as line
 use Rattle.qa_base.specs.declared.rule.Rule.{Rule}
 use Rattle.qa_base.specs.declared.rule.Rule.TheVariants.{OwedAtEnd}
-use Rattle.qa_base.specs.declared.verdict.Totals.{Totals}
-use Rattle.qa_base.specs.declared.verdict.Verdict.{Verdict}
-use Rattle.qa_base.specs.declared.verdict.Verdict.TheVariants.{Accepted, Refused, Unreadable}
-use Rattle.qa_base.specs.format.Lines.{line_limit, max_lines}
+use Rattle.qa_base.specs.declared.totals.Totals.{Totals}
+use Rattle.qa_format.specs.declared.verdict.Verdict.{Verdict}
+use Rattle.qa_format.specs.declared.verdict.Verdict.TheVariants.{Accepted, Refused, Unreadable}
+use Rattle.qa_format.specs.format.Lines.{line_limit, max_lines}
 use Rattle.qa_base.specs.machine.Loss.{owed}
 use Rattle.qa_base.specs.machine.Packets.{history_of}
 use Rattle.qa_base.specs.machine.Rules.{first_broken}
 use Rattle.qa_base.specs.values.Settings.{Settings}
 use Rattle.qa_base.specs.machine.State.{totals}
-use Rattle.qa_base.specs.verdicts.Verdict.{Reading, IsWithinLimit, IsTraceOfRun, IsRunBy, events_in, event_line, opening, sayings}
+use Rattle.qa_format.specs.verdicts.Verdict.{Reading, IsWithinLimit, IsTraceOfRun, IsRunBy, events_in, event_line, opening, sayings}
 
 -- ---- good lines
 

@@ -1,6 +1,7 @@
 //! Values by themselves.
-use qa_base::{Fault, Micros, PacketNumber, Space, Verdict};
+use qa_base::{Micros, PacketNumber, Space};
 use qa_check::report;
+use qa_format::{Fault, Verdict};
 use std::test::Fail;
 
 #[test]

@@ -1,7 +1,7 @@
 use Rattle.std.proofs.Common.{◌≡◌, ◌∙◌, sym}
 use Rattle.std.proofs.lemmas.Result.{IfOk-weaker}
-use Rattle.qa_base.specs.format.Reading.{reading}
-use Rattle.qa_base.specs.verdicts.Verdict.{verdict}
+use Rattle.qa_format.specs.format.Reading.{reading}
+use Rattle.qa_format.specs.verdicts.Verdict.{verdict}
 use Rattle.qa_check.proofs.Reading.{told_verdict}
 use Rattle.qa_check.proofs.auditing.audit.Goals as goal
 

@@ -1,6 +1,6 @@
 use Rattle.std.proofs.Common.{refl}
 use Rattle.std.proofs.lemmas.Result.{IfOk-weaker}
-use Rattle.qa_base.specs.declared.verdict.Verdict.{Verdict}
+use Rattle.qa_format.specs.declared.verdict.Verdict.{Verdict}
 use Rattle.qa_check.specs.declared.auditing.AuditFault.TheVariants.{Read, Write, OutOfMemory}
 use Rattle.qa_check.specs.declared.auditing.Outcome.{Outcome}
 use Rattle.qa_check.proofs.Faults.{same_read_fault, same_write_fault, same_fault, not_read, no_read, memory_not_write}

@@ -1,5 +1,5 @@
 use Rattle.std.proofs.Common.{◌∙◌, ◌++◌, Option, refl}
-use Rattle.qa_base.specs.declared.verdict.Verdict.{Verdict}
+use Rattle.qa_format.specs.declared.verdict.Verdict.{Verdict}
 use Rattle.qa_check.specs.declared.explaining.Progress.{Progress}
 use Rattle.qa_check.specs.Writing.{Shows}
 use Rattle.qa_check.proofs.Faults.{same_read_fault, same_write_fault}

@@ -2,7 +2,7 @@ use Rattle.std.proofs.Common.{◌≡◌, ◌∙◌, ◌≤◌, [], inl, inr, Opt
 use Rattle.std.proofs.lemmas.Bool.{false≢true}
 use Rattle.std.proofs.lemmas.Result.{IfOk-weaker, on_err_weaker}
 use Rattle.std.proofs.KnownBytes.{Consumes-nil, Consumes-kept, Consumes-trans}
-use Rattle.qa_base.specs.declared.verdict.Verdict.{Verdict}
+use Rattle.qa_format.specs.declared.verdict.Verdict.{Verdict}
 use Rattle.qa_check.specs.Audit.{is_read_fault}
 use Rattle.qa_check.specs.Writing.{Shows}
 use Rattle.qa_check.proofs.Faults.{ok_is_no_err, same_read_fault, same_write_fault, not_read}

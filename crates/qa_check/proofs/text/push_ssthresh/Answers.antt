@@ -1,4 +1,4 @@
-use Rattle.qa_base.specs.verdicts.Report.{ssthresh_line}
+use Rattle.qa_format.specs.verdicts.Report.{ssthresh_line}
 use Rattle.qa_check.proofs.text.push_ssthresh.Goals as goal
 
 pub returns-in-Some : goal.returns-in-Some

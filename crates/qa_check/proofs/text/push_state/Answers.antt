@@ -1,5 +1,5 @@
 use Rattle.std.proofs.lemmas.Result.{on_ok_weaker}
-use Rattle.qa_base.specs.verdicts.Explain.{state_text}
+use Rattle.qa_format.specs.verdicts.Explain.{state_text}
 use Rattle.qa_check.proofs.Appends.{six_appends}
 use Rattle.qa_check.proofs.text.push_state.Goals as goal
 

@@ -1,6 +1,6 @@
 use Rattle.std.proofs.Common.{append_assoc}
 use Rattle.std.proofs.lemmas.Result.{IfOk-weaker}
-use Rattle.qa_base.specs.verdicts.Report.{place_text, verdict_text}
+use Rattle.qa_format.specs.verdicts.Report.{place_text, verdict_text}
 use Rattle.qa_check.proofs.text.verdict_line.Goals as goal
 
 pub returns-in-Refused : goal.returns-in-Refused

@@ -1,5 +1,5 @@
-use Rattle.qa_base.proofs.format.ProperReadings as readings
-use Rattle.qa_base.specs.format.Reading.{reading}
+use Rattle.qa_format.proofs.format.ProperReadings as readings
+use Rattle.qa_format.specs.format.Reading.{reading}
 use Rattle.qa_laws.proofs.verdicts.ConductOfTraces as lemmas
 use Rattle.qa_laws.proofs.conduct.accepted_conduct.Goals as goal
 

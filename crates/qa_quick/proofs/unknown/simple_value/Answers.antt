@@ -1,6 +1,6 @@
 use Rattle.std.proofs.lemmas.Option.{IfSome_then}
 use Rattle.serde_json.specs.Data as json
-use Rattle.qa_base.specs.format.Written.{integer, string, boolean}
+use Rattle.qa_format.specs.format.Written.{integer, string, boolean}
 use Rattle.qa_quick.proofs.Taking.{integer_value, boolean_value, string_value, null_value}
 use Rattle.qa_quick.proofs.unknown.simple_value.Goals as goal
 

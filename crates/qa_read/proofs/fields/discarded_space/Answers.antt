@@ -2,13 +2,13 @@ use Rattle.std.proofs.Common.{◌≡◌, ◌∙◌, Bool, true, false, List, ℕ
 use Rattle.std.specs.Prelude.{bytes_eq, if◌then◌else◌}
 use Rattle.serde_json.specs.Data.{Data}
 use Rattle.serde_json.specs.View.{view}
-use Rattle.qa_base.specs.declared.fault.Fault.{Fault}
-use Rattle.qa_base.specs.declared.fault.Fault.TheVariants.{OutOfRange}
-use Rattle.qa_base.specs.declared.fault.Key.TheVariants as key
+use Rattle.qa_format.specs.declared.fault.Fault.{Fault}
+use Rattle.qa_format.specs.declared.fault.Fault.TheVariants.{OutOfRange}
+use Rattle.qa_base.specs.declared.key.Key.TheVariants as key
 use Rattle.qa_base.specs.declared.space.Space.{Space}
 use Rattle.qa_base.specs.declared.space.Space.TheVariants.{Initial, Handshake, App}
-use Rattle.qa_base.specs.format.Keys.{◌>>=◌, ranged, required, required_value, string, string_among}
-use Rattle.qa_base.specs.format.Tables as tables
+use Rattle.qa_format.specs.format.Keys.{◌>>=◌, ranged, required, required_value, string, string_among}
+use Rattle.qa_format.specs.format.Tables as tables
 use Rattle.qa_base.specs.values.Names.{discarded_named, space_name, space_named}
 use Rattle.qa_read.proofs.Ranged.{handed_on}
 use Rattle.qa_read.proofs.fields.discarded_space.Goals as goal

@@ -1,7 +1,7 @@
 use Rattle.std.proofs.Common.{◌∙◌, Ok, Err, ap}
 use Rattle.serde_json.specs.View.{view}
-use Rattle.qa_base.specs.declared.fault.Key.TheVariants as key
-use Rattle.qa_base.specs.format.Keys.{ranged}
+use Rattle.qa_base.specs.declared.key.Key.TheVariants as key
+use Rattle.qa_format.specs.format.Keys.{ranged}
 use Rattle.qa_base.specs.values.Names.{role_named}
 use Rattle.qa_read.proofs.Ranged.{handed_on, string_at}
 use Rattle.qa_read.proofs.fields.role.Goals as goal

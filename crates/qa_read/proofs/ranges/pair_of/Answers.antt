@@ -1,7 +1,7 @@
 use Rattle.std.proofs.Common.{◌≡◌, ◌<◌, ◌≤◌, List, [], ◌∷◌, length, None, refl, arith}
 use Rattle.serde_json.specs.View.{items_view}
 use Rattle.serde_json.specs.declared.value.Value.{Value}
-use Rattle.qa_base.specs.format.Keys.{two_of}
+use Rattle.qa_format.specs.format.Keys.{two_of}
 use Rattle.qa_read.proofs.ranges.pair_of.Goals as goal
 
 fewer : (vs : List Value) → length vs < 2 → None ≡ two_of (items_view vs)

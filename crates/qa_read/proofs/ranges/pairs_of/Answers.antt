@@ -3,7 +3,7 @@ use Rattle.std.proofs.lemmas.List.{append_assoc, append-nil, at_drop_all, at_dro
 use Rattle.std.specs.Prelude.{option_and_then, option_map}
 use Rattle.serde_json.specs.View.{view, items_view}
 use Rattle.serde_json.specs.declared.value.Value.{Value}
-use Rattle.qa_base.specs.format.Keys as keys
+use Rattle.qa_format.specs.format.Keys as keys
 use Rattle.qa_read.proofs.ranges.pairs_of.Goals as goal
 
 -- the pairs that were found, and then those of the values that are left

@@ -1,7 +1,7 @@
 use Rattle.std.proofs.Common.{◌≡◌, ◌++◌, drop}
 use Rattle.std.specs.Prelude.{option_map}
 use Rattle.serde_json.specs.View.{items_view}
-use Rattle.qa_base.specs.format.Keys as keys
+use Rattle.qa_format.specs.format.Keys as keys
 use Rattle.qa_read.proofs.ranges.pairs_of.Given as goal
 
 abbrev pub invariant-loop-value : goal.invariant-loop-value

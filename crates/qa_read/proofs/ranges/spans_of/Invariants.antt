@@ -1,6 +1,6 @@
 use Rattle.std.proofs.Common.{◌≡◌, true, take}
 use Rattle.std.specs.List.{list_all}
-use Rattle.qa_base.specs.format.Keys as keys
+use Rattle.qa_format.specs.format.Keys as keys
 use Rattle.qa_read.proofs.ranges.spans_of.Given as goal
 
 abbrev pub invariant-loop-pair : goal.invariant-loop-pair

@@ -1,9 +1,9 @@
 use Rattle.std.proofs.Common.{◌≡◌, true, List, ℕ, Result, Ok, Err, sym, ◌∙◌}
 use Rattle.std.specs.Prelude.{IfOk}
-use Rattle.qa_base.specs.declared.line.Line.{Line}
-use Rattle.qa_base.specs.format.Reading.{reading}
-use Rattle.qa_base.specs.format.Written.{line_fits}
-use Rattle.qa_base.proofs.format.ProperReadings.{reading_fits}
+use Rattle.qa_format.specs.declared.line.Line.{Line}
+use Rattle.qa_format.specs.format.Reading.{reading}
+use Rattle.qa_format.specs.format.Written.{line_fits}
+use Rattle.qa_format.proofs.format.ProperReadings.{reading_fits}
 use Rattle.qa_read.specs.declared.fault.LineFault.{LineFault}
 use Rattle.qa_read.specs.Gives.{Gives}
 use Rattle.qa_read.proofs.reader.read_line.Goals as goal

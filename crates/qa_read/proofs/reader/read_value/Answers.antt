@@ -3,9 +3,9 @@ use Rattle.std.specs.List.{list_all}
 use Rattle.std.specs.Str.{is_utf8}
 use Rattle.serde_json.specs.Data.{Data}
 use Rattle.serde_json.specs.Read.{read}
-use Rattle.qa_base.specs.declared.fault.Fault.TheVariants.{NotJson}
-use Rattle.qa_base.specs.declared.line.Line.{Line}
-use Rattle.qa_base.specs.format.Reading.{reader_named, object_says, json_of, is_blank, reading_by, reading}
+use Rattle.qa_format.specs.declared.fault.Fault.TheVariants.{NotJson}
+use Rattle.qa_format.specs.declared.line.Line.{Line}
+use Rattle.qa_format.specs.format.Reading.{reader_named, object_says, json_of, is_blank, reading_by, reading}
 use Rattle.qa_read.specs.declared.fault.LineFault.{LineFault}
 use Rattle.qa_read.specs.Gives.{Gives}
 use Rattle.qa_read.proofs.reader.read_value.Goals as goal

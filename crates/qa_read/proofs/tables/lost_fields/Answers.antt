@@ -1,5 +1,5 @@
 use Rattle.std.proofs.Common.{◌∙◌, ap₂}
-use Rattle.qa_base.specs.format.Keys.{both}
+use Rattle.qa_format.specs.format.Keys.{both}
 use Rattle.qa_read.proofs.tables.lost_fields.Goals as goal
 
 pub returns : goal.returns

@@ -5,7 +5,7 @@ use Rattle.std.proofs.lemmas.List.{take-append-drop, drop-drop, length-drop}
 use Rattle.std.proofs.lemmas.List.Folds.{list_any_more, list_any-append}
 use Rattle.std.specs.Prelude.{MatchOption}
 use Rattle.memchr.specs.Find.{IsFirstByte, is_byte}
-use Rattle.qa_base.specs.format.Lines.{is_lf, has_lf}
+use Rattle.qa_format.specs.format.Lines.{is_lf, has_lf}
 use Rattle.qa_split.specs.Stream.{AreSearched, IsFirstLf}
 use Rattle.qa_split.proofs.split.first_lf.Goals as goal
 

@@ -2,13 +2,13 @@ use Rattle.std.proofs.Common.{◌≡◌, ◌∷◌, ◌++◌, ℕ, [], Option, S
 use Rattle.serde_json.proofs.Views.{view-Object}
 use Rattle.serde_json.specs.Data.{Members, no_members, object}
 use Rattle.serde_json.specs.View.{members_view}
-use Rattle.qa_base.specs.declared.fault.Key.TheVariants as key
+use Rattle.qa_base.specs.declared.key.Key.TheVariants as key
 use Rattle.qa_base.specs.declared.header.Version.{Version}
 use Rattle.qa_base.specs.declared.header.Version.TheVariants.{One, Two}
-use Rattle.qa_base.specs.declared.line.LineKind.TheVariants as kinds
+use Rattle.qa_base.specs.declared.line_kind.LineKind.TheVariants as kinds
 use Rattle.qa_base.specs.values.Names.{line_kind_name, role_name, version_number}
 use Rattle.qa_base.specs.values.Settings.{Settings}
-use Rattle.qa_base.specs.format.Written.{Pairs, members, string, integer, option_pairs, limit_pairs}
+use Rattle.qa_format.specs.format.Written.{Pairs, members, string, integer, option_pairs, limit_pairs}
 use Rattle.qa_write.specs.Members.{with, with_settings, with_options}
 use Rattle.qa_write.proofs.writer.header_object.Goals as goal
 

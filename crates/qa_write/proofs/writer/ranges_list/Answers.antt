@@ -4,8 +4,8 @@ use Rattle.std.specs.List.{AllByRecursion}
 use Rattle.serde_json.proofs.Views.{view-Array}
 use Rattle.serde_json.specs.Data.{Data, item}
 use Rattle.serde_json.specs.View.{items_of, view}
-use Rattle.qa_base.specs.format.Written.{integer_pair, integer_pairs}
-use Rattle.qa_base.specs.values.Proper.{IsRange}
+use Rattle.qa_format.specs.format.Written.{integer_pair, integer_pairs}
+use Rattle.qa_format.specs.format.Proper.{IsRange}
 use Rattle.qa_write.proofs.writer.ranges_list.Goals as goal
 
 items_of-integer_pair : (ranges : List (ℕ × ℕ)) → items_of (map integer_pair ranges) ≡ integer_pairs ranges

@@ -1,8 +1,8 @@
 use Rattle.std.proofs.Common.{◌≡◌, map, take}
 use Rattle.std.specs.List.{AllByRecursion}
 use Rattle.serde_json.specs.View.{view}
-use Rattle.qa_base.specs.values.Proper.{IsRange}
-use Rattle.qa_base.specs.format.Written.{integer_pair}
+use Rattle.qa_format.specs.format.Proper.{IsRange}
+use Rattle.qa_format.specs.format.Written.{integer_pair}
 use Rattle.qa_write.proofs.writer.ranges_list.Given as goal
 
 abbrev pub invariant-loop-range : goal.invariant-loop-range

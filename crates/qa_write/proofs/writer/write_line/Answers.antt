@@ -1,12 +1,12 @@
 use Rattle.std.proofs.Common.{◌≡◌, ◌∙◌, false, Result, Ok, Err, String, Global, ap}
 use Rattle.std.specs.Prelude.{string_bytes, IfOk, OnOk}
 use Rattle.std.specs.declared.alloc.AllocError.{AllocError}
-use Rattle.qa_base.specs.declared.line.Line.{Line}
-use Rattle.qa_base.specs.format.Lines.{has_lf}
-use Rattle.qa_base.specs.values.Proper.{IsProperLine}
-use Rattle.qa_base.specs.format.Reading.{reading}
-use Rattle.qa_base.specs.format.Written.{written}
-use Rattle.qa_base.proofs.format.LinesWritten.{written_reads, written_has_no_lf}
+use Rattle.qa_format.specs.declared.line.Line.{Line}
+use Rattle.qa_format.specs.format.Lines.{has_lf}
+use Rattle.qa_format.specs.format.Proper.{IsProperLine}
+use Rattle.qa_format.specs.format.Reading.{reading}
+use Rattle.qa_format.specs.format.Written.{written}
+use Rattle.qa_format.proofs.format.LinesWritten.{written_reads, written_has_no_lf}
 use Rattle.qa_write.proofs.writer.write_line.Goals as goal
 
 -- what is written for a line that there is

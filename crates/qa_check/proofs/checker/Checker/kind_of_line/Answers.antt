@@ -1,8 +1,8 @@
 use Rattle.std.proofs.Common.{◌≡◌, ◌∙◌, ◌+◌, true, false, Err, refl, sym, arith, ap, rules}
 use Rattle.std.proofs.lemmas.Bool.{false≢true}
-use Rattle.qa_base.specs.format.Reading.{reading}
-use Rattle.qa_base.specs.verdicts.Verdict.{stop_at}
-use Rattle.qa_base.proofs.verdicts.RunsAccepted.{read_as_said}
+use Rattle.qa_format.specs.format.Reading.{reading}
+use Rattle.qa_format.specs.verdicts.Verdict.{stop_at}
+use Rattle.qa_format.proofs.verdicts.RunsAccepted.{read_as_said}
 use Rattle.qa_read.specs.declared.fault.LineFault.TheVariants.{Fault}
 use Rattle.qa_check.proofs.Faults.{ok_is_no_err, error_of, stops_differ, memory_is_not_decided, decided_is_not_memory}
 use Rattle.qa_check.proofs.Growing.{count_of, whole_of, undecided, open_from, fixed_adds, good_adds, stop_adds, unread_adds, too_many, too_long}

@@ -1,5 +1,5 @@
 use Rattle.std.proofs.Common.{rules}
-use Rattle.qa_base.specs.format.Written.{integer}
+use Rattle.qa_format.specs.format.Written.{integer}
 use Rattle.qa_quick.proofs.Finding.{put_delay}
 use Rattle.qa_quick.proofs.Taking.{integer_value}
 use Rattle.qa_quick.proofs.found.Found.delay.Goals as goal

@@ -1,4 +1,4 @@
-use Rattle.qa_base.specs.format.Written.{boolean}
+use Rattle.qa_format.specs.format.Written.{boolean}
 use Rattle.qa_quick.proofs.Finding.{put_in_flight}
 use Rattle.qa_quick.proofs.Taking.{boolean_value}
 use Rattle.qa_quick.proofs.found.Found.in_flight.Goals as goal

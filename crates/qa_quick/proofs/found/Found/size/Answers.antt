@@ -1,4 +1,4 @@
-use Rattle.qa_base.specs.format.Written.{integer}
+use Rattle.qa_format.specs.format.Written.{integer}
 use Rattle.qa_quick.proofs.Finding.{put_size}
 use Rattle.qa_quick.proofs.Taking.{integer_value}
 use Rattle.qa_quick.proofs.found.Found.size.Goals as goal

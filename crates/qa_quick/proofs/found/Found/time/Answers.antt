@@ -1,5 +1,5 @@
 use Rattle.std.proofs.Common.{◌≡◌, ℕ, Option, Some, codes, sym, subst, rules}
-use Rattle.qa_base.specs.format.Written.{integer}
+use Rattle.qa_format.specs.format.Written.{integer}
 use Rattle.qa_quick.proofs.Finding.{put_time}
 use Rattle.qa_quick.proofs.Taking.{integer_value}
 use Rattle.qa_quick.specs.Found.{Keeps}

@@ -1,8 +1,0 @@
-use Rattle.qa_base.proofs.format.OrdersRead.{order_reads, header_order_reads}
-use Rattle.qa_base.proofs.laws.any_order_is_read.Goals as goal
-
-pub returns-clause-event : goal.returns-clause-event
-returns-clause-event c = order_reads
-
-pub returns-clause-header : goal.returns-clause-header
-returns-clause-header c = header_order_reads

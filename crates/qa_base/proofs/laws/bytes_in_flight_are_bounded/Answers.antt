@@ -1,5 +1,0 @@
-use Rattle.qa_base.proofs.machine.WindowBound as lemmas
-use Rattle.qa_base.proofs.laws.bytes_in_flight_are_bounded.Goals as goal
-
-pub returns : goal.returns
-returns c = lemmas.flight_bound

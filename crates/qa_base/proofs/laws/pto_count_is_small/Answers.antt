@@ -1,5 +1,0 @@
-use Rattle.qa_base.proofs.machine.PtoCount as lemmas
-use Rattle.qa_base.proofs.laws.pto_count_is_small.Goals as goal
-
-pub returns : goal.returns
-returns c = lemmas.pto_count

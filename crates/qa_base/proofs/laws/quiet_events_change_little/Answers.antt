@@ -1,5 +1,0 @@
-use Rattle.qa_base.proofs.machine.Quiet as lemmas
-use Rattle.qa_base.proofs.laws.quiet_events_change_little.Goals as goal
-
-pub returns : goal.returns
-returns c = record { rtt = lemmas.rtt-quiet; moves = lemmas.moves-quiet; backoff = lemmas.backoff-quiet }

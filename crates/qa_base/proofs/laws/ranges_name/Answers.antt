@@ -1,5 +1,0 @@
-use Rattle.qa_base.proofs.machine.Ranges as lemmas
-use Rattle.qa_base.proofs.laws.ranges_name.Goals as goal
-
-pub returns : goal.returns
-returns c = record { only = lemmas.has_all_is; exactly = lemmas.names_exactly_is }

@@ -1,5 +1,0 @@
-use Rattle.qa_base.proofs.machine.Slack as lemmas
-use Rattle.qa_base.proofs.laws.slack_admits_more.Goals as goal
-
-pub returns : goal.returns
-returns c = lemmas.run_with_more_slack

@@ -1,8 +1,0 @@
--- The line format: lines, keys, what a line says, and what is written for it.
-pub mod Lines
-pub mod Keys
-pub mod Tables
-pub mod Reading
-pub mod Written
-pub mod Simple
-pub mod AnyOrder

@@ -1,0 +1,414 @@
+-- A line that was written is one line, and is read as itself.
+use Rattle.std.proofs.Common.{◌≡◌, ◌∙◌, ℕ, ◌≤◌, ◌*◌, List, [], ◌∷◌, ◌++◌, Bool, false, Option, Some, None, Ok, refl, ap, ap₂, append_assoc, Less, ◌&&◌, ◌||◌, not, arith, subst, sym}
+use Rattle.std.proofs.lemmas.Bool.{and_parts, leb-true, or_from, le-ltb}
+use Rattle.std.specs.Option.{ForSome}
+use Rattle.std.specs.Prelude.{nat_lt, nat_le, codes, option_map, unwrap_or}
+use Rattle.std.specs.Cmp.Lexicographic.{slice_cmp}
+use Rattle.std.specs.Ordering.{nat_cmp}
+use Rattle.serde_json.specs.Data.{Data, depth}
+use Rattle.serde_json.specs.Find.{get}
+use Rattle.serde_json.specs.Written.{compact_text}
+use Rattle.qa_base.specs.declared.event.Event.{Event}
+use Rattle.qa_base.specs.declared.event.Event.TheVariants.{Sent, Ack, Lost, Timer, Discard, Confirmed, Keys, Metrics}
+use Rattle.qa_base.specs.declared.event.MetricValues.{MetricValues}
+use Rattle.qa_base.specs.declared.key.Key.{Key}
+use Rattle.qa_base.specs.declared.key.Key.TheVariants as key
+use Rattle.qa_base.specs.declared.header.Version.{Version}
+use Rattle.qa_base.specs.declared.header.Version.TheVariants.{One, Two}
+use Rattle.qa_format.specs.declared.line.Line.{Line}
+use Rattle.qa_format.specs.declared.line.Line.TheVariants as line
+use Rattle.qa_base.specs.declared.line_kind.LineKind.TheVariants as kinds
+use Rattle.qa_base.specs.declared.rule.Field.TheVariants.{Window, Ssthresh, BytesInFlight, LatestRtt, MinRtt, SmoothedRtt, Rttvar}
+use Rattle.qa_base.specs.declared.space.Kind.{Kind as TimerKind}
+use Rattle.qa_base.specs.declared.space.Leave.{Leave}
+use Rattle.qa_base.specs.declared.space.Space.{Space}
+use Rattle.qa_format.specs.format.Keys.{◌>>=◌}
+use Rattle.qa_format.specs.format.Lines.{has_lf}
+use Rattle.qa_base.specs.values.Limits.{max_time, max_packet_size, greatest_timer_late, greatest_report_slack_us, greatest_report_slack_bytes}
+use Rattle.qa_base.specs.values.Names.{line_kind_name, space_name}
+use Rattle.qa_format.specs.format.Proper.{IsProperEvent, IsProperLine}
+use Rattle.qa_format.specs.format.Reading.{reader_named, object_says, json_of, reading_by, reading}
+use Rattle.qa_base.specs.values.Settings.{Settings, AreInRange, is_outside, no_options}
+use Rattle.qa_format.specs.format.Tables.{settings, of_version}
+use Rattle.qa_format.specs.format.Written as written
+use Rattle.qa_format.specs.format.Written.{Pairs, reported, limit_pairs, header_pairs, event_pairs, members, object_of, written as text_of}
+use Rattle.qa_format.proofs.format.Compact.{IsSimple, read-compact_text, is_utf8-compact_text}
+use Rattle.qa_format.proofs.format.OneLine.{has_lf-compact_text}
+use Rattle.qa_format.proofs.format.KeysFound.{header_found, first_options_found, second_options_found, sent_found, ack_found, lost_found, timer_found, discard_found, confirmed_found, keys_found, metrics_found}
+use Rattle.qa_format.proofs.format.KeysWritten.{past_reported, reported_stands, past_last, last_stands, IsKept, integer_is_kept, string_is_kept, boolean_is_kept, role_is_kept, space_is_kept, leave_is_kept, kind_is_kept, ranges_are_kept, Follow, none_follow, follow, follow_reported, follow_last}
+
+-- ---- a report of the sender's state
+
+-- what stands behind each key of a report, in the order in which the keys are written
+abbrev pub behind_threshold : ℕ → MetricValues → Pairs
+behind_threshold t v = (key.Time, written.integer t) ∷ reported Window v.window
+
+abbrev pub behind_smoothed : ℕ → MetricValues → Pairs
+behind_smoothed t v = reported Ssthresh v.ssthresh ++ behind_threshold t v
+
+abbrev pub behind_var : ℕ → MetricValues → Pairs
+behind_var t v = reported SmoothedRtt v.smoothed_rtt ++ behind_smoothed t v
+
+abbrev pub behind_least : ℕ → MetricValues → Pairs
+behind_least t v = reported Rttvar v.rttvar ++ behind_var t v
+
+abbrev pub behind_latest : ℕ → MetricValues → Pairs
+behind_latest t v = reported MinRtt v.min_rtt ++ behind_least t v
+
+abbrev pub behind_event : ℕ → MetricValues → Pairs
+behind_event t v = reported LatestRtt v.latest_rtt ++ behind_latest t v
+
+abbrev pub behind_flight : ℕ → MetricValues → Pairs
+behind_flight t v = (key.Event, written.string (line_kind_name kinds.Metrics)) ∷ behind_event t v
+
+abbrev pub metrics_pairs : ℕ → MetricValues → Pairs
+metrics_pairs t v = reported BytesInFlight v.bytes_in_flight ++ behind_flight t v
+
+from_behind : (b c d f g h : Pairs) → b ++ c ++ d ++ f ++ g ++ h ≡ b ++ (c ++ (d ++ (f ++ (g ++ h))))
+from_behind b c d f g h = simp append_assoc
+
+regroup : (a : Pairs) (e : Key × Data) (b c d f g h : Pairs) → a ++ e ∷ b ++ c ++ d ++ f ++ g ++ h ≡ a ++ (e ∷ (b ++ (c ++ (d ++ (f ++ (g ++ h))))))
+regroup [] e b c d f g h = ap (λ ps. e ∷ ps) (from_behind b c d f g h)
+regroup (x ∷ a) e b c d f g h = ap (λ ps. x ∷ ps) (regroup a e b c d f g h)
+
+-- the keys of a report, grouped from behind
+pub metrics_pairs_are : (t : ℕ) (v : MetricValues) → event_pairs (Metrics t v) ≡ metrics_pairs t v
+metrics_pairs_are t v =
+    regroup (reported BytesInFlight v.bytes_in_flight) (key.Event, written.string (line_kind_name kinds.Metrics)) (reported LatestRtt v.latest_rtt) (reported MinRtt v.min_rtt)
+    (reported Rttvar v.rttvar) (reported SmoothedRtt v.smoothed_rtt) (reported Ssthresh v.ssthresh) (behind_threshold t v)
+
+-- each value that is reported is found at its key
+pub bytes_in_flight_found : (t : ℕ) (v : MetricValues) → get (codes "bytes_in_flight") (object_of (metrics_pairs t v)) ≡ option_map written.integer v.bytes_in_flight
+bytes_in_flight_found t v =
+    reported_stands BytesInFlight v.bytes_in_flight (behind_flight t v) refl (
+    past_reported (codes "bytes_in_flight") LatestRtt v.latest_rtt (behind_latest t v) (λ e. cc)
+    ∙ past_reported (codes "bytes_in_flight") MinRtt v.min_rtt (behind_least t v) (λ e. cc)
+    ∙ past_reported (codes "bytes_in_flight") Rttvar v.rttvar (behind_var t v) (λ e. cc)
+    ∙ past_reported (codes "bytes_in_flight") SmoothedRtt v.smoothed_rtt (behind_smoothed t v) (λ e. cc)
+    ∙ past_reported (codes "bytes_in_flight") Ssthresh v.ssthresh (behind_threshold t v) (λ e. cc)
+    ∙ past_last (codes "bytes_in_flight") Window v.window (λ e. cc))
+
+pub latest_rtt_found : (t : ℕ) (v : MetricValues) → get (codes "latest_rtt") (object_of (metrics_pairs t v)) ≡ option_map written.integer v.latest_rtt
+latest_rtt_found t v =
+    past_reported (codes "latest_rtt") BytesInFlight v.bytes_in_flight (behind_flight t v) (λ e. cc)
+    ∙ reported_stands LatestRtt v.latest_rtt (behind_latest t v) refl (
+    past_reported (codes "latest_rtt") MinRtt v.min_rtt (behind_least t v) (λ e. cc)
+    ∙ past_reported (codes "latest_rtt") Rttvar v.rttvar (behind_var t v) (λ e. cc)
+    ∙ past_reported (codes "latest_rtt") SmoothedRtt v.smoothed_rtt (behind_smoothed t v) (λ e. cc)
+    ∙ past_reported (codes "latest_rtt") Ssthresh v.ssthresh (behind_threshold t v) (λ e. cc)
+    ∙ past_last (codes "latest_rtt") Window v.window (λ e. cc))
+
+pub min_rtt_found : (t : ℕ) (v : MetricValues) → get (codes "min_rtt") (object_of (metrics_pairs t v)) ≡ option_map written.integer v.min_rtt
+min_rtt_found t v =
+    past_reported (codes "min_rtt") BytesInFlight v.bytes_in_flight (behind_flight t v) (λ e. cc)
+    ∙ past_reported (codes "min_rtt") LatestRtt v.latest_rtt (behind_latest t v) (λ e. cc)
+    ∙ reported_stands MinRtt v.min_rtt (behind_least t v) refl (
+    past_reported (codes "min_rtt") Rttvar v.rttvar (behind_var t v) (λ e. cc)
+    ∙ past_reported (codes "min_rtt") SmoothedRtt v.smoothed_rtt (behind_smoothed t v) (λ e. cc)
+    ∙ past_reported (codes "min_rtt") Ssthresh v.ssthresh (behind_threshold t v) (λ e. cc)
+    ∙ past_last (codes "min_rtt") Window v.window (λ e. cc))
+
+pub rttvar_found : (t : ℕ) (v : MetricValues) → get (codes "rttvar") (object_of (metrics_pairs t v)) ≡ option_map written.integer v.rttvar
+rttvar_found t v =
+    past_reported (codes "rttvar") BytesInFlight v.bytes_in_flight (behind_flight t v) (λ e. cc)
+    ∙ past_reported (codes "rttvar") LatestRtt v.latest_rtt (behind_latest t v) (λ e. cc)
+    ∙ past_reported (codes "rttvar") MinRtt v.min_rtt (behind_least t v) (λ e. cc)
+    ∙ reported_stands Rttvar v.rttvar (behind_var t v) refl (
+    past_reported (codes "rttvar") SmoothedRtt v.smoothed_rtt (behind_smoothed t v) (λ e. cc)
+    ∙ past_reported (codes "rttvar") Ssthresh v.ssthresh (behind_threshold t v) (λ e. cc)
+    ∙ past_last (codes "rttvar") Window v.window (λ e. cc))
+
+pub smoothed_rtt_found : (t : ℕ) (v : MetricValues) → get (codes "smoothed_rtt") (object_of (metrics_pairs t v)) ≡ option_map written.integer v.smoothed_rtt
+smoothed_rtt_found t v =
+    past_reported (codes "smoothed_rtt") BytesInFlight v.bytes_in_flight (behind_flight t v) (λ e. cc)
+    ∙ past_reported (codes "smoothed_rtt") LatestRtt v.latest_rtt (behind_latest t v) (λ e. cc)
+    ∙ past_reported (codes "smoothed_rtt") MinRtt v.min_rtt (behind_least t v) (λ e. cc)
+    ∙ past_reported (codes "smoothed_rtt") Rttvar v.rttvar (behind_var t v) (λ e. cc)
+    ∙ reported_stands SmoothedRtt v.smoothed_rtt (behind_smoothed t v) refl (
+    past_reported (codes "smoothed_rtt") Ssthresh v.ssthresh (behind_threshold t v) (λ e. cc)
+    ∙ past_last (codes "smoothed_rtt") Window v.window (λ e. cc))
+
+pub ssthresh_found : (t : ℕ) (v : MetricValues) → get (codes "ssthresh") (object_of (metrics_pairs t v)) ≡ option_map written.integer v.ssthresh
+ssthresh_found t v =
+    past_reported (codes "ssthresh") BytesInFlight v.bytes_in_flight (behind_flight t v) (λ e. cc)
+    ∙ past_reported (codes "ssthresh") LatestRtt v.latest_rtt (behind_latest t v) (λ e. cc)
+    ∙ past_reported (codes "ssthresh") MinRtt v.min_rtt (behind_least t v) (λ e. cc)
+    ∙ past_reported (codes "ssthresh") Rttvar v.rttvar (behind_var t v) (λ e. cc)
+    ∙ past_reported (codes "ssthresh") SmoothedRtt v.smoothed_rtt (behind_smoothed t v) (λ e. cc)
+    ∙ reported_stands Ssthresh v.ssthresh (behind_threshold t v) refl (
+    past_last (codes "ssthresh") Window v.window (λ e. cc))
+
+pub window_found : (t : ℕ) (v : MetricValues) → get (codes "window") (object_of (metrics_pairs t v)) ≡ option_map written.integer v.window
+window_found t v =
+    past_reported (codes "window") BytesInFlight v.bytes_in_flight (behind_flight t v) (λ e. cc)
+    ∙ past_reported (codes "window") LatestRtt v.latest_rtt (behind_latest t v) (λ e. cc)
+    ∙ past_reported (codes "window") MinRtt v.min_rtt (behind_least t v) (λ e. cc)
+    ∙ past_reported (codes "window") Rttvar v.rttvar (behind_var t v) (λ e. cc)
+    ∙ past_reported (codes "window") SmoothedRtt v.smoothed_rtt (behind_smoothed t v) (λ e. cc)
+    ∙ past_reported (codes "window") Ssthresh v.ssthresh (behind_threshold t v) (λ e. cc)
+    ∙ last_stands Window v.window refl
+
+pub time_found : (t : ℕ) (v : MetricValues) → get (codes "time") (object_of (metrics_pairs t v)) ≡ Some (written.integer t)
+time_found t v =
+    past_reported (codes "time") BytesInFlight v.bytes_in_flight (behind_flight t v) (λ e. cc)
+    ∙ past_reported (codes "time") LatestRtt v.latest_rtt (behind_latest t v) (λ e. cc)
+    ∙ past_reported (codes "time") MinRtt v.min_rtt (behind_least t v) (λ e. cc)
+    ∙ past_reported (codes "time") Rttvar v.rttvar (behind_var t v) (λ e. cc)
+    ∙ past_reported (codes "time") SmoothedRtt v.smoothed_rtt (behind_smoothed t v) (λ e. cc)
+    ∙ past_reported (codes "time") Ssthresh v.ssthresh (behind_threshold t v) (λ e. cc)
+
+pub event_found : (t : ℕ) (v : MetricValues) → get (codes "event") (object_of (metrics_pairs t v)) ≡ Some (written.string (line_kind_name kinds.Metrics))
+event_found t v = past_reported (codes "event") BytesInFlight v.bytes_in_flight (behind_flight t v) (λ e. cc)
+
+-- ---- the header
+
+inside : (lo hi n : ℕ) → lo ≤ n → n ≤ hi → is_outside lo hi n ≡ false
+inside lo hi n low high = or_from (nat_lt n lo) (nat_lt hi n) (le-ltb n lo low) (le-ltb hi n high)
+
+-- these values in version 1
+abbrev pub first : Settings → Settings
+first s = record {
+  role = s.role;
+  max_datagram_size = s.max_datagram_size;
+  max_ack_delay = s.max_ack_delay;
+  initial_rtt = s.initial_rtt;
+  initial_window = s.initial_window;
+  version = One;
+  options = no_options;
+}
+
+-- values in their ranges pass the test of ranges
+pub settings_read : (s : Settings) → AreInRange s → settings s.role s.max_datagram_size (Some s.max_ack_delay) (Some s.initial_rtt) (Some s.initial_window) ≡ Ok (first s)
+settings_read s are = rw (
+  inside 1200 65527 s.max_datagram_size are.datagram_low are.datagram_high,
+  inside 0 16383000 s.max_ack_delay (omega arith) are.delay_high,
+  inside 1 1000000000 s.initial_rtt are.rtt_low are.rtt_high,
+  inside (2 * s.max_datagram_size) 4294967295 s.initial_window are.window_low are.window_high,
+) refl
+
+-- these values with these options in version 2
+abbrev pub second : Settings → Option ℕ → Bool → ℕ → ℕ → Settings
+second s limit refresh slack_us slack_bytes = record {
+  role = s.role;
+  max_datagram_size = s.max_datagram_size;
+  max_ack_delay = s.max_ack_delay;
+  initial_rtt = s.initial_rtt;
+  initial_window = s.initial_window;
+  version = Two;
+  options = record { timer_late = limit; refresh_min_rtt = refresh; report_slack_us = slack_us; report_slack_bytes = slack_bytes };
+}
+
+limit_is : (limit : Option ℕ) (hi : ℕ) → ForSome limit (λ n. n ≤ hi) → unwrap_or limit 0 ≤ hi
+limit_is None hi high = omega arith
+limit_is (Some n) hi high = high n refl
+
+-- options in their ranges pass the test of ranges
+pub options_pass : (s : Settings) → AreInRange s → of_version 2 s.options (first s) ≡ Ok (second s s.options.timer_late s.options.refresh_min_rtt s.options.report_slack_us s.options.report_slack_bytes)
+options_pass s are = rw (
+  inside 0 greatest_timer_late (unwrap_or s.options.timer_late 0) (omega arith) (limit_is s.options.timer_late greatest_timer_late are.late_high),
+  inside 0 greatest_report_slack_us s.options.report_slack_us (omega arith) are.slack_us_high,
+  inside 0 greatest_report_slack_bytes s.options.report_slack_bytes (omega arith) are.slack_bytes_high,
+) refl
+
+-- the limit is there or not, and the version stands behind it
+pub limit_at : (s : Settings) (limit : Option ℕ) (refresh : Bool) (slack_us slack_bytes : ℕ)
+    → get (codes "timer_late_us") (object_of (header_pairs (second s limit refresh slack_us slack_bytes))) ≡ option_map written.integer limit
+limit_at s None refresh slack_us slack_bytes = refl
+limit_at s (Some n) refresh slack_us slack_bytes = refl
+
+pub version_at : (s : Settings) (limit : Option ℕ) (refresh : Bool) (slack_us slack_bytes : ℕ)
+    → get (codes "version") (object_of (header_pairs (second s limit refresh slack_us slack_bytes))) ≡ Some (written.integer 2)
+version_at s None refresh slack_us slack_bytes = refl
+version_at s (Some n) refresh slack_us slack_bytes = refl
+
+-- what holds of headers as they are written in their version holds of all in their ranges
+pub of_either : (P : Settings → Type 0) (s : Settings) (v : Version) → s.version ≡ v → AreInRange s
+    → (AreInRange s → P (first s))
+    → ((limit : Option ℕ) (refresh : Bool) (slack_us slack_bytes : ℕ) → AreInRange (second s limit refresh slack_us slack_bytes) → P (second s limit refresh slack_us slack_bytes))
+    → P s
+of_either P s One is are of_first of_second =
+    let none : s.options ≡ no_options = are.first_version is in
+    let same : first s ≡ s = ap₂ (λ v o. record {
+      role = s.role;
+      max_datagram_size = s.max_datagram_size;
+      max_ack_delay = s.max_ack_delay;
+      initial_rtt = s.initial_rtt;
+      initial_window = s.initial_window;
+      version = v;
+      options = o;
+    }) (sym is) (sym none) in
+    subst P same (of_first are)
+of_either P s Two is are of_first of_second =
+    let o = s.options in
+    let same : second s o.timer_late o.refresh_min_rtt o.report_slack_us o.report_slack_bytes ≡ s = ap (λ v. record {
+      role = s.role;
+      max_datagram_size = s.max_datagram_size;
+      max_ack_delay = s.max_ack_delay;
+      initial_rtt = s.initial_rtt;
+      initial_window = s.initial_window;
+      version = v;
+      options = s.options;
+    }) (sym is) in
+    subst P same (of_second o.timer_late o.refresh_min_rtt o.report_slack_us o.report_slack_bytes (subst AreInRange (sym same) are))
+
+-- ---- keys rise, and values can be written and read
+
+time_is_kept : (t : ℕ) → t ≤ max_time → IsKept (written.integer t)
+time_is_kept t high = integer_is_kept t (omega (arith, high))
+
+time_follows : (j : List ℕ) (t : ℕ) → slice_cmp nat_cmp j (codes "time") ≡ Less → t ≤ max_time → Follow j ((key.Time, written.integer t) ∷ [])
+time_follows j t less high = follow j key.Time (written.integer t) [] less refl (time_is_kept t high) (none_follow (codes "time"))
+
+space_follows : (j : List ℕ) (s : Space) (t : ℕ) → slice_cmp nat_cmp j (codes "space") ≡ Less → t ≤ max_time
+    → Follow j ((key.Space, written.string (space_name s)) ∷ (key.Time, written.integer t) ∷ [])
+space_follows j s t less high = follow j key.Space (written.string (space_name s)) _ less refl (space_is_kept s) (time_follows (codes "space") t refl high)
+
+sent_follows : (t : ℕ) (s : Space) (number size : ℕ) (eliciting in_flight : Bool) (leave : Leave)
+    → IsProperEvent (Sent t s number size eliciting in_flight leave) → Follow [] (event_pairs (Sent t s number size eliciting in_flight leave))
+sent_follows t s number size eliciting in_flight leave proper =
+    let parts = and_parts (nat_le 1 size && nat_le size max_packet_size) (not eliciting || in_flight) proper.fitting in
+    let high = leb-true size max_packet_size (and_parts (nat_le 1 size) (nat_le size max_packet_size) parts.0).1 in
+    follow _ key.Eliciting _ _ refl refl (boolean_is_kept eliciting)
+    (follow _ key.Event _ _ refl refl (string_is_kept _ refl)
+    (follow _ key.InFlight _ _ refl refl (boolean_is_kept in_flight)
+    (follow _ key.Leave _ _ refl refl (leave_is_kept leave)
+    (follow _ key.Number _ _ refl refl (integer_is_kept number (omega (arith, proper.numbers)))
+    (follow _ key.Size _ _ refl refl (integer_is_kept size (omega (arith, high)))
+    (space_follows _ s t refl proper.in_time))))))
+
+ack_follows : (t : ℕ) (s : Space) (rs : List (ℕ × ℕ)) (delay : ℕ) (limited : Bool) → IsProperEvent (Ack t s rs delay limited) → Follow [] (event_pairs (Ack t s rs delay limited))
+ack_follows t s rs delay limited proper =
+    follow _ key.Delay _ _ refl refl (integer_is_kept delay proper.numbers.1)
+    (follow _ key.Event _ _ refl refl (string_is_kept _ refl)
+    (follow _ key.Limited _ _ refl refl (boolean_is_kept limited)
+    (follow _ key.Ranges _ _ refl refl (ranges_are_kept rs proper.numbers.0)
+    (space_follows _ s t refl proper.in_time))))
+
+lost_follows : (t : ℕ) (s : Space) (rs : List (ℕ × ℕ)) → IsProperEvent (Lost t s rs) → Follow [] (event_pairs (Lost t s rs))
+lost_follows t s rs proper =
+    follow _ key.Event _ _ refl refl (string_is_kept _ refl) (follow _ key.Ranges _ _ refl refl (ranges_are_kept rs proper.numbers) (space_follows _ s t refl proper.in_time))
+
+timer_follows : (t : ℕ) (k : TimerKind) (s : Space) → IsProperEvent (Timer t k s) → Follow [] (event_pairs (Timer t k s))
+timer_follows t k s proper =
+    follow _ key.Event _ _ refl refl (string_is_kept _ refl) (follow _ key.Kind _ _ refl refl (kind_is_kept k) (space_follows _ s t refl proper.in_time))
+
+metrics_follow : (t : ℕ) (v : MetricValues) → IsProperEvent (Metrics t v) → Follow [] (metrics_pairs t v)
+metrics_follow t v proper =
+    let words = proper.numbers in
+    follow_reported _ BytesInFlight v.bytes_in_flight _ refl refl words.2
+    (follow _ key.Event _ _ refl refl (string_is_kept _ refl)
+    (follow_reported _ LatestRtt v.latest_rtt _ refl refl words.3
+    (follow_reported _ MinRtt v.min_rtt _ refl refl words.4
+    (follow_reported _ Rttvar v.rttvar _ refl refl words.6
+    (follow_reported _ SmoothedRtt v.smoothed_rtt _ refl refl words.5
+    (follow_reported _ Ssthresh v.ssthresh _ refl refl words.1
+    (follow _ key.Time _ _ refl refl (time_is_kept t proper.in_time) (follow_last _ Window v.window refl refl words.0))))))))
+
+-- the keys that both versions have up to max_datagram_size
+header_begins : (s : Settings) (ps : Pairs) → AreInRange s → Follow (codes "max_datagram_size") ps
+    → Follow [] (
+    (key.Event, written.string (line_kind_name kinds.Header))
+    ∷ (key.InitialRtt, written.integer s.initial_rtt)
+    ∷ (key.InitialWindow, written.integer s.initial_window)
+    ∷ (key.MaxAckDelay, written.integer s.max_ack_delay)
+    ∷ (key.MaxDatagramSize, written.integer s.max_datagram_size)
+    ∷ ps)
+header_begins s ps are more =
+    follow _ key.Event _ _ refl refl (string_is_kept _ refl)
+    (follow _ key.InitialRtt _ _ refl refl (integer_is_kept s.initial_rtt (omega (arith, are.rtt_high)))
+    (follow _ key.InitialWindow _ _ refl refl (integer_is_kept s.initial_window (omega (arith, are.window_high)))
+    (follow _ key.MaxAckDelay _ _ refl refl (integer_is_kept s.max_ack_delay (omega (arith, are.delay_high)))
+    (follow _ key.MaxDatagramSize _ _ refl refl (integer_is_kept s.max_datagram_size (omega (arith, are.datagram_high))) more))))
+
+version_follows : (j : List ℕ) (n : ℕ) → slice_cmp nat_cmp j (codes "version") ≡ Less → n ≤ 2 → Follow j ((key.Version, written.integer n) ∷ [])
+version_follows j n less small = follow j key.Version (written.integer n) [] less refl (integer_is_kept n (omega (arith, small))) (none_follow (codes "version"))
+
+pub first_follows : (s : Settings) → AreInRange s → Follow [] (header_pairs (first s))
+first_follows s are = header_begins s _ are (follow _ key.Role _ _ refl refl (role_is_kept s.role) (version_follows _ 1 refl (omega arith)))
+
+limit_follows : (limit : Option ℕ) → ForSome limit (λ n. n ≤ greatest_timer_late) → Follow (codes "role") (limit_pairs limit ++ (key.Version, written.integer 2) ∷ [])
+limit_follows None high = version_follows _ 2 refl (omega arith)
+limit_follows (Some n) high = follow _ key.TimerLateUs _ _ refl refl (integer_is_kept n (let small = high n refl in omega (arith, small))) (version_follows _ 2 refl (omega arith))
+
+pub second_follows : (s : Settings) (limit : Option ℕ) (refresh : Bool) (slack_us slack_bytes : ℕ) → AreInRange (second s limit refresh slack_us slack_bytes)
+    → Follow [] (header_pairs (second s limit refresh slack_us slack_bytes))
+second_follows s limit refresh slack_us slack_bytes are =
+    header_begins (second s limit refresh slack_us slack_bytes) _ are
+    (follow _ key.RefreshMinRtt _ _ refl refl (boolean_is_kept refresh)
+    (follow _ key.ReportSlackBytes _ _ refl refl (integer_is_kept slack_bytes (omega (arith, are.slack_bytes_high)))
+    (follow _ key.ReportSlackUs _ _ refl refl (integer_is_kept slack_us (omega (arith, are.slack_us_high)))
+    (follow _ key.Role _ _ refl refl (role_is_kept s.role) (limit_follows limit are.late_high)))))
+
+header_follows : (s : Settings) → AreInRange s → Follow [] (header_pairs s)
+header_follows s are = of_either (λ t. Follow [] (header_pairs t)) s s.version refl are (first_follows s) (second_follows s)
+
+-- ---- the line
+
+json_reads : (d : Data) → IsSimple d → depth d ≤ 127 → json_of (compact_text d) ≡ Ok d
+unfolding json_of
+json_reads d simple shallow = rw (is_utf8-compact_text d simple, read-compact_text d simple shallow) refl
+
+-- the text of an object is read as what the object says
+object_reads : (ps : Pairs) (x : Line) → Follow [] ps → object_says reader_named (object_of ps) ≡ Ok x → reading (compact_text (object_of ps)) ≡ Ok x
+unfolding reading_by
+object_reads ps x kept says = ap (λ r. r >>= object_says reader_named) (json_reads (object_of ps) kept.simple (omega (arith, kept.shallow))) ∙ says
+
+-- the keys of an event rise
+pub event_follows : (e : Event) → IsProperEvent e → Follow [] (event_pairs e)
+event_follows (Sent t s number size eliciting in_flight leave) proper = sent_follows t s number size eliciting in_flight leave proper
+event_follows (Ack t s rs delay limited) proper = ack_follows t s rs delay limited proper
+event_follows (Lost t s rs) proper = lost_follows t s rs proper
+event_follows (Timer t k s) proper = timer_follows t k s proper
+event_follows (Discard t s) proper = follow _ key.Event _ _ refl refl (string_is_kept _ refl) (space_follows _ s t refl proper.in_time)
+event_follows (Confirmed t) proper = follow _ key.Event _ _ refl refl (string_is_kept _ refl) (time_follows _ t refl proper.in_time)
+event_follows (Keys t) proper = follow _ key.Event _ _ refl refl (string_is_kept _ refl) (time_follows _ t refl proper.in_time)
+event_follows (Metrics t v) proper = subst (Follow []) (sym (metrics_pairs_are t v)) (metrics_follow t v proper)
+
+-- the object of a report says the report
+metrics_are_said : (t : ℕ) (v : MetricValues) → IsProperEvent (Metrics t v) → object_says reader_named (object_of (metrics_pairs t v)) ≡ Ok (line.Event (Metrics t v))
+metrics_are_said t v proper =
+    metrics_found (members (metrics_pairs t v)) t v (event_found t v) (time_found t v) (window_found t v) (ssthresh_found t v) (bytes_in_flight_found t v)
+    (latest_rtt_found t v) (min_rtt_found t v) (smoothed_rtt_found t v) (rttvar_found t v) proper
+
+-- the object of an event says the event
+event_is_said : (e : Event) → IsProperEvent e → object_says reader_named (object_of (event_pairs e)) ≡ Ok (line.Event e)
+event_is_said (Sent t s number size eliciting in_flight leave) proper = sent_found _ t s number size eliciting in_flight (Some leave) refl refl refl refl refl refl refl refl proper
+event_is_said (Ack t s rs delay limited) proper = ack_found _ t s rs (Some delay) (Some limited) refl refl refl refl refl refl proper
+event_is_said (Lost t s rs) proper = lost_found _ t s rs refl refl refl refl proper
+event_is_said (Timer t k s) proper = timer_found _ t k s refl refl refl refl proper
+event_is_said (Discard t s) proper = discard_found _ t s refl refl refl proper
+event_is_said (Confirmed t) proper = confirmed_found _ t refl refl proper
+event_is_said (Keys t) proper = keys_found _ t refl refl proper
+event_is_said (Metrics t v) proper = ap (λ ps. object_says reader_named (object_of ps)) (metrics_pairs_are t v) ∙ metrics_are_said t v proper
+
+-- the object of a header says the header
+first_is_said : (s : Settings) → AreInRange s → object_says reader_named (object_of (header_pairs (first s))) ≡ Ok (line.Header (first s))
+first_is_said s are =
+    header_found (members (header_pairs (first s))) 1 no_options s.role s.max_datagram_size (Some s.max_ack_delay) (Some s.initial_rtt) (Some s.initial_window) (first s) (first s)
+    refl refl refl refl refl refl refl (first_options_found (object_of (header_pairs (first s))) refl) (settings_read s are) refl
+
+second_is_said : (s : Settings) (limit : Option ℕ) (refresh : Bool) (slack_us slack_bytes : ℕ) → AreInRange (second s limit refresh slack_us slack_bytes)
+    → object_says reader_named (object_of (header_pairs (second s limit refresh slack_us slack_bytes))) ≡ Ok (line.Header (second s limit refresh slack_us slack_bytes))
+second_is_said s limit refresh slack_us slack_bytes are =
+    let t = second s limit refresh slack_us slack_bytes in
+    let at_version = version_at s limit refresh slack_us slack_bytes in
+    let asked = second_options_found (object_of (header_pairs t)) limit (Some refresh) (Some slack_us) (Some slack_bytes) at_version
+    (limit_at s limit refresh slack_us slack_bytes) refl refl refl in
+    header_found (members (header_pairs t)) 2 t.options s.role s.max_datagram_size (Some s.max_ack_delay) (Some s.initial_rtt) (Some s.initial_window) (first s) t
+    refl at_version refl refl refl refl refl asked (settings_read t are) (options_pass t are)
+
+header_is_said : (s : Settings) → AreInRange s → object_says reader_named (object_of (header_pairs s)) ≡ Ok (line.Header s)
+header_is_said s are = of_either (λ t. object_says reader_named (object_of (header_pairs t)) ≡ Ok (line.Header t)) s s.version refl are (first_is_said s) (second_is_said s)
+
+-- what was written is read as itself
+pub written_reads : (x : Line) → IsProperLine x → reading (text_of x) ≡ Ok x
+unfolding reading_by
+written_reads line.Blank proper = refl
+written_reads (line.Header s) proper = object_reads (header_pairs s) (line.Header s) (header_follows s proper) (header_is_said s proper)
+written_reads (line.Event e) proper = object_reads (event_pairs e) (line.Event e) (event_follows e proper) (event_is_said e proper)
+
+-- and is one line
+pub written_has_no_lf : (x : Line) → IsProperLine x → has_lf (text_of x) ≡ false
+written_has_no_lf line.Blank proper = refl
+written_has_no_lf (line.Header s) proper = has_lf-compact_text (object_of (header_pairs s)) (header_follows s proper).simple
+written_has_no_lf (line.Event e) proper = has_lf-compact_text (object_of (event_pairs e)) (event_follows e proper).simple

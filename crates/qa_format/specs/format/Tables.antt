@@ -1,0 +1,167 @@
+-- The keys of each kind of line, in the order in which their faults are looked for, and what the line then says.
+use Rattle.std.specs.Prelude.{ℕ, ◌==◌, ◌&&◌, not, List, Bool, false, Option, Result, Ok, Err, if◌then◌else◌}
+use Rattle.std.specs.Result.{result_map_both}
+use Rattle.serde_json.specs.Data.{Data}
+use Rattle.qa_format.specs.declared.fault.Fault.{Fault}
+use Rattle.qa_format.specs.declared.fault.Fault.TheVariants as fault
+use Rattle.qa_format.specs.declared.fault.Fault.TheVariants.{OutOfRange, FlagsClash}
+use Rattle.qa_base.specs.declared.key.RangeFault.{RangeFault}
+use Rattle.qa_base.specs.declared.key.Key.TheVariants as key
+use Rattle.qa_base.specs.declared.event.Event.{Event}
+use Rattle.qa_base.specs.declared.event.Event.TheVariants.{Sent, Ack, Lost, Timer, Discard, Confirmed, Keys, Metrics}
+use Rattle.qa_base.specs.declared.event.MetricValues.{MetricValues}
+use Rattle.qa_base.specs.declared.header.Options.{Options}
+use Rattle.qa_base.specs.declared.header.Version.TheVariants.{One, Two}
+use Rattle.qa_base.specs.declared.rule.Field.{Field}
+use Rattle.qa_base.specs.declared.rule.Field.TheVariants.{Window, Ssthresh, BytesInFlight, LatestRtt, MinRtt, SmoothedRtt, Rttvar}
+use Rattle.qa_base.specs.declared.space.Kind.{Kind}
+use Rattle.qa_base.specs.declared.space.Leave.{Leave}
+use Rattle.qa_base.specs.declared.space.Leave.TheVariants as leaves
+use Rattle.qa_base.specs.declared.space.Space.{Space}
+use Rattle.qa_base.specs.declared.space.Role.{Role}
+use Rattle.qa_format.specs.format.Keys.{◌>>=◌, both, integer, integer_from, string_among, boolean, ranges, required, optional, if_present}
+use Rattle.qa_base.specs.values.Limits.{max_time, max_packet_number, max_packet_size}
+use Rattle.qa_base.specs.values.Names.{version_number, role_named, space_named, discarded_named, leave_named, kind_named}
+use Rattle.qa_base.specs.values.Settings.{Settings, no_options, settings_of, with_options}
+
+-- the keys that several kinds of line have
+abbrev pub time : Data → Result ℕ Fault
+time = required (integer_from 0 max_time) key.Time
+
+abbrev pub space : Data → Result Space Fault
+space = required (string_among space_named) key.Space
+
+-- ---- the header
+
+abbrev pub version : Data → Result ℕ Fault
+version = required integer key.Version
+
+-- a value that is out of its range is a fault of its key
+abbrev pub out_of_range : Result Settings RangeFault → Result Settings Fault
+out_of_range r = result_map_both (λ s. s) (λ e. OutOfRange e.0) r
+
+-- version and role, max_datagram_size and max_ack_delay, initial_rtt and initial_window, whose numbers are not compared with
+-- their ranges yet
+abbrev pub header_fields : Data → Result ((ℕ × Role) × ((ℕ × Option ℕ) × (Option ℕ × Option ℕ))) Fault
+header_fields d =
+    both (both (version d) (required (string_among role_named) key.Role d))
+    (both (both (required integer key.MaxDatagramSize d) (if_present integer key.MaxAckDelay d))
+    (both (if_present integer key.InitialRtt d) (if_present integer key.InitialWindow d)))
+
+-- timer_late_us and refresh_min_rtt, report_slack_us and report_slack_bytes, whose numbers are not compared with their ranges yet
+abbrev pub option_values : Data → Result Options Fault
+option_values d =
+    both (both (if_present integer key.TimerLateUs d) (optional boolean false key.RefreshMinRtt d))
+    (both (optional integer 0 key.ReportSlackUs d) (optional integer 0 key.ReportSlackBytes d))
+    >>= λ ((timer_late, refresh_min_rtt), (report_slack_us, report_slack_bytes)). Ok (record {
+      timer_late = timer_late;
+      refresh_min_rtt = refresh_min_rtt;
+      report_slack_us = report_slack_us;
+      report_slack_bytes = report_slack_bytes;
+    })
+
+abbrev pub options_for : Result ℕ Fault → Data → Result Options Fault
+options_for (Ok n) d = if n == version_number Two then option_values d else Ok no_options
+options_for (Err e) d = Ok no_options
+
+-- the keys that only version 2 has: they are looked at where the version is 2
+abbrev pub options : Data → Result Options Fault
+options d = options_for (version d) d
+
+-- the settings, each in its range
+abbrev pub settings : Role → ℕ → Option ℕ → Option ℕ → Option ℕ → Result Settings Fault
+settings role max_datagram_size max_ack_delay initial_rtt initial_window =
+    out_of_range (settings_of role max_datagram_size max_ack_delay initial_rtt initial_window)
+
+-- the settings in the version of this number, with these options in version 2
+abbrev pub of_version : ℕ → Options → Settings → Result Settings Fault
+of_version n options s =
+    if n == version_number One then Ok s else (if n == version_number Two then out_of_range (with_options s options) else Err fault.Version)
+
+-- the version is judged after all other keys
+unfoldable pub header_of : Data → Result Settings Fault
+header_of d =
+    both (header_fields d) (options d) >>= λ (((version, role), ((max_datagram_size, max_ack_delay), (initial_rtt, initial_window))), options).
+    settings role max_datagram_size max_ack_delay initial_rtt initial_window >>= of_version version options
+
+-- ---- packets
+
+-- time, space, number, size, eliciting, in_flight and leave
+abbrev pub sent_fields : Data → Result (ℕ × (Space × (ℕ × (ℕ × (Bool × (Bool × Leave)))))) Fault
+sent_fields d =
+    both (time d)
+    (both (space d)
+    (both (required (integer_from 0 max_packet_number) key.Number d)
+    (both (required (integer_from 1 max_packet_size) key.Size d)
+    (both (required boolean key.Eliciting d)
+    (both (required boolean key.InFlight d)
+    (optional (string_among leave_named) leaves.Window key.Leave d))))))
+
+-- an ack-eliciting packet is in flight (RFC 9002, section 2)
+unfoldable pub sent_of : Data → Result Event Fault
+sent_of d = sent_fields d >>= λ (time, (space, (number, (size, (eliciting, (in_flight, leave)))))).
+    if eliciting && not in_flight then Err FlagsClash else Ok (Sent time space number size eliciting in_flight leave)
+
+-- time, space, ranges, delay and limited
+abbrev pub ack_fields : Data → Result (ℕ × (Space × (List (ℕ × ℕ) × (ℕ × Bool)))) Fault
+ack_fields d =
+    both (time d)
+    (both (space d)
+    (both (required ranges key.Ranges d)
+    (both (optional integer 0 key.Delay d)
+    (optional boolean false key.Limited d))))
+
+unfoldable pub ack_of : Data → Result Event Fault
+ack_of d = ack_fields d >>= λ (time, (space, (ranges, (delay, limited)))). Ok (Ack time space ranges delay limited)
+
+-- time, space and ranges
+abbrev pub lost_fields : Data → Result (ℕ × (Space × List (ℕ × ℕ))) Fault
+lost_fields d = both (time d) (both (space d) (required ranges key.Ranges d))
+
+unfoldable pub lost_of : Data → Result Event Fault
+lost_of d = lost_fields d >>= λ (time, (space, ranges)). Ok (Lost time space ranges)
+
+-- ---- the timer and the handshake
+
+-- time, kind and space
+abbrev pub timer_fields : Data → Result (ℕ × (Kind × Space)) Fault
+timer_fields d = both (time d) (both (required (string_among kind_named) key.Kind d) (space d))
+
+unfoldable pub timer_of : Data → Result Event Fault
+timer_of d = timer_fields d >>= λ (time, (kind, space)). Ok (Timer time kind space)
+
+-- time and space
+abbrev pub discard_fields : Data → Result (ℕ × Space) Fault
+discard_fields d = both (time d) (required (string_among discarded_named) key.Space d)
+
+unfoldable pub discard_of : Data → Result Event Fault
+discard_of d = discard_fields d >>= λ (time, space). Ok (Discard time space)
+
+unfoldable pub confirmed_of : Data → Result Event Fault
+confirmed_of d = time d >>= λ t. Ok (Confirmed t)
+
+unfoldable pub keys_of : Data → Result Event Fault
+keys_of d = time d >>= λ t. Ok (Keys t)
+
+-- ---- a report of the sender's state
+
+abbrev pub metric : Field → Data → Result (Option ℕ) Fault
+metric f = if_present integer (key.Metric f)
+
+-- each value where it is reported: window, ssthresh and bytes_in_flight, latest_rtt and min_rtt, smoothed_rtt and rttvar
+abbrev pub metric_values : Data → Result MetricValues Fault
+metric_values d =
+    both (both (metric Window d) (both (metric Ssthresh d) (metric BytesInFlight d)))
+    (both (both (metric LatestRtt d) (metric MinRtt d)) (both (metric SmoothedRtt d) (metric Rttvar d)))
+    >>= λ ((window, (ssthresh, bytes_in_flight)), ((latest_rtt, min_rtt), (smoothed_rtt, rttvar))). Ok (record {
+      window = window;
+      ssthresh = ssthresh;
+      bytes_in_flight = bytes_in_flight;
+      latest_rtt = latest_rtt;
+      min_rtt = min_rtt;
+      smoothed_rtt = smoothed_rtt;
+      rttvar = rttvar;
+    })
+
+unfoldable pub metrics_of : Data → Result Event Fault
+metrics_of d = both (time d) (metric_values d) >>= λ (time, values). Ok (Metrics time values)

@@ -1,0 +1,136 @@
+-- The text that is written for a line.
+use Rattle.std.specs.Prelude.{ℕ, List, [], ◌∷◌, ◌++◌, Bool, true, Option, Some, None}
+use Rattle.serde_json.specs.Data as json
+use Rattle.serde_json.specs.Data.{Data, Items, no_items, item, Members, no_members, member}
+use Rattle.serde_json.specs.Written.{compact_text}
+use Rattle.qa_base.specs.declared.event.Event.{Event}
+use Rattle.qa_base.specs.declared.event.Event.TheVariants.{Sent, Ack, Lost, Timer, Discard, Confirmed, Keys, Metrics}
+use Rattle.qa_base.specs.declared.key.Key.{Key}
+use Rattle.qa_base.specs.declared.key.Key.TheVariants as key
+use Rattle.qa_base.specs.declared.header.Options.{Options}
+use Rattle.qa_base.specs.declared.header.Version.{Version}
+use Rattle.qa_base.specs.declared.header.Version.TheVariants.{One, Two}
+use Rattle.qa_format.specs.declared.line.Line.{Line}
+use Rattle.qa_format.specs.declared.line.Line.TheVariants as line
+use Rattle.qa_base.specs.declared.line_kind.LineKind.TheVariants as kinds
+use Rattle.qa_base.specs.declared.rule.Field.{Field}
+use Rattle.qa_base.specs.declared.rule.Field.TheVariants.{Window, Ssthresh, BytesInFlight, LatestRtt, MinRtt, SmoothedRtt, Rttvar}
+use Rattle.qa_base.specs.values.Events.{fits}
+use Rattle.qa_base.specs.values.Names.{key_name, line_kind_name, version_number, role_name, space_name, leave_name, kind_name}
+use Rattle.qa_base.specs.values.Settings.{Settings}
+
+-- ---- values
+
+abbrev pub integer : ℕ → Data
+integer n = json.number (json.unsigned n)
+
+abbrev pub string : List ℕ → Data
+string t = json.string t
+
+abbrev pub boolean : Bool → Data
+boolean b = json.boolean b
+
+-- the list of two integers
+abbrev pub integer_pair : ℕ × ℕ → Data
+integer_pair range = json.array (item (integer range.0) (item (integer range.1) no_items))
+
+abbrev pub integer_pairs : List (ℕ × ℕ) → Items
+integer_pairs [] = no_items
+integer_pairs (range ∷ ranges) = item (integer_pair range) (integer_pairs ranges)
+
+-- ---- what a line has, its keys in ascending order of their bytes
+
+-- keys with their values
+abbrev pub Pairs : Type 0
+Pairs = List (Key × Data)
+
+-- the limit of a timer, where there is one
+abbrev pub limit_pairs : Option ℕ → Pairs
+limit_pairs None = []
+limit_pairs (Some limit) = (key.TimerLateUs, integer limit) ∷ []
+
+-- the keys that only version 2 has, up to the role
+abbrev pub option_pairs : Version → Options → Pairs
+option_pairs One options = []
+option_pairs Two options =
+    (key.RefreshMinRtt, boolean options.refresh_min_rtt)
+    ∷ (key.ReportSlackBytes, integer options.report_slack_bytes)
+    ∷ (key.ReportSlackUs, integer options.report_slack_us)
+    ∷ []
+
+abbrev pub header_pairs : Settings → Pairs
+header_pairs s =
+    (key.Event, string (line_kind_name kinds.Header))
+    ∷ (key.InitialRtt, integer s.initial_rtt)
+    ∷ (key.InitialWindow, integer s.initial_window)
+    ∷ (key.MaxAckDelay, integer s.max_ack_delay)
+    ∷ (key.MaxDatagramSize, integer s.max_datagram_size)
+    ∷ option_pairs s.version s.options
+    ++ (key.Role, string (role_name s.role))
+    ∷ limit_pairs s.options.timer_late
+    ++ (key.Version, integer (version_number s.version))
+    ∷ []
+
+-- a value that is reported; one that is not is left out
+abbrev pub reported : Field → Option ℕ → Pairs
+reported f None = []
+reported f (Some n) = (key.Metric f, integer n) ∷ []
+
+abbrev pub event_pairs : Event → Pairs
+event_pairs (Sent time space number size eliciting in_flight leave) =
+    (key.Eliciting, boolean eliciting)
+    ∷ (key.Event, string (line_kind_name kinds.Sent))
+    ∷ (key.InFlight, boolean in_flight)
+    ∷ (key.Leave, string (leave_name leave))
+    ∷ (key.Number, integer number)
+    ∷ (key.Size, integer size)
+    ∷ (key.Space, string (space_name space))
+    ∷ (key.Time, integer time)
+    ∷ []
+event_pairs (Ack time space ranges delay limited) =
+    (key.Delay, integer delay)
+    ∷ (key.Event, string (line_kind_name kinds.Ack))
+    ∷ (key.Limited, boolean limited)
+    ∷ (key.Ranges, json.array (integer_pairs ranges))
+    ∷ (key.Space, string (space_name space))
+    ∷ (key.Time, integer time)
+    ∷ []
+event_pairs (Lost time space ranges) =
+    (key.Event, string (line_kind_name kinds.Lost)) ∷ (key.Ranges, json.array (integer_pairs ranges)) ∷ (key.Space, string (space_name space)) ∷ (key.Time, integer time) ∷ []
+event_pairs (Timer time kind space) =
+    (key.Event, string (line_kind_name kinds.Timer)) ∷ (key.Kind, string (kind_name kind)) ∷ (key.Space, string (space_name space)) ∷ (key.Time, integer time) ∷ []
+event_pairs (Discard time space) = (key.Event, string (line_kind_name kinds.Discard)) ∷ (key.Space, string (space_name space)) ∷ (key.Time, integer time) ∷ []
+event_pairs (Confirmed time) = (key.Event, string (line_kind_name kinds.Confirmed)) ∷ (key.Time, integer time) ∷ []
+event_pairs (Keys time) = (key.Event, string (line_kind_name kinds.Keys)) ∷ (key.Time, integer time) ∷ []
+event_pairs (Metrics time values) =
+    reported BytesInFlight values.bytes_in_flight
+    ++ (key.Event, string (line_kind_name kinds.Metrics))
+    ∷ reported LatestRtt values.latest_rtt
+    ++ reported MinRtt values.min_rtt
+    ++ reported Rttvar values.rttvar
+    ++ reported SmoothedRtt values.smoothed_rtt
+    ++ reported Ssthresh values.ssthresh
+    ++ (key.Time, integer time)
+    ∷ reported Window values.window
+
+-- ---- the line
+
+abbrev pub members : Pairs → Members
+members [] = no_members
+members (pair ∷ pairs) = member (key_name pair.0) pair.1 (members pairs)
+
+-- the object of these keys and values
+abbrev pub object_of : Pairs → Data
+object_of pairs = json.object (members pairs)
+
+-- one JSON object without white space, or the empty text for a blank line
+abbrev pub written : Line → List ℕ
+written line.Blank = []
+written (line.Header s) = compact_text (object_of (header_pairs s))
+written (line.Event e) = compact_text (object_of (event_pairs e))
+
+-- the line is one that can be read again: its event fits
+abbrev pub line_fits : Line → Bool
+line_fits line.Blank = true
+line_fits (line.Header s) = true
+line_fits (line.Event e) = fits e

@@ -1,0 +1,5 @@
+use Rattle.qa_base.proofs.machine.Quiet as lemmas
+use Rattle.qa_laws.proofs.definitions.quiet_events_change_little.Goals as goal
+
+pub returns : goal.returns
+returns c = record { rtt = lemmas.rtt-quiet; moves = lemmas.moves-quiet; backoff = lemmas.backoff-quiet }

@@ -1,0 +1,33 @@
+-- The conformance trace `anti-deadlock-keys-handshake`: accepted.
+use Rattle.std.specs.Prelude.{◌≡◌, List, [], ◌∷◌, None, refl}
+use Rattle.qa_base.specs.declared.event.Event.{Event}
+use Rattle.qa_base.specs.declared.event.Event.TheVariants.{Keys}
+use Rattle.qa_base.specs.declared.space.Space.TheVariants.{Initial, Handshake}
+use Rattle.qa_base.specs.machine.Rules.{first_broken, IsRun, IsComplete}
+use Rattle.qa_base.specs.values.Settings.{Settings}
+use Rattle.qa_base.specs.machine.State.{totals}
+use Rattle.qa_laws.proofs.Shorthand.{client, padded, pto_fires}
+
+abbrev settings : Settings
+settings = client 1200 12000
+
+abbrev history : List Event
+history =
+    pto_fires Handshake 1000000 ∷
+    Keys 2000 ∷
+    padded Initial 0 1000 1200 ∷ []
+
+pub anti_deadlock_keys_handshake : IsRun settings history × (totals settings history ≡ record {
+  events = 3;
+  window = 12000;
+  ssthresh = None;
+  bytes_in_flight = 1200;
+  latest_rtt = 0;
+  min_rtt = 0;
+  smoothed_rtt = 333000;
+  rttvar = 166500;
+  pto_count = 1;
+  owed = 0;
+}) × IsComplete settings history
+unfolding first_broken
+anti_deadlock_keys_handshake = ((((tt, refl), refl), refl), refl, refl)

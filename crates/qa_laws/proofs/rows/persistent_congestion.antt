@@ -1,0 +1,36 @@
+-- The conformance trace `persistent-congestion`: accepted.
+use Rattle.std.specs.Prelude.{◌≡◌, List, [], ◌∷◌, Some, refl}
+use Rattle.qa_base.specs.declared.event.Event.{Event}
+use Rattle.qa_base.specs.declared.space.Space.TheVariants.{App}
+use Rattle.qa_base.specs.machine.Rules.{first_broken, IsRun, IsComplete}
+use Rattle.qa_base.specs.values.Settings.{Settings}
+use Rattle.qa_base.specs.machine.State.{totals}
+use Rattle.qa_laws.proofs.Shorthand.{server, sent, padded, ack, lost}
+
+abbrev settings : Settings
+settings = server 1200 12000
+
+abbrev history : List Event
+history =
+    lost App ((1, 2) ∷ []) 1275002 ∷
+    ack App ((5, 5) ∷ []) 1275002 ∷
+    padded App 5 1175002 1200 ∷
+    sent App 2 1175001 1200 ∷
+    sent App 1 200000 1200 ∷
+    ack App ((0, 0) ∷ []) 100000 ∷
+    sent App 0 0 1200 ∷ []
+
+pub persistent_congestion : IsRun settings history × (totals settings history ≡ record {
+  events = 7;
+  window = 3600;
+  ssthresh = Some 6600;
+  bytes_in_flight = 0;
+  latest_rtt = 100000;
+  min_rtt = 100000;
+  smoothed_rtt = 100000;
+  rttvar = 50000;
+  pto_count = 0;
+  owed = 0;
+}) × IsComplete settings history
+unfolding first_broken
+persistent_congestion = ((((((((tt, refl), refl), refl), refl), refl), refl), refl), refl, refl)

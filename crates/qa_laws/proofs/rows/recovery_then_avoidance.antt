@@ -1,0 +1,46 @@
+-- The conformance trace `recovery-then-avoidance`: accepted.
+use Rattle.std.specs.Prelude.{◌≡◌, List, [], ◌∷◌, Some, refl}
+use Rattle.qa_base.specs.declared.event.Event.{Event}
+use Rattle.qa_base.specs.declared.space.Space.TheVariants.{App}
+use Rattle.qa_base.specs.machine.Rules.{first_broken, IsRun, IsComplete}
+use Rattle.qa_base.specs.values.Settings.{Settings}
+use Rattle.qa_base.specs.machine.State.{totals}
+use Rattle.qa_laws.proofs.Shorthand.{server, sent, ack, lost, loss_fires}
+
+abbrev settings : Settings
+settings = server 1200 12000
+
+abbrev history : List Event
+history =
+    ack App ((10, 10) ∷ []) 230000 ∷
+    sent App 10 130000 1001 ∷
+    ack App ((4, 9) ∷ []) 120000 ∷
+    lost App ((1, 2) ∷ []) 112500 ∷
+    loss_fires App 112500 ∷
+    lost App ((0, 0) ∷ []) 100000 ∷
+    ack App ((3, 3) ∷ []) 100000 ∷
+    sent App 9 0 1200 ∷
+    sent App 8 0 1200 ∷
+    sent App 7 0 1200 ∷
+    sent App 6 0 1200 ∷
+    sent App 5 0 1200 ∷
+    sent App 4 0 1200 ∷
+    sent App 3 0 1200 ∷
+    sent App 2 0 1200 ∷
+    sent App 1 0 1200 ∷
+    sent App 0 0 1200 ∷ []
+
+pub recovery_then_avoidance : IsRun settings history × (totals settings history ≡ record {
+  events = 17;
+  window = 6200;
+  ssthresh = Some 6000;
+  bytes_in_flight = 0;
+  latest_rtt = 100000;
+  min_rtt = 100000;
+  smoothed_rtt = 102187;
+  rttvar = 32500;
+  pto_count = 0;
+  owed = 0;
+}) × IsComplete settings history
+unfolding first_broken
+recovery_then_avoidance = ((((((((((((((((((tt, refl), refl), refl), refl), refl), refl), refl), refl), refl), refl), refl), refl), refl), refl), refl), refl), refl), refl, refl)

@@ -1,0 +1,32 @@
+-- The conformance trace `timer-late-past-a-report`: V18 timer-late.
+use Rattle.std.specs.Prelude.{◌≡◌, false, List, [], ◌∷◌, Some, None, refl}
+use Rattle.qa_base.specs.declared.event.Event.{Event}
+use Rattle.qa_base.specs.declared.rule.Rule.TheVariants as rule
+use Rattle.qa_base.specs.declared.space.Space.TheVariants.{Initial}
+use Rattle.qa_base.specs.machine.Rules.{first_broken, IsRun}
+use Rattle.qa_base.specs.values.Settings.{Settings}
+use Rattle.qa_base.specs.machine.State.{totals}
+use Rattle.qa_laws.proofs.Shorthand.{client, second_version, sent, pto_fires, metrics}
+
+abbrev settings : Settings
+settings = second_version (client 1200 12000) (Some 1000) false 0 0
+
+abbrev history : List Event
+history =
+    metrics 999500 (Some 12000) None None None None None None ∷
+    sent Initial 0 0 1200 ∷ []
+
+pub timer_late_past_a_report : IsRun settings history × (totals settings history ≡ record {
+  events = 2;
+  window = 12000;
+  ssthresh = None;
+  bytes_in_flight = 1200;
+  latest_rtt = 0;
+  min_rtt = 0;
+  smoothed_rtt = 333000;
+  rttvar = 166500;
+  pto_count = 0;
+  owed = 0;
+}) × (first_broken settings history (pto_fires Initial 1000001) ≡ Some rule.TimerLate)
+unfolding first_broken
+timer_late_past_a_report = (((tt, refl), refl), refl, refl)
