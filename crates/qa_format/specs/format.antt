@@ -1,6 +1,6 @@
 -- The line format: lines, keys, what a line says, and what is written for it.
 pub mod Faults
-pub mod Kinds
+pub mod LineKinds
 pub mod Lines
 pub mod Keys
 pub mod Tables

@@ -1,6 +1,6 @@
 //! What a line of a trace says.
 ghost use Rattle.std.specs.Prelude.{◌≡◌};
-ghost use Rattle.qa_format.specs.format.Kinds.{line_kind};
+ghost use Rattle.qa_format.specs.format.LineKinds.{line_kind};
 
 use qa_base::{Event, Header, LineKind};
 

@@ -8,7 +8,7 @@ use Rattle.qa_base.specs.declared.totals.Totals.{Totals}
 use Rattle.qa_format.specs.format.Lines.{lines}
 use Rattle.qa_base.specs.machine.Packets.{history_of}
 use Rattle.qa_base.specs.machine.State.{totals}
-use Rattle.qa_format.specs.format.Kinds.{line_kind}
+use Rattle.qa_format.specs.format.LineKinds.{line_kind}
 use Rattle.qa_base.specs.values.Names.{line_kind_name}
 use Rattle.qa_base.specs.values.Settings.{Settings}
 use Rattle.qa_format.specs.verdicts.Report.{report}
