@@ -2,7 +2,7 @@
 use Rattle.std.specs.Prelude.{◌≡◌, ◌≤◌, Bool, List, length}
 use Rattle.std.specs.List.{All, AllByRecursion}
 use Rattle.qa_base.specs.declared.event.Event.{Event}
-use Rattle.qa_format.specs.format.Lines.{max_lines}
+use Rattle.qa_base.specs.values.Limits.{max_lines}
 use Rattle.qa_base.specs.machine.Packets.{history_of}
 use Rattle.qa_base.specs.machine.Rules.{IsRun}
 use Rattle.qa_base.specs.machine.Widths.{Fits, IsTimely}

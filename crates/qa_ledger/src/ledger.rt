@@ -2,7 +2,7 @@
 ghost use Rattle.std.specs.Prelude.{◌≡◌, ◌<◌, ◌+◌, ℕ, Bool, true, false, List, [], ◌∷◌, Err, OnOk, Some, None};
 ghost use Rattle.qa_base.specs.declared.event.Event.{Event as AnEvent};
 ghost use Rattle.qa_base.specs.declared.rule.Rule.{Rule as ARule};
-ghost use Rattle.qa_format.specs.format.Lines.{max_lines};
+ghost use Rattle.qa_base.specs.values.Limits.{max_lines};
 ghost use Rattle.qa_base.specs.machine.Loss.{owed};
 ghost use Rattle.qa_base.specs.machine.Packets.{is_some_packet};
 ghost use Rattle.qa_base.specs.machine.Rules.{first_broken};

@@ -1,7 +1,7 @@
 //! A ledger that keeps all events, and judges each by the history before it.
 ghost use Rattle.std.specs.Prelude.{◌≡◌, ◌<◌, ◌+◌, ◌∷◌, ◌++◌, List, [], length, true, false, Ok, Err, Some, None, OnOk, OnErr};
 ghost use Rattle.qa_base.specs.declared.event.Event.{Event as AnEvent};
-ghost use Rattle.qa_format.specs.format.Lines.{max_lines};
+ghost use Rattle.qa_base.specs.values.Limits.{max_lines};
 ghost use Rattle.qa_base.specs.machine.Loss.{owed};
 ghost use Rattle.qa_base.specs.machine.Packets.{history_of};
 ghost use Rattle.qa_base.specs.machine.Rules as rules;

@@ -41,6 +41,10 @@ greatest_report_slack_us = 1000000000
 abbrev pub greatest_report_slack_bytes : ℕ
 greatest_report_slack_bytes = 4294967295
 
+-- the most lines of a trace, 2^32 - 1
+abbrev pub max_lines : ℕ
+max_lines = 4294967295
+
 -- the number, where it is from lo to hi
 abbrev pub in_range : ℕ → ℕ → ℕ → Option ℕ
 in_range lo hi n = if nat_le lo n && nat_le n hi then Some n else None

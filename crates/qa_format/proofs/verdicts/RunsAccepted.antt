@@ -13,7 +13,8 @@ use Rattle.qa_format.specs.declared.fault.Fault.{Fault}
 use Rattle.qa_base.specs.declared.totals.Totals.{Totals}
 use Rattle.qa_format.specs.declared.verdict.Verdict.TheVariants.{Accepted, Refused}
 use Rattle.qa_base.specs.declared.rule.Rule.TheVariants.{OwedAtEnd}
-use Rattle.qa_format.specs.format.Lines.{line_limit, max_lines, lines}
+use Rattle.qa_base.specs.values.Limits.{max_lines}
+use Rattle.qa_format.specs.format.Lines.{line_limit, lines}
 use Rattle.qa_base.specs.machine.Loss.{owed}
 use Rattle.qa_base.specs.machine.Packets.{history_of, is_some_packet}
 use Rattle.qa_base.specs.machine.Rules.{first_broken, IsRun}

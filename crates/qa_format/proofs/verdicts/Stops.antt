@@ -9,7 +9,8 @@ use Rattle.qa_base.specs.declared.event.Event.{Event}
 use Rattle.qa_format.specs.declared.line.Line.{Line}
 use Rattle.qa_format.specs.declared.fault.Fault.{Fault}
 use Rattle.qa_format.specs.declared.verdict.Verdict.{Verdict}
-use Rattle.qa_format.specs.format.Lines.{line_limit, max_lines}
+use Rattle.qa_base.specs.values.Limits.{max_lines}
+use Rattle.qa_format.specs.format.Lines.{line_limit}
 use Rattle.qa_base.specs.machine.Packets.{history_of}
 use Rattle.qa_base.specs.values.Settings.{Settings}
 use Rattle.qa_format.specs.verdicts.Verdict.{Reading, header_said, header_in, events_in, said, stop_at, stop_after, first_stop, verdict_of, AreDecided, IsWithinLimit}

@@ -12,10 +12,6 @@ has_lf = list_any is_lf
 abbrev pub line_limit : ℕ
 line_limit = 65536
 
--- the most lines of a trace, 2^32 - 1
-abbrev pub max_lines : ℕ
-max_lines = 4294967295
-
 -- a byte in front of what the bytes after it were cut into
 abbrev pub put_front : ℕ → List (List ℕ) × List ℕ → List (List ℕ) × List ℕ
 put_front b ([], rest) = ([], b ∷ rest)

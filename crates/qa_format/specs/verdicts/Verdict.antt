@@ -10,7 +10,8 @@ use Rattle.qa_format.specs.declared.fault.Fault.TheVariants.{HeaderPlace, LineTo
 use Rattle.qa_base.specs.declared.totals.Totals.{Totals}
 use Rattle.qa_format.specs.declared.verdict.Verdict.{Verdict}
 use Rattle.qa_format.specs.declared.verdict.Verdict.TheVariants.{Accepted, Refused, Unreadable}
-use Rattle.qa_format.specs.format.Lines.{line_limit, max_lines, lines, ended_lines, unended}
+use Rattle.qa_base.specs.values.Limits.{max_lines}
+use Rattle.qa_format.specs.format.Lines.{line_limit, lines, ended_lines, unended}
 use Rattle.qa_base.specs.machine.Packets.{history_of, is_some_packet}
 use Rattle.qa_base.specs.machine.Rules.{first_broken, IsRun, IsComplete}
 use Rattle.qa_base.specs.declared.rule.Rule.TheVariants.{OwedAtEnd}

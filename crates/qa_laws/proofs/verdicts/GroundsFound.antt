@@ -18,7 +18,8 @@ use Rattle.qa_base.specs.declared.totals.Totals.{Totals}
 use Rattle.qa_format.specs.declared.verdict.Verdict.{Verdict}
 use Rattle.qa_format.specs.declared.verdict.Verdict.TheVariants.{Accepted, Refused, Unreadable}
 use Rattle.qa_laws.specs.verdicts.Grounds.{AreGoodLines, BreaksAt, IsOutOfPlace, HasFault, FailsAt, OwesAtEnd, SaysNothing, IsGround}
-use Rattle.qa_format.specs.format.Lines.{line_limit, max_lines, lines}
+use Rattle.qa_base.specs.values.Limits.{max_lines}
+use Rattle.qa_format.specs.format.Lines.{line_limit, lines}
 use Rattle.qa_base.specs.machine.Loss.{owed}
 use Rattle.qa_base.specs.machine.Packets.{Packet, history_of, is_some_packet}
 use Rattle.qa_base.specs.machine.Breaches.{is_timer_late}

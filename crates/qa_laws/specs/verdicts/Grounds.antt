@@ -11,7 +11,8 @@ use Rattle.qa_base.specs.declared.rule.Rule.TheVariants.{OwedAtEnd}
 use Rattle.qa_base.specs.declared.totals.Totals.{Totals}
 use Rattle.qa_format.specs.declared.verdict.Verdict.{Verdict}
 use Rattle.qa_format.specs.declared.verdict.Verdict.TheVariants.{Accepted, Refused, Unreadable}
-use Rattle.qa_format.specs.format.Lines.{line_limit, max_lines}
+use Rattle.qa_base.specs.values.Limits.{max_lines}
+use Rattle.qa_format.specs.format.Lines.{line_limit}
 use Rattle.qa_base.specs.machine.Loss.{owed}
 use Rattle.qa_base.specs.machine.Packets.{history_of}
 use Rattle.qa_base.specs.machine.Rules.{first_broken}
