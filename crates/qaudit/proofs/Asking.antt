@@ -1,5 +1,5 @@
 -- What the definitions of `clap` make of the whole command line.
-use Rattle.std.proofs.Common.{◌≡◌, ◌∙◌, ◌⊎◌, inl, inr, Bool, true, false, List, [], ◌∷◌, ◌++◌, length, fold, Option, Some, None, refl, sym, ap, ap₂, append_assoc, append-nil, codes, bytes_eq, nat_le, is_some, IfErr, IsErrAnd, Result, Ok, Err, arith}
+use Rattle.std.proofs.Common.{◌≡◌, ◌∙◌, ◌⊎◌, inl, inr, Bool, true, false, List, [], ◌∷◌, ◌++◌, length, fold, Option, Some, None, refl, sym, ap, ap₂, append_assoc, append-nil, codes, bytes_eq, nat_le, is_some, IfErr, Result, Ok, Err, arith}
 use Rattle.std.proofs.lemmas.Bool.{lt-leb}
 use Rattle.std.specs.Prelude.{option_map, option_and_then, unwrap_or}
 use Rattle.std.specs.Option.{option_to_list}
@@ -21,8 +21,8 @@ use Rattle.clap.specs.declared.error.kind.ErrorKind.TheVariants as kinds
 use Rattle.clap.specs.declared.error.kind.ErrorKind.TheVariants.{InvalidSubcommand, MissingSubcommand, UnknownArgument}
 use Rattle.qaudit.specs.Arguments.{HasFiles, IsCommand, failure_of_kind, request, asked, asked_of, is_option, names_in, parser_of_arguments}
 use Rattle.qaudit.specs.declared.arguments.Subcommand.{Subcommand}
-use Rattle.qaudit.specs.declared.ending.Failure.{Failure}
-use Rattle.qaudit.specs.declared.ending.Failure.TheVariants.{Arguments, OutOfMemory}
+use Rattle.qa_commands.specs.declared.ending.Failure.{Failure}
+use Rattle.qa_commands.specs.declared.ending.Failure.TheVariants.{Arguments, OutOfMemory}
 use Rattle.qaudit.proofs.Words.{Fails, HasNoOption, Runs, fail_later, fail_now, fault_dashes, fault_flag, fault_plain, flag_word, met_dashes, met_plain, or_else_none, plain_word, run_more, run_none, turn_of, walked_of}
 use Rattle.qaudit.proofs.Files.{check_reads, check_refuses, check_shape, check_takes, explain_more, explain_none, explain_one, explain_refuses, explain_shape, Explains}
 
@@ -398,8 +398,3 @@ pub not_a_command : (arguments : List Text) (t : Takes arguments) (m : ArgMatche
     → (failure ≡ OutOfMemory) ⊎ ((failure ≡ Arguments) × ((name : Text) (rows : List Row) → subcommand_rows_of m ≡ Some (name, rows) → IsCommand name → ⊥))
     → (failure ≡ OutOfMemory) ⊎ ((failure ≡ Arguments) × (asked arguments ≡ None))
 not_a_command arguments t m met failure is = elim is [ inl memory ↦ inl memory | inr other ↦ absurd (other.1 t.command t.rows met t.is_command) ]
-
--- an error that was made of another
-pub err_of : {T E : Type 0} (r : Result T E) (P Q : E → Type 0) → IsErrAnd r P → ((e : E) → P e → Q e) → IfErr r Q
-err_of (Ok x) P Q is more = tt
-err_of (Err e) P Q is more = more e is

@@ -1,5 +1,3 @@
 mod Asking
 mod Files
-mod Greatest
 mod Words
-mod Written

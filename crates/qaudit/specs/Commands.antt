@@ -3,14 +3,14 @@ use Rattle.std.specs.Prelude.{◌≡◌, ◌⊎◌, ℕ, List, [], length, nat_l
 use Rattle.std.specs.Borrow.{Bor}
 use Rattle.qa_check.specs.declared.auditing.Outcome.{Outcome}
 use Rattle.qaudit.specs.Arguments.{asked, request}
-use Rattle.qaudit.specs.Checking.{Audited, ChecksAll}
-use Rattle.qaudit.specs.Ending.{status_of}
-use Rattle.qaudit.specs.Explaining.{Explains}
+use Rattle.qa_commands.specs.Checking.{Audited, ChecksAll}
+use Rattle.qa_commands.specs.Ending.{status_of}
+use Rattle.qa_commands.specs.Explaining.{Explains}
 use Rattle.qaudit.specs.declared.arguments.Subcommand.{Subcommand}
 use Rattle.qaudit.specs.declared.arguments.Subcommand.TheVariants.{Check, Explain}
-use Rattle.qaudit.specs.declared.ending.Failure.{Failure}
-use Rattle.qaudit.specs.declared.ending.Failure.TheVariants.{Arguments, OutOfMemory}
-use Rattle.qaudit.specs.declared.ending.Origin.TheVariants.{StandardInput}
+use Rattle.qa_commands.specs.declared.ending.Failure.{Failure}
+use Rattle.qa_commands.specs.declared.ending.Failure.TheVariants.{Arguments, OutOfMemory}
+use Rattle.qa_commands.specs.declared.ending.Origin.TheVariants.{StandardInput}
 
 -- what `check` wrote for these files, or for standard input where there is none, and its status
 pub record ChecksFiles (left : Option (List ℕ)) (files : List (Bor (List ℕ))) (old new : Option (List ℕ)) (status : ℕ) : Type 0 where

@@ -1,5 +1,2 @@
 pub mod Arguments
-pub mod Checking
 pub mod Commands
-pub mod Ending
-pub mod Explaining

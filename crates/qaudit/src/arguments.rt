@@ -1,13 +1,13 @@
 //! The arguments of the command line.
 ghost use Rattle.std.specs.Prelude.{◌≡◌, ◌⊎◌, ℕ, false, List, [], Some, None, IfOk, IfErr, codes, map, string_bytes, unwrap_or};
-ghost use Rattle.clap.specs.Words.{all_of, app_of, found_of, new_app, new_rule, rows_of, with_rule, with_subcommand, FailsBy, HasMatchesOf, Row, fault_of};
+ghost use Rattle.clap.specs.Words.{all_of, app_of, found_of, kind_of, new_app, new_rule, rows_of, with_rule, with_subcommand, FailsBy, HasMatchesOf, Row, fault_of};
 ghost use Rattle.clap.specs.Simple.{subcommand_rows_of};
 ghost use Rattle.clap.specs.declared.builder.command.Command.TheViews.{out-Command as fields_of};
-ghost use Rattle.qaudit.specs.Arguments.{asked, parser_alone, parser_of_arguments, request, without_help, HasFiles, IsCommand};
+ghost use Rattle.qaudit.specs.Arguments.{asked, failure_of_kind, parser_alone, parser_of_arguments, request, without_help, HasFiles, IsCommand};
 
-use crate::ending::Failure;
 use clap::error::ErrorKind;
 use clap::{Arg, ArgAction, ArgMatches, Command, Error};
+use qa_commands::Failure;
 use std::alloc::{AllocError, Global};
 use std::rt::Env;
 use std::{env, io};
@@ -51,8 +51,20 @@ pub fn parse<'a>(alloc: Global, arguments: &'a [String]) -> Result<Subcommand<'a
     ensures err { IfErr result (λ failure. (failure ≡ Failure.OutOfMemory)
         ⊎ ((failure ≡ Failure.Arguments) × (asked (map string_bytes arguments.now) ≡ None))) }
 {
-    let matches = matches_of(alloc, arguments)?;
-    subcommand_of(alloc, &matches)
+    match matches_of(alloc, arguments) {
+        Ok(matches) => subcommand_of(alloc, &matches),
+        Err(error) => Err(failure_of(&error)),
+    }
+}
+
+/// What an error of the parser is told as.
+fn failure_of<'a>(error: &Error) -> Failure<'a>
+    ensures { result ≡ failure_of_kind (kind_of error.now) }
+{
+    match error.kind() {
+        ErrorKind::OutOfMemory => Failure::OutOfMemory,
+        _ => Failure::Arguments,
+    }
 }
 
 /// What the parser finds in the arguments.
@@ -134,20 +146,5 @@ fn files<'a>(alloc: Global, found: &ArgMatches<'a>) -> Result<Vec<&'a str>, Allo
     match found.get_strs(FILE) {
         Some(names) => Vec::from_slice(alloc, names),
         None => Ok(Vec::new(alloc)),
-    }
-}
-
-impl From<Error> for Failure<'_> {
-    ghost use Rattle.std.specs.Prelude.{◌≡◌};
-    ghost use Rattle.clap.specs.Words.{kind_of};
-    ghost use Rattle.qaudit.specs.Arguments.{failure_of_kind};
-
-    ghost from_gives = { λ error failure. failure ≡ failure_of_kind (kind_of error) };
-
-    fn from(error: Error) -> Self {
-        match error.kind() {
-            ErrorKind::OutOfMemory => Failure::OutOfMemory,
-            _ => Failure::Arguments,
-        }
     }
 }

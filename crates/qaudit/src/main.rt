@@ -5,14 +5,10 @@
 ghost use Rattle.qaudit.specs.Commands.{Commands};
 
 mod arguments;
-mod checking;
-mod ending;
-mod explaining;
 
 use crate::arguments::{Subcommand, parse, read_arguments};
-use crate::checking::{check, end};
-use crate::explaining::explain;
 use qa_check::{Metered, Sink, Source};
+use qa_commands::{check, end, explain};
 use std::process::ExitCode;
 use std::rt::{Env, Files};
 

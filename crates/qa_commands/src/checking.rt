@@ -2,9 +2,9 @@
 ghost use Rattle.std.specs.Prelude.{◌≡◌, ◌⊎◌, ℕ, [], true, Result, Err, IfOk, OnOk, IfErr, nat_lt, length, take, string_bytes};
 ghost use Rattle.std.specs.Io.KnownBytes.{Appends};
 ghost use Rattle.qa_check.specs.Failures.{failures_after};
-ghost use Rattle.qaudit.specs.Checking as checking;
-ghost use Rattle.qaudit.specs.Checking.{Audited, Checks, ChecksAll, heading};
-ghost use Rattle.qaudit.specs.Ending.{status_of};
+ghost use Rattle.qa_commands.specs.Checking as checking;
+ghost use Rattle.qa_commands.specs.Checking.{Audited, Checks, ChecksAll, heading};
+ghost use Rattle.qa_commands.specs.Ending.{status_of};
 
 use crate::ending::{Failure, Origin, status};
 use qa_check::{Metered, Outcome, Sink, Source, audit, write_whole};

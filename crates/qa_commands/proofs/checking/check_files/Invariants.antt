@@ -1,6 +1,6 @@
 use Rattle.std.proofs.Common.{◌≡◌, nat_lt, length, drop}
-use Rattle.qaudit.proofs.Greatest.{Leads}
-use Rattle.qaudit.proofs.checking.check_files.Given as goal
+use Rattle.qa_commands.proofs.Greatest.{Leads}
+use Rattle.qa_commands.proofs.checking.check_files.Given as goal
 
 abbrev pub invariant-loop-name : goal.invariant-loop-name
 invariant-loop-name g l = record {

@@ -3,9 +3,9 @@ use Rattle.std.proofs.Common.{◌≡◌, ◌<◌, ◌≤◌, ◌+◌, ℕ, Bool,
 use Rattle.std.proofs.lemmas.List.{drop_all, drop_more}
 use Rattle.std.specs.Borrow.{Bor}
 use Rattle.qa_check.specs.declared.auditing.Outcome.{Outcome}
-use Rattle.qaudit.specs.Checking.{Checks, ChecksAll, Then, stops}
-use Rattle.qaudit.specs.Ending.{status_of}
-use Rattle.qaudit.specs.declared.ending.Failure.{Failure}
+use Rattle.qa_commands.specs.Checking.{Checks, ChecksAll, Then, stops}
+use Rattle.qa_commands.specs.Ending.{status_of}
+use Rattle.qa_commands.specs.declared.ending.Failure.{Failure}
 
 -- what is still to be shown of the files behind: with it the greatest status so far is that of them all
 abbrev pub Leads : Bool → List (Bor (List ℕ)) → Option (List ℕ) → List (Bor (List ℕ)) → Option (List ℕ) → ℕ → Type 0

@@ -1,7 +1,7 @@
 use Rattle.std.proofs.Common.{ap}
 use Rattle.std.specs.Prelude.{Err}
-use Rattle.qaudit.proofs.Written.{explained_ok, explained_err}
-use Rattle.qaudit.proofs.explaining.explained.Goals as goal
+use Rattle.qa_commands.proofs.Written.{explained_ok, explained_err}
+use Rattle.qa_commands.proofs.explaining.explained.Goals as goal
 
 pub returns-in-Ok : goal.returns-in-Ok
 returns-in-Ok g c = explained_ok _ _ _ _ _ c.args.origin c.in-Ok.ensures.told c.in-Ok.ensures.ok

@@ -4,11 +4,11 @@ use Rattle.std.specs.Borrow.{Bor}
 use Rattle.std.specs.Io.KnownBytes.{Appends}
 use Rattle.qa_check.specs.Audit.{Reports, BeginsReport}
 use Rattle.qa_check.specs.declared.auditing.Outcome.{Outcome}
-use Rattle.qaudit.specs.Ending.{status_of}
-use Rattle.qaudit.specs.declared.ending.Failure.{Failure}
-use Rattle.qaudit.specs.declared.ending.Failure.TheVariants.{Arguments, Open, Read, Write, OutOfMemory}
-use Rattle.qaudit.specs.declared.ending.Origin.{Origin}
-use Rattle.qaudit.specs.declared.ending.Origin.TheVariants as origins
+use Rattle.qa_commands.specs.Ending.{status_of}
+use Rattle.qa_commands.specs.declared.ending.Failure.{Failure}
+use Rattle.qa_commands.specs.declared.ending.Failure.TheVariants.{Arguments, Open, Read, Write, OutOfMemory}
+use Rattle.qa_commands.specs.declared.ending.Origin.{Origin}
+use Rattle.qa_commands.specs.declared.ending.Origin.TheVariants as origins
 
 -- the line that stands before the report of one of several files
 abbrev pub heading : List ℕ → List ℕ

@@ -1,6 +1,6 @@
 use Rattle.std.proofs.Common.{◌∙◌, sym}
-use Rattle.qaudit.proofs.Greatest.{lead_stop, lead_go, lead_end}
-use Rattle.qaudit.proofs.checking.check_files.Goals as goal
+use Rattle.qa_commands.proofs.Greatest.{lead_stop, lead_go, lead_end}
+use Rattle.qa_commands.proofs.checking.check_files.Goals as goal
 
 pub returns-then-stops : goal.returns-then-stops
 returns-then-stops g c =

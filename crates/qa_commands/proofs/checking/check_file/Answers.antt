@@ -1,6 +1,6 @@
-use Rattle.qaudit.proofs.Written.{checked_alone, checked_headed}
-use Rattle.qaudit.proofs.checking.check_file.Goals.{then-several+in_ok-write_heading, else-several}
-use Rattle.qaudit.proofs.checking.check_file.Goals as goal
+use Rattle.qa_commands.proofs.Written.{checked_alone, checked_headed}
+use Rattle.qa_commands.proofs.checking.check_file.Goals.{then-several+in_ok-write_heading, else-several}
+use Rattle.qa_commands.proofs.checking.check_file.Goals as goal
 
 pub returns : goal.returns
 returns g c = elim c.if-several.branch [

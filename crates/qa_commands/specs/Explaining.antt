@@ -7,11 +7,11 @@ use Rattle.qa_format.specs.verdicts.Explain as explanation
 use Rattle.qa_check.specs.Writing as writing
 use Rattle.qa_check.specs.Writing.{Begins, ended_rows}
 use Rattle.qa_check.specs.declared.auditing.Outcome.{Outcome}
-use Rattle.qaudit.specs.Checking.{AreOf}
-use Rattle.qaudit.specs.declared.ending.Failure.{Failure}
-use Rattle.qaudit.specs.declared.ending.Failure.TheVariants.{Arguments, Open, Read, Write, OutOfMemory}
-use Rattle.qaudit.specs.declared.ending.Origin.{Origin}
-use Rattle.qaudit.specs.declared.ending.Origin.TheVariants as origins
+use Rattle.qa_commands.specs.Checking.{AreOf}
+use Rattle.qa_commands.specs.declared.ending.Failure.{Failure}
+use Rattle.qa_commands.specs.declared.ending.Failure.TheVariants.{Arguments, Open, Read, Write, OutOfMemory}
+use Rattle.qa_commands.specs.declared.ending.Origin.{Origin}
+use Rattle.qa_commands.specs.declared.ending.Origin.TheVariants as origins
 
 -- what an explanation of this origin wrote that ended so: all that explains the bytes that the origin tells, or else some; after a failed read the
 -- rows of the lines that an LF ended in what was read; or a beginning of the rows, or of all

@@ -1,6 +1,6 @@
 //! How the program ends.
 ghost use Rattle.std.specs.Prelude.{◌≡◌};
-ghost use Rattle.qaudit.specs.Ending.{failure_of, status_of};
+ghost use Rattle.qa_commands.specs.Ending.{failure_of, status_of};
 
 use qa_check::{AuditFault, Outcome};
 use std::alloc::AllocError;
@@ -59,7 +59,7 @@ pub fn status(ended: &Result<Outcome, Failure<'_>>) -> u8
 
 impl fmt::Display for Origin<'_> {
     ghost use Rattle.std.specs.Prelude.{Some};
-    ghost use Rattle.qaudit.specs.Ending.{origin_text};
+    ghost use Rattle.qa_commands.specs.Ending.{origin_text};
 
     ghost output = { λ origin. Some (origin_text origin) };
 
@@ -73,7 +73,7 @@ impl fmt::Display for Origin<'_> {
 
 impl fmt::Display for Failure<'_> {
     ghost use Rattle.std.specs.Prelude.{Some};
-    ghost use Rattle.qaudit.specs.Ending.{message_of};
+    ghost use Rattle.qa_commands.specs.Ending.{message_of};
 
     ghost output = { λ failure. Some (message_of failure) };
 
@@ -92,7 +92,7 @@ impl fmt::Display for Failure<'_> {
 
 impl From<AllocError> for Failure<'_> {
     ghost use Rattle.std.specs.Prelude.{◌≡◌};
-    ghost use Rattle.qaudit.specs.declared.ending.Failure.TheVariants as failures;
+    ghost use Rattle.qa_commands.specs.declared.ending.Failure.TheVariants as failures;
 
     ghost from_gives = { λ _ failure. failure ≡ failures.OutOfMemory };
 

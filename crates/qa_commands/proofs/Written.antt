@@ -13,13 +13,13 @@ use Rattle.qa_check.specs.Audit.{Reports, BeginsReport, ReadsEnough}
 use Rattle.qa_check.specs.Writing as writing
 use Rattle.qa_check.specs.Writing.{Begins, BeginsRead, ShowsRead, ended_rows}
 use Rattle.qa_check.proofs.Writing.{begins_longer}
-use Rattle.qaudit.specs.Checking.{AreOf, Audited, Checks, heading}
-use Rattle.qaudit.specs.Ending.{failure_of}
-use Rattle.qaudit.specs.Explaining.{Explained}
-use Rattle.qaudit.specs.declared.ending.Failure.{Failure}
-use Rattle.qaudit.specs.declared.ending.Failure.TheVariants.{Arguments, Open, Read, Write, OutOfMemory}
-use Rattle.qaudit.specs.declared.ending.Origin.{Origin}
-use Rattle.qaudit.specs.declared.ending.Origin.TheVariants.{File}
+use Rattle.qa_commands.specs.Checking.{AreOf, Audited, Checks, heading}
+use Rattle.qa_commands.specs.Ending.{failure_of}
+use Rattle.qa_commands.specs.Explaining.{Explained}
+use Rattle.qa_commands.specs.declared.ending.Failure.{Failure}
+use Rattle.qa_commands.specs.declared.ending.Failure.TheVariants.{Arguments, Open, Read, Write, OutOfMemory}
+use Rattle.qa_commands.specs.declared.ending.Origin.{Origin}
+use Rattle.qa_commands.specs.declared.ending.Origin.TheVariants.{File}
 
 -- what holds of the bytes that are told, or else of some
 of_told : (P : List ℕ → Type 0) (left : Option (List ℕ)) → ((bytes : List ℕ) → left ≡ Some bytes → P bytes) → (bytes : List ℕ) → P bytes

@@ -1,7 +1,7 @@
 //! The subcommand `explain`.
 ghost use Rattle.std.specs.Prelude.{◌≡◌, Result};
-ghost use Rattle.qaudit.specs.Ending.{status_of};
-ghost use Rattle.qaudit.specs.Explaining.{Explained, ExplainsFile, Explains};
+ghost use Rattle.qa_commands.specs.Ending.{status_of};
+ghost use Rattle.qa_commands.specs.Explaining.{Explained, ExplainsFile, Explains};
 
 use crate::checking::end;
 use crate::ending::{Failure, Origin};

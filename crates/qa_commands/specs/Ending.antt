@@ -4,10 +4,10 @@ use Rattle.qa_check.specs.declared.auditing.Outcome.{Outcome}
 use Rattle.qa_check.specs.declared.auditing.Outcome.TheVariants.{Accepted, Refused, Unreadable}
 use Rattle.qa_check.specs.declared.auditing.AuditFault.{AuditFault}
 use Rattle.qa_check.specs.declared.auditing.AuditFault.TheVariants as faults
-use Rattle.qaudit.specs.declared.ending.Failure.{Failure}
-use Rattle.qaudit.specs.declared.ending.Failure.TheVariants.{Arguments, Open, Read, Write, OutOfMemory}
-use Rattle.qaudit.specs.declared.ending.Origin.{Origin}
-use Rattle.qaudit.specs.declared.ending.Origin.TheVariants.{StandardInput, File}
+use Rattle.qa_commands.specs.declared.ending.Failure.{Failure}
+use Rattle.qa_commands.specs.declared.ending.Failure.TheVariants.{Arguments, Open, Read, Write, OutOfMemory}
+use Rattle.qa_commands.specs.declared.ending.Origin.{Origin}
+use Rattle.qa_commands.specs.declared.ending.Origin.TheVariants.{StandardInput, File}
 
 -- the failure of an audit that read from this origin
 abbrev pub failure_of : Origin → AuditFault → Failure

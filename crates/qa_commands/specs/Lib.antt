@@ -1,0 +1,3 @@
+pub mod Checking
+pub mod Ending
+pub mod Explaining
