@@ -7,12 +7,11 @@
 //! status 0, or with 3 and a line on standard error where a stream fails or it is out of memory.
 #![tactic(auto)]
 
-ghost use Rattle.std.specs.Prelude.{◌≡◌, None, Ok, IfOk};
-
 use qa_trace::{Fault, LineFault, SplitFault, Splitter, read_line, write_line};
 use std::alloc::{AllocError, Global};
 use std::fmt::Display;
-use std::io::{BufWriter, Read, Write};
+use std::io;
+use std::io::{BufWriter, ErrorKind, Read, Write};
 use std::process::ExitCode;
 use thiserror::Error;
 
@@ -33,15 +32,13 @@ impl From<AllocError> for Failure {
     }
 }
 
-/// The most bytes that one read asks for.
-const PIECE: usize = 4096;
-
-/// Whether an answer to a line may follow.
-#[derive(Clone, Copy, PartialEq, Eq)]
-enum Answers {
-    GoOn,
-    /// A line was too long, and the splitter returns no more.
-    End,
+impl From<io::Error> for Failure {
+    fn from(error: io::Error) -> Failure {
+        match error.kind() {
+            ErrorKind::OutOfMemory => Failure::OutOfMemory,
+            _ => Failure::Read,
+        }
+    }
 }
 
 fn main(rt: HostRuntime) -> ExitCode {
@@ -61,56 +58,35 @@ fn answer_input<R: Read, W: Write + Drop>(
     reader: &mut R,
     writer: W,
 ) -> Result<(), Failure> {
+    let mut lines = lines_of(alloc, reader)?;
     let Ok(mut answers) = BufWriter::new(alloc, writer) else {
         return Err(Failure::OutOfMemory);
     };
-    answer_pieces(alloc, reader, &mut answers)?;
+    answer_lines(alloc, &mut lines, &mut answers)?;
     answers.flush().or(Err(Failure::Write))
 }
 
-/// Answers each line of the input, which is read in pieces.
-fn answer_pieces<R: Read, W: Write>(
-    alloc: Global,
-    reader: &mut R,
-    answers: &mut W,
-) -> Result<(), Failure> {
-    let mut splitter = Splitter::new(alloc);
-    let mut piece = [0u8; PIECE];
-    'pieces: for _ in 0..u64::MAX {
-        let Ok(read) = reader.read(&mut piece) else {
-            return Err(Failure::Read);
-        };
-        if read == 0 {
-            break;
-        }
-        splitter.feed(&piece[..read])?;
-        if answer_ready(alloc, &mut splitter, answers)? == Answers::End {
-            return Ok(());
-        }
-    }
-    splitter.close();
-    let _end = answer_ready(alloc, &mut splitter, answers)?;
-    Ok(())
+/// The lines of the whole input.
+fn lines_of<R: Read>(alloc: Global, reader: &mut R) -> Result<Splitter, Failure> {
+    let mut input = Vec::new(alloc);
+    reader.read_to_end(&mut input)?;
+    let mut lines = Splitter::new(alloc);
+    lines.feed(&input)?;
+    lines.close();
+    Ok(lines)
 }
 
-/// Answers each line that stands ready.
-fn answer_ready<W: Write>(
+/// Answers each line, up to one that is too long.
+fn answer_lines<W: Write>(
     alloc: Global,
-    splitter: &mut Splitter,
+    lines: &mut Splitter,
     answers: &mut W,
-) -> Result<Answers, Failure>
-    requires whole { splitter.old.refused ≡ None }
-    ensures closed { IfOk result (λ answers. splitter.new.closed ≡ splitter.old.closed) }
-    ensures whole { result ≡ Ok Answers.GoOn → splitter.new.refused ≡ None }
-{
+) -> Result<(), Failure> {
     'lines: loop {
-        match splitter.next_line() {
+        match lines.next_line() {
             Ok(Some(line)) => answer(alloc, line, answers)?,
-            Ok(None) => return Ok(Answers::GoOn),
-            Err(SplitFault::TooLong) => {
-                write_answer(answers, Fault::LineTooLong)?;
-                return Ok(Answers::End);
-            }
+            Ok(None) => return Ok(()),
+            Err(SplitFault::TooLong) => return write_answer(answers, Fault::LineTooLong),
             Err(SplitFault::OutOfMemory) => return Err(Failure::OutOfMemory),
         }
     }
