@@ -20,7 +20,7 @@ fn confirms(event: &Event) -> bool
 pub fn is_confirmed(events: &[Event]) -> bool
     ensures { result ≡ handshake.is_confirmed (history_of events.now) }
 {
-    events.iter().any(|event| confirms(event))
+    events.iter().any(confirms)
 }
 
 /// Whether the event is an acknowledgment of Handshake packets.

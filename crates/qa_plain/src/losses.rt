@@ -178,7 +178,6 @@ pub fn owed_count(header: &Header, events: &[Event], look: Look) -> u64
 }
 
 /// Whether the packet is neither acknowledged nor lost, and its space not discarded.
-#[tactic(auto, using(crate::proofs::Owed::found_by_is))]
 pub fn is_open(header: &Header, events: &[Event], look: Look, packet: Packet) -> bool
     requires seen { IsLook header.now (history_of events.now) look }
     ensures { result ≡ loss.is_open header.now (history_of events.now) packet }

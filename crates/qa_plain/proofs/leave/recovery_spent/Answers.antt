@@ -11,6 +11,35 @@ recovery_after-spent-requires-clause-whole c = one_more c.args.events.now c.loop
 pub reno_after-reno-requires-clause-whole : goal.reno_after-reno-requires-clause-whole
 reno_after-reno-requires-clause-whole c = one_more c.args.events.now c.loop-place.place c.index-events-place.result c.loop-place-test.true c.index-events-place.is
 
+pub recovery_after-spent-requires-clause-seen : goal.recovery_after-spent-requires-clause-seen
+recovery_after-spent-requires-clause-seen c = c.look_after-seen.ensures
+
+pub recovery_after-spent-requires-clause-window : goal.recovery_after-spent-requires-clause-window
+recovery_after-spent-requires-clause-window c = c.loop-place.invariant.reno
+
+pub recovery_after-spent-requires-clause-spent : goal.recovery_after-spent-requires-clause-spent
+recovery_after-spent-requires-clause-spent c = c.loop-place.invariant.value
+
+pub recovery_after-spent-requires-clause-room : goal.recovery_after-spent-requires-clause-room
+recovery_after-spent-requires-clause-room c =
+    omega (arith, c.requires.few, length-take-le c.loop-place.place c.args.events.now c.loop-place.auto.place-end)
+
+pub recovery_after-spent-requires-clause-few : goal.recovery_after-spent-requires-clause-few
+recovery_after-spent-requires-clause-few c =
+    λ x is. (let few = c.loop-place.invariant.few x is in omega (arith, few, length-take-le c.loop-place.place c.args.events.now c.loop-place.auto.place-end))
+
+pub reno_after-reno-requires-clause-seen : goal.reno_after-reno-requires-clause-seen
+reno_after-reno-requires-clause-seen c = c.look_after-seen.ensures
+
+pub reno_after-reno-requires-clause-known : goal.reno_after-reno-requires-clause-known
+reno_after-reno-requires-clause-known c = c.loop-place.invariant.reno
+
+pub refreshed_where_asked-rtt-requires : goal.refreshed_where_asked-rtt-requires
+refreshed_where_asked-rtt-requires c = record { seen = c.look_after-seen.ensures }
+
+pub look_after-seen-requires-clause-known : goal.look_after-seen-requires-clause-known
+look_after-seen-requires-clause-known c = c.loop-place.invariant.rtt
+
 pub loop-place-preserved : goal.loop-place-preserved
 loop-place-preserved c =
     let next = one_more c.args.events.now c.loop-place.place c.index-events-place.result c.loop-place-test.true c.index-events-place.is in

@@ -6,6 +6,18 @@ use Rattle.qa_plain.proofs.window.reno.Goals as goal
 pub reno_after-reno-requires-clause-whole : goal.reno_after-reno-requires-clause-whole
 reno_after-reno-requires-clause-whole c = one_more c.args.events.now c.loop-place.place c.index-events-place.result c.loop-place-test.true c.index-events-place.is
 
+pub reno_after-reno-requires-clause-seen : goal.reno_after-reno-requires-clause-seen
+reno_after-reno-requires-clause-seen c = c.look_after-seen.ensures
+
+pub reno_after-reno-requires-clause-known : goal.reno_after-reno-requires-clause-known
+reno_after-reno-requires-clause-known c = c.loop-place.invariant.reno
+
+pub refreshed_where_asked-rtt-requires : goal.refreshed_where_asked-rtt-requires
+refreshed_where_asked-rtt-requires c = record { seen = c.look_after-seen.ensures }
+
+pub look_after-seen-requires-clause-known : goal.look_after-seen-requires-clause-known
+look_after-seen-requires-clause-known c = c.loop-place.invariant.rtt
+
 pub loop-place-preserved : goal.loop-place-preserved
 loop-place-preserved c = record {
   rtt = c.refreshed_where_asked-rtt.ensures;

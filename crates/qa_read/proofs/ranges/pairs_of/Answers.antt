@@ -1,4 +1,4 @@
-use Rattle.std.proofs.Common.{◌≡◌, ◌∙◌, ◌<◌, ◌+◌, ℕ, List, [], ◌∷◌, ◌++◌, get_or, length, drop, Option, Some, None, refl, sym, ap}
+use Rattle.std.proofs.Common.{◌≡◌, ◌∙◌, ◌<◌, ◌+◌, ℕ, List, [], ◌∷◌, ◌++◌, get_or, length, drop, Option, Some, None, refl, sym, ap, rules}
 use Rattle.std.proofs.lemmas.List.{append_assoc, append-nil, at_drop_all, at_drop_more}
 use Rattle.std.specs.Prelude.{option_and_then, option_map}
 use Rattle.serde_json.specs.View.{view, items_view}
@@ -31,7 +31,8 @@ found_more found p (Some ps) = ap Some (append_assoc found (p ∷ []) ps)
 pub returns-in_default : goal.returns-in_default
 returns-in_default c =
     let l = c.loop-value in
-    begins l.pairs.items _ l.value-index _ None c.loop-value-test.true c.value-item.is (sym c.in_default.is ∙ c.pair_of.ensures) ∙ l.invariant
+    let none = begins l.pairs.items _ l.value-index _ None c.loop-value-test.true c.value-item.is (sym c.in_default.is ∙ c.pair_of.ensures) ∙ l.invariant in
+    search (rules, none)
 
 pub returns : goal.returns
 returns c =

@@ -1,5 +1,8 @@
-use Rattle.std.proofs.Common.{rules}
+use Rattle.std.proofs.Common.{◌≡◌, Result, Ok, Err, rules}
 use Rattle.qa_running.proofs.running.Running.admit_event.Goals as goal
+
+ok_is_no_err : {T E P : Type 0} (t : T) (e : E) → Ok t ≡ Err e → P
+ok_is_no_err t e same = cc
 
 -- Written out, so that a wrong body is refused at these lines.
 pub returns-then-self-clause-ok : goal.returns-then-self-clause-ok
@@ -9,4 +12,4 @@ pub returns-then-self-clause-failed : goal.returns-then-self-clause-failed
 returns-then-self-clause-failed c = search rules
 
 pub returns-in-Ok-clause-broken : goal.returns-in-Ok-clause-broken
-returns-in-Ok-clause-broken c = search rules
+returns-in-Ok-clause-broken c = λ r e. ok_is_no_err _ _ e
