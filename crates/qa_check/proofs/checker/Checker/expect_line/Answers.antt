@@ -1,6 +1,6 @@
 use Rattle.std.proofs.Common.{◌∙◌, true, false, refl, sym, arith}
 use Rattle.std.proofs.lemmas.Bool.{false≢true}
-use Rattle.qa_check.proofs.Faults.{stops_differ, error_of, memory_is_not_decided, decided_is_not_memory}
+use Rattle.qa_check.proofs.Faults.{ok_is_no_err, stops_differ, error_of, memory_is_not_decided, decided_is_not_memory}
 use Rattle.qa_check.proofs.Growing.{count_of, whole_of, undecided, fixed_adds, unread_adds, too_many}
 use Rattle.qa_check.proofs.checker.Checker.expect_line.Goals as goal
 
@@ -37,4 +37,15 @@ returns-then-self-ge-MAX_LINES g c =
           let says = too_many _ l (omega (arith, c.if-self-ge-MAX_LINES.true, count)) in
           let none = undecided _ _ c.self.view_is _ c.is_some.ensures c.if-is_some.false in
           unread_adds _ c.args.self.now c.stop.new.self l _ stop.whole stop.decided stop.verdict none says;
+    }
+
+pub returns : goal.returns
+returns g c =
+    let whole = whole_of _ _ c.self.view_is false c.if-self.false in
+    let count = count_of _ _ c.self.view_is in
+    record {
+      failed = λ is. absurd (false≢true (sym whole ∙ is));
+      fails = λ is. absurd (ok_is_no_err is);
+      ok = (refl, whole, undecided _ _ c.self.view_is _ c.is_some.ensures c.if-is_some.false, omega (arith, c.if-self-ge-MAX_LINES.false, count));
+      decided = λ is. absurd (ok_is_no_err is);
     }
