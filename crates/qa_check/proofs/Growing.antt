@@ -22,7 +22,7 @@ use Rattle.qa_base.specs.machine.State.{totals}
 use Rattle.qa_format.specs.verdicts.Verdict.{header_said, event_said, header_in, events_in, said, stop_at, stop_after, first_stop, line_behind, last_event_line, verdict_of, unreadable, AreGood, AreDecided}
 use Rattle.qa_base.proofs.machine.Histories.{history_of-snoc}
 use Rattle.qa_format.proofs.verdicts.Stops.{or_none, first_stop-snoc, verdict_at_stop, verdict_stays, decided_stays, header_in-snoc, said_reading}
-use Rattle.qa_check.specs.Standing.{Held, Stands, HoldsRun, Open, StandsBy, StandsFor, TakesIn, StopsAt, header_after, history_after, last_after}
+use Rattle.qa_check.specs.Standing.{Held, Stands, HoldsRun, Open, StandsBy, StandsFor, AddsGood, AddsBad, TakesIn, StopsAt, header_after, history_after, last_after}
 
 -- ---- what one test says of a checker
 
@@ -69,7 +69,7 @@ stop_there : {L : Type 0} (stands : Stands L) (ledger : Option L) (n last : ℕ)
 unfolding stop_after
 stop_there stands ledger n last ls l o holds is = rw (← holds.2) (sym is)
 
-pub stop_adds : {L : Type 0} (stands : Stands L) (ledger ledger' : Option L) (n last n' last' : ℕ) (v : Option Verdict) (l : List ℕ)
+stop_adds : {L : Type 0} (stands : Stands L) (ledger ledger' : Option L) (n last n' last' : ℕ) (v : Option Verdict) (l : List ℕ)
     → IsSome v → ((c : Option Settings) (h : List Event) → HoldsRun stands ledger c h → v ≡ stop_at (n + 1) c h (said reading n l))
     → (ls : List (List ℕ)) → Open stands ledger n last ls → StandsBy stands v ledger' n' last' (ls ++ l ∷ []) × AreDecided reading (ls ++ l ∷ [])
 stop_adds stands ledger ledger' n last n' last' None l some is ls holds = cc
@@ -78,6 +78,15 @@ stop_adds stands ledger ledger' n last n' last' (Some v) l some is ls holds =
     let bad : first_stop reading [] (ls ++ l ∷ []) ≡ Some v = first_stop-snoc reading [] ls l holds.0 ∙ there in
     let decided : AreDecided reading (ls ++ l ∷ []) = rw bad refl in
     ((decided, sym (verdict_at_stop reading (ls ++ l ∷ []) v bad)), decided)
+
+pub refused_adds : {L : Type 0} (stands : Stands L) (old new : Held L) (l : List ℕ) (x : Line) → new.failed ≡ false → StopsAt stands old new x → old.verdict ≡ None
+    → said reading old.lines l ≡ Ok x → AddsBad stands old new l
+refused_adds stands old new l x whole stops none says = (
+  whole,
+  λ ls holds.
+      stop_adds stands old.ledger new.ledger old.lines old.last_event new.lines new.last_event new.verdict l stops.decided (λ c h held. stops.verdict c h held ∙ ap (stop_at (old.lines + 1) c h) (sym says)) ls
+      (open_from stands old.verdict old.ledger old.lines old.last_event ls none holds),
+)
 
 -- ---- a good line
 
@@ -112,7 +121,7 @@ last_grows ls l line.Blank is = same_last ls l (rw is refl)
 last_grows ls l (line.Header c) is = same_last ls l (rw is refl)
 last_grows ls l (line.Event e) is = event_last ls l (rw is refl)
 
-pub good_adds : {L : Type 0} (stands : Stands L) (old new : Held L) (l : List ℕ) (x : Line) → TakesIn stands old new x → said reading old.lines l ≡ Ok x
+good_adds : {L : Type 0} (stands : Stands L) (old new : Held L) (l : List ℕ) (x : Line) → TakesIn stands old new x → said reading old.lines l ≡ Ok x
     → (ls : List (List ℕ)) → Open stands old.ledger old.lines old.last_event ls → StandsFor stands new (ls ++ l ∷ []) × AreGood reading (ls ++ l ∷ [])
 good_adds stands old new l x taken says ls holds =
     let reads : reading l ≡ Ok x = said_reading reading old.lines l says in
@@ -134,6 +143,11 @@ good_adds stands old new l x taken says ls holds =
       taken.count ∙ (ap (λ k. k + 1) holds.2 ∙ sym (length-append ls (l ∷ []))),
       taken.last ∙ (ap (λ k. last_after (k + 1) old.last_event x) holds.2 ∙ (ap (λ k. last_after (length ls + 1) k x) holds.3 ∙ sym (last_grows ls l x reads))),
     )
+
+pub taken_adds : {L : Type 0} (stands : Stands L) (old new : Held L) (l : List ℕ) (x : Line) → new.failed ≡ false → TakesIn stands old new x → old.verdict ≡ None
+    → said reading old.lines l ≡ Ok x → AddsGood stands old new l
+taken_adds stands old new l x whole taken none says =
+    (whole, λ ls holds. good_adds stands old new l x taken says ls (open_from stands old.verdict old.ledger old.lines old.last_event ls none holds))
 
 -- ---- the end
 
@@ -191,11 +205,15 @@ event_stops stands old new e none decided unread = record {
 
 -- ---- lines that cannot be read
 
-pub unread_adds : {L : Type 0} (stands : Stands L) (ledger ledger' : Option L) (n last n' last' : ℕ) (v : Option Verdict) (l : List ℕ) (f : Fault)
-    → IsSome v → StopsUnread stands ledger n v f → said reading n l ≡ Err f
-    → (ls : List (List ℕ)) → Open stands ledger n last ls → StandsBy stands v ledger' n' last' (ls ++ l ∷ []) × AreDecided reading (ls ++ l ∷ [])
-unread_adds stands ledger ledger' n last n' last' v l f some unread says =
-    stop_adds stands ledger ledger' n last n' last' v l some (λ c h held. unread c h held ∙ ap (stop_at (n + 1) c h) (sym says))
+pub unread_adds : {L : Type 0} (stands : Stands L) (old new : Held L) (l : List ℕ) (f : Fault)
+    → new.failed ≡ false → IsSome new.verdict → StopsUnread stands old.ledger old.lines new.verdict f → old.verdict ≡ None → said reading old.lines l ≡ Err f
+    → AddsBad stands old new l
+unread_adds stands old new l f whole some unread none says = (
+  whole,
+  λ ls holds.
+      stop_adds stands old.ledger new.ledger old.lines old.last_event new.lines new.last_event new.verdict l some (λ c h held. unread c h held ∙ ap (stop_at (old.lines + 1) c h) (sym says)) ls
+      (open_from stands old.verdict old.ledger old.lines old.last_event ls none holds),
+)
 
 pub too_many : (n : ℕ) (l : List ℕ) → 4294967295 ≤ n → said reading n l ≡ Err TooManyLines
 unfolding said

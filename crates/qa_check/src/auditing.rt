@@ -1,5 +1,5 @@
 //! The audit: from a reader of bytes to a report on a writer.
-ghost use Rattle.std.specs.Prelude.{◌≡◌, ◌≢◌, ◌++◌, ℕ, List, true, false, Some, None, Ok, Err, OnOk, OnErr, IfOk, IfErr, IfSome, IfNone, take};
+ghost use Rattle.std.specs.Prelude.{◌≡◌, ◌≢◌, ◌++◌, ℕ, List, [], true, false, Some, None, Ok, Err, OnOk, OnErr, IfOk, IfErr, IfSome, IfNone, take};
 ghost use Rattle.std.specs.Io.KnownBytes.{Appends};
 ghost use Rattle.qa_format.specs.format.Reading.{reading};
 ghost use Rattle.qa_format.specs.verdicts.Report as text;
@@ -95,15 +95,33 @@ fn judged<L: Ledger + Drop, R: Source>(alloc: Global, reader: &mut R) -> Result<
 {
     let mut splitter = Splitter::new(alloc);
     let mut checker = Checker::<L>::new(alloc);
+    take_pieces(reader, &mut splitter, &mut checker)
+}
+
+/// Takes piece after piece, from the first on, until the verdict is fixed or nothing more comes.
+fn take_pieces<L: Ledger + Drop, R: Source>(
+    reader: &mut R,
+    splitter: &mut Splitter,
+    checker: &mut Checker<L>,
+) -> Result<Verdict, AuditFault>
+    requires ready { IsReady splitter.old }
+    requires empty { HasNoLine splitter.old }
+    requires whole { checker.old.failed ≡ false }
+    requires first { Follows L.stands splitter.old.bytes checker.old [] }
+    ensures verdict { IfOk result (JudgesRead (R.left reader.old) (R.left reader.new)) }
+    ensures reads { Reads (R.left reader.old) (R.left reader.new) }
+    ensures failures { R.read_failures reader.new ≡ failures_after (is_read_fault result) (R.read_failures reader.old) }
+    ensures write { is_write_fault result ≡ false }
+{
     let mut piece = [0u8; PIECE];
     'pieces: for _i in 0..u64::MAX {
         let Ok(n) = reader.read_piece(&mut piece) else {
             return Err(AuditFault::Read);
         };
         if n == 0 {
-            return conclude(&mut splitter, &mut checker);
+            return conclude(splitter, checker);
         }
-        match take_piece(&mut splitter, &mut checker, &piece[..n]) {
+        match take_piece(splitter, checker, &piece[..n]) {
             Ok(None) => {}
             Ok(Some(verdict)) => return Ok(verdict),
             Err(fault) => return Err(fault),

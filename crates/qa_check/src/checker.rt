@@ -9,6 +9,7 @@ ghost use Rattle.qa_base.specs.values.Settings.{Settings};
 ghost use Rattle.qa_base.specs.machine.State as state;
 ghost use Rattle.qa_format.specs.verdicts.Explain.{kind_said};
 ghost use Rattle.qa_format.specs.verdicts.Verdict as verdicts;
+ghost use Rattle.qa_read.specs.Gives.{Gives};
 ghost use Rattle.qa_check.specs.Standing.{StandsFor, HoldsRun, AddsGood, AddsBad, TakesIn, StopsAt};
 
 use qa_base::{Event, Header, LineKind, Rule, Totals};
@@ -100,30 +101,14 @@ impl<L: Ledger + Drop> Checker<L> {
         ensures good { OnOk result (AddsGood L.stands self.old self.new bytes.now) }
         ensures decided { (result ≡ Err Stop.Decided) → AddsBad L.stands self.old self.new bytes.now }
     {
-        if self.failed {
-            return Err(Stop::OutOfMemory);
-        }
-        if self.verdict.is_some() {
-            return Err(Stop::Decided);
-        }
-        if self.lines >= MAX_LINES {
-            return Err(self.stop(Fault::TooManyLines));
+        if let Err(stop) = self.expect_line() {
+            return Err(stop);
         }
         if bytes.len() > LINE_LIMIT {
             return Err(self.stop(Fault::LineTooLong));
         }
         let read = read_line(self.alloc, bytes);
-        match &read {
-            Ok(line) => match self.take(line) {
-                Ok(()) => Ok(line.kind()),
-                Err(stop) => Err(stop),
-            },
-            Err(LineFault::Fault(fault)) => Err(self.stop(*fault)),
-            Err(LineFault::OutOfMemory) => {
-                self.failed = true;
-                Err(Stop::OutOfMemory)
-            }
-        }
+        self.take_read(&read)
     }
 
     /// Takes the next line, which has more bytes than a line may have, whatever they are.
@@ -135,16 +120,10 @@ impl<L: Ledger + Drop> Checker<L> {
         ensures fails { result ≡ Stop.OutOfMemory → self.new.failed ≡ true }
         ensures decided { result ≡ Stop.Decided → (l : List ℕ) → line_limit < length l → AddsBad L.stands self.old self.new l }
     {
-        if self.failed {
-            return Stop::OutOfMemory;
+        match self.expect_line() {
+            Ok(()) => self.stop(Fault::LineTooLong),
+            Err(stop) => stop,
         }
-        if self.verdict.is_some() {
-            return Stop::Decided;
-        }
-        if self.lines >= MAX_LINES {
-            return self.stop(Fault::TooManyLines);
-        }
-        self.stop(Fault::LineTooLong)
     }
 
     /// The verdict of the lines so far; None where the checker has failed. Takes no memory.
@@ -186,6 +165,52 @@ impl<L: Ledger + Drop> Checker<L> {
         match &self.ledger {
             None => None,
             Some(ledger) => Some(ledger.totals()),
+        }
+    }
+
+    /// Stops where no line is taken, whatever it says: out of memory, after the verdict was fixed, and
+    /// behind as many lines as a trace may have.
+    fn expect_line(&mut self) -> Result<(), Stop>
+        ensures failed { self.old.failed ≡ true → result ≡ Err Stop.OutOfMemory }
+        ensures fails { (result ≡ Err Stop.OutOfMemory) → (self.old.failed ≡ true) × (self.new.failed ≡ true) }
+        ensures ok { OnOk result ((self.new ≡ self.old) × (self.new.failed ≡ false) × (self.new.verdict ≡ None) × (self.new.lines < 4294967295)) }
+        ensures decided { (result ≡ Err Stop.Decided) → (l : List ℕ) → AddsBad L.stands self.old self.new l }
+    {
+        if self.failed {
+            return Err(Stop::OutOfMemory);
+        }
+        if self.verdict.is_some() {
+            return Err(Stop::Decided);
+        }
+        if self.lines >= MAX_LINES {
+            return Err(self.stop(Fault::TooManyLines));
+        }
+        Ok(())
+    }
+
+    /// Takes in what was read of the next line, and returns its kind.
+    fn take_read(&mut self, read: &Result<Line, LineFault>) -> Result<Option<LineKind>, Stop>
+        requires whole { self.old.failed ≡ false }
+        requires undecided { self.old.verdict ≡ None }
+        requires few { self.old.lines < 4294967295 }
+        requires fitting { IfOk read.now (λ line. line_fits line ≡ true) }
+        ensures kind { IfOk result (λ kind. (l : List ℕ) → Gives (λ line. line) read.now (reading l) → kind ≡ kind_said (reading l)) }
+        ensures fails { (result ≡ Err Stop.OutOfMemory) → self.new.failed ≡ true }
+        ensures good { OnOk result ((l : List ℕ) → length l ≤ line_limit → Gives (λ line. line) read.now (reading l)
+            → AddsGood L.stands self.old self.new l) }
+        ensures decided { (result ≡ Err Stop.Decided) → (l : List ℕ) → length l ≤ line_limit → Gives (λ line. line) read.now (reading l)
+            → AddsBad L.stands self.old self.new l }
+    {
+        match read {
+            Ok(line) => match self.take(line) {
+                Ok(()) => Ok(line.kind()),
+                Err(stop) => Err(stop),
+            },
+            Err(LineFault::Fault(fault)) => Err(self.stop(*fault)),
+            Err(LineFault::OutOfMemory) => {
+                self.failed = true;
+                Err(Stop::OutOfMemory)
+            }
         }
     }
 

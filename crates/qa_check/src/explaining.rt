@@ -95,15 +95,40 @@ fn shown<L: Ledger + Drop, R: Source, W: Sink>(
 {
     let mut splitter = Splitter::new(alloc);
     let mut checker = Checker::<L>::new(alloc);
+    show_pieces(alloc, reader, &mut splitter, &mut checker, writer)
+}
+
+/// Takes piece after piece, from the first on, and writes the rows of its lines, until the verdict is
+/// fixed or nothing more comes.
+fn show_pieces<L: Ledger + Drop, R: Source, W: Sink>(
+    alloc: Global,
+    reader: &mut R,
+    splitter: &mut Splitter,
+    checker: &mut Checker<L>,
+    writer: &mut W,
+) -> Result<Verdict, AuditFault>
+    requires ready { IsReady splitter.old }
+    requires empty { HasNoLine splitter.old }
+    requires whole { checker.old.failed ≡ false }
+    requires first { Shown L.stands splitter.old.bytes checker.old (W.held writer.old) (W.held writer.old) [] }
+    ensures verdict { IfOk result (JudgesShown (R.left reader.old) (R.left reader.new) (W.held writer.old) (W.held writer.new)) }
+    ensures reads { Reads (R.left reader.old) (R.left reader.new) }
+    ensures rows { result ≡ Err AuditFault.Read
+        → ShowsRead (R.left reader.old) (R.left reader.new) (W.held writer.old) (W.held writer.new) }
+    ensures begun { is_read_fault result ≡ false → OnErr result
+        (BeginsRead (R.left reader.old) (R.left reader.new) (W.held writer.old) (W.held writer.new) (explanation.rows reading)) }
+    ensures read_failures { R.read_failures reader.new ≡ failures_after (is_read_fault result) (R.read_failures reader.old) }
+    ensures write_failures { W.write_failures writer.new ≡ failures_after (is_write_fault result) (W.write_failures writer.old) }
+{
     let mut piece = [0u8; PIECE];
     'pieces: for _i in 0..u64::MAX {
         let Ok(n) = reader.read_piece(&mut piece) else {
             return Err(AuditFault::Read);
         };
         if n == 0 {
-            return show_rest(alloc, &mut splitter, &mut checker, writer);
+            return show_rest(alloc, splitter, checker, writer);
         }
-        match show_piece(alloc, &mut splitter, &mut checker, writer, &piece[..n]) {
+        match show_piece(alloc, splitter, checker, writer, &piece[..n]) {
             Ok(None) => {}
             Ok(Some(verdict)) => return Ok(verdict),
             Err(fault) => return Err(fault),

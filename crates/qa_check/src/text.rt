@@ -82,22 +82,30 @@ fn push_totals(out: &mut String, totals: &Totals) -> Result<(), AllocError>
     push_times(out, totals)
 }
 
+/// Appends the totals of a verdict, which has none where no header was read.
+#[tactic(auto, unfolding(qa_format::specs::verdicts::Report::known_totals_text))]
+fn push_known_totals(out: &mut String, verdict: &Verdict) -> Result<(), AllocError>
+    ensures { OnOk result (string_bytes out.new ≡ string_bytes out.old ++ text.known_totals_text verdict.now) }
+{
+    match verdict {
+        Verdict::Accepted(totals) => push_totals(out, totals),
+        Verdict::Refused(_, _, totals) => push_totals(out, totals),
+        Verdict::Unreadable(_, _, Some(totals)) => push_totals(out, totals),
+        Verdict::Unreadable(_, _, None) => Ok(()),
+    }
+}
+
 // ---- the whole
 
 /// The report of a verdict: a line that says it, and the totals, where a header was read.
 ///
 /// `AllocError` comes only where it is out of memory.
-#[tactic(auto, unfolding(qa_format::specs::verdicts::Report::report, qa_format::specs::verdicts::Report::known_totals_text))]
+#[tactic(auto, unfolding(qa_format::specs::verdicts::Report::report))]
 pub fn report(alloc: Global, verdict: &Verdict) -> Result<String, AllocError>
     ensures { IfOk result (λ s. string_bytes s ≡ text.report verdict.now) }
 {
     let mut out = verdict_line(alloc, verdict)?;
-    match verdict {
-        Verdict::Accepted(totals) => push_totals(&mut out, totals)?,
-        Verdict::Refused(_, _, totals) => push_totals(&mut out, totals)?,
-        Verdict::Unreadable(_, _, Some(totals)) => push_totals(&mut out, totals)?,
-        Verdict::Unreadable(_, _, None) => {}
-    }
+    push_known_totals(&mut out, verdict)?;
     Ok(out)
 }
 

@@ -1,6 +1,17 @@
-use Rattle.std.proofs.Common.{◌∙◌}
+use Rattle.std.proofs.Common.{◌∙◌, refl}
+use Rattle.std.proofs.KnownBytes.{Appends-kept}
 use Rattle.qa_check.proofs.Reading.{write_step, unfailed_write}
 use Rattle.qa_check.proofs.auditing.write_whole.Goals as goal
+
+pub returns-in_default : goal.returns-in_default
+returns-in_default g c =
+    let wrote = c.in_default.ensures in
+    record {
+      ok = tt;
+      err = (_, Appends-kept _ _ _ _ c.loop-at.invariant.written wrote.bytes);
+      failures = rw c.loop-at.invariant.unfailed at wrote.failures;
+      write = refl;
+    }
 
 pub loop-at-preserved : goal.loop-at-preserved
 loop-at-preserved g c =

@@ -1,5 +1,26 @@
+use Rattle.std.proofs.Common.{◌∙◌, refl, sym}
+use Rattle.qa_check.proofs.Faults.{ok_is_no_err, error_of, stops_differ, decided_is_not_memory, memory_is_not_decided}
 use Rattle.qa_check.proofs.Growing.{event_stops}
 use Rattle.qa_check.proofs.checker.Checker.admit.Goals as goal
 
-pub returns-in_default-clause-decided : goal.returns-in_default-clause-decided
-returns-in_default-clause-decided g c = λ is. rw (← c.self.view_is) (event_stops _ _ _ _ c.in_default.is c.stop.ensures.decided c.stop.ensures.verdict)
+pub returns-in_default : goal.returns-in_default
+returns-in_default g c =
+    let stop = c.stop.ensures in
+    record {
+      failed = λ is. absurd (stops_differ (sym stop.result ∙ error_of is));
+      whole = λ other. stop.whole;
+      ok = tt;
+      decided = λ is. rw (← c.self.view_is) (event_stops _ _ _ _ c.in_default.is stop.decided stop.verdict);
+    }
+
+pub returns-in-Ok-clause-failed : goal.returns-in-Ok-clause-failed
+returns-in-Ok-clause-failed g c = λ is. absurd (ok_is_no_err is)
+
+pub returns-in-Ok-clause-decided : goal.returns-in-Ok-clause-decided
+returns-in-Ok-clause-decided g c = λ is. absurd (ok_is_no_err is)
+
+pub returns-in-Err-Broken-clause-failed : goal.returns-in-Err-Broken-clause-failed
+returns-in-Err-Broken-clause-failed g c = λ is. absurd (decided_is_not_memory is)
+
+pub returns-in-Err-OutOfMemory : goal.returns-in-Err-OutOfMemory
+returns-in-Err-OutOfMemory g c = record { failed = λ is. refl; whole = λ other. absurd (other refl); ok = tt; decided = λ is. absurd (memory_is_not_decided is) }

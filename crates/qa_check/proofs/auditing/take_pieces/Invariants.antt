@@ -2,7 +2,7 @@ use Rattle.std.proofs.Common.{◌≡◌, ◌≤◌, ℕ, List, length, false}
 use Rattle.std.specs.Io.KnownBytes.{Consumes}
 use Rattle.qa_split.specs.Stream.{HasNoLine}
 use Rattle.qa_check.specs.Following.{Follows, IsReady}
-use Rattle.qa_check.proofs.auditing.judged.Given as goal
+use Rattle.qa_check.proofs.auditing.take_pieces.Given as goal
 
 abbrev pub invariant-pieces : goal.invariant-pieces
 invariant-pieces g l = record {

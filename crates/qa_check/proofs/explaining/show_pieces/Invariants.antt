@@ -3,7 +3,7 @@ use Rattle.std.specs.Io.KnownBytes.{Consumes}
 use Rattle.qa_split.specs.Stream.{HasNoLine}
 use Rattle.qa_check.specs.Writing.{Shown}
 use Rattle.qa_check.specs.Following.{IsReady}
-use Rattle.qa_check.proofs.explaining.shown.Given as goal
+use Rattle.qa_check.proofs.explaining.show_pieces.Given as goal
 
 abbrev pub invariant-pieces : goal.invariant-pieces
 invariant-pieces g l = record {
