@@ -94,9 +94,7 @@ impl NamedNumbers {
         ensures walk { IsWalk spans.now self.new }
     {
         if self.to <= self.from {
-            let Some(stretch) = self.next_stretch(spans) else {
-                return None;
-            };
+            let stretch = self.next_stretch(spans)?;
             self.from = stretch.start;
             self.to = stretch.end;
         }
