@@ -175,7 +175,10 @@ fn drain<L: Ledger + Drop>(splitter: &mut Splitter, checker: &mut Checker<L>) ->
 {
     'lines: loop {
         match splitter.next_line() {
-            Ok(Some(line)) => checker.line(line)?,
+            Ok(Some(line)) => match checker.line(line) {
+                Ok(()) => {}
+                Err(stop) => return Err(stop),
+            },
             Ok(None) => return Ok(()),
             Err(SplitFault::TooLong) => return Err(checker.too_long()),
             Err(SplitFault::OutOfMemory) => return Err(Stop::OutOfMemory),

@@ -1,7 +1,5 @@
-use Rattle.std.proofs.Common.{◌≡◌, ◌∙◌, Err}
-use Rattle.std.proofs.lemmas.Result.{err_from_is_err_and}
+use Rattle.std.proofs.Common.{◌∙◌}
 use Rattle.qa_check.specs.Standing.{StandsFor}
-use Rattle.qa_check.specs.declared.checker.Stop.TheVariants.{Decided}
 use Rattle.qa_check.proofs.Faults.{ok_is_no_err, error_of, memory_is_not_decided}
 use Rattle.qa_check.proofs.Following.{follow_line, decide_line, decide_long}
 use Rattle.qa_check.proofs.auditing.drain.Goals as goal
@@ -9,19 +7,24 @@ use Rattle.qa_check.proofs.auditing.drain.Goals as goal
 pub lines-init : goal.lines-init
 lines-init g c = record { ready = c.requires.ready; whole = c.requires.whole; follows = λ bytes f. f }
 
-pub returns-in_err-line-in-Ok-Some-clause-decided : goal.returns-in_err-line-in-Ok-Some-clause-decided
-returns-in_err-line-in-Ok-Some-clause-decided g c = λ h bytes f.
+pub returns-in-Err : goal.returns-in-Err
+returns-in-Err g c =
     let t = rw (c.in-Ok-Some.is, c.in-Ok-Some.field-0-is) at c.next_line.follows.holds-at-none.line in
-    let p = err_from_is_err_and c.from_residual.result c.from_residual.ensures.1 in
-    let is : c.line.result ≡ Err Decided = cc in
-    let bad = c.line.ensures.decided is in
-    let d = decide_line (StandsFor g.L.Ledger.stands c.lines.checker) (StandsFor g.L.Ledger.stands c.line.new.self) _ _ _ _ t.is_line t.taken c.lines.invariant.ready.0 bad.1 bytes (c.lines.invariant.follows bytes f) in
-    (d.0, (bad.0, d.1))
+    record {
+      ready = tt;
+      empty = tt;
+      whole = tt;
+      good = tt;
+      decided = λ is bytes f.
+          let bad = c.line.ensures.decided (c.in-Err.is ∙ is) in
+          let d = decide_line (StandsFor g.L.Ledger.stands c.lines.checker) (StandsFor g.L.Ledger.stands c.line.new.self) _ _ _ _ t.is_line t.taken c.lines.invariant.ready.0 bad.1 bytes (c.lines.invariant.follows bytes f) in
+          (d.0, (bad.0, d.1));
+    }
 
 pub lines-preserved : goal.lines-preserved
 lines-preserved g c =
     let t = rw (c.in-Ok-Some.is, c.in-Ok-Some.field-0-is) at c.next_line.follows.holds-at-none.line in
-    let good = c.in_ok-line-in-Ok-Some.ensures.good in
+    let good = c.in-Ok.ensures.good in
     record {
       ready = (t.closed ∙ c.lines.invariant.ready.0, t.whole);
       whole = good.0;
