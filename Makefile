@@ -1,6 +1,7 @@
 # What this repository is built, tested and installed with.
-# It needs `rt`, which proves and builds Rattle crates, and Python 3; `make test` also needs a C compiler, and
-# `make bench` compares with a program in Rust too where `cargo` and the crate `serde_json` are installed.
+# It needs `rt`, which proves and builds Rattle crates, and Python 3.11; `make test` also needs a C compiler,
+# `make bench` compares with a program in Rust too where `cargo` and the crate `serde_json` are installed, and
+# `make lint` needs mypy, and ruff or flake8.
 
 PREFIX ?= /usr/local
 DESTDIR ?=
@@ -12,13 +13,20 @@ program_by_one_byte := crates/one_byte/out/one_byte
 program_of_lines := crates/lines/out/lines
 example := examples/ten-packets.trace
 # The tests of the programs of conformance/, which mostly wait for one another's processes.
-runner_tests := test_run test_trials test_mutations test_simulate
+runner_tests := test_run test_trials test_mutations test_simulate test_links
+
+# All programs in Python, by the places where their names are unlike each other.
+python := $(addprefix conformance/,allocations cuts failing large links malicious mutations refusals run simulate) \
+	conformance/fuzz/instrument conformance/lines/make.py $(wildcard conformance/*.py)
+python_of_fuzz := conformance/fuzz/run
+python_of_bench := $(addprefix bench/,peers run trace) $(wildcard bench/*.py) bench/programs/read.py
 
 # The programs of conformance/ over what the gate built, the longest first. None waits for another.
 conformance := conformance-cuts conformance-failing conformance-refusals conformance-simulate conformance-mutations \
 	conformance-malicious conformance-large conformance-run conformance-allocations
 
-.PHONY: help build one_byte lines run test gate conformance $(conformance) $(runner_tests) bench install clean
+.PHONY: help build one_byte lines run test gate conformance $(conformance) links $(runner_tests) lint bench install \
+	clean
 
 help:
 	@echo 'make build     proves the program and builds $(program)'
@@ -26,6 +34,7 @@ help:
 	@echo 'make test      runs the merge gate, and then the program over conformance/'
 	@echo 'make gate      runs the merge gate alone'
 	@echo 'make conformance runs the programs over conformance/ alone, once the gate has built them'
+	@echo 'make lint      checks the types and the style of the programs in Python'
 	@echo 'make bench     builds it, measures it on long traces and compares it with others, in about five minutes'
 	@echo 'make install   builds it and installs it in $$(DESTDIR)$$(PREFIX)/bin, and its man page; PREFIX is $(PREFIX)'
 	@echo 'make clean     removes what was built'
@@ -43,16 +52,17 @@ lines:
 run: build
 	@$(program) check < $(example)
 
-# The tests of the runners need no program of ours, so they run beside the gate, in its first minutes.
+# The tests of the runners and the check of the pages need no program of ours, so they run beside the gate, in its
+# first minutes.
 test:
-	$(MAKE) --no-print-directory -j 2 gate $(runner_tests)
+	$(MAKE) --no-print-directory -j 2 gate links $(runner_tests)
 	$(MAKE) --no-print-directory -j 4 --output-sync=target $(conformance)
 
 # `rt ci` proves all crates from nothing, and leaves each program built of what it proved.
 gate:
 	rt ci
 
-conformance: $(conformance) $(runner_tests)
+conformance: $(conformance) links $(runner_tests)
 
 conformance-cuts:
 	conformance/cuts $(program)
@@ -87,8 +97,22 @@ conformance-run:
 conformance-allocations:
 	conformance/allocations $(program)
 
+# What the pages name has to be there.
+links:
+	conformance/links
+
 $(runner_tests):
 	python3 conformance/$@.py
+
+# No part of `test`, for it needs tools that need not be there. Both are told what to check by pyproject.toml; flake8,
+# which stands in for ruff where there is none, knows less and does not read it.
+lint:
+	mypy $(python)
+	mypy $(python_of_fuzz)
+	mypy $(python_of_bench)
+	if command -v ruff > /dev/null; then ruff check; else \
+		flake8 --max-line-length 100 --extend-ignore E203,W503 \
+			--per-file-ignores '*/test_*.py:N802' $(python) $(python_of_fuzz) $(python_of_bench); fi
 
 # No part of `test`, for no number of seconds is right on every machine.
 bench: build

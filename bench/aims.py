@@ -1,6 +1,7 @@
 """What the comparison aims at. The ratios are those of processor time."""
 
-from typing import Callable, List, NamedTuple, Optional, Tuple
+from collections.abc import Callable
+from typing import NamedTuple
 
 from comparing import PACKETS, Row, processor
 
@@ -15,7 +16,7 @@ def is_million(row: Row) -> bool:
     return row.shape == "unacknowledged" and row.lines == PACKETS + 1
 
 
-def ratio(row: Row) -> Optional[float]:
+def ratio(row: Row) -> float | None:
     """How many times as fast as `serde_json` the auditor is."""
     return row.ratio(processor)
 
@@ -26,37 +27,71 @@ def bytes_of_a_packet(row: Row) -> float:
 
 
 class Aim(NamedTuple):
-    """What is to hold, of which rows, of which value, and its bound, which the value reaches or stays under."""
+    """What is to hold, of which rows, of which value, and its bound, which the value reaches or
+    stays under."""
 
     text: str
     is_asked: Callable[[Row], bool]
-    value: Callable[[Row], Optional[float]]
+    value: Callable[[Row], float | None]
     bound: float
     is_least: bool = True
 
 
 AIMS = (
-    Aim("at least 5 times as fast as serde_json: steady, mixed, unacknowledged and all-lost, sorted and format",
-        lambda it: it.shape != "32-ranges" and it.form in QUICK_FORMS and not is_million(it), ratio, 5),
-    Aim("at least 3 times as fast: 32-ranges, sorted and format",
-        lambda it: it.shape == "32-ranges" and it.form in QUICK_FORMS, ratio, 3),
-    Aim("at least 3 times as fast: all shapes, spaces and unknown", lambda it: it.form in OTHER_FORMS, ratio, 3),
+    Aim(
+        "at least 5 times as fast as serde_json: steady, mixed, unacknowledged and all-lost, "
+        "sorted and format",
+        lambda it: it.shape != "32-ranges" and it.form in QUICK_FORMS and not is_million(it),
+        ratio,
+        5,
+    ),
+    Aim(
+        "at least 3 times as fast: 32-ranges, sorted and format",
+        lambda it: it.shape == "32-ranges" and it.form in QUICK_FORMS,
+        ratio,
+        3,
+    ),
+    Aim(
+        "at least 3 times as fast: all shapes, spaces and unknown",
+        lambda it: it.form in OTHER_FORMS,
+        ratio,
+        3,
+    ),
     Aim("at least 4 times as fast: unacknowledged with a million packets", is_million, ratio, 4),
-    Aim("under 200 bytes a packet: unacknowledged with a million packets", is_million, bytes_of_a_packet,
-        BYTES_OF_A_PACKET, False),
-    Aim("under 8 MB: steady, mixed and 32-ranges", lambda it: it.shape in ("steady", "mixed", "32-ranges"),
-        lambda it: it.peak / 1e6, BYTES / 1e6, False),
+    Aim(
+        "under 200 bytes a packet: unacknowledged with a million packets",
+        is_million,
+        bytes_of_a_packet,
+        BYTES_OF_A_PACKET,
+        False,
+    ),
+    Aim(
+        "under 8 MB: steady, mixed and 32-ranges",
+        lambda it: it.shape in ("steady", "mixed", "32-ranges"),
+        lambda it: it.peak / 1e6,
+        BYTES / 1e6,
+        False,
+    ),
 )
 
 
-def worst_of(aim: Aim, rows: List[Row]) -> Optional[Tuple[float, Row]]:
-    """The value that is farthest from being within the bound, and its row; none where nothing was measured."""
-    values = [(value, row) for row in rows if aim.is_asked(row) for value in [aim.value(row)] if value is not None]
+def worst_of(aim: Aim, rows: list[Row]) -> tuple[float, Row] | None:
+    """The value that is farthest from being within the bound, and its row; None where nothing was
+    measured."""
+    values = [
+        (value, row)
+        for row in rows
+        if aim.is_asked(row)
+        for value in [aim.value(row)]
+        if value is not None
+    ]
+    if not values:
+        return None
     choice = min if aim.is_least else max
-    return choice(values, key=lambda it: it[0], default=None)
+    return choice(values, key=lambda it: it[0])
 
 
-def said_of(aim: Aim, rows: List[Row]) -> str:
+def said_of(aim: Aim, rows: list[Row]) -> str:
     """Whether an aim is met, and by what."""
     worst = worst_of(aim, rows)
     if worst is None:

@@ -1,8 +1,9 @@
 """What the programs took for a trace."""
 
-from typing import Callable, Dict, List, NamedTuple, Optional
+from collections.abc import Callable
+from typing import NamedTuple
 
-from processes import Usage
+from usage import Usage
 
 ROUNDS = 3
 # In the longest trace, in which no packet is acknowledged.
@@ -29,7 +30,7 @@ class Row(NamedTuple):
     form: str
     bytes: int
     lines: int
-    rounds: List[Dict[str, Usage]]
+    rounds: list[dict[str, Usage]]
 
     @property
     def megabytes(self) -> float:
@@ -40,8 +41,9 @@ class Row(NamedTuple):
         """The least time that a program took."""
         return min(measure(it[name]) for it in self.rounds)
 
-    def ratio(self, measure: Measure) -> Optional[float]:
-        """How many times as long as the auditor the program on `serde_json` took, where there is one."""
+    def ratio(self, measure: Measure) -> float | None:
+        """How many times as long as the auditor the program on `serde_json` took, if there is
+        one."""
         if PEER not in self.rounds[0]:
             return None
         return self.seconds(PEER, measure) / self.seconds(AUDITOR, measure)

@@ -1,15 +1,16 @@
-"""The forms in which a trace is written: the same events, in lines that differ in the order of their keys, in white
-space or by a key that the format does not know.
+"""The forms in which a trace is written: the same events, in lines that differ in the order of
+their keys, in white space or by a key that the format does not know.
 
-A template is a line in the order of docs/format.md and without white space, with `%d` and `%s` for what differs from
-line to line. Its values have no commas.
+A template is a line in the order of docs/format.md and without white space, with `%d` and `%s` for
+what differs from line to line. Its values have no commas.
 """
 
 import itertools
+from collections.abc import Callable, Iterable, Iterator
 from operator import itemgetter
-from typing import Any, Callable, Dict, Iterable, Iterator, List, NamedTuple, Tuple
+from typing import Any, NamedTuple
 
-Span = Tuple[int, int]
+Span = tuple[int, int]
 
 
 class Form(NamedTuple):
@@ -19,7 +20,7 @@ class Form(NamedTuple):
     is_sorted: bool = False
     comma: bytes = b","
     colon: bytes = b":"
-    extras: Tuple[bytes, ...] = (b"",)
+    extras: tuple[bytes, ...] = (b"",)
 
 
 FORMAT = Form("format")
@@ -32,7 +33,7 @@ FORMS = (
 )
 
 
-def fields_of(template: bytes) -> List[Tuple[bytes, bytes]]:
+def fields_of(template: bytes) -> list[tuple[bytes, bytes]]:
     """The keys of a template, with their quotes, and the values."""
     fields = [it.partition(b":") for it in template[1:-1].split(b",")]
     return [(key, value) for key, _colon, value in fields]
@@ -45,15 +46,18 @@ class Template:
         fields = fields_of(template)
         order = sorted(fields) if form.is_sorted else fields
         text = form.comma.join(key + form.colon + value for key, value in order)
-        self.texts: Iterator[bytes] = itertools.cycle([b"{" + text + it + b"}\n" for it in form.extras])
+        self.texts: Iterator[bytes] = itertools.cycle(
+            [b"{" + text + it + b"}\n" for it in form.extras]
+        )
         # Where the values stand that come in the order of the template.
         differing = [it for it in fields if b"%" in it[1]]
         places = [differing.index(it) for it in order if it in differing]
-        self.picked: Callable[[Tuple[Any, ...]], Any] = itemgetter(*places)
+        self.picked: Callable[[tuple[Any, ...]], Any] = itemgetter(*places)
 
-    def filled(self, values: Tuple[Any, ...]) -> bytes:
+    def filled(self, values: tuple[Any, ...]) -> bytes:
         """The line with these values."""
-        return next(self.texts) % self.picked(values)
+        text: bytes = next(self.texts) % self.picked(values)
+        return text
 
 
 class Writer:
@@ -61,7 +65,7 @@ class Writer:
 
     def __init__(self, form: Form) -> None:
         self.form = form
-        self.templates: Dict[bytes, Template] = {}
+        self.templates: dict[bytes, Template] = {}
 
     def line(self, template: bytes, *values: Any) -> bytes:
         """The line of a template and its values, of which there is one at least."""

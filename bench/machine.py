@@ -16,7 +16,9 @@ def processor_name() -> str:
 def machine() -> str:
     """The processor, how many cores, the system, and the version of Python."""
     system = f"{platform.system()} {platform.release()}"
-    return f"{processor_name()}, {os.cpu_count()} cores, {system}, Python {platform.python_version()}"
+    return (
+        f"{processor_name()}, {os.cpu_count()} cores, {system}, Python {platform.python_version()}"
+    )
 
 
 def load() -> str:

@@ -3,11 +3,12 @@
 import shutil
 import subprocess
 import sys
+from collections.abc import Callable
 from pathlib import Path
-from typing import Callable, List, NamedTuple
+from typing import NamedTuple
 
-from processes import Run, run, run_to_nowhere
 from traces import Trace
+from usage import Run, run, run_to_nowhere
 
 FOLDER = Path(__file__).resolve().parent / "programs"
 # Where Debian's packages of Rust crates are installed.
@@ -16,11 +17,11 @@ PACKAGE = "librust-serde-json-dev"
 LINES_OF_A_BUILD_FAILURE = 6
 
 
-class Missing(Exception):
+class MissingError(Exception):
     """A program to compare with cannot be built here. It says what is missing."""
 
 
-class WrongAnswer(Exception):
+class WrongAnswerError(Exception):
     """A program did not say of a trace what it has to say."""
 
 
@@ -28,9 +29,9 @@ class Reader(NamedTuple):
     """A name, the command, to which the trace is added, and what it has to write first."""
 
     name: str
-    command: List[str]
+    command: list[str]
     answer: Callable[[Trace], str]
-    runs: Callable[[List[str]], Run] = run
+    runs: Callable[[list[str]], Run] = run
 
 
 def count_of_lines(trace: Trace) -> str:
@@ -59,26 +60,33 @@ def serde(folder: str, crates: str) -> Reader:
 
 
 def built(folder: Path, crates: str) -> str:
-    """Builds the program on `serde_json` from the crates that are installed, and asks no network."""
+    """Builds the program on `serde_json` from the crates that are installed, without a network."""
     for tool in ("cargo", "rustc"):
         if shutil.which(tool) is None:
-            raise Missing(f"there is no {tool} on the path")
+            raise MissingError(f"there is no {tool} on the path")
     if not list(Path(crates).glob("serde_json-*")):
-        raise Missing(f"there is no crate serde_json in {crates} (on Debian: apt-get install {PACKAGE})")
+        raise MissingError(
+            f"there is no crate serde_json in {crates} (on Debian: apt-get install {PACKAGE})"
+        )
     shutil.copytree(FOLDER / "serde", folder)
-    sources = ['source.crates-io.replace-with="installed"', f'source.installed.directory="{crates}"']
+    sources = [
+        'source.crates-io.replace-with="installed"',
+        f'source.installed.directory="{crates}"',
+    ]
     options = [word for it in sources for word in ("--config", it)]
     build = ["cargo", "build", "--release", "--offline", "--target-dir", "target", *options]
     done = subprocess.run(build, cwd=folder, capture_output=True, text=True, check=False)
     if done.returncode != 0:
         last = done.stderr.strip().splitlines()[-LINES_OF_A_BUILD_FAILURE:]
-        raise Missing("\n    ".join(["cargo did not build its program:", *last]))
+        raise MissingError("\n    ".join(["cargo did not build its program:", *last]))
     return str(folder / "target" / "release" / "read")
 
 
 def versions(crates: str) -> str:
     """What the program on `serde_json` is built of and by."""
-    compiler = subprocess.run(["rustc", "--version"], capture_output=True, text=True, check=False).stdout.strip()
+    compiler = subprocess.run(
+        ["rustc", "--version"], capture_output=True, text=True, check=False
+    ).stdout.strip()
     return ", ".join([compiler, *sorted(it.name for it in Path(crates).glob("serde_json-*"))])
 
 
@@ -86,5 +94,5 @@ def ran(reader: Reader, trace: Trace) -> Run:
     """Runs a program over a trace, and looks at its answer."""
     done = reader.runs([*reader.command, str(trace.path)])
     if done.status != 0 or not done.text.startswith(reader.answer(trace)):
-        raise WrongAnswer(f"{reader.name}: status {done.status}, {done.text.splitlines()[:2]}")
+        raise WrongAnswerError(f"{reader.name}: status {done.status}, {done.text.splitlines()[:2]}")
     return done

@@ -1,17 +1,20 @@
 """The shapes of long traces, each a sender's log that goes on for ever.
 
-A shape yields rounds, and a trace may end behind any of them: no loss is owed there. Times and packet numbers begin
-so high that all lines of a kind are about as long at the end as at the beginning. So the cost of reading a line does
-not grow, and what grows is the auditor's.
+A shape yields rounds, and a trace may end behind any of them: no loss is owed there. Times and
+packet numbers begin so high that all lines of a kind are about as long at the end as at the
+beginning. So the cost of reading a line does not grow, and what grows is the auditor's.
 """
 
 import itertools
 from collections import deque
-from typing import Any, Callable, Deque, Dict, Iterable, Iterator, List, NamedTuple
+from collections.abc import Callable, Iterable, Iterator
+from typing import Any, NamedTuple
 
+import conformance_path  # noqa: F401
+from constants import DEFAULT_MAX_ACK_DELAY, K_GRANULARITY
 from forms import Form, Span, Writer
 
-Round = List[bytes]
+Round = list[bytes]
 
 FIRST_TIME = 1_000_000_000
 FIRST_NUMBER = 100_000_000
@@ -20,20 +23,23 @@ STEP = 50
 SIZE = 1200
 # Of packets that have to fit many times into a window of two datagrams.
 SMALL = 100
-DEFAULT_WINDOW = 12_000
+INITIAL_WINDOW = 12_000
 # A window into which all packets of a trace fit.
 WIDE_WINDOW = 4_294_967_295
 RANGES = 32
 SPACES = (b"initial", b"handshake", b"app")
 
-HEADER = b'{"event":"header","version":1,"role":"server","max_datagram_size":1200,"initial_window":%d}'
-SENT = b'{"event":"sent","time":%d,"space":"%s","number":%d,"size":%d,"eliciting":true,"in_flight":true}'
-SENT_ALONE = b'{"event":"sent","time":%d,"space":"%s","number":%d,"size":%d,"eliciting":false,"in_flight":false}'
+HEADER = (
+    b'{"event":"header","version":1,"role":"server","max_datagram_size":1200,"initial_window":%d}'
+)
+PACKET = b'{"event":"sent","time":%d,"space":"%s","number":%d,"size":%d'
+SENT = PACKET + b',"eliciting":true,"in_flight":true}'
+SENT_ALONE = PACKET + b',"eliciting":false,"in_flight":false}'
 BY_WINDOW = SENT[:-1] + b',"leave":"window"}'
 PROBE = SENT[:-1] + b',"leave":"probe"}'
 ACK = b'{"event":"ack","time":%d,"space":"%s","ranges":%s}'
 DELAYED = ACK[:-1] + b',"delay":25}'
-LIMITED = ACK[:-1] + b',"delay":0,"limited":true}'
+APP_LIMITED = ACK[:-1] + b',"delay":0,"limited":true}'
 LOST = b'{"event":"lost","time":%d,"space":"app","ranges":%s}'
 LOSS_TIMER = b'{"event":"timer","time":%d,"kind":"loss","space":"app"}'
 PTO = b'{"event":"timer","time":%d,"kind":"pto","space":"%s"}'
@@ -41,7 +47,8 @@ DISCARD = b'{"event":"discard","time":%d,"space":"%s"}'
 CONFIRMED = b'{"event":"confirmed","time":%d}'
 KEYS = b'{"event":"keys","time":%d}'
 METRICS = (
-    b'{"event":"metrics","time":%d,"window":%d,"bytes_in_flight":%d,"latest_rtt":%d,"min_rtt":%d,"smoothed_rtt":%d}'
+    b'{"event":"metrics","time":%d,"window":%d,"bytes_in_flight":%d,'
+    b'"latest_rtt":%d,"min_rtt":%d,"smoothed_rtt":%d}'
 )
 
 
@@ -57,7 +64,9 @@ class Log:
         self.time += STEP
         return self.writer.line(template, self.time, *values)
 
-    def sent(self, number: int, size: int = SIZE, space: bytes = b"app", template: bytes = SENT) -> bytes:
+    def sent(
+        self, number: int, size: int = SIZE, space: bytes = b"app", template: bytes = SENT
+    ) -> bytes:
         """A packet is sent."""
         return self.event(template, space, number, size)
 
@@ -100,8 +109,8 @@ def not_in_flight(log: Log) -> Iterator[Round]:
 
 def many_ranges(log: Log) -> Iterator[Round]:
     """Every second packet is lost, so that an acknowledgment names 32 ranges of one packet."""
-    named: Deque[Span] = deque(maxlen=RANGES)
-    owed: List[Span] = []
+    named: deque[Span] = deque(maxlen=RANGES)
+    owed: list[Span] = []
     for number in itertools.count(FIRST_NUMBER, 2):
         named.appendleft((number + 1, number + 1))
         lines = [log.sent(number, SMALL), log.sent(number + 1, SMALL), log.ack(named)]
@@ -117,9 +126,9 @@ def skipped(log: Log) -> Iterator[Round]:
 
 
 def last_of(log: Log, count: int) -> Iterator[Round]:
-    """Of so many packets the last is acknowledged. Those that are three or more below it are lost, and the two between
-    are lost at the next acknowledgment."""
-    owed: List[Span] = []
+    """Of so many packets the last is acknowledged. Those that are three or more below it are lost,
+    and the two between are lost at the next acknowledgment."""
+    owed: list[Span] = []
     for number in itertools.count(FIRST_NUMBER, count):
         last = number + count - 1
         packets = [log.sent(it, SMALL) for it in range(number, number + count)]
@@ -148,47 +157,62 @@ def three_spaces(log: Log) -> Iterator[Round]:
 
 # So many packets go well between two losses.
 PACKETS_BETWEEN_LOSSES = 40
-# The least age at which a packet is lost, and a part of a probe timeout (RFC 9002, kGranularity).
-GRANULARITY = 1000
-MAX_ACK_DELAY = 25_000
 
 
 def smooth(log: Log, number: int, since: int) -> Round:
     """Two packets are acknowledged, with all since the last loss."""
-    return [log.sent(number), log.sent(number + 1), log.ack([(since, number + 1)], template=DELAYED)]
+    return [
+        log.sent(number),
+        log.sent(number + 1),
+        log.ack([(since, number + 1)], template=DELAYED),
+    ]
 
 
-def late_by_number(log: Log, number: int) -> Round:
+def lost_by_packet_threshold(log: Log, number: int) -> Round:
     """The first of four packets is lost, since it is three below the last."""
-    return [log.sent(number), log.sent(number + 1), log.ack([(number + 1, number + 1)], template=DELAYED),
-            log.sent(number + 2), log.sent(number + 3), log.ack([(number + 1, number + 3)], template=DELAYED),
-            log.lost([(number, number)])]
+    return [
+        log.sent(number),
+        log.sent(number + 1),
+        log.ack([(number + 1, number + 1)], template=DELAYED),
+        log.sent(number + 2),
+        log.sent(number + 3),
+        log.ack([(number + 1, number + 3)], template=DELAYED),
+        log.lost([(number, number)]),
+    ]
 
 
-def late_by_time(log: Log, number: int) -> Round:
+def lost_by_time_threshold(log: Log, number: int) -> Round:
     """The first of two packets is lost, since its timer fires."""
     packets = [log.sent(number), log.sent(number + 1)]
-    due = log.time - STEP + GRANULARITY
+    due = log.time - STEP + K_GRANULARITY
     ack = log.ack([(number + 1, number + 1)], template=DELAYED)
     log.until(due)
     return [*packets, ack, log.event(LOSS_TIMER), log.lost([(number, number)])]
 
 
 def lost_at_the_end(log: Log, number: int) -> Round:
-    """Two packets are lost and nothing follows them, so that a probe timeout fires. The acknowledgment of its two
-    probes shows both losses."""
+    """Two packets are lost and nothing follows them, so that a probe timeout fires. The
+    acknowledgment of its two probes shows both losses."""
     packets = [log.sent(number), log.sent(number + 1)]
-    log.until(log.time + STEP + GRANULARITY + MAX_ACK_DELAY)
-    return [*packets, log.event(PTO, b"app"), log.sent(number + 2, template=PROBE),
-            log.sent(number + 3, template=PROBE), log.ack([(number + 2, number + 3)], template=DELAYED),
-            log.lost([(number, number + 1)])]
+    log.until(log.time + STEP + K_GRANULARITY + DEFAULT_MAX_ACK_DELAY)
+    return [
+        *packets,
+        log.event(PTO, b"app"),
+        log.sent(number + 2, template=PROBE),
+        log.sent(number + 3, template=PROBE),
+        log.ack([(number + 2, number + 3)], template=DELAYED),
+        log.lost([(number, number + 1)]),
+    ]
 
 
 def steady(log: Log) -> Iterator[Round]:
-    """An acknowledgment for every two packets, and now and then a loss: by number, by time, at the end of a flight."""
+    """An acknowledgment for every two packets, and now and then a loss: by number, by time, at the
+    end of a flight."""
     yield [log.event(CONFIRMED)]
     number = FIRST_NUMBER
-    for losing, packets in itertools.cycle([(late_by_number, 4), (late_by_time, 2), (lost_at_the_end, 4)]):
+    for losing, packets in itertools.cycle(
+        [(lost_by_packet_threshold, 4), (lost_by_time_threshold, 2), (lost_at_the_end, 4)]
+    ):
         end = number + PACKETS_BETWEEN_LOSSES
         for it in range(number, end, 2):
             yield smooth(log, it, number)
@@ -203,7 +227,7 @@ ROUNDS_BETWEEN_TIMEOUTS = 8
 ROUND_TRIP = 3 * STEP
 
 
-class Numbers(Dict[bytes, int]):
+class Numbers(dict[bytes, int]):
     """The next number of each space."""
 
     def take(self, space: bytes) -> int:
@@ -211,27 +235,41 @@ class Numbers(Dict[bytes, int]):
         self[space] += 1
         return self[space] - 1
 
-    def taken(self, space: bytes) -> List[Span]:
+    def taken(self, space: bytes) -> list[Span]:
         """All numbers of a space that were taken."""
         return [(FIRST_NUMBER, self[space] - 1)]
 
 
 def in_turn(log: Log, numbers: Numbers) -> Round:
     """Two packets of each space, their acknowledgments, and a report."""
-    packets = [log.sent(numbers.take(space), space=space, template=BY_WINDOW) for _ in range(2) for space in SPACES]
-    acks = [log.ack(numbers.taken(space), space, LIMITED) for space in SPACES]
-    return [*packets, *acks, log.event(METRICS, DEFAULT_WINDOW, 0, ROUND_TRIP, ROUND_TRIP, ROUND_TRIP)]
+    packets = [
+        log.sent(numbers.take(space), space=space, template=BY_WINDOW)
+        for _ in range(2)
+        for space in SPACES
+    ]
+    acks = [log.ack(numbers.taken(space), space, APP_LIMITED) for space in SPACES]
+    return [
+        *packets,
+        *acks,
+        log.event(METRICS, INITIAL_WINDOW, 0, ROUND_TRIP, ROUND_TRIP, ROUND_TRIP),
+    ]
 
 
 def probed(log: Log, numbers: Numbers) -> Round:
-    """Two Initial packets are not acknowledged before a probe was sent. Then the keys of the Handshake space are said
-    to be there."""
+    """Two Initial packets are not acknowledged before a probe was sent. Then the keys of the
+    Handshake space are said to be there."""
     packets = [log.sent(numbers.take(b"initial"), space=b"initial") for _ in range(2)]
-    log.until(log.time + ROUND_TRIP + GRANULARITY)
+    log.until(log.time + ROUND_TRIP + K_GRANULARITY)
     timer = log.event(PTO, b"initial")
     probe = log.sent(numbers.take(b"initial"), space=b"initial", template=PROBE)
     log.until(log.time + ROUND_TRIP)
-    return [*packets, timer, probe, log.ack(numbers.taken(b"initial"), b"initial", LIMITED), log.event(KEYS)]
+    return [
+        *packets,
+        timer,
+        probe,
+        log.ack(numbers.taken(b"initial"), b"initial", APP_LIMITED),
+        log.event(KEYS),
+    ]
 
 
 def mixed(log: Log) -> Iterator[Round]:
@@ -258,7 +296,7 @@ class Shape(NamedTuple):
 
     name: str
     rounds: Callable[[Log], Iterator[Round]]
-    initial_window: int = DEFAULT_WINDOW
+    initial_window: int = INITIAL_WINDOW
     ending: Callable[[Log], Round] = no_ending
 
 

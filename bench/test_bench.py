@@ -1,55 +1,53 @@
 #!/usr/bin/env python3
-"""Shows that the traces of the bench are what they are to be, that the programs which only read refuse what is not in
-the format, and that the tables and aims say what was measured."""
+"""Shows that the traces of the bench are what they are to be, that the programs which only read
+refuse what is not in the format, and that the tables and aims say what was measured."""
 
 import contextlib
-import importlib.machinery
-import importlib.util
 import io
 import json
 import subprocess
 import sys
-import tempfile
 import unittest
 from pathlib import Path
+from typing import Any
 
-FOLDER = Path(__file__).resolve().parent
-sys.path[:0] = [str(FOLDER), str(FOLDER.parent / "conformance")]
-
-# pylint: disable=wrong-import-position
+import conformance_path  # noqa: F401
 import sender
 from aims import AIMS, Aim, said_of
 from comparing import AUDITOR, PACKETS, PEER, Row, clock, processor
-from forms import FORMAT, FORMS
-from processes import Usage, run
-from readers import Missing, WrongAnswer, auditor, python, ran, serde
-from shapes import COMPARED, SHAPES, header_of, rounds_of
+from constants import METRICS
+from forms import FORMAT, FORMS, Form
+from readers import MissingError, WrongAnswerError, auditor, python, ran, serde
+from shapes import COMPARED, SHAPES, Shape, header_of, rounds_of
 from tables import Table
+from testing import new_folder, script
 from traces import Trace, written
+from usage import Usage, run
 
 ALL_SHAPES = (*SHAPES, *COMPARED)
 EVENTS = 220
 # The keys of a line in the order of the tables of docs/format.md.
-ORDER = ("event", "version", "role", "max_datagram_size", "initial_window", "time", "kind", "space", "number", "size",
-         "eliciting", "in_flight", "leave", "ranges", "delay", "limited", "window", "ssthresh", "bytes_in_flight",
-         "latest_rtt", "min_rtt", "smoothed_rtt", "rttvar")
+# fmt: off
+ORDER = (
+    "event", "version", "role", "max_datagram_size", "initial_window", "time", "kind", "space",
+    "number", "size", "eliciting", "in_flight", "leave", "ranges", "delay", "limited", *METRICS,
+)
+# fmt: on
 UNKNOWN = ("note", "serial")
 
 
-def module_of(name):
-    """A program of the bench as a module."""
-    loader = importlib.machinery.SourceFileLoader(f"{name}_program", str(FOLDER / name))
-    module = importlib.util.module_from_spec(importlib.util.spec_from_loader(loader.name, loader))
-    loader.exec_module(module)
-    return module
+peers = script(Path(__file__).resolve().parent / "peers")
 
 
-def lines_of(shape, form, least=EVENTS):
+def lines_of(shape: Shape, form: Form, least: int = EVENTS) -> list[bytes]:
     """The lines of a trace."""
-    return [header_of(shape, form), *(line for lines in rounds_of(shape, form, least) for line in lines)]
+    return [
+        header_of(shape, form),
+        *(line for lines in rounds_of(shape, form, least) for line in lines),
+    ]
 
 
-def known(line):
+def known(line: bytes) -> dict[str, Any]:
     """What a line says, without the keys that the format does not know."""
     return {key: value for key, value in json.loads(line).items() if key not in UNKNOWN}
 
@@ -57,19 +55,23 @@ def known(line):
 class Traces(unittest.TestCase):
     """Every form of a shape says the same events, and a sender of RFC 9002 makes them."""
 
-    def test_forms_say_the_same(self):
+    def test_forms_say_the_same(self) -> None:
         for shape in ALL_SHAPES:
             said = [known(line) for line in lines_of(shape, FORMAT)]
             for form in FORMS:
-                self.assertEqual([known(line) for line in lines_of(shape, form)], said, (shape.name, form.name))
+                self.assertEqual(
+                    [known(line) for line in lines_of(shape, form)], said, (shape.name, form.name)
+                )
 
-    def test_the_sender_makes_them(self):
+    def test_the_sender_makes_them(self) -> None:
         for shape in ALL_SHAPES:
             header, *events = map(json.loads, lines_of(shape, FORMAT))
             report = sender.report_of(header, list(enumerate(events, 2)))
-            self.assertEqual(report.splitlines()[:2], ["accepted", f"events {len(events)}"], shape.name)
+            self.assertEqual(
+                report.splitlines()[:2], ["accepted", f"events {len(events)}"], shape.name
+            )
 
-    def test_how_lines_are_written(self):
+    def test_how_lines_are_written(self) -> None:
         for shape in ALL_SHAPES:
             by_form = {form.name: lines_of(shape, form) for form in FORMS}
             for line in by_form["sorted"]:
@@ -82,106 +84,165 @@ class Traces(unittest.TestCase):
                 self.assertEqual(line.decode(), json.dumps(json.loads(line)) + "\n")
             kinds = {known(line)["event"] for line in by_form["unknown"]}
             for kind in kinds - {"header"}:
-                unknown = [[key for key in json.loads(line) if key in UNKNOWN]
-                           for line in by_form["unknown"] if known(line)["event"] == kind]
+                unknown = [
+                    [key for key in json.loads(line) if key in UNKNOWN]
+                    for line in by_form["unknown"]
+                    if known(line)["event"] == kind
+                ]
                 self.assertEqual([len(keys) for keys in unknown], [1] * len(unknown))
-                self.assertTrue(len(unknown) < 4 or {key for keys in unknown for key in keys} == set(UNKNOWN), kind)
+                self.assertTrue(
+                    len(unknown) < 4 or {key for keys in unknown for key in keys} == set(UNKNOWN),
+                    kind,
+                )
 
-    def test_sizes(self):
+    def test_sizes(self) -> None:
         for shape in ALL_SHAPES:
             for least in (1, 100, EVENTS):
                 events = len(lines_of(shape, FORMAT, least)) - 1
                 self.assertTrue(least <= events < least + 20, (shape.name, least, events))
 
-    def test_what_shapes_have(self):
-        kinds = {shape.name: {known(line)["event"] for line in lines_of(shape, FORMAT)} for shape in COMPARED}
+    def test_what_shapes_have(self) -> None:
+        kinds = {
+            shape.name: {known(line)["event"] for line in lines_of(shape, FORMAT)}
+            for shape in COMPARED
+        }
         self.assertEqual(kinds["steady"], {"header", "confirmed", "sent", "ack", "lost", "timer"})
-        self.assertEqual(kinds["mixed"], {"header", "sent", "ack", "timer", "discard", "confirmed", "keys", "metrics"})
+        self.assertEqual(
+            kinds["mixed"],
+            {"header", "sent", "ack", "timer", "discard", "confirmed", "keys", "metrics"},
+        )
         self.assertEqual(kinds["unacknowledged"], {"header", "sent"})
         shape = next(it for it in COMPARED if it.name == "32-ranges")
-        self.assertEqual(max(len(known(line).get("ranges", [])) for line in lines_of(shape, FORMAT)), 32)
+        self.assertEqual(
+            max(len(known(line).get("ranges", [])) for line in lines_of(shape, FORMAT)), 32
+        )
 
 
 class Readers(unittest.TestCase):
     """The programs say what they read, and a wrong answer is seen."""
 
-    def setUp(self):
-        folder = tempfile.TemporaryDirectory()
-        self.addCleanup(folder.cleanup)
-        self.path = Path(folder.name) / "trace"
+    def setUp(self) -> None:
+        self.path = new_folder(self) / "trace"
         self.trace = written(self.path, COMPARED[0], 100)
 
-    def test_trace(self):
+    def test_trace(self) -> None:
         self.assertEqual(self.path.read_bytes().count(b"\n"), self.trace.lines)
         self.assertEqual(self.path.stat().st_size, self.trace.bytes)
 
-    def test_python(self):
+    def test_python(self) -> None:
         self.assertEqual(ran(python(), self.trace).text, f"lines {self.trace.lines}\n")
-        for wrong in ('{"event":"keys"}', '{"event":"keys","time":"1"}', '{"event":"keys","time":-1}', '{"event":"ke"}',
-                      '{"event":"lost","time":1,"space":"app","ranges":[[1]]}', "[]"):
+        for wrong in (
+            '{"event":"keys"}',
+            '{"event":"keys","time":"1"}',
+            '{"event":"keys","time":-1}',
+            '{"event":"ke"}',
+            '{"event":"lost","time":1,"space":"app","ranges":[[1]]}',
+            "[]",
+        ):
             self.path.write_text(wrong, encoding="ascii")
-            done = subprocess.run(python().command + [str(self.path)], capture_output=True, text=True, check=False)
+            done = subprocess.run(
+                python().command + [str(self.path)], capture_output=True, text=True, check=False
+            )
             self.assertEqual((done.returncode, done.stdout), (1, ""), wrong)
 
-    def test_answers(self):
+    def test_answers(self) -> None:
         trace = Trace(self.path, 3, 1)
-        cases = (("accepted\nevents 3", 0, True), ("accepted\nevents 3", 1, False), ("accepted\nevents 2", 0, False),
-                 ("accepted\nevents 30", 0, False), ("refused\nevents 3", 0, False))
+        cases = (
+            ("accepted\nevents 3", 0, True),
+            ("accepted\nevents 3", 1, False),
+            ("accepted\nevents 2", 0, False),
+            ("accepted\nevents 30", 0, False),
+            ("refused\nevents 3", 0, False),
+        )
         for words, status, is_right in cases:
             program = self.path.with_name("program")
             program.write_text(f"#!/bin/sh\necho '{words}'\nexit {status}\n", encoding="ascii")
             program.chmod(0o755)
-            with contextlib.nullcontext() if is_right else self.assertRaises(WrongAnswer):
+            with contextlib.ExitStack() as expected:
+                if not is_right:
+                    expected.enter_context(self.assertRaises(WrongAnswerError))
                 ran(auditor(str(program)), trace)
 
-    def test_status_and_memory(self):
-        done = run([sys.executable, "-c", "import sys, time; text = 'x' * 30_000_000; time.sleep(0.02); sys.exit(3)"])
+    def test_status_and_memory(self) -> None:
+        done = run(
+            [
+                sys.executable,
+                "-c",
+                "import sys, time; text = 'x' * 30_000_000; time.sleep(0.02); sys.exit(3)",
+            ]
+        )
         self.assertEqual(done.status, 3)
         self.assertTrue(30_000 < done.usage.kibibytes < 100_000, done.usage)
         self.assertGreater(done.usage.wall_seconds, 0.02)
 
-    def test_what_is_missing(self):
-        with self.assertRaisesRegex(Missing, "librust-serde-json-dev|on the path"):
+    def test_what_is_missing(self) -> None:
+        with self.assertRaisesRegex(MissingError, "librust-serde-json-dev|on the path"):
             serde(str(self.path.parent), "/nowhere")
 
 
-def row(shape="steady", form="sorted", lines=1001, kibibytes=1000, **seconds):
+def row(
+    seconds: dict[str, float],
+    shape: str = "steady",
+    form: str = "sorted",
+    lines: int = 1001,
+    kibibytes: int = 1000,
+) -> Row:
     """A row, with a second round in which all is slower."""
-    rounds = [{name: Usage(slower * it, 2 * slower * it, kibibytes) for name, it in seconds.items()}
-              for slower in (1, 3)]
+    rounds = [
+        {name: Usage(slower * it, 2 * slower * it, kibibytes) for name, it in seconds.items()}
+        for slower in (1, 3)
+    ]
     return Row(shape, form, 100_100, lines, rounds)
 
 
 class Results(unittest.TestCase):
     """The table and the aims, on rows that are made up."""
 
-    def test_table(self):
-        made = row(**{AUDITOR: 0.0001001, PEER: 0.0005005})
+    def test_table(self) -> None:
+        made = row({AUDITOR: 0.0001001, PEER: 0.0005005})
         table = Table([AUDITOR, PEER], processor, True)
-        self.assertEqual(table.headings(), ["| Trace | Form | MB | Lines | qaudit | serde_json | Ratio | Peak |",
-                                            "|---|---|---:|---:|---:|---:|---:|---:|"])
-        self.assertEqual(table.row(made), "| steady | sorted | 0.1 | 1,001 | 100 (1000) | 500 (200) | 5.00 | 1.0 |")
+        self.assertEqual(
+            table.headings(),
+            [
+                "| Trace | Form | MB | Lines | qaudit | serde_json | Ratio | Peak |",
+                "|---|---|---:|---:|---:|---:|---:|---:|",
+            ],
+        )
+        self.assertEqual(
+            table.row(made),
+            "| steady | sorted | 0.1 | 1,001 | 100 (1000) | 500 (200) | 5.00 | 1.0 |",
+        )
         self.assertIn("| 200 (500) |", Table([AUDITOR, PEER], clock, True).row(made))
-        alone = row(**{AUDITOR: 0.0001001})
-        self.assertEqual(Table([AUDITOR], processor, True).row(alone),
-                         "| steady | sorted | 0.1 | 1,001 | 100 (1000) |  | 1.0 |")
+        alone = row({AUDITOR: 0.0001001})
+        self.assertEqual(
+            Table([AUDITOR], processor, True).row(alone),
+            "| steady | sorted | 0.1 | 1,001 | 100 (1000) |  | 1.0 |",
+        )
         aligned = Table([AUDITOR], processor, False)
         self.assertEqual(len(aligned.row(alone)), len(aligned.headings()[0]))
 
-    def test_aims(self):
+    def test_aims(self) -> None:
         aim = Aim("quick", lambda it: it.form == "sorted", lambda it: it.ratio(processor), 5)
-        slow, quick = row(form="sorted", qaudit=1.0, serde_json=4.9), row(form="sorted", qaudit=1.0, serde_json=5.0)
+        slow, quick = row({AUDITOR: 1.0, PEER: 4.9}), row({AUDITOR: 1.0, PEER: 5.0})
+        of_other_form = row({AUDITOR: 1.0, PEER: 1.0}, form="spaces")
         self.assertEqual(said_of(aim, [quick]), "met: quick (5.00, steady sorted)")
         self.assertEqual(said_of(aim, [quick, slow]), "missed: quick (4.90, steady sorted)")
-        self.assertEqual(said_of(aim, [row(form="spaces", qaudit=1.0, serde_json=1.0)]), "not measured: quick")
-        self.assertEqual(said_of(aim, [row(qaudit=1.0)]), "not measured: quick")
+        self.assertEqual(said_of(aim, [of_other_form]), "not measured: quick")
+        self.assertEqual(said_of(aim, [row({AUDITOR: 1.0})]), "not measured: quick")
 
-    def test_each_aim(self):
-        rows = [row(shape.name, form.name, qaudit=1.0, serde_json=2.9) for shape in COMPARED for form in FORMS]
-        rows.append(row("unacknowledged", "sorted", PACKETS + 1, 195_313, qaudit=1.0, serde_json=3.9))
+    def test_each_aim(self) -> None:
+        rows = [
+            row({AUDITOR: 1.0, PEER: 2.9}, shape.name, form.name)
+            for shape in COMPARED
+            for form in FORMS
+        ]
+        seconds = {AUDITOR: 1.0, PEER: 3.9}
+        rows.append(row(seconds, "unacknowledged", "sorted", PACKETS + 1, 195_313))
         said = [said_of(aim, rows).partition(":")[0] for aim in AIMS]
         self.assertEqual(said, ["missed", "missed", "missed", "missed", "missed", "met"])
-        rows = [it._replace(rounds=[{AUDITOR: Usage(1, 1, 7_813), PEER: Usage(5, 5, 0)}]) for it in rows]
+        rows = [
+            it._replace(rounds=[{AUDITOR: Usage(1, 1, 7_813), PEER: Usage(5, 5, 0)}]) for it in rows
+        ]
         said = [said_of(aim, rows).partition(":")[0] for aim in AIMS]
         self.assertEqual(said, ["met", "met", "met", "met", "met", "missed"])
 
@@ -189,18 +250,24 @@ class Results(unittest.TestCase):
 class Arguments(unittest.TestCase):
     """What the arguments of the comparison ask for."""
 
-    def test_arguments(self):
-        peers = module_of("peers")
+    def test_arguments(self) -> None:
         given = peers.parsed([sys.executable])
-        self.assertEqual((given.lines, given.markdown, given.shape), (200_000, False, [it.name for it in COMPARED]))
+        self.assertEqual(
+            (given.lines, given.markdown, given.shape),
+            (200_000, False, [it.name for it in COMPARED]),
+        )
         given = peers.parsed(["--lines", "7", "--markdown", "--shape", "mixed", sys.executable])
         self.assertEqual((given.lines, given.markdown, given.shape), (7, True, ["mixed"]))
-        for wrong in ([], ["--lines", "0", sys.executable], ["--shape", "plain", sys.executable], ["/nowhere"]):
+        for wrong in (
+            [],
+            ["--lines", "0", sys.executable],
+            ["--shape", "plain", sys.executable],
+            ["/nowhere"],
+        ):
             with self.assertRaises(SystemExit), contextlib.redirect_stderr(io.StringIO()):
                 peers.parsed(wrong)
 
-    def test_which_traces(self):
-        peers = module_of("peers")
+    def test_which_traces(self) -> None:
         kinds = list(peers.kinds_of_traces([it.name for it in COMPARED], 7))
         self.assertEqual(len(kinds), len(COMPARED) * len(FORMS) + 1)
         self.assertEqual([least for _shape, _form, least in kinds].count(PACKETS), 1)

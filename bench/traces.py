@@ -25,7 +25,7 @@ class Trace(NamedTuple):
 def written(path: Path, shape: Shape, least: int, form: Form = FORMAT) -> Trace:
     """Writes a trace of this many events, or a few more, so that its last round is whole."""
     events = 0
-    with open(path, "wb", buffering=BUFFER) as file:
+    with path.open("wb", buffering=BUFFER) as file:
         file.write(header_of(shape, form))
         for lines in rounds_of(shape, form, least):
             file.writelines(lines)

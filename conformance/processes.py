@@ -12,15 +12,35 @@ import subprocess
 import termios
 import threading
 import time
-from typing import Iterable, NamedTuple, Optional
+from collections.abc import Iterable, Iterator, Sequence
+from dataclasses import dataclass
+from enum import IntEnum
+from pathlib import Path
+from typing import IO, NamedTuple
 
-SECONDS = 60
-STATUS_OF_VERDICT = {b"accepted": 0, b"refused": 1, b"unreadable": 2}
+# After so many seconds a program is killed.
+MAX_SECONDS = 60
 # Of Linux: linux/prctl.h and linux/capability.h.
 PR_CAPBSET_DROP = 24
 CAP_DAC_OVERRIDE = 1
 CAP_DAC_READ_SEARCH = 2
 LIBC = ctypes.CDLL(None)
+
+# A program and its arguments.
+Words = Sequence[str | Path]
+# What a standard stream can be, of a program that is started.
+Stream = int | IO[bytes]
+
+
+class Status(IntEnum):
+    """How an auditor ends."""
+
+    ACCEPTED = 0
+    REFUSED = 1
+    UNREADABLE = 2
+    # A stream failed, or there was no memory.
+    FAULT = 3
+    USAGE = os.EX_USAGE
 
 
 class Outcome(NamedTuple):
@@ -28,14 +48,20 @@ class Outcome(NamedTuple):
     took too long, and an output is None where nothing could capture it. A
     wanted output is None where it is not compared."""
 
-    status: Optional[int]
-    output: Optional[bytes]
-    error: Optional[bytes]
+    status: int | None
+    output: bytes | None
+    error: bytes | None
+
+    def text(self) -> bytes:
+        """Standard output, where it was captured."""
+        return self.output or b""
 
 
-def status_of(report: bytes) -> Optional[int]:
+def status_of(report: bytes) -> Status | None:
     """The exit status for a report, by its first word; None where that is no verdict."""
-    return STATUS_OF_VERDICT.get(report.split(None, 1)[0] if report.strip() else b"")
+    word = report.split(None, 1)[0] if report.strip() else b""
+    verdicts = {b"accepted": Status.ACCEPTED, b"refused": Status.REFUSED}
+    return {**verdicts, b"unreadable": Status.UNREADABLE}.get(word)
 
 
 def differences(outcome: Outcome, wanted: Outcome) -> str:
@@ -51,72 +77,104 @@ def differences(outcome: Outcome, wanted: Outcome) -> str:
     ):
         if want is not None and had != want:
             found.append(f"{name} {shown(had)}, wanted {shown(want)}")
-    return "; ".join(found)
+    return joined(found)
 
 
-def shown(text: Optional[bytes]) -> str:
+def joined(failures: Iterable[str]) -> str:
+    """Those of the failures that are there, as one."""
+    return "; ".join(text for text in failures if text)
+
+
+def shown(text: bytes | None) -> str:
+    """Bytes as a failure names them."""
     return "nothing" if text is None else repr(text if len(text) <= 200 else text[:200] + b"..")
 
 
-def tell(cases: Iterable[tuple[str, Optional[str]]]) -> int:
-    """Prints a line for each case with a failure, which is None where it was skipped, and then their numbers. The
-    answer is the exit status: 1 where something failed."""
-    passed = failed = 0
-    for name, failure in cases:
-        if failure is None:
-            print(f"SKIPPED {name}: this user reads every file, and may not give that up")
-        elif failure:
-            failed += 1
-            print(f"FAILED {name}: {failure}")
-        else:
-            passed += 1
-    print(f"{passed} passed, {failed} failed")
-    return 1 if failed else 0
-
-
-def is_program(path: str) -> bool:
+def is_program(path: str | Path) -> bool:
     """Whether there is a program that can be run."""
-    return os.access(path, os.X_OK) and not os.path.isdir(path)
+    return os.access(path, os.X_OK) and not Path(path).is_dir()
 
 
 # Starting a program.
 
 
-def start(
-    command, stdin, stdout=subprocess.PIPE, stderr=subprocess.PIPE, closed=(), folder=None, reads_every_file=True,
-    memory: Optional[int] = None, data_limit: Optional[int] = None, stack: Optional[int] = None,
-) -> subprocess.Popen:
-    """Starts a program in a folder, with these streams; those whose numbers are in `closed` are closed.
+@dataclass(frozen=True)
+class Limits:
+    """The most bytes that a program may have: of memory, of what it allocates, and of its stack;
+    None is no limit."""
 
-    Where it is not to read every file it loses root's right to do so, if it has it and the system lets it.
-    Where `memory` is given it has no more bytes of memory, no more than `data_limit` for what it allocates, and no more
-    than `stack` for its stack."""
+    memory: int | None = None
+    allocated: int | None = None
+    stack: int | None = None
 
-    def prepare():
-        for stream in closed:
+    def set(self) -> None:
+        """Limits this process, and what it starts."""
+        for what, maximum in (
+            (resource.RLIMIT_AS, self.memory),
+            (resource.RLIMIT_DATA, self.allocated),
+            (resource.RLIMIT_STACK, self.stack),
+        ):
+            if maximum is not None:
+                resource.setrlimit(what, (maximum, maximum))
+
+
+@dataclass(frozen=True)
+class Setting:
+    """What a program finds where it starts: its streams but for the first, of which those whose
+    numbers are in `closed` are closed, its folder, and its limits.
+
+    Where it is not to read every file it loses root's right to do so, if it has it and the system
+    lets it."""
+
+    output: Stream = subprocess.PIPE
+    error: Stream = subprocess.PIPE
+    closed: Sequence[int] = ()
+    folder: Path | None = None
+    reads_every_file: bool = True
+    limits: Limits = Limits()
+
+    def prepare(self) -> None:
+        """Makes this process that of the program."""
+        for stream in self.closed:
             os.close(stream)
-        if not reads_every_file:
+        if not self.reads_every_file:
             for capability in (CAP_DAC_OVERRIDE, CAP_DAC_READ_SEARCH):
                 LIBC.prctl(PR_CAPBSET_DROP, capability, 0, 0, 0)
-        if memory is not None:
-            resource.setrlimit(resource.RLIMIT_AS, (memory, memory))
-        if data_limit is not None:
-            resource.setrlimit(resource.RLIMIT_DATA, (data_limit, data_limit))
-        if stack is not None:
-            resource.setrlimit(resource.RLIMIT_STACK, (stack, stack))
-
-    return subprocess.Popen(command, stdin=stdin, stdout=stdout, stderr=stderr, cwd=folder, preexec_fn=prepare)
+        self.limits.set()
 
 
-def ended(child: subprocess.Popen, seconds: float = SECONDS) -> Outcome:
-    """Waits for a program, which is killed where it takes longer than this."""
+USUAL = Setting()
+
+
+def start(command: Words, stdin: Stream, setting: Setting = USUAL) -> subprocess.Popen[bytes]:
+    """Starts a program with this standard input."""
+    return subprocess.Popen(
+        command,
+        stdin=stdin,
+        stdout=setting.output,
+        stderr=setting.error,
+        cwd=setting.folder,
+        preexec_fn=setting.prepare,
+    )
+
+
+def ended(
+    child: subprocess.Popen[bytes], seconds: float = MAX_SECONDS, data: bytes | None = None
+) -> Outcome:
+    """Waits for a program, which is killed where it takes longer than this. Data are for its
+    standard input, where that is a pipe of `subprocess`."""
     try:
-        output, error = child.communicate(timeout=seconds)
+        output, error = child.communicate(data, timeout=seconds)
         return Outcome(child.returncode, output, error)
     except subprocess.TimeoutExpired:
         child.kill()
         output, error = child.communicate()
         return Outcome(None, output, error)
+
+
+def answered(data: bytes, command: Words) -> Outcome:
+    """Runs a program with these bytes on standard input."""
+    return ended(start(command, subprocess.PIPE), data=data)
 
 
 def processor_seconds() -> float:
@@ -128,18 +186,25 @@ def processor_seconds() -> float:
 # Feeding a program.
 
 
-def bytes_alone(data: bytes) -> Iterable[bytes]:
+def bytes_alone(data: bytes) -> Iterator[bytes]:
     """Each byte as a piece."""
-    return (data[index:index + 1] for index in range(len(data)))
+    return (data[index : index + 1] for index in range(len(data)))
 
 
-def fed(pieces: Iterable[bytes], command, seconds: float = SECONDS, a_piece_a_read=False, **streams) -> Outcome:
+def fed(
+    pieces: Iterable[bytes],
+    command: Words,
+    setting: Setting = USUAL,
+    *,
+    seconds: float = MAX_SECONDS,
+    is_piece_a_read: bool = False,
+) -> Outcome:
     """Runs a program whose standard input is a pipe of these pieces.
 
-    Where it is `a_piece_a_read` no read gives bytes of two pieces, and none has more than 4,096 bytes."""
+    Where a piece is a read, no read gives bytes of two, and none has more than 4,096 bytes."""
     # A pipe of Linux in packet mode keeps the writes apart.
-    reading, writing = os.pipe2(os.O_DIRECT if a_piece_a_read else 0)
-    child = start(command, reading, **streams)
+    reading, writing = os.pipe2(os.O_DIRECT if is_piece_a_read else 0)
+    child = start(command, reading, setting)
     os.close(reading)
     feeder = threading.Thread(target=feed, args=(pieces, writing))
     feeder.start()
@@ -152,18 +217,21 @@ def feed(pieces: Iterable[bytes], pipe: int) -> None:
     """Writes pieces to a pipe and closes it, until all are written or nobody reads it."""
     with contextlib.suppress(BrokenPipeError):
         for piece in pieces:
-            while piece:
-                piece = piece[os.write(pipe, piece):]
+            left = piece
+            while left:
+                left = left[os.write(pipe, left) :]
     os.close(pipe)
 
 
-def fed_and_reset(data: bytes, command, seconds: float = SECONDS, **streams) -> Outcome:
-    """Runs a program whose standard input is a connection that is reset once all of data was read from it."""
+def fed_and_reset(
+    data: bytes, command: Words, setting: Setting = USUAL, *, seconds: float = MAX_SECONDS
+) -> Outcome:
+    """Runs a program whose standard input is a connection that is reset once it read all data."""
     with socket.create_server(("127.0.0.1", 0)) as server:
         sender = socket.create_connection(server.getsockname())
         receiver, _address = server.accept()
     with sender, receiver:
-        child = start(command, receiver, **streams)
+        child = start(command, receiver.fileno(), setting)
         sender.sendall(data)
         while waiting(sender, termios.TIOCOUTQ) or waiting(receiver, termios.FIONREAD):
             if child.poll() is not None:
@@ -177,30 +245,37 @@ def fed_and_reset(data: bytes, command, seconds: float = SECONDS, **streams) -> 
 
 def waiting(connection: socket.socket, which: int) -> int:
     """The number of bytes that wait on a connection, to be sent or to be read."""
-    return struct.unpack("i", fcntl.ioctl(connection, which, b"\0" * 4))[0]
+    count: int
+    (count,) = struct.unpack("i", fcntl.ioctl(connection, which, b"\0" * 4))
+    return count
 
 
 # A stream that fails once.
 
 
 def failing_once(opened: contextlib.ExitStack) -> tuple[socket.socket, socket.socket]:
-    """Two sockets: the next read from the first, or the next write to it, fails, and no later one does. What is
-    written to it then can be read from the second, and the other way round."""
-    first, second = (opened.enter_context(socket.socket(socket.AF_INET, socket.SOCK_DGRAM)) for _ in range(2))
+    """Two sockets: the next read from the first, or the next write to it, fails, and no later one
+    does. What is written to it then can be read from the second, and the other way round."""
+    first, closed = (udp_socket(opened) for _ in range(2))
     first.bind(("127.0.0.1", 0))
-    second.bind(("127.0.0.1", 0))
-    address = second.getsockname()
-    second.close()
+    closed.bind(("127.0.0.1", 0))
+    address = closed.getsockname()
+    closed.close()
     first.connect(address)
     # Nobody is there to take it, which the next call is told.
     first.send(b"")
     failure = select.poll()
     failure.register(first, select.POLLERR)
     failure.poll()
-    second = opened.enter_context(socket.socket(socket.AF_INET, socket.SOCK_DGRAM))
+    second = udp_socket(opened)
     second.bind(address)
     second.connect(first.getsockname())
     return first, second
+
+
+def udp_socket(opened: contextlib.ExitStack) -> socket.socket:
+    """A socket of datagrams."""
+    return opened.enter_context(socket.socket(socket.AF_INET, socket.SOCK_DGRAM))
 
 
 def taken(connection: socket.socket) -> bytes:

@@ -1,8 +1,9 @@
 #!/usr/bin/env python3
 """Shows that conformance/refusals, failing and cuts pass what is right and fail what is not.
 
-Each test gives a runner a small corpus of its own and a fake auditor in C, both in a temporary folder. What is
-compiled is compiled once: the library that is loaded before the auditors, and each of these.
+Each test gives a runner a small corpus of its own and a fake auditor in C, both in a temporary
+folder. What is compiled is compiled once: the library that is loaded before the auditors, and each
+of these.
 """
 
 import functools
@@ -13,7 +14,8 @@ import tempfile
 import unittest
 from pathlib import Path
 
-from test_run import RunnerCase, script
+from runners import FOLDER
+from testing import RunnerCase, script
 from trials import compiled
 
 TRACE = b"a line\nanother line\n"
@@ -26,8 +28,8 @@ BAD_EXPLANATION = b"line 1 row\n" + BAD_REPORT
 LONGER_TRACE = (b"a" * 59 + b"\n") * 10
 LONG_TRACE = LONGER_TRACE * 8 + b"\r\n" * 20 + b"b\nc"
 
-# Reads lines, to the end or to one that says `bad`, and writes a row for each where it is to explain them. What it
-# does where something fails is set by macros.
+# Reads lines, to the end or to one that says `bad`, and writes a row for each where it is to
+# explain them. What it does where something fails is set by macros.
 AUDITOR = r"""
 #include <errno.h>
 #include <fcntl.h>
@@ -128,33 +130,40 @@ int main(int count, char **arguments)
 }
 """
 RIGHT = {
-    "ALLOCATIONS": "5", "REFUSED": 'return fault("qaudit: out of memory", "")', "WRITES": "4096", "READS": "4096",
-    "GOES_ON_WRITING": "0", "GOES_ON_READING": "0", "IGNORES_FAULTS": "0", "READS_ON": "", "AT_EACH_PIECE": "",
+    "ALLOCATIONS": "5",
+    "REFUSED": 'return fault("qaudit: out of memory", "")',
+    "WRITES": "4096",
+    "READS": "4096",
+    "GOES_ON_WRITING": "0",
+    "GOES_ON_READING": "0",
+    "IGNORES_FAULTS": "0",
+    "READS_ON": "",
+    "AT_EACH_PIECE": "",
     "STOPS": "write_failed",
 }
 
 
-def setUpModule():
+def setUpModule() -> None:
     """Compiles the library, which the runners then take."""
     os.environ["TRIAL_LIBRARY"] = str(compiled(folder()))
 
 
-def tearDownModule():
+def tearDownModule() -> None:
     del os.environ["TRIAL_LIBRARY"]
     shutil.rmtree(folder())
 
 
 @functools.cache
-def folder():
+def folder() -> Path:
     """Of what is compiled."""
     return Path(tempfile.mkdtemp())
 
 
 @functools.cache
-def auditor(text, *flags):
+def auditor(text: str, *flags: str) -> Path:
     """A program of this text."""
     program = folder() / f"auditor-{auditor.cache_info().currsize}"
-    command = [os.environ.get("CC", "cc"), *flags, "-o", program, "-x", "c", "-"]
+    command = [os.environ.get("CC", "cc"), *flags, "-o", str(program), "-x", "c", "-"]
     subprocess.run(command, input=text.encode(), check=True)
     return program
 
@@ -164,18 +173,27 @@ class TrialCase(RunnerCase):
 
     other = "first-loss"
 
-    def setUp(self):
+    def setUp(self) -> None:
         super().setUp()
-        (self.corpus / "traces").mkdir()
-        self.write_files("traces", self.other, {"trace": TRACE, "report": REPORT, "explain": EXPLANATION})
-        self.write_files("traces", "bad", {"trace": BAD_TRACE, "report": BAD_REPORT, "explain": BAD_EXPLANATION})
+        self.write_trace(self.other, TRACE, REPORT, EXPLANATION)
+        self.write_trace("bad", BAD_TRACE, BAD_REPORT, BAD_EXPLANATION)
 
-    def compile_program(self, text=AUDITOR, flags=(), **other):
+    def write_trace(
+        self, name: str, trace: bytes, report: bytes = REPORT, explanation: bytes | None = None
+    ) -> None:
+        """Writes a trace, its report, and its explanation where there is one."""
+        files = {"trace": trace, "report": report, "explain": explanation}
+        self.write_files("traces", name, files)
+
+    def compile_program(
+        self, text: str = AUDITOR, flags: tuple[str, ...] = (), **other: str
+    ) -> None:
         """The right auditor, but for these macros."""
         macros = [f"-D{name}={value}" for name, value in {**RIGHT, **other}.items()]
         shutil.copy(auditor(text, *macros, *flags), self.program)
 
-    def assert_first_failure(self, text):
+    def assert_first_failure(self, text: str) -> None:
+        """The first failure that the runner prints begins so."""
         failure, *_others = self.lines(1)
         self.assertTrue(failure.startswith(f"FAILED {self.runner}: {text}"), failure)
 
@@ -183,86 +201,105 @@ class TrialCase(RunnerCase):
 class RefusalsTest(TrialCase):
     runner = "refusals"
 
-    def test_right_program(self):
+    def test_right_program(self) -> None:
         self.compile_program()
-        # Of 5 allocations and none, with all after them, on two traces to two subcommands, files, and a usage.
+        # Of 5 allocations and none, with all after them, on two traces to two subcommands, files,
+        # and a usage.
         self.assert_passes((2 * 5 + 1) * 6)
 
-    def test_longer_trace_is_refused_an_allocation_or_all_in_turns(self):
-        self.write_files("traces", "longer", {"trace": LONGER_TRACE, "report": REPORT})
+    def test_longer_trace_is_refused_an_allocation_or_all_in_turns(self) -> None:
+        self.write_trace("longer", LONGER_TRACE)
         self.compile_program()
         self.assert_passes((2 * 5 + 1) * 6 + (5 + 1) * 2)
         self.more = ("all",)
         self.assert_passes((2 * 5 + 1) * 8)
 
-    def test_program_that_ignores_a_refusal_on_a_longer_trace(self):
-        self.write_files("traces", "a-longer", {"trace": LONGER_TRACE, "report": REPORT})
+    def test_program_that_ignores_a_refusal_on_a_longer_trace(self) -> None:
+        self.write_trace("a-longer", LONGER_TRACE)
         self.compile_program(REFUSED='return report("unreadable\\n", 2)')
         of_the_trace = [line.split(":")[1] for line in self.lines(1) if " check a-longer " in line]
-        self.assertEqual(of_the_trace[:2], [
-            " check a-longer without allocation 1", " check a-longer from allocation 2 on without memory",
-        ])
+        self.assertEqual(
+            of_the_trace[:2],
+            [
+                " check a-longer without allocation 1",
+                " check a-longer from allocation 2 on without memory",
+            ],
+        )
 
-    def test_program_without_arguments(self):
+    def test_program_without_arguments(self) -> None:
         self.part = ("--traces",)
         self.compile_program(REFUSED="return 3")
         self.assert_passes((2 * 5 + 1) * 2)
 
-    def test_program_with_a_message_of_which_there_is_to_be_none(self):
+    def test_program_with_a_message_of_which_there_is_to_be_none(self) -> None:
         self.part = ("--traces",)
         self.compile_program()
-        self.assert_first_failure("check bad without allocation 1: status 3, wanted 1; standard error")
+        self.assert_first_failure(
+            "check bad without allocation 1: status 3, wanted 1; standard error"
+        )
 
-    def test_no_program(self):
+    def test_no_program(self) -> None:
         self.assert_fails(str(self.program))
 
-    def test_program_that_is_not_linked_with_the_library_at_run_time(self):
-        self.compile_program("int main(void) { return 0; }", flags=["-static"])
-        self.assertEqual(self.lines(1), [
-            f"FAILED {self.program}: the program is not linked with the C library at run time", "0 passed, 1 failed",
-        ])
+    def test_program_that_is_not_linked_with_the_library_at_run_time(self) -> None:
+        self.compile_program("int main(void) { return 0; }", flags=("-static",))
+        self.assertEqual(
+            self.lines(1),
+            [
+                f"FAILED {self.program}: the program is not linked with the C library at run time",
+                "0 passed, 1 failed",
+            ],
+        )
 
-    def test_program_that_allocates_nothing(self):
+    def test_program_that_allocates_nothing(self) -> None:
         self.compile_program(ALLOCATIONS="0")
         self.assert_first_failure("check bad: no run was out of memory")
 
-    def test_program_that_ignores_a_refusal(self):
+    def test_program_that_ignores_a_refusal(self) -> None:
         self.compile_program(REFUSED='return report("unreadable\\n", 2)')
-        self.assert_first_failure("check bad without allocation 1: status 2, wanted 1; standard output b'unreadable\\n', wanted ")
+        self.assert_first_failure(
+            "check bad without allocation 1: status 2, wanted 1; "
+            "standard output b'unreadable\\n', wanted "
+        )
 
-    def test_program_that_crashes(self):
+    def test_program_that_crashes(self) -> None:
         self.compile_program(REFUSED="*block = 1")
         self.assert_first_failure("check bad without allocation 1: status -11, wanted 1")
 
-    def test_program_that_writes_a_part_of_its_report(self):
-        self.compile_program(REFUSED='put(1, "refused\\n"); return fault("qaudit: out of memory", "")')
+    def test_program_that_writes_a_part_of_its_report(self) -> None:
+        self.compile_program(
+            REFUSED='put(1, "refused\\n"); return fault("qaudit: out of memory", "")'
+        )
         self.assert_first_failure("check bad without allocation 1: status 3")
 
-    def test_program_that_writes_a_part_of_its_report_by_another_call(self):
-        self.compile_program(REFUSED='dprintf(1, "refused\\n"); return fault("qaudit: out of memory", "")')
+    def test_program_that_writes_a_part_of_its_report_by_another_call(self) -> None:
+        self.compile_program(
+            REFUSED='dprintf(1, "refused\\n"); return fault("qaudit: out of memory", "")'
+        )
         self.assert_first_failure("check bad without allocation 1: status 3")
 
-    def test_program_that_explains_a_part_of_a_row(self):
+    def test_program_that_explains_a_part_of_a_row(self) -> None:
         part = 'put(1, explains ? "line 1" : ""); return fault("qaudit: out of memory", "")'
         self.compile_program(REFUSED=part)
         self.assert_first_failure("explain bad without allocation 1: status 3")
 
-    def test_program_that_says_nothing(self):
+    def test_program_that_says_nothing(self) -> None:
         self.compile_program(REFUSED="return 3")
         self.assert_first_failure("check bad without allocation 1: status 3, wanted 1")
 
 
-failing = script("failing")
+failing = script(FOLDER / "failing")
 
 
 class FailingTest(TrialCase):
     runner = "failing"
-    more = ("all",)
+    more: tuple[str, ...] = ("all",)
     other = "header-alone"
 
-    def test_right_program(self):
+    def test_right_program(self) -> None:
         self.compile_program()
-        # The last read of the first trace meets its end, and the second is read no further than its second line.
+        # The last read of the first trace meets its end, and the second is read no further than its
+        # second line.
         reads = (len(TRACE) + 2) * 2 + (len(b"a line\nbad\n") + 1) * 2
         writes = sum(len(text) + 1 for text in (REPORT, EXPLANATION, BAD_REPORT, BAD_EXPLANATION))
         self.assert_passes(2 * reads + 3 * writes + self.OF_FILES)
@@ -270,14 +307,14 @@ class FailingTest(TrialCase):
     # Of two files each read fails once, and each write.
     OF_FILES = 2 * (len(TRACE) + 1) + 2 * len(b"file a\n" + REPORT) + 1
 
-    def write_traces(self):
+    def write_traces(self) -> None:
         """One trace by each of the names that are tried where none is given."""
         self.more = ()
         names = failing.TRACES + failing.LONGER_TRACES
         for name in names:
-            self.write_files("traces", name, {"trace": TRACE, "report": REPORT, "explain": EXPLANATION})
+            self.write_trace(name, TRACE, REPORT, EXPLANATION)
 
-    def test_right_program_on_traces_that_are_not_named(self):
+    def test_right_program_on_traces_that_are_not_named(self) -> None:
         self.write_traces()
         self.compile_program()
         # The calls of each subcommand, and one that there is not.
@@ -285,109 +322,130 @@ class FailingTest(TrialCase):
         writes = [len(REPORT) + 1, len(EXPLANATION) + 1]
         thirds = sum(len(range(1, calls, 3)) + 1 for calls in reads + writes)
         short, longer = len(failing.TRACES), len(failing.LONGER_TRACES)
-        self.assert_passes(short * (2 * sum(reads) + 3 * sum(writes)) + longer * thirds + self.OF_FILES)
+        self.assert_passes(
+            short * (2 * sum(reads) + 3 * sum(writes)) + longer * thirds + self.OF_FILES
+        )
 
-    def test_ways_take_turns_on_a_longer_trace(self):
+    def test_ways_take_turns_on_a_longer_trace(self) -> None:
         self.write_traces()
         self.compile_program(GOES_ON_WRITING="errno == EINTR")
-        of_the_trace = [line.split(":")[1] for line in self.lines(1) if " check first-loss where " in line]
+        of_the_trace = [
+            line.split(":")[1] for line in self.lines(1) if " check first-loss where " in line
+        ]
         interrupted = range(4, len(REPORT) + 1, 3 * 3)
-        self.assertEqual(of_the_trace, [f" check first-loss where write {number} is interrupted" for number in interrupted])
+        self.assertEqual(
+            of_the_trace,
+            [f" check first-loss where write {number} is interrupted" for number in interrupted],
+        )
 
-    def test_program_without_arguments(self):
+    def test_program_without_arguments(self) -> None:
         self.part = ("--traces",)
         self.compile_program()
-        self.assert_first_failure("check bad where write 1 fails: standard error b'qaudit: write fault\\n', wanted b''")
+        self.assert_first_failure(
+            "check bad where write 1 fails: standard error b'qaudit: write fault\\n', wanted b''"
+        )
 
-    def test_program_that_writes_on(self):
+    def test_program_that_writes_on(self) -> None:
         self.compile_program(GOES_ON_WRITING="1")
         self.assert_first_failure("check bad where write 1 fails: status 1, wanted 3")
 
-    def test_program_that_writes_again_after_an_interruption(self):
+    def test_program_that_writes_again_after_an_interruption(self) -> None:
         self.compile_program(GOES_ON_WRITING="count < 0 && errno == EINTR")
         self.assert_first_failure("check bad where write 1 is interrupted: status 1, wanted 3")
 
-    def test_program_that_writes_again_where_no_byte_was_taken(self):
+    def test_program_that_writes_again_where_no_byte_was_taken(self) -> None:
         self.compile_program(GOES_ON_WRITING="count == 0")
         self.assert_first_failure("check bad where write 1 takes no byte: status 1, wanted 3")
 
-    def test_program_that_reads_again_after_an_interruption(self):
+    def test_program_that_reads_again_after_an_interruption(self) -> None:
         self.compile_program(GOES_ON_READING="errno == EINTR")
         self.assert_first_failure("check bad where read 1 is interrupted: status 1, wanted 3")
 
-    def test_program_that_takes_a_fault_for_the_end(self):
+    def test_program_that_takes_a_fault_for_the_end(self) -> None:
         self.compile_program(IGNORES_FAULTS="1")
         self.assert_first_failure("check bad where read 1 fails: status 0, wanted 3")
 
-    def test_program_that_reads_on_after_the_verdict(self):
+    def test_program_that_reads_on_after_the_verdict(self) -> None:
         self.compile_program(READS_ON="read(0, piece, 1)")
         self.assert_first_failure("check bad where read 12 fails: status 1, wanted 3")
 
-    def test_program_that_explains_a_line_before_its_end(self):
-        self.compile_program(AT_EACH_PIECE='if (explains && length == 5 && !memcmp(line, "a lin", 5)) row(1)')
+    def test_program_that_explains_a_line_before_its_end(self) -> None:
+        self.compile_program(
+            AT_EACH_PIECE='if (explains && length == 5 && !memcmp(line, "a lin", 5)) row(1)'
+        )
         self.assert_first_failure("explain bad where write ")
 
-    def test_program_that_stops_at_a_file(self):
+    def test_program_that_stops_at_a_file(self) -> None:
         self.compile_program(STOPS="1")
-        self.assert_first_failure("check a b where read 1 fails: standard output b'file a\\n', wanted b'file a\\nfile b\\n")
+        self.assert_first_failure(
+            "check a b where read 1 fails: "
+            "standard output b'file a\\n', wanted b'file a\\nfile b\\n"
+        )
 
-    def test_program_that_goes_on_to_another_file_after_a_failed_write(self):
+    def test_program_that_goes_on_to_another_file_after_a_failed_write(self) -> None:
         self.compile_program(STOPS="0")
-        self.assert_first_failure("check a b where write 8 fails: standard output b'file a\\nfile b\\n")
+        self.assert_first_failure(
+            "check a b where write 8 fails: standard output b'file a\\nfile b\\n"
+        )
 
 
 class CutsTest(TrialCase):
     runner = "cuts"
 
-    def test_right_program(self):
+    def test_right_program(self) -> None:
         self.compile_program()
         self.assert_passes(len(TRACE) - 1 + 2 + len(BAD_TRACE) - 1 + 2)
 
-    def test_right_program_on_named_traces(self):
+    def test_right_program_on_named_traces(self) -> None:
         self.more = ("bad",)
         self.compile_program()
         self.assert_passes(2 * (len(BAD_TRACE) - 1 + 2))
 
-    def of_others(self):
+    def of_others(self) -> int:
         """How often the two other traces are run where none is named."""
         return len(TRACE) - 1 + 2 + len(BAD_TRACE) - 1 + 2
 
-    def test_longer_trace_is_cut_around_each_lf_and_at_each_seventeenth_place(self):
-        self.write_files("traces", "longer", {"trace": LONGER_TRACE, "report": REPORT})
+    def test_longer_trace_is_cut_around_each_lf_and_at_each_seventeenth_place(self) -> None:
+        self.write_trace("longer", LONGER_TRACE)
         self.compile_program()
         length = len(LONGER_TRACE)
-        places = {*range(17, length, 17), *(end + by for end in range(60, length, 60) for by in (-1, 0, 1)), length - 1}
+        places = {
+            *range(17, length, 17),
+            *(end + by for end in range(60, length, 60) for by in (-1, 0, 1)),
+            length - 1,
+        }
         self.assert_passes(self.of_others() + len(places) + 2)
         self.more = ("longer",)
         self.assert_passes(2 * (length - 1 + 2))
 
-    def test_long_trace_is_cut_around_each_lf(self):
-        self.write_files("traces", "long", {"trace": LONG_TRACE, "report": REPORT})
+    def test_long_trace_is_cut_around_each_lf(self) -> None:
+        self.write_trace("long", LONG_TRACE)
         self.compile_program()
         # Around the LF of each `a` line, and of the last two bytes before the end.
         self.assert_passes(self.of_others() + 3 * 80 + 2 + 2)
         self.more = ("long",)
-        # Each place of the blank lines too: the first lies behind an `a` line, and the last before `b`.
+        # Each place of the blank lines too: the first lies behind an `a` line, and the last before
+        # `b`.
         self.assert_passes(2 * (3 * 80 + 2 * 20 + 1 + 2))
 
-    def test_trace_of_hundred_thousand_bytes_is_cut_where_it_is_named(self):
-        self.write_files("traces", "long", {"trace": LONG_TRACE * 21, "report": REPORT})
+    def test_trace_of_hundred_thousand_bytes_is_cut_where_it_is_named(self) -> None:
+        self.write_trace("long", LONG_TRACE * 21)
         self.compile_program()
         self.assert_passes(self.of_others() + 2)
 
-    def test_program_that_loses_what_stood_before_a_cut(self):
+    def test_program_that_loses_what_stood_before_a_cut(self) -> None:
         self.compile_program(AT_EACH_PIECE="length = 0")
         self.assert_first_failure("check bad byte by byte: status 0, wanted 1")
 
-    def test_program_that_loses_it_at_one_place(self):
+    def test_program_that_loses_it_at_one_place(self) -> None:
         self.compile_program(AT_EACH_PIECE="if (read_now == 9) length = 0")
         self.assert_first_failure("check bad at 9: status 0, wanted 1")
 
-    def test_program_that_reads_on_after_the_verdict(self):
+    def test_program_that_reads_on_after_the_verdict(self) -> None:
         self.compile_program(READS_ON="read(0, piece, 1)")
         self.assert_first_failure("check bad uncut: 2 reads, wanted 1")
 
-    def test_program_that_writes_in_parts(self):
+    def test_program_that_writes_in_parts(self) -> None:
         self.compile_program(WRITES="20")
         self.assert_first_failure("check bad uncut: 2 writes, wanted 1")
 

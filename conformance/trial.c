@@ -23,12 +23,12 @@
 struct trial {
     long refused_from;
     long refused_to;
-    long read_most;
+    long max_read;
     /* How many bytes of the input a read may bring up to, and only a later one may go on from. */
     long read_cut;
-    long read_fails;
-    long write_most;
-    long write_fails;
+    long failing_read;
+    long max_write;
+    long failing_write;
     /* The error of a read or a write that fails; where it is 0 such a call moves no byte. */
     long error;
 };
@@ -47,7 +47,7 @@ struct answer {
     struct counts counts;
 };
 
-enum { SECONDS = 60, MOST_INPUT = 1 << 30, MOST_OUTPUT = 1 << 26 };
+enum { SECONDS = 60, MAX_INPUT = 1 << 30, MAX_OUTPUT = 1 << 26 };
 
 static struct trial trial;
 static struct counts *counts;
@@ -130,10 +130,10 @@ __attribute__((constructor)) static void hold(void)
     if (!descriptors || sscanf(descriptors, "%d %d %d %d %d", &requests, &answers, &files[0], &files[1], &files[2]) != 5)
         return;
     struct counts *shared = mapped(sizeof *counts, PROT_READ | PROT_WRITE, MAP_ANONYMOUS, -1);
-    input = mapped(MOST_INPUT, PROT_READ, 0, files[0]);
-    if (ftruncate(files[1], MOST_OUTPUT) < 0)
+    input = mapped(MAX_INPUT, PROT_READ, 0, files[0]);
+    if (ftruncate(files[1], MAX_OUTPUT) < 0)
         stop("ftruncate");
-    output = mapped(MOST_OUTPUT, PROT_READ | PROT_WRITE, 0, files[1]);
+    output = mapped(MAX_OUTPUT, PROT_READ | PROT_WRITE, 0, files[1]);
     unsetenv("LD_PRELOAD");
     unsetenv("TRIAL_DESCRIPTORS");
     counts = shared;
@@ -200,9 +200,9 @@ int posix_memalign(void **block, size_t alignment, size_t size)
     return is_refused() ? ENOMEM : allocate(block, alignment, size);
 }
 
-static size_t least(size_t size, long most)
+static size_t least(size_t size, long maximum)
 {
-    return most > 0 && (size_t)most < size ? (size_t)most : size;
+    return maximum > 0 && (size_t)maximum < size ? (size_t)maximum : size;
 }
 
 static size_t at_most(size_t size, long room)
@@ -230,7 +230,7 @@ static ssize_t take(char *bytes, size_t size)
 /* A write to standard output. */
 static ssize_t put(const char *bytes, size_t size)
 {
-    size = at_most(size, MOST_OUTPUT - counts->written);
+    size = at_most(size, MAX_OUTPUT - counts->written);
     memcpy(output + counts->written, bytes, size);
     counts->written += size;
     return size;
@@ -240,9 +240,9 @@ ssize_t read(int file, void *bytes, size_t size)
 {
     if (!counts)
         return syscall(SYS_read, file, bytes, size);
-    if (++counts->reads == trial.read_fails)
+    if (++counts->reads == trial.failing_read)
         return failed();
-    size = least(size, trial.read_most);
+    size = least(size, trial.max_read);
     return file == STDIN_FILENO ? take(bytes, size) : syscall(SYS_read, file, bytes, size);
 }
 
@@ -250,7 +250,7 @@ ssize_t write(int file, const void *bytes, size_t size)
 {
     if (!counts || file != STDOUT_FILENO)
         return syscall(SYS_write, file, bytes, size);
-    if (++counts->writes == trial.write_fails)
+    if (++counts->writes == trial.failing_write)
         return failed();
-    return put(bytes, least(size, trial.write_most));
+    return put(bytes, least(size, trial.max_write));
 }

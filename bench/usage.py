@@ -8,14 +8,15 @@ import sys
 import tempfile
 import time
 from pathlib import Path
-from typing import List, NamedTuple
+from typing import NamedTuple
 
 # Between two looks at the memory of a program that runs.
 MILLISECONDS_OF_A_LOOK = 2
 
 
 class Usage(NamedTuple):
-    """What a run took: seconds of processor time, seconds by the clock, and kibibytes of memory at most."""
+    """What a run took: seconds of processor time, seconds by the clock, and the peak of its memory
+    in kibibytes."""
 
     seconds: float
     wall_seconds: float
@@ -44,9 +45,11 @@ def peak_of(process: int) -> int:
 
 
 def peak_until_end(process: int) -> int:
-    """Waits for the end of a child, which can still be waited for then, and returns its peak of resident memory.
+    """Waits for the end of a child, which can still be waited for then, and returns its peak of
+    resident memory.
 
-    That is looked up while the child runs, since that of `wait4` counts this program's memory from before the start."""
+    That is looked up while the child runs, since that of `wait4` counts this program's memory from
+    before the start."""
     peak = peak_of(process)
     handle = os.pidfd_open(process)
     ends = select.poll()
@@ -57,7 +60,7 @@ def peak_until_end(process: int) -> int:
     return peak
 
 
-def used_by(child: subprocess.Popen, start: float) -> Usage:
+def used_by(child: subprocess.Popen[bytes], start: float) -> Usage:
     """Waits for a program and returns what it took since its start."""
     peak = peak_until_end(child.pid)
     wall_seconds = time.perf_counter() - start
@@ -66,7 +69,7 @@ def used_by(child: subprocess.Popen, start: float) -> Usage:
     return Usage(usage.ru_utime + usage.ru_stime, wall_seconds, peak)
 
 
-def run(command: List[str]) -> Run:
+def run(command: list[str]) -> Run:
     """Runs a program and keeps what it writes to standard output."""
     with tempfile.TemporaryFile() as output:
         start = time.perf_counter()
@@ -76,7 +79,7 @@ def run(command: List[str]) -> Run:
         return Run(child.returncode, output.read().decode(errors="replace"), usage)
 
 
-def run_to_nowhere(command: List[str]) -> Run:
+def run_to_nowhere(command: list[str]) -> Run:
     """Runs a program whose standard output is /dev/null."""
     start = time.perf_counter()
     child = subprocess.Popen(command, stdin=subprocess.DEVNULL, stdout=subprocess.DEVNULL)
