@@ -6,3 +6,4 @@ pub mod Ranges
 pub mod Steps
 pub mod PtoCount
 pub mod WindowBound
+pub mod Powers

@@ -5,3 +5,4 @@ pub mod Names
 pub mod Settings
 pub mod Events
 pub mod Kinds
+pub mod PerSpace

@@ -1,12 +1,16 @@
 //! What a sender did, one event a line.
-ghost use Rattle.std.specs.Prelude.{◌≡◌, IfOk};
-ghost use Rattle.qa_base.specs.values.Events.{fits as fits_of};
+ghost use Rattle.std.specs.Prelude.{List, ◌≡◌, ◌≤◌, ◌∷◌, IfOk};
+ghost use Rattle.qa_base.specs.declared.event.Event.{Event as AnEvent};
+ghost use Rattle.qa_base.specs.machine.Reno.{is_app_limited};
+ghost use Rattle.qa_base.specs.machine.Timer as timers;
+ghost use Rattle.qa_base.specs.values.Events.{fits as fits_of, time_of};
+ghost use Rattle.qa_base.specs.values.Limits.{max_time};
 ghost use Rattle.qa_base.specs.values.Kinds.{event_kind};
 
 use crate::limits::MAX_PACKET_SIZE;
 use crate::line_kind::LineKind;
 use crate::number::{Micros, PacketNumber, Spans};
-use crate::space::{Kind, Leave, Space};
+use crate::space::{Leave, Space, TimerKind};
 use std::alloc::{AllocError, Global};
 
 /// What a sender reports of its own state, each value where it reports it.
@@ -43,7 +47,7 @@ pub enum Event {
         space: Space,
         ranges: Spans,
         delay: u64,
-        limited: bool,
+        app_limited: bool,
     },
     /// The sender declared packets lost (A.10).
     Lost {
@@ -54,7 +58,7 @@ pub enum Event {
     /// The loss detection timer fired (A.9).
     Timer {
         time: Micros,
-        kind: Kind,
+        kind: TimerKind,
         space: Space,
     },
     /// The keys of a space were discarded, and with them its packets (6.4).
@@ -78,6 +82,48 @@ pub enum Event {
 }
 
 impl Event {
+    /// When it happened.
+    pub fn time(&self) -> Micros
+        ensures value { result ≡ time_of self.now }
+        ensures range { time_of self.now ≤ max_time }
+    {
+        let time = match self {
+            Event::Sent { time, .. }
+            | Event::Ack { time, .. }
+            | Event::Lost { time, .. }
+            | Event::Timer { time, .. }
+            | Event::Discard { time, .. }
+            | Event::Confirmed { time }
+            | Event::Keys { time }
+            | Event::Metrics { time, .. } => time,
+        };
+        Micros::of(time.get())
+    }
+
+    /// Whether it is a probe timeout (RFC 9002, section 6.2.1).
+    pub fn is_pto(&self) -> bool
+        ensures { (h : List AnEvent) → result ≡ timers.is_pto (self.now ∷ h) }
+    {
+        matches!(
+            self,
+            Event::Timer {
+                kind: TimerKind::Pto,
+                ..
+            }
+        )
+    }
+
+    /// Whether it is an acknowledgment that came while the sender did not use the window that it had
+    /// (RFC 9002, section 7.8).
+    pub fn is_app_limited(&self) -> bool
+        ensures { result ≡ is_app_limited self.now }
+    {
+        match self {
+            Event::Ack { app_limited, .. } => *app_limited,
+            _ => false,
+        }
+    }
+
     /// Whether the event is one that a line of a trace can say: a packet has 1 to 65527 bytes and
     /// is in flight if it is ack-eliciting, a list of ranges is not empty, and a discarded space is
     /// not the application's.
@@ -144,13 +190,13 @@ impl Event {
                 space,
                 ranges,
                 delay,
-                limited,
+                app_limited,
             } => Event::Ack {
                 time: *time,
                 space: *space,
                 ranges: ranges.duplicate(alloc)?,
                 delay: *delay,
-                limited: *limited,
+                app_limited: *app_limited,
             },
             Event::Lost {
                 time,

@@ -9,9 +9,8 @@ use crate::constants::{
 };
 use crate::key::{Key, RangeFault};
 use crate::limits::{
-    GREATEST_INITIAL_RTT, GREATEST_INITIAL_WINDOW, GREATEST_MAX_ACK_DELAY,
-    GREATEST_REPORT_SLACK_BYTES, GREATEST_REPORT_SLACK_US, GREATEST_TIMER_LATE,
-    LEAST_DATAGRAM_SIZE, MAX_PACKET_SIZE,
+    MAX_INITIAL_RTT, MAX_INITIAL_WINDOW, MAX_MAX_ACK_DELAY, MAX_PACKET_SIZE,
+    MAX_REPORT_SLACK_BYTES, MAX_REPORT_SLACK_US, MAX_TIMER_LATE, MIN_DATAGRAM_SIZE,
 };
 use crate::space::Role;
 use std::marker::Model;
@@ -136,20 +135,20 @@ impl Header {
     ) -> Result<Header, RangeFault>
         ensures { result ≡ settings_of role max_datagram_size max_ack_delay initial_rtt initial_window }
     {
-        if max_datagram_size < LEAST_DATAGRAM_SIZE || MAX_PACKET_SIZE < max_datagram_size {
+        if max_datagram_size < MIN_DATAGRAM_SIZE || MAX_PACKET_SIZE < max_datagram_size {
             return Err(RangeFault(Key::MaxDatagramSize));
         }
         let max_ack_delay = max_ack_delay.unwrap_or(DEFAULT_MAX_ACK_DELAY);
-        if GREATEST_MAX_ACK_DELAY < max_ack_delay {
+        if MAX_MAX_ACK_DELAY < max_ack_delay {
             return Err(RangeFault(Key::MaxAckDelay));
         }
         let initial_rtt = initial_rtt.unwrap_or(DEFAULT_INITIAL_RTT);
-        if initial_rtt < 1 || GREATEST_INITIAL_RTT < initial_rtt {
+        if initial_rtt < 1 || MAX_INITIAL_RTT < initial_rtt {
             return Err(RangeFault(Key::InitialRtt));
         }
         let initial_window = initial_window.unwrap_or(default_window(max_datagram_size));
         if initial_window < minimum_window(max_datagram_size)
-            || GREATEST_INITIAL_WINDOW < initial_window
+            || MAX_INITIAL_WINDOW < initial_window
         {
             return Err(RangeFault(Key::InitialWindow));
         }
@@ -171,13 +170,13 @@ impl Header {
     pub fn with(self, options: Options) -> Result<Header, RangeFault>
         ensures { result ≡ with_options self options }
     {
-        if GREATEST_TIMER_LATE < options.timer_late.unwrap_or(0) {
+        if MAX_TIMER_LATE < options.timer_late.unwrap_or(0) {
             return Err(RangeFault(Key::TimerLateUs));
         }
-        if GREATEST_REPORT_SLACK_US < options.report_slack_us {
+        if MAX_REPORT_SLACK_US < options.report_slack_us {
             return Err(RangeFault(Key::ReportSlackUs));
         }
-        if GREATEST_REPORT_SLACK_BYTES < options.report_slack_bytes {
+        if MAX_REPORT_SLACK_BYTES < options.report_slack_bytes {
             return Err(RangeFault(Key::ReportSlackBytes));
         }
         Ok(Header {

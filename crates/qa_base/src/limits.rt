@@ -5,22 +5,25 @@
 pub const MAX_PACKET_SIZE: u64 = 65527;
 
 /// The least maximum datagram size, in bytes (RFC 9000, section 14).
-pub const LEAST_DATAGRAM_SIZE: u64 = 1200;
+pub const MIN_DATAGRAM_SIZE: u64 = 1200;
 
 /// The greatest `max_ack_delay`, 2^14 - 1 milliseconds, in microseconds (RFC 9000, section 18.2).
-pub const GREATEST_MAX_ACK_DELAY: u64 = 16_383_000;
+pub const MAX_MAX_ACK_DELAY: u64 = 16_383_000;
 
 /// The greatest initial RTT, 1,000 seconds, in microseconds.
-pub const GREATEST_INITIAL_RTT: u64 = 1_000_000_000;
+pub const MAX_INITIAL_RTT: u64 = 1_000_000_000;
 
 /// The greatest initial window, 2^32 - 1 bytes.
-pub const GREATEST_INITIAL_WINDOW: u64 = 4_294_967_295;
+pub const MAX_INITIAL_WINDOW: u64 = 4_294_967_295;
 
 /// The greatest limit for how late a timer may be, 10^15 microseconds.
-pub const GREATEST_TIMER_LATE: u64 = 1_000_000_000_000_000;
+pub const MAX_TIMER_LATE: u64 = 1_000_000_000_000_000;
 
 /// The greatest slack of reported times, 1,000 seconds, in microseconds.
-pub const GREATEST_REPORT_SLACK_US: u64 = 1_000_000_000;
+pub const MAX_REPORT_SLACK_US: u64 = 1_000_000_000;
+
+/// The most lines of a trace, 2^32 - 1.
+pub const MAX_LINES: u64 = 4_294_967_295;
 
 /// The greatest slack of reported bytes, 2^32 - 1.
-pub const GREATEST_REPORT_SLACK_BYTES: u64 = 4_294_967_295;
+pub const MAX_REPORT_SLACK_BYTES: u64 = 4_294_967_295;

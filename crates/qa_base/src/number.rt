@@ -1,5 +1,6 @@
 //! Numbers in their ranges, and ranges of packet numbers.
 ghost use Rattle.std.specs.Prelude.{◌≡◌, ◌≤◌, [], ◌∷◌, ◌++◌, IfOk, OnOk, OnErr, nat_le, Some, None, if◌then◌else◌};
+ghost use Rattle.qa_base.specs.machine.Packets as packets;
 ghost use Rattle.qa_base.specs.values.Limits.{max_time, max_packet_number, in_range};
 
 use std::alloc::{AllocError, Global};
@@ -212,6 +213,17 @@ impl Spans {
     {
         let items = Vec::from_slice(alloc, self.as_slice())?;
         Ok(Spans { items })
+    }
+
+    /// The greatest number of the spans; 0 where there is none.
+    pub fn greatest(&self) -> PacketNumber
+        ensures { result ≡ packets.greatest self.now }
+    {
+        let mut most = PacketNumber { value: 0 };
+        for span in self.as_slice() {
+            most = span.hi().max(most);
+        }
+        most
     }
 
     /// The spans in their order.

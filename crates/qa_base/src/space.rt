@@ -102,19 +102,19 @@ impl Leave {
 /// What the loss detection timer fires for (RFC 9002, A.8): a packet old enough to be lost, or a
 /// probe timeout.
 #[derive(Clone, Copy, PartialEq, Eq)]
-pub enum Kind {
+pub enum TimerKind {
     Loss,
     Pto,
 }
 
-impl Kind {
+impl TimerKind {
     /// The kind of this name: `loss` or `pto`; None for any other string.
-    pub fn named(text: &str) -> Option<Kind>
+    pub fn named(text: &str) -> Option<TimerKind>
         ensures { result ≡ kind_named text.now }
     {
         match text {
-            "loss" => Some(Kind::Loss),
-            "pto" => Some(Kind::Pto),
+            "loss" => Some(TimerKind::Loss),
+            "pto" => Some(TimerKind::Pto),
             _ => None,
         }
     }
@@ -124,8 +124,8 @@ impl Kind {
         ensures { result.now ≡ kind_name self }
     {
         match self {
-            Kind::Loss => "loss",
-            Kind::Pto => "pto",
+            TimerKind::Loss => "loss",
+            TimerKind::Pto => "pto",
         }
     }
 }

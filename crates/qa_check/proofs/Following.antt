@@ -1,6 +1,6 @@
 -- What lines and pieces do to the lines of the bytes so far.
-use Rattle.std.proofs.Common.{◌≡◌, ◌∙◌, ◌+◌, ◌<◌, ◌≤◌, ◌⊎◌, inl, inr, ℕ, List, [], ◌∷◌, ◌++◌, length, Bool, true, false, Option, Some, None, Result, Ok, Err, length-append, append_assoc, refl, sym, ap, arith}
-use Rattle.std.specs.Prelude.{OnOk, is_some}
+use Rattle.std.proofs.Common.{◌≡◌, ◌∙◌, ◌+◌, ◌<◌, ◌≤◌, ◌⊎◌, inl, inr, ℕ, List, [], ◌∷◌, ◌++◌, length, Bool, true, false, Option, Some, None, length-append, append_assoc, sym, ap, arith}
+use Rattle.std.specs.Prelude.{is_some}
 use Rattle.std.proofs.lemmas.List.{append-nil}
 use Rattle.qa_format.specs.declared.verdict.Verdict.{Verdict}
 use Rattle.qa_format.specs.format.Lines.{has_lf, line_limit, cut, ended_lines, unended, lines, ended, IsShortLine}
@@ -12,8 +12,6 @@ use Rattle.qa_format.proofs.verdicts.Rows.{rows_by}
 use Rattle.qa_format.proofs.verdicts.Stops.{good_are_few}
 use Rattle.qa_format.specs.verdicts.Explain.{rows_of}
 use Rattle.qa_split.specs.Stream.{Stream, IsFirstLine, IsLastLine, BeginsTooLong}
-use Rattle.qa_check.specs.declared.checker.Stop.{Stop}
-use Rattle.qa_check.specs.declared.checker.Stop.TheVariants.{Decided, OutOfMemory}
 use Rattle.qa_check.specs.Following.{FollowsBy, AnswersBy}
 
 -- how a splitter took a line off its bytes
@@ -88,12 +86,6 @@ pub answer_none : (P : List (List ℕ) → Type 0) (rest : List ℕ) → rest �
 answer_none P rest h bytes f =
     let all : lines bytes ≡ f.0 = lines_at_lf f.0 rest bytes f.3 f.4 h in
     (f.0, f.1, ap (verdict_of reading) (sym all), ap (rows_of reading) (sym all))
-
--- a line was taken, good or not
-pub either : {G B X : Type 0} (r : Result (Unit {0}) Stop) → (r ≡ Err OutOfMemory → ⊥) → OnOk r G → (r ≡ Err Decided → B) → (G → X) → (B → X) → X
-either (Ok u) never g b f k = f g
-either (Err Decided) never g b f k = k (b refl)
-either (Err OutOfMemory) never g b f k = absurd (never refl)
 
 -- ---- a piece
 

@@ -4,3 +4,5 @@ pub mod Growing
 pub mod Following
 pub mod Reading
 pub mod Writing
+pub mod LinesTaken
+pub mod Fed

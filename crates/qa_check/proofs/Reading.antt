@@ -3,12 +3,11 @@ use Rattle.std.proofs.Common.{◌≡◌, ◌∙◌, ◌+◌, ◌-◌, ◌≤◌,
 use Rattle.std.specs.Prelude.{⊤}
 use Rattle.std.proofs.lemmas.List.{append-nil, take_rest, take-take, drop-take}
 use Rattle.std.proofs.KnownBytes.{Appends-trans, Consumes-trans}
-use Rattle.std.specs.Io.KnownBytes.{Appends, Consumes, IsAtEnd, Keeps}
-use Rattle.qa_format.specs.declared.verdict.Verdict.{Verdict}
+use Rattle.std.specs.Io.KnownBytes.{Appends, Consumes, Keeps}
 use Rattle.qa_format.specs.format.Reading.{reading}
 use Rattle.qa_format.specs.verdicts.Verdict.{verdict, IsFixed}
 use Rattle.qa_format.proofs.verdicts.Fixed.{fixed_stays}
-use Rattle.qa_check.specs.Audit.{Reads, ReadsEnough, JudgesRead, IsReadNoFurther}
+use Rattle.qa_check.specs.Audit.{Reads, ReadsEnough, IsReadNoFurther}
 use Rattle.qa_check.specs.Failures.{failures_after, write_failed}
 
 -- ---- reading
@@ -45,15 +44,6 @@ reads_nothing a b c bytes piece n h k zero =
     let none : take n piece ≡ [] = ap (λ m. take m piece) zero in
     let rest : Consumes b c [] = rw none at k in
     rw append-nil at (Consumes-trans a b c bytes [] h rest)
-
-pub judge_end : (a c : Option (List ℕ)) (bytes : List ℕ) (v : Verdict) → Consumes a c bytes → IsAtEnd c → (IsFixed reading bytes → ⊥)
-    → v ≡ verdict reading bytes → JudgesRead a c v
-judge_end a c bytes v h end open_yet e = (bytes, (h, inl end, open_read bytes open_yet), e)
-
-pub judge_fixed : (a b c : Option (List ℕ)) (bytes piece : List ℕ) (v : Verdict) → Consumes a b bytes → Consumes b c piece
-    → IsFixed reading (bytes ++ piece) → length piece ≤ 4096 → (IsFixed reading bytes → ⊥) → v ≡ verdict reading (bytes ++ piece) → JudgesRead a c v
-judge_fixed a b c bytes piece v h k fixed short open_yet e =
-    (bytes ++ piece, (Consumes-trans a b c bytes piece h k, inr fixed, (bytes, piece, refl, short, open_yet)), e)
 
 -- what was read has the verdict of all the bytes that a reader tells
 pub told_verdict : (old new : Option (List ℕ)) (read bytes : List ℕ) → old ≡ Some bytes → ReadsEnough old new read → verdict reading bytes ≡ verdict reading read

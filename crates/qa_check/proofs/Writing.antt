@@ -1,27 +1,22 @@
 -- What lines and pieces do to the rows that were written.
-use Rattle.std.proofs.Common.{◌≡◌, ◌∙◌, ◌+◌, ℕ, List, [], ◌∷◌, ◌++◌, length, take, drop, Bool, false, ◌⊎◌, inl, inr, Option, Some, None, Result, Ok, Err, OnOk, OnErr, length-append, append_assoc, take-append-drop, refl, sym, ap}
-use Rattle.std.specs.Prelude.{option_map, IsSome}
+use Rattle.std.proofs.Common.{◌≡◌, ◌∙◌, ◌+◌, ℕ, List, [], ◌∷◌, ◌++◌, length, take, drop, Bool, false, ◌⊎◌, inl, inr, Option, Some, None, Result, Ok, Err, OnErr, length-append, append_assoc, take-append-drop, refl, sym, ap}
+use Rattle.std.specs.Prelude.{IsSome}
 use Rattle.std.proofs.lemmas.List.{append-nil}
 use Rattle.std.proofs.KnownBytes.{Appends-nil, Appends-trans}
 use Rattle.std.specs.Io.KnownBytes.{Appends, Consumes, IsAtEnd}
 use Rattle.std.specs.List.{AllByRecursion}
 use Rattle.qa_base.specs.declared.event.Event.{Event}
 use Rattle.qa_base.specs.declared.line_kind.LineKind.{LineKind}
-use Rattle.qa_base.specs.declared.totals.Totals.{Totals}
 use Rattle.qa_format.specs.declared.verdict.Verdict.{Verdict}
 use Rattle.qa_format.specs.format.Lines.{has_lf, ended_lines, unended, last_line, lines, ended, IsShortLine}
 use Rattle.qa_format.specs.format.Reading.{reading}
 use Rattle.qa_base.specs.machine.Packets.{history_of}
-use Rattle.qa_base.specs.machine.State.{totals}
 use Rattle.qa_base.specs.values.Settings.{Settings}
-use Rattle.qa_format.specs.verdicts.Explain.{row, row_of, kind_said, row_after, rows_of, rows, explain}
+use Rattle.qa_format.specs.verdicts.Explain.{row_of, kind_said, row_after, rows_of, rows, explain}
 use Rattle.qa_format.specs.verdicts.Report.{report}
 use Rattle.qa_format.specs.verdicts.Verdict.{verdict, first_stop, header_in, events_in, AreGood, AreDecided, IsFixed}
 use Rattle.qa_format.proofs.verdicts.Cuts.{Cut, cut_ended, cut_without_lf, ended_snoc, short_snoc, lines_at_end}
 use Rattle.qa_format.proofs.verdicts.Rows.{rows_begin, rows_of_fixed, rows_of-snoc, rows_same, explanation_begins, explanation_stays}
-use Rattle.qa_check.specs.declared.auditing.AuditFault.{AuditFault}
-use Rattle.qa_check.specs.declared.explaining.Progress.{Progress}
-use Rattle.qa_check.specs.declared.explaining.Progress.TheVariants.{Open as IsOpen, Fixed}
 use Rattle.qa_check.specs.declared.auditing.Outcome.{Outcome}
 use Rattle.qa_check.specs.Audit.{ReadsEnough, outcome_of}
 use Rattle.qa_check.proofs.Reading.{told_verdict}
@@ -48,25 +43,6 @@ begins_behind a b c front text before (begun, rest, parts, written) =
 pub begins_longer : (a b : Option (List ℕ)) (text longer more : List ℕ) → longer ≡ text ++ more → Begins a b text → Begins a b longer
 begins_longer a b text longer more is (begun, rest, parts, written) =
     (begun, rest ++ more, is ∙ (ap (λ k. k ++ more) parts ∙ append_assoc begun rest more), written)
-
--- ---- a row
-
--- with a header, it is the row of the state
-pub one_row : (n : ℕ) (kind : LineKind) (o : Option Totals) (t : Totals) (text : List ℕ) → o ≡ Some t → text ≡ row n kind t
-    → (header : Option Settings) (h : List Event) → o ≡ option_map (λ c. totals c h) header → row_of n (Some kind) header h ≡ text
-one_row n kind o t text some is None h says = cc
-one_row n kind o t text some is (Some c) h says =
-    let same : t ≡ totals c h = some_of (sym some ∙ says) in
-    sym (is ∙ ap (row n kind) same)
-  where
-    some_of : {x y : Totals} → Some x ≡ Some y → x ≡ y
-    some_of e = cc
-
--- it was begun
-pub row_begins : (n : ℕ) (kind : LineKind) (o : Option Totals) (t : Totals) (text : List ℕ) (a b : Option (List ℕ)) → o ≡ Some t → text ≡ row n kind t
-    → (m : ℕ) × Appends a b (take m text)
-    → (header : Option Settings) (h : List Event) → o ≡ option_map (λ c. totals c h) header → Begins a b (row_of n (Some kind) header h)
-row_begins n kind o t text a b some is taken header h says = rw (one_row n kind o t text some is header h says) (begins_taken a b text taken)
 
 -- ---- a line
 
@@ -138,7 +114,7 @@ nothing_shown stands held start stands_for = ([], (stands_for, Appends-nil start
 ended_are : (ls : List (List ℕ)) (rest bytes : List ℕ) → bytes ≡ ended ls ++ rest → AllByRecursion IsShortLine ls → ended_lines bytes ≡ ls ++ ended_lines rest
 ended_are ls rest bytes parts short = ap ended_lines parts ∙ ap (λ (p : Cut). p.0) (cut_ended ls rest short)
 
-rows_begin_at : (start now : Option (List ℕ)) (ls more all : List (List ℕ)) → all ≡ ls ++ more → Begins start now (rows_of reading ls) → Begins start now (rows_of reading all)
+pub rows_begin_at : (start now : Option (List ℕ)) (ls more all : List (List ℕ)) → all ≡ ls ++ more → Begins start now (rows_of reading ls) → Begins start now (rows_of reading all)
 rows_begin_at start now ls more all is begun =
     let longer = rows_begin reading ls more in
     begins_longer start now _ _ longer.0 (ap (rows_of reading) is ∙ longer.1) begun
@@ -245,12 +221,6 @@ rows_explain old new held held' (read, consumes, further, begun) = (
 pub on_err_of : {T E P : Type 0} (r : Result T E) → P → OnErr r P
 on_err_of (Ok x) p = tt
 on_err_of (Err e) p = p
-
--- each way that lines were taken
-pub on_progress : {Q : Type 0} (r : Result Progress AuditFault) → (r ≡ Ok IsOpen → Q) → (r ≡ Ok Fixed → Q) → OnOk r Q
-on_progress (Ok IsOpen) f k = f refl
-on_progress (Ok Fixed) f k = k refl
-on_progress (Err e) f k = tt
 
 -- ---- the rows and the report
 

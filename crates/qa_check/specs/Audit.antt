@@ -10,6 +10,7 @@ use Rattle.qa_check.specs.declared.auditing.AuditFault.{AuditFault}
 use Rattle.qa_check.specs.declared.auditing.AuditFault.TheVariants as faults
 use Rattle.qa_check.specs.declared.auditing.Outcome.{Outcome}
 use Rattle.qa_check.specs.declared.auditing.Outcome.TheVariants.{Accepted, Refused, Unreadable}
+use Rattle.qa_check.specs.Failures.{failures_after}
 
 -- the kind of a verdict
 abbrev pub outcome_of : Verdict → Outcome
@@ -30,10 +31,6 @@ Reads old new = (bytes : List ℕ) × Consumes old new bytes × IsReadNoFurther 
 -- these bytes were read, which are all that counts
 abbrev pub ReadsEnough : Option (List ℕ) → Option (List ℕ) → List ℕ → Type 0
 ReadsEnough old new bytes = Consumes old new bytes × (IsAtEnd new ⊎ IsFixed reading bytes) × IsReadNoFurther bytes
-
--- this is the verdict of bytes that were read and are all that counts
-abbrev pub JudgesRead : Option (List ℕ) → Option (List ℕ) → Verdict → Type 0
-JudgesRead old new v = (bytes : List ℕ) × ReadsEnough old new bytes × (v ≡ verdict reading bytes)
 
 -- ---- writing
 
@@ -56,3 +53,7 @@ is_read_fault _ = false
 abbrev pub is_write_fault : {A : Type 0} → Result A AuditFault → Bool
 is_write_fault (Err faults.Write) = true
 is_write_fault _ = false
+
+-- the count of failures of a writer is now that after a call with this result, in which no reader failed
+abbrev pub CountsFailure : {A : Type 0} → ℕ → ℕ → Result A AuditFault → Type 0
+CountsFailure old new result = (is_read_fault result ≡ false) × (new ≡ failures_after (is_write_fault result) old)

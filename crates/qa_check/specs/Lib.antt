@@ -3,3 +3,4 @@ pub mod Standing
 pub mod Following
 pub mod Audit
 pub mod Writing
+pub mod Auditor

@@ -1,20 +1,20 @@
 //! The audit: from a reader of bytes to a report on a writer.
-ghost use Rattle.std.specs.Prelude.{◌≡◌, ◌≢◌, ◌++◌, ℕ, List, [], true, false, Some, None, Ok, Err, OnOk, OnErr, IfOk, IfErr, IfSome, IfNone, take};
+ghost use Rattle.std.specs.Prelude.{◌≡◌, ◌≢◌, ℕ, List, false, Some, Err, OnOk, OnErr, IfOk, IfErr, take};
 ghost use Rattle.std.specs.Io.KnownBytes.{Appends};
 ghost use Rattle.qa_format.specs.format.Reading.{reading};
 ghost use Rattle.qa_format.specs.verdicts.Report as text;
-ghost use Rattle.qa_format.specs.verdicts.Verdict.{IsFixed, verdict};
-ghost use Rattle.qa_split.specs.Stream.{HasNoLine};
-ghost use Rattle.qa_check.specs.Audit.{outcome_of, Reads, ReadsEnough, JudgesRead, Reports, BeginsReport, is_read_fault, is_write_fault};
+ghost use Rattle.qa_format.specs.verdicts.Explain as explanation;
+ghost use Rattle.qa_format.specs.verdicts.Verdict.{verdict};
+ghost use Rattle.qa_check.specs.Audit.{outcome_of, Reads, ReadsEnough, Reports, BeginsReport, is_read_fault, is_write_fault};
 ghost use Rattle.qa_check.specs.Failures.{failures_after};
-ghost use Rattle.qa_check.specs.Following.{Follows, Answers, IsReady};
+ghost use Rattle.qa_check.specs.Writing.{BeginsRead, JudgesShown, ShowsRead};
 
-use crate::checker::{Checker, Stop};
+use crate::auditor::{Auditor, Progress};
+use crate::observer::{Observer, Unobserved};
 use crate::streams::{Sink, Source};
 use crate::text::report;
 use qa_format::Verdict;
 use qa_ledger::Ledger;
-use qa_split::{SplitFault, Splitter};
 use std::alloc::Global;
 use thiserror::Error;
 
@@ -24,6 +24,19 @@ pub enum Outcome {
     Accepted,
     Refused,
     Unreadable,
+}
+
+impl Outcome {
+    /// The kind of this verdict.
+    pub fn of(verdict: &Verdict) -> Outcome
+        ensures { result ≡ outcome_of verdict.now }
+    {
+        match verdict {
+            Verdict::Accepted(_) => Outcome::Accepted,
+            Verdict::Refused(..) => Outcome::Refused,
+            Verdict::Unreadable(..) => Outcome::Unreadable,
+        }
+    }
 }
 
 /// Why an audit came to no verdict.
@@ -41,7 +54,7 @@ pub enum AuditFault {
 }
 
 /// The most bytes that one read asks for.
-pub const PIECE: usize = 4096;
+const PIECE: usize = 4096;
 
 /// Reads a trace and writes its report: for every sequence of bytes that a reader returns, however
 /// its reads are cut.
@@ -72,161 +85,59 @@ pub fn audit<L: Ledger + Drop, R: Source, W: Sink>(
 
     // After a failed write the beginning of the report was written, and else nothing.
     ensures told_beginning { (bytes : List ℕ) → R.left reader.old ≡ Some bytes
-        → result ≡ Err AuditFault.Write → BeginsReport (W.held writer.old) (W.held writer.new) bytes }
+        → result ≡ Err AuditFault.Write
+        → BeginsReport (W.held writer.old) (W.held writer.new) bytes }
     ensures beginning { result ≡ Err AuditFault.Write → (bytes : List ℕ)
         × ReadsEnough (R.left reader.old) (R.left reader.new) bytes
         × BeginsReport (W.held writer.old) (W.held writer.new) bytes }
-    ensures unwritten { result ≢ Err AuditFault.Write → OnErr result (W.held writer.new ≡ W.held writer.old) }
+    ensures unwritten { result ≢ Err AuditFault.Write
+        → OnErr result (W.held writer.new ≡ W.held writer.old) }
 
     // A fault of the reader or the writer is returned exactly where it failed, once.
-    ensures read_failures { R.read_failures reader.new ≡ failures_after (is_read_fault result) (R.read_failures reader.old) }
-    ensures write_failures { W.write_failures writer.new ≡ failures_after (is_write_fault result) (W.write_failures writer.old) }
+    ensures read_failures { R.read_failures reader.new
+        ≡ failures_after (is_read_fault result) (R.read_failures reader.old) }
+    ensures write_failures { W.write_failures writer.new
+        ≡ failures_after (is_write_fault result) (W.write_failures writer.old) }
 {
-    let verdict = judged::<L, R>(alloc, reader)?;
+    let verdict = judge::<L, R, Unobserved>(alloc, reader, &mut Unobserved)?;
     write_report(alloc, writer, &verdict)
 }
 
-/// The verdict of what is read.
-fn judged<L: Ledger + Drop, R: Source>(alloc: Global, reader: &mut R) -> Result<Verdict, AuditFault>
-    ensures verdict { IfOk result (JudgesRead (R.left reader.old) (R.left reader.new)) }
-    ensures reads { Reads (R.left reader.old) (R.left reader.new) }
-    ensures failures { R.read_failures reader.new ≡ failures_after (is_read_fault result) (R.read_failures reader.old) }
-    ensures write { is_write_fault result ≡ false }
-{
-    let mut splitter = Splitter::new(alloc);
-    let mut checker = Checker::<L>::new(alloc);
-    take_pieces(reader, &mut splitter, &mut checker)
-}
-
-/// Takes piece after piece, from the first on, until the verdict is fixed or nothing more comes.
-fn take_pieces<L: Ledger + Drop, R: Source>(
+/// The verdict of what is read, once the observer was shown its lines: those of each piece before the
+/// next is asked for.
+pub fn judge<L: Ledger + Drop, R: Source, O: Observer>(
+    alloc: Global,
     reader: &mut R,
-    splitter: &mut Splitter,
-    checker: &mut Checker<L>,
+    observer: &mut O,
 ) -> Result<Verdict, AuditFault>
-    requires ready { IsReady splitter.old }
-    requires empty { HasNoLine splitter.old }
-    requires whole { checker.old.failed ≡ false }
-    requires first { Follows L.stands splitter.old.bytes checker.old [] }
-    ensures verdict { IfOk result (JudgesRead (R.left reader.old) (R.left reader.new)) }
+    ensures verdict { IfOk result (JudgesShown (R.left reader.old) (R.left reader.new) (O.shown observer.old) (O.shown observer.new)) }
     ensures reads { Reads (R.left reader.old) (R.left reader.new) }
-    ensures failures { R.read_failures reader.new ≡ failures_after (is_read_fault result) (R.read_failures reader.old) }
-    ensures write { is_write_fault result ≡ false }
+    ensures rows { result ≡ Err AuditFault.Read
+        → ShowsRead (R.left reader.old) (R.left reader.new) (O.shown observer.old) (O.shown observer.new) }
+    ensures begun { is_read_fault result ≡ false → OnErr result
+        (BeginsRead (R.left reader.old) (R.left reader.new) (O.shown observer.old) (O.shown observer.new) (explanation.rows reading)) }
+    ensures read_failures { R.read_failures reader.new
+        ≡ failures_after (is_read_fault result) (R.read_failures reader.old) }
+    ensures failures { O.failures observer.new
+        ≡ failures_after (is_write_fault result) (O.failures observer.old) }
 {
+    let mut auditor = Auditor::<L>::new(alloc);
     let mut piece = [0u8; PIECE];
     'pieces: for _i in 0..u64::MAX {
         let Ok(n) = reader.read_piece(&mut piece) else {
             return Err(AuditFault::Read);
         };
         if n == 0 {
-            return conclude(splitter, checker);
+            return auditor.finish_to(observer);
         }
-        match take_piece(splitter, checker, &piece[..n]) {
-            Ok(None) => {}
-            Ok(Some(verdict)) => return Ok(verdict),
+        match auditor.feed_to(&piece[..n], observer) {
+            Ok(Progress::Open) => {}
+            Ok(Progress::Fixed(verdict)) => return Ok(verdict),
             Err(fault) => return Err(fault),
         }
     }
     // A line more than a trace may have is not good, so that a reader without end is not read to here.
     unreachable!()
-}
-
-/// Takes the next piece, and returns the verdict where nothing behind it counts.
-fn take_piece<L: Ledger + Drop>(
-    splitter: &mut Splitter,
-    checker: &mut Checker<L>,
-    piece: &[u8],
-) -> Result<Option<Verdict>, AuditFault>
-    requires ready { IsReady splitter.old }
-    requires whole { checker.old.failed ≡ false }
-    ensures ready { IfOk result (λ found. IfNone found (IsReady splitter.new)) }
-    ensures empty { IfOk result (λ found. IfNone found (HasNoLine splitter.new)) }
-    ensures whole { IfOk result (λ found. IfNone found (checker.new.failed ≡ false)) }
-    ensures follows { IfOk result (λ found. IfNone found ((bytes : List ℕ) → Follows L.stands splitter.old.bytes checker.old bytes
-        → Follows L.stands splitter.new.bytes checker.new (bytes ++ piece.now))) }
-    ensures decided { IfOk result (λ found. IfSome found (λ v. (bytes : List ℕ) → Follows L.stands splitter.old.bytes checker.old bytes
-        → IsFixed reading (bytes ++ piece.now) × (v ≡ verdict reading (bytes ++ piece.now)))) }
-    ensures err { IfErr result (λ fault. fault ≡ AuditFault.OutOfMemory) }
-{
-    let Ok(()) = splitter.feed(piece) else {
-        return Err(AuditFault::OutOfMemory);
-    };
-    match drain(splitter, checker) {
-        Ok(()) => Ok(None),
-        Err(Stop::Decided) => match verdict_of(checker) {
-            Ok(verdict) => Ok(Some(verdict)),
-            Err(fault) => Err(fault),
-        },
-        Err(Stop::OutOfMemory) => Err(AuditFault::OutOfMemory),
-    }
-}
-
-/// Hands the checker each line that stands ready.
-fn drain<L: Ledger + Drop>(splitter: &mut Splitter, checker: &mut Checker<L>) -> Result<(), Stop>
-    requires ready { IsReady splitter.old }
-    requires whole { checker.old.failed ≡ false }
-    ensures ready { OnOk result (IsReady splitter.new) }
-    ensures empty { OnOk result (HasNoLine splitter.new) }
-    ensures whole { OnOk result (checker.new.failed ≡ false) }
-    ensures good { OnOk result ((bytes : List ℕ) → Follows L.stands splitter.old.bytes checker.old bytes
-        → Follows L.stands splitter.new.bytes checker.new bytes) }
-    ensures decided { result ≡ Err Stop.Decided → (bytes : List ℕ) → Follows L.stands splitter.old.bytes checker.old bytes
-        → IsFixed reading bytes × Answers L.stands checker.new bytes }
-{
-    'lines: loop {
-        match splitter.next_line() {
-            Ok(Some(line)) => match checker.line(line) {
-                Ok(()) => {}
-                Err(stop) => return Err(stop),
-            },
-            Ok(None) => return Ok(()),
-            Err(SplitFault::TooLong) => return Err(checker.too_long()),
-            Err(SplitFault::OutOfMemory) => return Err(Stop::OutOfMemory),
-        }
-    }
-}
-
-/// The verdict where nothing more comes.
-fn conclude<L: Ledger + Drop>(
-    splitter: &mut Splitter,
-    checker: &mut Checker<L>,
-) -> Result<Verdict, AuditFault>
-    requires ready { IsReady splitter.old }
-    requires empty { HasNoLine splitter.old }
-    requires whole { checker.old.failed ≡ false }
-    ensures ok { IfOk result (λ v. (bytes : List ℕ) → Follows L.stands splitter.old.bytes checker.old bytes → v ≡ verdict reading bytes) }
-    ensures err { IfErr result (λ fault. fault ≡ AuditFault.OutOfMemory) }
-{
-    match finish(splitter, checker) {
-        Ok(()) => verdict_of(checker),
-        Err(Stop::Decided) => verdict_of(checker),
-        Err(Stop::OutOfMemory) => Err(AuditFault::OutOfMemory),
-    }
-}
-
-/// Hands the checker what stands after the last LF.
-fn finish<L: Ledger + Drop>(splitter: &mut Splitter, checker: &mut Checker<L>) -> Result<(), Stop>
-    requires ready { IsReady splitter.old }
-    requires empty { HasNoLine splitter.old }
-    requires whole { checker.old.failed ≡ false }
-    ensures { result ≢ Err Stop.OutOfMemory → (bytes : List ℕ) → Follows L.stands splitter.old.bytes checker.old bytes
-        → Answers L.stands checker.new bytes }
-{
-    splitter.close();
-    match splitter.next_line() {
-        Ok(Some(line)) => checker.line(line),
-        Ok(None) => Ok(()),
-        Err(SplitFault::TooLong) => Err(checker.too_long()),
-        Err(SplitFault::OutOfMemory) => Err(Stop::OutOfMemory),
-    }
-}
-
-/// The verdict that a checker has come to.
-pub fn verdict_of<L: Ledger + Drop>(checker: &Checker<L>) -> Result<Verdict, AuditFault>
-    ensures ok { IfOk result (λ v. (bytes : List ℕ) → Answers L.stands checker.now bytes → v ≡ verdict reading bytes) }
-    ensures err { IfErr result (λ fault. fault ≡ AuditFault.OutOfMemory) }
-{
-    checker.end().ok_or(AuditFault::OutOfMemory)
 }
 
 /// Writes the report of a verdict, and returns its kind.
@@ -237,23 +148,29 @@ pub fn write_report<W: Sink>(
 ) -> Result<Outcome, AuditFault>
     ensures ok { IfOk result (λ outcome. Appends (W.held writer.old) (W.held writer.new) (text.report verdict.now)
         × (outcome ≡ outcome_of verdict.now)) }
-    ensures begun { result ≡ Err AuditFault.Write → (n : ℕ) × Appends (W.held writer.old) (W.held writer.new) (take n (text.report verdict.now)) }
-    ensures unwritten { result ≢ Err AuditFault.Write → OnErr result (W.held writer.new ≡ W.held writer.old) }
+    ensures begun { result ≡ Err AuditFault.Write
+        → (n : ℕ)
+        × Appends (W.held writer.old) (W.held writer.new) (take n (text.report verdict.now)) }
+    ensures unwritten { result ≢ Err AuditFault.Write
+        → OnErr result (W.held writer.new ≡ W.held writer.old) }
     ensures read { is_read_fault result ≡ false }
-    ensures failures { W.write_failures writer.new ≡ failures_after (is_write_fault result) (W.write_failures writer.old) }
+    ensures failures { W.write_failures writer.new
+        ≡ failures_after (is_write_fault result) (W.write_failures writer.old) }
 {
     let Ok(text) = report(alloc, verdict) else {
         return Err(AuditFault::OutOfMemory);
     };
     write_whole(writer, text.as_bytes())?;
-    Ok(told(verdict))
+    Ok(Outcome::of(verdict))
 }
 
 /// Writes all of the bytes, in as many pieces as the writer takes. A failed write is not tried again.
 pub fn write_whole<W: Sink>(writer: &mut W, bytes: &[u8]) -> Result<(), AuditFault>
     ensures ok { OnOk result (Appends (W.held writer.old) (W.held writer.new) bytes.now) }
-    ensures err { OnErr result ((n : ℕ) × Appends (W.held writer.old) (W.held writer.new) (take n bytes.now)) }
-    ensures failures { W.write_failures writer.new ≡ failures_after (is_write_fault result) (W.write_failures writer.old) }
+    ensures err { OnErr result ((n : ℕ)
+        × Appends (W.held writer.old) (W.held writer.new) (take n bytes.now)) }
+    ensures failures { W.write_failures writer.new
+        ≡ failures_after (is_write_fault result) (W.write_failures writer.old) }
     ensures write { IfErr result (λ fault. fault ≡ AuditFault.Write) }
 {
     let mut at = 0;
@@ -267,14 +184,4 @@ pub fn write_whole<W: Sink>(writer: &mut W, bytes: &[u8]) -> Result<(), AuditFau
         at += n;
     }
     Ok(())
-}
-
-pub fn told(verdict: &Verdict) -> Outcome
-    ensures { result ≡ outcome_of verdict.now }
-{
-    match verdict {
-        Verdict::Accepted(_) => Outcome::Accepted,
-        Verdict::Refused(..) => Outcome::Refused,
-        Verdict::Unreadable(..) => Outcome::Unreadable,
-    }
 }

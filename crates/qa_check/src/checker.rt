@@ -81,25 +81,25 @@ impl<L: Ledger + Drop> Checker<L> {
     ///
     /// `Stop::Decided` comes where this line or an earlier one is not good: the verdict is fixed.
     /// `Stop::OutOfMemory` comes where it is out of memory, and from then on.
-    pub fn line(&mut self, bytes: &[u8]) -> Result<(), Stop>
+    pub fn push_line(&mut self, bytes: &[u8]) -> Result<(), Stop>
         ensures failed { self.old.failed ≡ true → result ≡ Err Stop.OutOfMemory }
         ensures fails { (result ≡ Err Stop.OutOfMemory) → self.new.failed ≡ true }
         ensures good { OnOk result (AddsGood L.stands self.old self.new bytes.now) }
-        ensures decided { (result ≡ Err Stop.Decided) → AddsBad L.stands self.old self.new bytes.now }
+        ensures decided { (result ≡ Err Stop.Decided)
+            → AddsBad L.stands self.old self.new bytes.now }
     {
-        match self.kind_of_line(bytes) {
-            Ok(_) => Ok(()),
-            Err(stop) => Err(stop),
-        }
+        self.push_line_kind(bytes)?;
+        Ok(())
     }
 
-    /// Takes the next line as `line` does, and returns its kind: None for a blank one.
-    pub fn kind_of_line(&mut self, bytes: &[u8]) -> Result<Option<LineKind>, Stop>
+    /// Takes the next line as `push_line` does, and returns its kind: None for a blank one.
+    pub fn push_line_kind(&mut self, bytes: &[u8]) -> Result<Option<LineKind>, Stop>
         ensures kind { IfOk result (λ kind. kind ≡ kind_said (reading bytes.now)) }
         ensures failed { self.old.failed ≡ true → result ≡ Err Stop.OutOfMemory }
         ensures fails { (result ≡ Err Stop.OutOfMemory) → self.new.failed ≡ true }
         ensures good { OnOk result (AddsGood L.stands self.old self.new bytes.now) }
-        ensures decided { (result ≡ Err Stop.Decided) → AddsBad L.stands self.old self.new bytes.now }
+        ensures decided { (result ≡ Err Stop.Decided)
+            → AddsBad L.stands self.old self.new bytes.now }
     {
         if let Err(stop) = self.expect_line() {
             return Err(stop);
@@ -113,12 +113,13 @@ impl<L: Ledger + Drop> Checker<L> {
 
     /// Takes the next line, which has more bytes than a line may have, whatever they are.
     ///
-    /// Returns what `line` does: `Stop::OutOfMemory` only from a checker that has failed.
+    /// Returns what `push_line` does: `Stop::OutOfMemory` only from a checker that has failed.
     pub fn too_long(&mut self) -> Stop
         ensures failed { self.old.failed ≡ true → result ≡ Stop.OutOfMemory }
         ensures whole { self.old.failed ≡ false → result ≡ Stop.Decided }
         ensures fails { result ≡ Stop.OutOfMemory → self.new.failed ≡ true }
-        ensures decided { result ≡ Stop.Decided → (l : List ℕ) → line_limit < length l → AddsBad L.stands self.old self.new l }
+        ensures decided { result ≡ Stop.Decided → (l : List ℕ) → line_limit < length l
+            → AddsBad L.stands self.old self.new l }
     {
         match self.expect_line() {
             Ok(()) => self.stop(Fault::LineTooLong),
@@ -127,9 +128,10 @@ impl<L: Ledger + Drop> Checker<L> {
     }
 
     /// The verdict of the lines so far; None where the checker has failed. Takes no memory.
-    pub fn end(&self) -> Option<Verdict>
+    pub fn verdict(&self) -> Option<Verdict>
         ensures answers { is_some result ≡ not self.now.failed }
-        ensures verdict { self.now.failed ≡ false → (ls : List (List ℕ)) → StandsFor L.stands self.now ls
+        ensures verdict { self.now.failed ≡ false → (ls : List (List ℕ))
+            → StandsFor L.stands self.now ls
             → result ≡ Some (verdicts.verdict_of reading ls) }
     {
         if self.failed {
@@ -151,7 +153,7 @@ impl<L: Ledger + Drop> Checker<L> {
     }
 
     /// How many lines were good.
-    pub fn lines(&self) -> u64
+    pub fn line_count(&self) -> u64
         ensures { result ≡ self.now.lines }
     {
         self.lines
@@ -159,7 +161,8 @@ impl<L: Ledger + Drop> Checker<L> {
 
     /// The state of the machine after the good lines; None before a header. Takes no memory.
     pub fn totals(&self) -> Option<Totals>
-        ensures { (header : Option Settings) (h : List AnEvent) → HoldsRun L.stands self.now.ledger header h
+        ensures { (header : Option Settings) (h : List AnEvent)
+            → HoldsRun L.stands self.now.ledger header h
             → result ≡ option_map (λ c. state.totals c h) header }
     {
         match &self.ledger {
@@ -172,9 +175,12 @@ impl<L: Ledger + Drop> Checker<L> {
     /// behind as many lines as a trace may have.
     fn expect_line(&mut self) -> Result<(), Stop>
         ensures failed { self.old.failed ≡ true → result ≡ Err Stop.OutOfMemory }
-        ensures fails { (result ≡ Err Stop.OutOfMemory) → (self.old.failed ≡ true) × (self.new.failed ≡ true) }
-        ensures ok { OnOk result ((self.new ≡ self.old) × (self.new.failed ≡ false) × (self.new.verdict ≡ None) × (self.new.lines < 4294967295)) }
-        ensures decided { (result ≡ Err Stop.Decided) → (l : List ℕ) → AddsBad L.stands self.old self.new l }
+        ensures fails { (result ≡ Err Stop.OutOfMemory)
+            → (self.old.failed ≡ true) × (self.new.failed ≡ true) }
+        ensures ok { OnOk result ((self.new ≡ self.old) × (self.new.failed ≡ false)
+            × (self.new.verdict ≡ None) × (self.new.lines < 4294967295)) }
+        ensures decided { (result ≡ Err Stop.Decided) → (l : List ℕ)
+            → AddsBad L.stands self.old self.new l }
     {
         if self.failed {
             return Err(Stop::OutOfMemory);
@@ -194,11 +200,14 @@ impl<L: Ledger + Drop> Checker<L> {
         requires undecided { self.old.verdict ≡ None }
         requires few { self.old.lines < 4294967295 }
         requires fitting { IfOk read.now (λ line. line_fits line ≡ true) }
-        ensures kind { IfOk result (λ kind. (l : List ℕ) → Gives (λ line. line) read.now (reading l) → kind ≡ kind_said (reading l)) }
+        ensures kind { IfOk result (λ kind. (l : List ℕ) → Gives (λ line. line) read.now (reading l)
+            → kind ≡ kind_said (reading l)) }
         ensures fails { (result ≡ Err Stop.OutOfMemory) → self.new.failed ≡ true }
-        ensures good { OnOk result ((l : List ℕ) → length l ≤ line_limit → Gives (λ line. line) read.now (reading l)
+        ensures good { OnOk result ((l : List ℕ) → length l ≤ line_limit
+            → Gives (λ line. line) read.now (reading l)
             → AddsGood L.stands self.old self.new l) }
-        ensures decided { (result ≡ Err Stop.Decided) → (l : List ℕ) → length l ≤ line_limit → Gives (λ line. line) read.now (reading l)
+        ensures decided { (result ≡ Err Stop.Decided) → (l : List ℕ) → length l ≤ line_limit
+            → Gives (λ line. line) read.now (reading l)
             → AddsBad L.stands self.old self.new l }
     {
         match read {
@@ -222,7 +231,8 @@ impl<L: Ledger + Drop> Checker<L> {
         requires fitting { line_fits line.now ≡ true }
         ensures failed { (result ≡ Err Stop.OutOfMemory) → self.new.failed ≡ true }
         ensures whole { (result ≢ Err Stop.OutOfMemory) → self.new.failed ≡ false }
-        ensures ok { OnOk result ((self.new.failed ≡ false) × TakesIn L.stands self.old self.new line.now) }
+        ensures ok { OnOk result ((self.new.failed ≡ false)
+            × TakesIn L.stands self.old self.new line.now) }
         ensures decided { result ≡ Err Stop.Decided → StopsAt L.stands self.old self.new line.now }
     {
         match line {
@@ -242,8 +252,10 @@ impl<L: Ledger + Drop> Checker<L> {
         requires few { self.old.lines < 4294967295 }
         ensures whole { self.new.failed ≡ false }
         ensures memory { (result ≡ Err Stop.OutOfMemory) → ⊥ }
-        ensures ok { OnOk result ((self.new.failed ≡ false) × TakesIn L.stands self.old self.new (Line.Header header)) }
-        ensures decided { result ≡ Err Stop.Decided → StopsAt L.stands self.old self.new (Line.Header header) }
+        ensures ok { OnOk result ((self.new.failed ≡ false)
+            × TakesIn L.stands self.old self.new (Line.Header header)) }
+        ensures decided { result ≡ Err Stop.Decided
+            → StopsAt L.stands self.old self.new (Line.Header header) }
     {
         if self.ledger.is_some() {
             return Err(self.stop(Fault::HeaderPlace));
@@ -261,8 +273,10 @@ impl<L: Ledger + Drop> Checker<L> {
         requires fitting { fits event.now ≡ true }
         ensures failed { (result ≡ Err Stop.OutOfMemory) → self.new.failed ≡ true }
         ensures whole { (result ≢ Err Stop.OutOfMemory) → self.new.failed ≡ false }
-        ensures ok { OnOk result ((self.new.failed ≡ false) × TakesIn L.stands self.old self.new (Line.Event event.now)) }
-        ensures decided { result ≡ Err Stop.Decided → StopsAt L.stands self.old self.new (Line.Event event.now) }
+        ensures ok { OnOk result ((self.new.failed ≡ false)
+            × TakesIn L.stands self.old self.new (Line.Event event.now)) }
+        ensures decided { result ≡ Err Stop.Decided
+            → StopsAt L.stands self.old self.new (Line.Event event.now) }
     {
         let Some(ledger) = &mut self.ledger else {
             return Err(self.stop(Fault::HeaderPlace));
@@ -292,7 +306,8 @@ impl<L: Ledger + Drop> Checker<L> {
         ensures result { result ≡ Stop.Decided }
         ensures whole { self.new.failed ≡ false }
         ensures decided { IsSome self.new.verdict }
-        ensures verdict { (header : Option Settings) (h : List AnEvent) → HoldsRun L.stands self.old.ledger header h
+        ensures verdict { (header : Option Settings) (h : List AnEvent)
+            → HoldsRun L.stands self.old.ledger header h
             → self.new.verdict ≡ Some (verdicts.unreadable (self.old.lines + 1) header h fault) }
     {
         let totals = self.totals();

@@ -2,15 +2,20 @@
 #![tactic(auto)]
 
 mod auditing;
+mod auditor;
 mod checker;
 mod explaining;
+mod observer;
 mod streams;
+mod taking;
 mod text;
 
 pub use auditing::{AuditFault, Outcome, audit, write_whole};
+pub use auditor::{Auditor, Progress};
 pub use checker::{Checker, Stop};
 pub use explaining::explain;
-pub use qa_base::Totals;
+pub use observer::{Observer, Unobserved};
+pub use qa_base::{LineKind, Totals};
 pub use qa_format::{Fault, Line, Verdict};
 pub use streams::{Metered, Sink, Source};
 pub use text::report;

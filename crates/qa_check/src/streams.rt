@@ -23,7 +23,8 @@ pub trait Source {
     fn read_piece(&mut self, piece: &mut [u8]) -> io::Result<usize>
         ensures bound { IfOk result (λ n. n ≤ length piece.new) }
         ensures bytes { ReadConsumes (left self.old) (left self.new) result piece.new }
-        ensures failures { read_failures self.new ≡ failures_after (read_failed result) (read_failures self.old) };
+        ensures failures { read_failures self.new
+            ≡ failures_after (read_failed result) (read_failures self.old) };
 }
 
 /// A writer: takes the bytes of a report, a piece at a time, and counts its failures.
@@ -41,7 +42,8 @@ pub trait Sink {
     fn write_piece(&mut self, piece: &[u8]) -> io::Result<usize>
         ensures bound { IfOk result (λ n. n ≤ length piece.now) }
         ensures bytes { WriteAppends (held self.old) (held self.new) result piece.now }
-        ensures failures { write_failures self.new ≡ failures_after (write_failed result piece.now) (write_failures self.old) };
+        ensures failures { write_failures self.new
+            ≡ failures_after (write_failed result piece.now) (write_failures self.old) };
 }
 
 /// A reader or a writer of std as a `Source` or a `Sink`.

@@ -34,7 +34,8 @@ fn verdict_line(alloc: Global, verdict: &Verdict) -> Result<String, AllocError>
 
 #[tactic(auto, unfolding(qa_format::specs::verdicts::Report::number_line))]
 fn push_number_line(out: &mut String, name: &str, number: u64) -> Result<(), AllocError>
-    ensures { OnOk result (string_bytes out.new ≡ string_bytes out.old ++ text.number_line name.now number) }
+    ensures { OnOk result (string_bytes out.new
+        ≡ string_bytes out.old ++ text.number_line name.now number) }
 {
     out.push_str(name)?;
     out.push_str(" ")?;
@@ -44,7 +45,8 @@ fn push_number_line(out: &mut String, name: &str, number: u64) -> Result<(), All
 
 #[tactic(auto, unfolding(qa_format::specs::verdicts::Report::ssthresh_line))]
 fn push_ssthresh(out: &mut String, ssthresh: Option<u64>) -> Result<(), AllocError>
-    ensures { OnOk result (string_bytes out.new ≡ string_bytes out.old ++ text.ssthresh_line ssthresh) }
+    ensures { OnOk result (string_bytes out.new
+        ≡ string_bytes out.old ++ text.ssthresh_line ssthresh) }
 {
     match ssthresh {
         None => out.push_str("ssthresh none\n"),
@@ -54,7 +56,8 @@ fn push_ssthresh(out: &mut String, ssthresh: Option<u64>) -> Result<(), AllocErr
 
 #[tactic(auto, unfolding(qa_format::specs::verdicts::Report::bytes_text))]
 fn push_bytes(out: &mut String, totals: &Totals) -> Result<(), AllocError>
-    ensures { OnOk result (string_bytes out.new ≡ string_bytes out.old ++ text.bytes_text totals.now) }
+    ensures { OnOk result (string_bytes out.new
+        ≡ string_bytes out.old ++ text.bytes_text totals.now) }
 {
     push_number_line(out, "events", totals.events)?;
     push_number_line(out, "window", totals.window)?;
@@ -64,7 +67,8 @@ fn push_bytes(out: &mut String, totals: &Totals) -> Result<(), AllocError>
 
 #[tactic(auto, unfolding(qa_format::specs::verdicts::Report::times_text))]
 fn push_times(out: &mut String, totals: &Totals) -> Result<(), AllocError>
-    ensures { OnOk result (string_bytes out.new ≡ string_bytes out.old ++ text.times_text totals.now) }
+    ensures { OnOk result (string_bytes out.new
+        ≡ string_bytes out.old ++ text.times_text totals.now) }
 {
     push_number_line(out, "latest_rtt", totals.latest_rtt)?;
     push_number_line(out, "min_rtt", totals.min_rtt)?;
@@ -76,7 +80,8 @@ fn push_times(out: &mut String, totals: &Totals) -> Result<(), AllocError>
 
 #[tactic(auto, unfolding(qa_format::specs::verdicts::Report::totals_text))]
 fn push_totals(out: &mut String, totals: &Totals) -> Result<(), AllocError>
-    ensures { OnOk result (string_bytes out.new ≡ string_bytes out.old ++ text.totals_text totals.now) }
+    ensures { OnOk result (string_bytes out.new
+        ≡ string_bytes out.old ++ text.totals_text totals.now) }
 {
     push_bytes(out, totals)?;
     push_times(out, totals)
@@ -85,7 +90,8 @@ fn push_totals(out: &mut String, totals: &Totals) -> Result<(), AllocError>
 /// Appends the totals of a verdict, which has none where no header was read.
 #[tactic(auto, unfolding(qa_format::specs::verdicts::Report::known_totals_text))]
 fn push_known_totals(out: &mut String, verdict: &Verdict) -> Result<(), AllocError>
-    ensures { OnOk result (string_bytes out.new ≡ string_bytes out.old ++ text.known_totals_text verdict.now) }
+    ensures { OnOk result (string_bytes out.new
+        ≡ string_bytes out.old ++ text.known_totals_text verdict.now) }
 {
     match verdict {
         Verdict::Accepted(totals) => push_totals(out, totals),
@@ -113,7 +119,8 @@ pub fn report(alloc: Global, verdict: &Verdict) -> Result<String, AllocError>
 
 #[tactic(auto, unfolding(qa_format::specs::verdicts::Explain::number_text))]
 fn push_number_text(out: &mut String, name: &str, number: u64) -> Result<(), AllocError>
-    ensures { OnOk result (string_bytes out.new ≡ string_bytes out.old ++ explanation.number_text name.now number) }
+    ensures { OnOk result (string_bytes out.new
+        ≡ string_bytes out.old ++ explanation.number_text name.now number) }
 {
     out.push_str(" ")?;
     out.push_str(name)?;
@@ -123,7 +130,8 @@ fn push_number_text(out: &mut String, name: &str, number: u64) -> Result<(), All
 
 #[tactic(auto, unfolding(qa_format::specs::verdicts::Explain::state_text))]
 fn push_state(out: &mut String, totals: &Totals) -> Result<(), AllocError>
-    ensures { OnOk result (string_bytes out.new ≡ string_bytes out.old ++ explanation.state_text totals.now) }
+    ensures { OnOk result (string_bytes out.new
+        ≡ string_bytes out.old ++ explanation.state_text totals.now) }
 {
     push_number_text(out, "window", totals.window)?;
     push_number_text(out, "bytes_in_flight", totals.bytes_in_flight)?;

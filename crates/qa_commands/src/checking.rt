@@ -24,7 +24,8 @@ pub fn check<R: Files + Eprint + AllocGlobal, I: Source, O: Sink>(
     input: &mut I,
     output: &mut O,
 ) -> u8
-    ensures files { files.now ≡ [] ⊎ ChecksAll (nat_lt 1 (length files.now)) files.now (O.held output.old) (O.held output.new) result }
+    ensures files { files.now ≡ []
+        ⊎ ChecksAll (nat_lt 1 (length files.now)) files.now (O.held output.old) (O.held output.new) result }
     ensures input { files.now ≡ [] → (ended : Result Outcome Failure)
         × Audited (I.left input.old) Origin.StandardInput ended (O.held output.old) (O.held output.new) × (result ≡ status_of ended) }
 {
@@ -101,9 +102,11 @@ fn check_file<'a, R: Files + AllocGlobal, O: Sink>(
 fn write_heading<'a, O: Sink>(alloc: Global, name: &str, output: &mut O) -> Result<(), Failure<'a>>
     ensures ok { OnOk result (Appends (O.held output.old) (O.held output.new) (heading name.now)) }
     ensures err { IfErr result (λ failure.
-        (failure ≡ Failure.Write × ((n : ℕ) × Appends (O.held output.old) (O.held output.new) (take n (heading name.now))))
+        (failure ≡ Failure.Write
+        × ((n : ℕ) × Appends (O.held output.old) (O.held output.new) (take n (heading name.now))))
         ⊎ (failure ≡ Failure.OutOfMemory × (O.held output.new ≡ O.held output.old))) }
-    ensures failed { (result ≡ Err Failure.Write) → O.write_failures output.new ≡ failures_after true (O.write_failures output.old) }
+    ensures failed { (result ≡ Err Failure.Write)
+        → O.write_failures output.new ≡ failures_after true (O.write_failures output.old) }
 {
     let Ok(line) = heading_line(alloc, name) else {
         return Err(Failure::OutOfMemory);

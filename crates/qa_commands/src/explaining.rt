@@ -20,7 +20,8 @@ pub fn explain<R: Files + Eprint + AllocGlobal, I: Source, O: Sink>(
     input: &mut I,
     output: &mut O,
 ) -> u8
-    ensures { (ended : Result Outcome Failure) × Explains (I.left input.old) file.entry ended (O.held output.old) (O.held output.new)
+    ensures { (ended : Result Outcome Failure)
+        × Explains (I.left input.old) file.entry ended (O.held output.old) (O.held output.new)
         × (result ≡ status_of ended) }
 {
     let ended = match file {

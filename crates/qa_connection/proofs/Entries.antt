@@ -4,7 +4,7 @@ use Rattle.std.specs.Prelude.{if◌then◌else◌}
 use Rattle.qa_base.specs.declared.event.Event.{Event}
 use Rattle.qa_base.specs.machine.Loss.{owed, is_persistent}
 use Rattle.qa_base.specs.machine.Packets.{Packet, newly_acknowledged}
-use Rattle.qa_base.specs.machine.Reno.{Move, Grow, collapses, enters, grows, is_entry, is_limited, reno}
+use Rattle.qa_base.specs.machine.Reno.{Control, Move, Grow, collapses, enters, grows, is_entry, is_app_limited, reno}
 use Rattle.qa_base.specs.values.Events.{time_of}
 use Rattle.qa_base.specs.values.Settings.{Settings}
 use Rattle.qa_connection.specs.Steps.{enters_at, hits_at, last_sent}
@@ -14,7 +14,7 @@ no_growth_enters : (r : Option ℕ) (ps : List Packet) → enters r (map (λ (p 
 no_growth_enters r [] = refl
 no_growth_enters r (p ∷ ps) = refl
 
-open_growth : (r : Option ℕ) (limited : Bool) (ps : List Packet) → enters r (if limited then [] else map (λ (p : Packet). Grow p.size p.time) ps) ≡ false
+open_growth : (r : Option ℕ) (app_limited : Bool) (ps : List Packet) → enters r (if app_limited then [] else map (λ (p : Packet). Grow p.size p.time) ps) ≡ false
 open_growth r true ps = refl
 open_growth r false ps = no_growth_enters r ps
 
@@ -27,6 +27,15 @@ by_last r now None false zs none = none
 pub entry_is : (c : Settings) (e : Event) (h : List Event) → enters_at (reno c h).recovery_start_time (last_sent (owed c (e ∷ h))) ≡ is_entry c (e ∷ h)
 entry_is c e h =
     let r = (reno c h).recovery_start_time in
-    let zs : List Move = if is_limited e then [] else grows (newly_acknowledged (e ∷ h)) in
+    let zs : List Move = if is_app_limited e then [] else grows (newly_acknowledged (e ∷ h)) in
     sym (ap (λ (xs : List Move). enters r ((xs ++ collapses (is_persistent c (e ∷ h))) ++ zs)) (hits_is (time_of e) (owed c (e ∷ h)))
-    ∙ by_last r (time_of e) (last_sent (owed c (e ∷ h))) (is_persistent c (e ∷ h)) zs (open_growth r (is_limited e) _))
+    ∙ by_last r (time_of e) (last_sent (owed c (e ∷ h))) (is_persistent c (e ∷ h)) zs (open_growth r (is_app_limited e) _))
+
+-- .. from what is told of it
+pub entry_of : (c : Settings) (e : Event) (h : List Event) (before : Control) (last : Option ℕ) → before ≡ reno c h → last ≡ last_sent (owed c (e ∷ h))
+    → enters_at before.recovery_start_time last ≡ is_entry c (e ∷ h)
+entry_of c e h before last is is_last = rw (is, is_last) (entry_is c e h)
+
+-- it does not where it found none lost
+pub no_entry : (c : Settings) (e : Event) (h : List Event) → owed c (e ∷ h) ≡ [] → is_entry c (e ∷ h) ≡ false
+no_entry c e h free = sym (entry_of c e h (reno c h) None refl (ap last_sent (sym free)))

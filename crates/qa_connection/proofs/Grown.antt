@@ -1,5 +1,5 @@
 -- The window after the moves of one event.
-use Rattle.std.proofs.Common.{◌≡◌, ◌∙◌, ◌≤◌, ◌<◌, ◌+◌, ◌*◌, ◌/◌, ◌^◌, ℕ, max, List, [], ◌∷◌, ◌++◌, length, Bool, true, false, ◌&&◌, ◌||◌, not, Option, Some, None, refl, sym, ap, subst, arith, map, reverse, filter, fold}
+use Rattle.std.proofs.Common.{◌≡◌, ◌∙◌, ◌≤◌, ◌<◌, ◌+◌, ◌*◌, ◌/◌, ◌^◌, ℕ, max, List, [], ◌∷◌, ◌++◌, length, Bool, true, false, ◌&&◌, ◌||◌, not, Option, Some, None, refl, sym, ap, arith, map, reverse, filter, fold}
 use Rattle.std.proofs.lemmas.List.{append-nil, length-reverse, reverse-append}
 use Rattle.std.proofs.lemmas.List.Elements.{filter-append}
 use Rattle.std.proofs.lemmas.List.Sums.{count_by-le-length, fold-append, length-filter}
@@ -10,7 +10,7 @@ use Rattle.qa_base.specs.declared.event.Event.{Event}
 use Rattle.qa_base.specs.declared.event.Event.TheVariants.{Sent}
 use Rattle.qa_base.specs.machine.Loss.{owed, is_persistent}
 use Rattle.qa_base.specs.machine.Packets.{Packet, packets, packet_of, is_newly_acknowledged, newly_acknowledged}
-use Rattle.qa_base.specs.machine.Reno.{Control, Move, Grow, collapses, grow, grows, hits, is_limited, is_outside_recovery, moved, reno}
+use Rattle.qa_base.specs.machine.Reno.{Control, Move, Grow, collapses, grow, grows, hits, is_app_limited, is_outside_recovery, moved, reno}
 use Rattle.qa_base.specs.machine.Widths.{Fits}
 use Rattle.qa_base.specs.values.Events.{time_of}
 use Rattle.qa_base.specs.values.Settings.{Settings, AreInRange}
@@ -38,7 +38,7 @@ sized : (h : List Event) → AllByRecursion Fits h → AllByRecursion IsSized (p
 sized [] fit = tt
 sized (e ∷ h) fit = each_append IsSized (packet_of (length h) e) (packets h) (sized_one e (length h) fit.0) (sized h fit.1)
 
-packets_few : (h : List Event) → length (packets h) ≤ length h
+pub packets_few : (h : List Event) → length (packets h) ≤ length h
 packets_few [] = omega arith
 packets_few (Sent time space number size eliciting in_flight leave ∷ h) = omega (arith, packets_few h)
 packets_few (_ ∷ h) = omega (arith, packets_few h)
@@ -152,9 +152,9 @@ collapse_between d most r false is = is
 three : (d : ℕ) (r : Control) (xs ys zs : List Move) → fold (moved d) r ((xs ++ ys) ++ zs) ≡ fold (moved d) (fold (moved d) (fold (moved d) r xs) ys) zs
 three d r xs ys zs = fold-append (moved d) r (xs ++ ys) zs ∙ ap (λ (x : Control). fold (moved d) x zs) (fold-append (moved d) r xs ys)
 
-growth_if : (c : Settings) (e : Event) (h : List Event) (d : ℕ) (r : Control) (limited : Bool)
+growth_if : (c : Settings) (e : Event) (h : List Event) (d : ℕ) (r : Control) (app_limited : Bool)
     → fold (grown_by d) r (acknowledged_by c e h) ≡ fold (moved d) r (grows (newly_acknowledged (e ∷ h)))
-    → fold (grown_by d) r (if limited then [] else acknowledged_by c e h) ≡ fold (moved d) r (if limited then [] else grows (newly_acknowledged (e ∷ h)))
+    → fold (grown_by d) r (if app_limited then [] else acknowledged_by c e h) ≡ fold (moved d) r (if app_limited then [] else grows (newly_acknowledged (e ∷ h)))
 growth_if c e h d r true same = refl
 growth_if c e h d r false same = same
 
@@ -182,16 +182,15 @@ reno_is c e h range fit few =
     let bound = window_bound c h range fit few in
     let between : IsBetween d (2 ^ 60) collapsed = collapse_between d (2 ^ 60) hit b (hit_between d (2 ^ 60) (time_of e) (reno c h) last bound) in
     let ys = collapses b in
-    let zs : List Move = if is_limited e then [] else grows (newly_acknowledged (e ∷ h)) in
-    growth_if c e h d collapsed (is_limited e) (grown_is c e h d collapsed (omega (arith, datagram_low)) fit few between)
+    let zs : List Move = if is_app_limited e then [] else grows (newly_acknowledged (e ∷ h)) in
+    growth_if c e h d collapsed (is_app_limited e) (grown_is c e h d collapsed (omega (arith, datagram_low)) fit few between)
     ∙ (ap (λ (xs : List Move). fold (moved d) (fold (moved d) (fold (moved d) (reno c h) xs) ys) zs) (sym (hits_is (time_of e) (owed c (e ∷ h))))
     ∙ (sym (three d (reno c h) (hits (time_of e) (owed c (e ∷ h))) ys zs) ∙ sym (reno_after c e h)))
 
 -- .. from what is told of it
 pub reno_of : (c : Settings) (e : Event) (h : List Event) (header : Settings) (before : Control) (acknowledged : List SentPacket) (last : Option ℕ) (persistent : Bool)
     → header ≡ c → before ≡ reno c h → acknowledged ≡ acknowledged_by c e h → last ≡ last_sent (owed c (e ∷ h)) → persistent ≡ is_persistent c (e ∷ h)
-    → AreInRange header → AllByRecursion Fits h → length h < 2 ^ 32
+    → AreInRange c → AllByRecursion Fits h → length h < 2 ^ 32
     → steps.reno_after header.max_datagram_size before e acknowledged last persistent ≡ reno c (e ∷ h)
 reno_of c e h header before acknowledged last persistent is_header is are is_last is_persistent_then range fit few =
-    let known = reno_is c e h (subst AreInRange is_header range) fit few in
-    rw (is_header, is, are, is_last, is_persistent_then) known
+    rw (is_header, is, are, is_last, is_persistent_then) (reno_is c e h range fit few)

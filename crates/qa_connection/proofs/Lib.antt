@@ -1,8 +1,10 @@
+pub mod Lists
 pub mod Told
 pub mod Grown
 pub mod Entries
 pub mod Spent
 pub mod Ended
-pub mod Powers
+pub mod Timers
 pub mod Due
 pub mod States
+pub mod OneMore

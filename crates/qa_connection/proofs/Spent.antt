@@ -1,32 +1,35 @@
--- What is spent of the allowances stays small, so that 64 bits hold it.
-use Rattle.std.proofs.Common.{◌≡◌, ◌≤◌, ◌+◌, ◌*◌, ℕ, List, [], ◌∷◌, length, Bool, true, false, Option, Some, None, option_map, refl, sym, ap, arith, ◌∙◌}
+-- What an event makes of the allowances. What is spent of them stays small, so that 64 bits hold it.
+use Rattle.std.proofs.Common.{◌≡◌, ◌≤◌, ◌+◌, ◌*◌, ℕ, List, [], ◌∷◌, length, Bool, true, false, Option, Some, None, option_map, refl, sym, ap, ap₂, arith, ◌∙◌}
 use Rattle.std.proofs.lemmas.Bool.{and_parts, leb-true}
-use Rattle.std.proofs.Math.Nat.{mul-le-mul}
 use Rattle.std.specs.List.{AllByRecursion}
 use Rattle.std.specs.Prelude.{◌&&◌, ◌||◌, not, if◌then◌else◌, nat_le}
 use Rattle.qa_base.specs.declared.event.Event.{Event}
 use Rattle.qa_base.specs.declared.event.Event.TheVariants.{Sent}
-use Rattle.qa_base.specs.declared.space.Leave.TheVariants.{Probe}
+use Rattle.qa_base.specs.declared.space.Leave.{Leave}
+use Rattle.qa_base.specs.declared.space.Leave.TheVariants.{Window, Probe, Recovery}
+use Rattle.qa_base.specs.declared.space.Space.{Space}
 use Rattle.qa_base.specs.machine.Leave.{is_recovery_packet, probe_size, probe_spent, recovery_spent}
+use Rattle.qa_base.specs.machine.Loss.{owed}
 use Rattle.qa_base.specs.machine.Reno.{is_entry}
-use Rattle.qa_base.specs.machine.Rules.{IsRun}
-use Rattle.qa_base.specs.machine.Timer.{backoff, is_pto, resets_count}
-use Rattle.qa_base.specs.machine.Widths.{Fits, IsTimely}
+use Rattle.qa_base.specs.machine.Timer.{is_pto}
+use Rattle.qa_base.specs.machine.Widths.{Fits}
 use Rattle.qa_base.specs.values.Settings.{Settings}
-use Rattle.qa_base.proofs.machine.PtoCount.{pto_count}
-use Rattle.qa_base.proofs.machine.Steps.{backoff_after, probe_spent_after, recovery_spent_after}
+use Rattle.qa_base.proofs.machine.Steps.{probe_spent_after, recovery_spent_after}
+use Rattle.qa_connection.specs.Spending.{allowances_after, hit, spent}
 use Rattle.qa_connection.specs.Steps.{capped}
+use Rattle.qa_connection.specs.declared.allowances.Allowances.{Allowances}
+use Rattle.qa_connection.proofs.Entries.{no_entry}
 
--- what was spent is at most so much for each event
-abbrev IsSmall : ℕ → List Event → Option ℕ → Type 0
-IsSmall most h None = Unit {0}
-IsSmall most h (Some n) = n ≤ most * length h
+-- what was spent is at most a packet of the greatest size for each event
+abbrev IsSmall : List Event → Option ℕ → Type 0
+IsSmall h None = Unit {0}
+IsSmall h (Some n) = n ≤ 65527 * length h
 
-small_if : (most more : ℕ) (e : Event) (h : List Event) (spent : Option ℕ) (reset : Bool) → more ≤ most → IsSmall most h spent
-    → IsSmall most (e ∷ h) (if reset then Some 0 else option_map (λ n. more + n) spent)
-small_if most more e h spent true few is = omega arith
-small_if most more e h None false few is = tt
-small_if most more e h (Some n) false few is = omega (arith, few, is)
+small_if : (more : ℕ) (e : Event) (h : List Event) (spent : Option ℕ) (reset : Bool) → more ≤ 65527 → IsSmall h spent
+    → IsSmall (e ∷ h) (if reset then Some 0 else option_map (λ n. more + n) spent)
+small_if more e h spent true few is = omega arith
+small_if more e h None false few is = tt
+small_if more e h (Some n) false few is = omega (arith, few, is)
 
 size_if : (in_flight : Bool) (size : ℕ) → size ≤ 65527 → (if in_flight then size else 0) ≤ 65527
 size_if true size small = small
@@ -35,81 +38,81 @@ size_if false size small = omega arith
 probe_size_small : (e : Event) (h : List Event) → Fits e → probe_size (e ∷ h) ≤ 65527
 probe_size_small (Sent time space number size eliciting in_flight Probe) h fit =
     let parts = and_parts (nat_le 1 size && nat_le size 65527) (not eliciting || in_flight) fit in
-    let both = and_parts (nat_le 1 size) (nat_le size 65527) parts.0 in
-    size_if in_flight size (leb-true size 65527 both.1)
+    size_if in_flight size (leb-true size 65527 (and_parts (nat_le 1 size) (nat_le size 65527) parts.0).1)
 probe_size_small _ h fit = omega arith
 
-probe_small : (h : List Event) → AllByRecursion Fits h → IsSmall 65527 h (probe_spent h)
+probe_small : (h : List Event) → AllByRecursion Fits h → IsSmall h (probe_spent h)
 probe_small [] fit = tt
 probe_small (e ∷ h) fit =
-    rw (probe_spent_after e h) (small_if 65527 (probe_size (e ∷ h)) e h (probe_spent h) (is_pto (e ∷ h)) (probe_size_small e h fit.0) (probe_small h fit.1))
+    rw (probe_spent_after e h) (small_if (probe_size (e ∷ h)) e h (probe_spent h) (is_pto (e ∷ h)) (probe_size_small e h fit.0) (probe_small h fit.1))
 
-one_small : (b : Bool) → (if b then 1 else 0) ≤ 1
+one_small : (b : Bool) → (if b then 1 else 0) ≤ 65527
 one_small true = omega arith
 one_small false = omega arith
 
-recovery_small : (c : Settings) (h : List Event) → IsSmall 1 h (recovery_spent c h)
+recovery_small : (c : Settings) (h : List Event) → IsSmall h (recovery_spent c h)
 recovery_small c [] = tt
 recovery_small c (e ∷ h) =
-    rw (recovery_spent_after c e h)
-    (small_if 1 (if is_recovery_packet (e ∷ h) then 1 else 0) e h (recovery_spent c h) (is_entry c (e ∷ h)) (one_small (is_recovery_packet (e ∷ h))) (recovery_small c h))
+    rw (recovery_spent_after c e h) (small_if _ e h (recovery_spent c h) (is_entry c (e ∷ h)) (one_small (is_recovery_packet (e ∷ h))) (recovery_small c h))
 
--- ---- nothing is cut off
-
-pub whole : (n : ℕ) → n ≤ 18446744073709551615 → capped n ≡ n
-whole n few = omega (arith, few)
-
-bounded : (most more n long : ℕ) → most ≤ 65527 → more ≤ most → long ≤ 4294967295 → n ≤ most * long → more + n ≤ 18446744073709551615
-bounded most more n long small few short is = let product = mul-le-mul small short in omega (arith, product, few, small, is)
-
-whole_sum : (most more : ℕ) (h : List Event) (spent : Option ℕ) → most ≤ 65527 → more ≤ most → length h ≤ 4294967295 → IsSmall most h spent
+-- nothing is cut off
+whole_sum : (more : ℕ) (h : List Event) (spent : Option ℕ) → more ≤ 65527 → length h ≤ 4294967295 → IsSmall h spent
     → option_map (λ n. capped (more + n)) spent ≡ option_map (λ n. more + n) spent
-whole_sum most more h None small few long is = refl
-whole_sum most more h (Some n) small few long is = ap Some (whole (more + n) (bounded most more n (length h) small few long is))
+whole_sum more h None few long is = refl
+whole_sum more h (Some n) few long is = let whole : capped (more + n) ≡ more + n = omega (arith, few, long, is) in ap Some whole
 
-sum_if : (reset : Bool) (more : ℕ) (spent : Option ℕ) → option_map (λ n. capped (more + n)) spent ≡ option_map (λ n. more + n) spent
-    → (if reset then Some 0 else option_map (λ n. capped (more + n)) spent) ≡ (if reset then Some 0 else option_map (λ n. more + n) spent)
-sum_if true more spent same = refl
-sum_if false more spent same = same
+-- ---- events that send nothing
 
--- the bytes of probes with one event more
-pub probe_spent_is : (e : Event) (h : List Event) → AllByRecursion Fits (e ∷ h) → length h ≤ 4294967295
-    → (if is_pto (e ∷ h) then Some 0 else option_map (λ n. capped (probe_size (e ∷ h) + n)) (probe_spent h)) ≡ probe_spent (e ∷ h)
-probe_spent_is e h fit few =
-    sum_if (is_pto (e ∷ h)) (probe_size (e ∷ h)) (probe_spent h)
-    (whole_sum 65527 (probe_size (e ∷ h)) h (probe_spent h) (omega arith) (probe_size_small e h fit.0) few (probe_small h fit.1))
-    ∙ sym (probe_spent_after e h)
+nothing_more : (spent : Option ℕ) → option_map (λ n. 0 + n) spent ≡ spent
+nothing_more None = refl
+nothing_more (Some n) = ap Some (omega arith)
 
--- the recovery packets with one event more
-pub recovery_spent_is : (c : Settings) (e : Event) (h : List Event) → length h ≤ 4294967295
-    → (if is_entry c (e ∷ h) then Some 0 else option_map (λ n. capped ((if is_recovery_packet (e ∷ h) then 1 else 0) + n)) (recovery_spent c h)) ≡ recovery_spent c (e ∷ h)
-recovery_spent_is c e h few =
-    let one : ℕ = if is_recovery_packet (e ∷ h) then 1 else 0 in
-    sum_if (is_entry c (e ∷ h)) one (recovery_spent c h)
-    (whole_sum 1 one h (recovery_spent c h) (omega arith) (one_small (is_recovery_packet (e ∷ h))) few (recovery_small c h))
-    ∙ sym (recovery_spent_after c e h)
+probes_stay : (e : Event) (h : List Event) → probe_size (e ∷ h) ≡ 0 → probe_spent (e ∷ h) ≡ (if is_pto (e ∷ h) then Some 0 else probe_spent h)
+probes_stay e h none =
+    probe_spent_after e h
+    ∙ (ap (λ m. if is_pto (e ∷ h) then Some 0 else option_map (λ n. m + n) (probe_spent h)) none
+    ∙ ap (λ (o : Option ℕ). if is_pto (e ∷ h) then Some 0 else o) (nothing_more (probe_spent h)))
 
-count_if : (resets pto : Bool) (n : ℕ) → n ≤ 40 → (if resets then 0 else (if pto then capped (1 + n) else n)) ≡ (if resets then 0 else (if pto then 1 else 0) + n)
-count_if true pto n few = refl
-count_if false true n few = whole (1 + n) (omega (arith, few))
-count_if false false n few = omega arith
+recovery_stays : (c : Settings) (e : Event) (h : List Event) → is_recovery_packet (e ∷ h) ≡ false
+    → recovery_spent c (e ∷ h) ≡ (if is_entry c (e ∷ h) then Some 0 else recovery_spent c h)
+recovery_stays c e h none =
+    recovery_spent_after c e h
+    ∙ (ap (λ b. if is_entry c (e ∷ h) then Some 0 else option_map (λ n. (if b then 1 else 0) + n) (recovery_spent c h)) none
+    ∙ ap (λ (o : Option ℕ). if is_entry c (e ∷ h) then Some 0 else o) (nothing_more (recovery_spent c h)))
 
--- the PTO count with one event more
-pub pto_count_is : (c : Settings) (e : Event) (h : List Event) → IsRun c h → AllByRecursion IsTimely h
-    → (if resets_count c (e ∷ h) then 0 else (if is_pto (e ∷ h) then capped (1 + backoff c h) else backoff c h)) ≡ backoff c (e ∷ h)
-pto_count_is c e h run timely =
-    count_if (resets_count c (e ∷ h)) (is_pto (e ∷ h)) (backoff c h) (pto_count c h run timely) ∙ sym (backoff_after c e h)
+abbrev allowances_of : Option ℕ → Option ℕ → Allowances
+allowances_of probes recovery = record { probe_spent = probes; recovery_spent = recovery }
 
--- ---- from what is kept
+-- they are those before it, but for a probe timeout and an entry into recovery
+pub allowances_stay : (c : Settings) (e : Event) (h : List Event) → probe_size (e ∷ h) ≡ 0 → is_recovery_packet (e ∷ h) ≡ false
+    → allowances_after c (e ∷ h) ≡ hit (is_entry c (e ∷ h)) (allowances_of (if is_pto (e ∷ h) then Some 0 else probe_spent h) (recovery_spent c h))
+allowances_stay c e h no_probe no_recovery = ap₂ allowances_of (probes_stay e h no_probe) (recovery_stays c e h no_recovery)
 
-pub probe_spent_of : (e : Event) (h : List Event) (before : Option ℕ) → before ≡ probe_spent h → AllByRecursion Fits (e ∷ h) → length h ≤ 4294967295
-    → (if is_pto (e ∷ h) then Some 0 else option_map (λ n. capped (probe_size (e ∷ h) + n)) before) ≡ probe_spent (e ∷ h)
-probe_spent_of e h before is fit few = rw is (probe_spent_is e h fit few)
+-- .. and where nothing is found lost, but for a probe timeout
+pub allowances_unhit : (c : Settings) (e : Event) (h : List Event) (pto : Bool) → is_pto (e ∷ h) ≡ pto → probe_size (e ∷ h) ≡ 0 → is_recovery_packet (e ∷ h) ≡ false → owed c (e ∷ h) ≡ []
+    → allowances_after c (e ∷ h) ≡ allowances_of (if pto then Some 0 else probe_spent h) (recovery_spent c h)
+allowances_unhit c e h pto is no_probe no_recovery free =
+    allowances_stay c e h no_probe no_recovery ∙ ap₂ (λ entered b. hit entered (allowances_of (if b then Some 0 else probe_spent h) (recovery_spent c h))) (no_entry c e h free) is
 
-pub recovery_spent_of : (c : Settings) (e : Event) (h : List Event) (entered : Bool) (before : Option ℕ) → entered ≡ is_entry c (e ∷ h) → before ≡ recovery_spent c h → length h ≤ 4294967295
-    → (if entered then Some 0 else option_map (λ n. capped ((if is_recovery_packet (e ∷ h) then 1 else 0) + n)) before) ≡ recovery_spent c (e ∷ h)
-recovery_spent_of c e h entered before enters is few = rw (enters, is) (recovery_spent_is c e h few)
+-- ---- a packet
 
-pub pto_count_of : (c : Settings) (e : Event) (h : List Event) (resets : Bool) (before : ℕ) → resets ≡ resets_count c (e ∷ h) → before ≡ backoff c h → IsRun c h → AllByRecursion IsTimely h
-    → (if resets then 0 else (if is_pto (e ∷ h) then capped (1 + before) else before)) ≡ backoff c (e ∷ h)
-pto_count_of c e h resets before reset is run timely = rw (reset, is) (pto_count_is c e h run timely)
+same_if : (b : Bool) (a : Allowances) → (if b then a else a) ≡ a
+same_if true a = refl
+same_if false a = refl
+
+pub allowances_sent : (c : Settings) (h : List Event) (time : ℕ) (space : Space) (number size : ℕ) (eliciting in_flight : Bool) (leave : Leave)
+    → AllByRecursion Fits (Sent time space number size eliciting in_flight leave ∷ h) → length h ≤ 4294967295
+    → (if in_flight then spent leave size (allowances_after c h) else allowances_after c h) ≡ allowances_after c (Sent time space number size eliciting in_flight leave ∷ h)
+allowances_sent c h time space number size eliciting true Probe fit few =
+    let e = Sent time space number size eliciting true Probe in
+    ap₂ allowances_of (whole_sum size h (probe_spent h) (probe_size_small e h fit.0) few (probe_small h fit.1) ∙ sym (probe_spent_after e h))
+    (sym (recovery_stays c e h refl ∙ ap (λ b. if b then Some 0 else recovery_spent c h) (no_entry c e h refl)))
+allowances_sent c h time space number size eliciting true Recovery fit few =
+    let e = Sent time space number size eliciting true Recovery in
+    ap₂ allowances_of (sym (probes_stay e h refl))
+    (whole_sum 1 h (recovery_spent c h) (omega arith) few (recovery_small c h)
+    ∙ sym (recovery_spent_after c e h ∙ ap (λ b. if b then Some 0 else option_map (λ n. 1 + n) (recovery_spent c h)) (no_entry c e h refl)))
+allowances_sent c h time space number size eliciting false Probe fit few = sym (allowances_unhit c (Sent time space number size eliciting false Probe) h false refl refl refl refl)
+allowances_sent c h time space number size eliciting false Recovery fit few = sym (allowances_unhit c (Sent time space number size eliciting false Recovery) h false refl refl refl refl)
+allowances_sent c h time space number size eliciting in_flight Window fit few =
+    same_if in_flight (allowances_after c h) ∙ sym (allowances_unhit c (Sent time space number size eliciting in_flight Window) h false refl refl refl refl)

@@ -2,12 +2,11 @@
 use Rattle.std.specs.Prelude.{◌≤◌, ℕ, ◌-◌, ◌&&◌, ◌==◌, nat_le, min, fold, find, reverse, Bool, false, List, [], ◌∷◌, Option, Some, None, option_map, if◌then◌else◌}
 use Rattle.std.specs.List.{list_any}
 use Rattle.qa_base.specs.declared.event.Event.{Event}
-use Rattle.qa_base.specs.declared.event.Event.TheVariants.{Ack}
-use Rattle.qa_base.specs.machine.Packets.{Packet, greatest}
-use Rattle.qa_base.specs.machine.Reno.{Control, Move, Hit, collapses, grow, is_limited, is_outside_recovery, latest_sent, moved}
+use Rattle.qa_base.specs.machine.Packets.{Packet}
+use Rattle.qa_base.specs.machine.Reno.{Control, Move, Hit, collapses, grow, is_app_limited, is_outside_recovery, latest_sent, moved}
 use Rattle.qa_base.specs.machine.Rtt.{Estimate, Sample, refreshed}
 use Rattle.qa_base.specs.values.Events.{time_of}
-use Rattle.qa_base.specs.values.Limits.{least_datagram_size, max_packet_size}
+use Rattle.qa_base.specs.values.Limits.{min_datagram_size, max_packet_size}
 use Rattle.qa_sent.specs.declared.packet.SentPacket.{SentPacket}
 
 -- a number, or the greatest of 64 bits where it is greater
@@ -31,11 +30,6 @@ sample_at time delay (Some sent) = Some (record { latest_rtt = time - sent; ack_
 abbrev pub sample_by : ℕ → ℕ → ℕ → List SentPacket → Option Sample
 sample_by time delay number ps = if list_any (λ p. p.eliciting) ps then sample_at time delay (sent_at number ps) else None
 
--- the sample of an event that newly acknowledges these packets
-abbrev pub sample_of : ℕ → Bool → Event → List SentPacket → Option Sample
-sample_of most confirmed (Ack time space ranges delay limited) ps = sample_by time (limited_delay most confirmed delay) (greatest ranges) ps
-sample_of most confirmed _ ps = None
-
 -- the estimate after an event, refreshed where the header asks for it and the event establishes persistent congestion (section 5.2)
 abbrev pub refreshed_if : Bool → Bool → Estimate → Estimate
 refreshed_if refreshes is_persistent r = if refreshes && is_persistent then refreshed r else r
@@ -44,7 +38,7 @@ refreshed_if refreshes is_persistent r = if refreshes && is_persistent then refr
 
 -- a maximum datagram size in its range
 abbrev pub IsDatagramSize : ℕ → Type 0
-IsDatagramSize size = (least_datagram_size ≤ size) × (size ≤ max_packet_size)
+IsDatagramSize size = (min_datagram_size ≤ size) × (size ≤ max_packet_size)
 
 -- when the last of the packets was sent, where there are any
 abbrev pub last_sent : List Packet → Option ℕ
@@ -75,4 +69,4 @@ abbrev pub reno_after : ℕ → Control → Event → List SentPacket → Option
 reno_after max_datagram_size r e ps last is_persistent =
     let after_losses = fold (moved max_datagram_size) r (hits_at (time_of e) last) in
     let after_collapse = fold (moved max_datagram_size) after_losses (collapses is_persistent) in
-    fold (grown_by max_datagram_size) after_collapse (if is_limited e then [] else ps)
+    fold (grown_by max_datagram_size) after_collapse (if is_app_limited e then [] else ps)

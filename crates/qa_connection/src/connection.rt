@@ -1,22 +1,22 @@
 //! What is kept of a connection beside the packets that were sent.
-ghost use Rattle.std.specs.Prelude.{◌≡◌, ◌∷◌, [], List};
-ghost use Rattle.qa_base.specs.declared.event.Event.{Event};
-ghost use Rattle.qa_base.specs.machine.Handshake.{is_validated};
-ghost use Rattle.qa_base.specs.values.Settings.{Settings};
-ghost use Rattle.qa_connection.specs.Known.{IsBegun, IsOf, IsOutcome, IsProperRun, acknowledged_by};
+ghost use Rattle.std.specs.Prelude.{◌≡◌, []};
+ghost use Rattle.qa_base.specs.values.Settings.{AreInRange};
+ghost use Rattle.qa_connection.specs.Changes as steps;
+ghost use Rattle.qa_connection.specs.Changes.{with_collapse, with_hit, with_sample};
+ghost use Rattle.qa_connection.specs.Known.{IsOf};
 
-use crate::congestion::Outcome;
-use crate::event::time_of;
-use crate::spaces::Spaces;
-use crate::{allowances, congestion, handshake, sampling, timeouts};
-use qa_base::{Event, Header, Micros, Space};
+use crate::allowances::Allowances;
+use crate::congestion::Losses;
+use crate::handshake::HandshakeState;
+use crate::spaces::SpaceState;
+use crate::timer::TimerState;
+use crate::{congestion, sampling, spaces};
+use qa_base::{Header, Leave, Micros, PacketNumber, PerSpace, Space};
 use qa_recovery::{Reno, Rtt};
 use qa_sent::SentPacket;
 
-/// What is kept of a connection beside the packets that were sent (RFC 9002, A.3 and B.2).
-///
-/// An event is taken in two steps, since losses are looked for between them: `begin`, then
-/// detection over the packets, then `end`.
+/// What is kept of a connection beside the packets that were sent (RFC 9002, A.3 and B.2). Each call
+/// is a step of an event, and changes the parts that it names.
 #[derive(Clone, Copy)]
 pub struct Connection {
     /// The header of the trace.
@@ -25,29 +25,18 @@ pub struct Connection {
     pub events: u64,
     /// When the last event happened.
     pub last_time: Option<Micros>,
-    /// Whether the handshake is confirmed (RFC 9001, section 4.1.2).
-    pub confirmed: bool,
-    /// Whether a Handshake packet was acknowledged.
-    pub handshake_acknowledged: bool,
-    /// Whether the keys of the Handshake space are there.
-    pub has_keys: bool,
+    /// How far the handshake is.
+    pub handshake: HandshakeState,
     /// The estimate of the round-trip time.
     pub rtt: Rtt,
     /// The congestion window.
     pub reno: Reno,
-    /// The probe timeouts since the last event that set their count to 0 (RFC 9002, section 6.2.1).
-    pub pto_count: u64,
-    /// When the timer was last set.
-    pub last_set: Option<Micros>,
-    /// The bytes of probes since the last probe timeout; None without one (section 6.2.4).
-    pub probe_spent: Option<u64>,
-    /// The space in which a probe is due since the last probe timeout.
-    pub probe_due: Option<Space>,
-    /// How many recovery packets there were since the last entry into recovery; None without one
-    /// (section 7.3.2).
-    pub recovery_spent: Option<u64>,
+    /// What is kept of the loss detection timer.
+    pub timer: TimerState,
+    /// What was sent past the congestion window.
+    pub allowances: Allowances,
     /// What is kept of each packet number space.
-    pub spaces: Spaces,
+    pub spaces: PerSpace<SpaceState>,
 }
 
 impl Connection {
@@ -59,70 +48,158 @@ impl Connection {
             header,
             events: 0,
             last_time: None,
-            confirmed: false,
-            handshake_acknowledged: false,
-            has_keys: false,
+            handshake: HandshakeState::start(),
             rtt: sampling::start(&header),
             reno: congestion::start(&header),
-            pto_count: 0,
-            last_set: None,
-            probe_spent: None,
-            probe_due: None,
-            recovery_spent: None,
-            spaces: Spaces::start(),
+            timer: TimerState::start(),
+            allowances: Allowances::start(),
+            spaces: spaces::start(),
         }
     }
 
-    /// Whether the peer has validated the sender's address (RFC 9002, A.8).
-    pub fn is_validated(&self) -> bool
-        ensures { (c : Settings) (h : List Event) → IsOf self.now c h → result ≡ is_validated c h }
+    /// Takes the sample of the round-trip time that an acknowledgment gives of the packets that it
+    /// newly acknowledges, which stand in the order of sending (RFC 9002, sections 5.1 and 5.3).
+    /// `largest` is the largest number that it acknowledges, `delay` what the peer reports.
+    pub fn sample(
+        &mut self,
+        acknowledged: &[SentPacket],
+        largest: PacketNumber,
+        delay: u64,
+        now: Micros,
+    )
+        ensures { self.new ≡ with_sample now delay largest acknowledged.now self.old }
     {
-        handshake::is_validated(&self.header, self.handshake_acknowledged, self.confirmed)
+        let delay = sampling::limited_delay(&self.header, self.handshake.confirmed, delay);
+        sampling::acknowledge(&mut self.rtt, acknowledged, largest, delay, now);
     }
 
-    /// Takes the first half of an event: what an acknowledgment says of the round-trip time, and the
-    /// largest number that it acknowledges. `acknowledged` are the packets that the event newly
-    /// acknowledges, in the order of sending; other events have none.
-    pub fn begin(&mut self, event: &Event, acknowledged: &[SentPacket])
-        ensures { (c : Settings) (h : List Event) → IsOf self.old c h → acknowledged.now ≡ acknowledged_by c event.now h → IsBegun self.new c event.now h }
+    /// Packets were found lost, the last of which was sent at `last_sent`, where there are any (RFC
+    /// 9002, B.6): the window falls, and a recovery packet may go out, where that was after
+    /// recovery began.
+    fn hit(&mut self, last_sent: Option<Micros>, now: Micros)
+        ensures { self.new ≡ with_hit now last_sent self.old }
     {
-        sampling::follow(
-            &mut self.rtt,
-            &self.header,
-            self.confirmed,
-            event,
+        let Some(last_sent) = last_sent else {
+            return;
+        };
+        if self
+            .reno
+            .hit(last_sent, now, self.header.max_datagram_size())
+        {
+            self.allowances.recovery_spent = Some(0);
+        }
+    }
+
+    /// The losses that were found establish persistent congestion, or not (B.8). It sets `min_rtt`
+    /// anew where the header asks for that (section 5.2).
+    fn collapse(&mut self, is_persistent: bool)
+        ensures value { self.new ≡ with_collapse is_persistent self.old }
+        ensures range { AreInRange self.old.header }
+    {
+        sampling::refresh(&mut self.rtt, &self.header, is_persistent);
+        congestion::collapse(
+            &mut self.reno,
+            is_persistent,
+            self.header.max_datagram_size(),
+        );
+    }
+
+    /// Takes in what a detection found lost (B.8).
+    pub fn lose(&mut self, losses: Losses, now: Micros)
+        ensures value { self.new ≡ with_collapse losses.is_persistent (with_hit now losses.last_owed self.old) }
+        ensures range { AreInRange self.old.header }
+    {
+        self.hit(losses.last_owed, now);
+        self.collapse(losses.is_persistent);
+    }
+
+    /// The window grows by the packets that an acknowledgment newly acknowledges, in the order of
+    /// sending, unless the sender was limited by less than the window (B.5; section 7.8).
+    pub fn grow(&mut self, acknowledged: &[SentPacket], app_limited: bool)
+        ensures { self.new ≡ steps.grown app_limited acknowledged.now self.old }
+    {
+        if app_limited {
+            return;
+        }
+        congestion::grow(
+            &mut self.reno,
             acknowledged,
+            self.header.max_datagram_size(),
         );
-        self.spaces.acknowledge(event);
     }
 
-    /// Takes the second half of an event that was begun: all that follows from what it newly
-    /// acknowledges and from what it found lost. Persistent congestion refreshes `min_rtt` only here,
-    /// after losses were looked for, and where the header asks for it.
-    pub fn end(&mut self, event: &Event, acknowledged: &[SentPacket], outcome: Outcome)
-        ensures { (c : Settings) (h : List Event) → IsBegun self.old c event.now h → IsProperRun c (event.now ∷ h)
-            → acknowledged.now ≡ acknowledged_by c event.now h → IsOutcome outcome c (event.now ∷ h) → IsOf self.new c (event.now ∷ h) }
+    /// Numbers of a space were acknowledged, of which this is the largest (A.7).
+    pub fn acknowledge(&mut self, space: Space, largest: PacketNumber)
+        ensures { self.new ≡ steps.acknowledged space largest self.old }
     {
-        let is_new = !acknowledged.is_empty();
+        self.spaces.of_mut(space).raise(largest);
+        self.handshake.acknowledge(space);
+    }
+
+    /// A packet was sent that is ack-eliciting or not: where it is, the probe of its space is not due
+    /// any more.
+    fn elicit(&mut self, packet: &SentPacket)
+        ensures { self.new ≡ steps.elicited packet.now self.old }
+    {
+        if !packet.eliciting {
+            return;
+        }
+        self.spaces.of_mut(packet.space).last_eliciting = Some(packet.time);
+        self.timer.elicit(packet.space);
+    }
+
+    /// A packet was sent that is in flight or not: where it is, it sets the timer, and what it may
+    /// leave by past the window is spent.
+    fn launch(&mut self, packet: &SentPacket, leave: Leave)
+        ensures { self.new ≡ steps.launched packet.now leave self.old }
+    {
+        if !packet.in_flight {
+            return;
+        }
+        self.timer.last_set = Some(packet.time);
+        self.allowances.spend(leave, packet.size);
+    }
+
+    /// A packet was sent (RFC 9002, A.5).
+    pub fn send(&mut self, packet: &SentPacket, leave: Leave)
+        ensures { self.new ≡ steps.sent packet.now leave self.old }
+    {
+        self.elicit(packet);
+        self.launch(packet, leave);
+        self.handshake.send(packet.space);
+    }
+
+    /// A probe timeout of a space (A.9): two datagrams of probes may go out, and one is due.
+    pub fn probe(&mut self, space: Space, now: Micros)
+        ensures { self.new ≡ steps.probing space now self.old }
+    {
+        self.timer.probe(space, now);
+        self.allowances.probe_spent = Some(0);
+    }
+
+    /// The keys of a space were discarded (A.11).
+    pub fn discard(&mut self, space: Space, now: Micros)
+        ensures { self.new ≡ steps.discarded space now self.old }
+    {
+        self.spaces.of_mut(space).discarded = true;
+        self.timer.restart(now, true);
+        self.handshake.discard(space);
+    }
+
+    /// Something new was acknowledged: the timer is set anew, no probe is due, and the PTO count is
+    /// 0 from now on where the peer has validated the sender's address (A.7; section 6.2.1).
+    pub fn restart(&mut self, now: Micros)
+        ensures { self.new ≡ steps.restarted now self.old }
+    {
+        let is_validated = self.handshake.is_validated(self.header.role());
+        self.timer.restart(now, is_validated);
+    }
+
+    /// One event more happened, at this time.
+    pub fn count(&mut self, now: Micros)
+        ensures { self.new ≡ steps.counted now self.old }
+    {
         self.events = self.events.saturating_add(1);
-        self.last_time = Some(time_of(event));
-        handshake::confirm(&mut self.confirmed, event);
-        handshake::acknowledge(&mut self.handshake_acknowledged, event);
-        handshake::show_keys(&mut self.has_keys, event);
-        let validated = handshake::is_validated(
-            &self.header,
-            self.handshake_acknowledged,
-            self.confirmed,
-        );
-        let resets = timeouts::resets_count(event, is_new, validated);
-        timeouts::count(&mut self.pto_count, event, resets);
-        timeouts::set(&mut self.last_set, event, is_new);
-        let entered = congestion::enters(&self.reno, outcome.last_owed);
-        allowances::spend_probe(&mut self.probe_spent, event);
-        allowances::follow_due(&mut self.probe_due, event, is_new);
-        allowances::spend_recovery(&mut self.recovery_spent, event, entered);
-        sampling::refresh(&mut self.rtt, &self.header, outcome.is_persistent);
-        congestion::follow(&mut self.reno, &self.header, event, acknowledged, outcome);
-        self.spaces.pass(event);
+        self.last_time = Some(now);
     }
 }

@@ -9,9 +9,8 @@ ghost use Rattle.qa_connection.specs.Deadlines.{AreOpen};
 ghost use Rattle.qa_connection.specs.Known.{IsOf, IsProperRun};
 
 use crate::connection::Connection;
-use crate::handshake::is_validated;
 use crate::spaces::SpaceState;
-use qa_base::{Due, Kind, Micros, PacketNumber, Space};
+use qa_base::{Due, Micros, PacketNumber, PerSpace, Space, TimerKind};
 use qa_recovery::Rtt;
 use qa_sent::SentPacket;
 
@@ -22,38 +21,6 @@ pub struct OpenInSpace {
     pub awaits: bool,
     /// The first in the order of sending that is in flight.
     pub oldest: Option<SentPacket>,
-}
-
-/// What the timer asks of the open packets.
-#[derive(Clone, Copy)]
-pub struct OpenPackets {
-    /// Of those of the Initial space.
-    pub initial: OpenInSpace,
-    /// Of those of the Handshake space.
-    pub handshake: OpenInSpace,
-    /// Of those of the application data space.
-    pub app: OpenInSpace,
-}
-
-/// The earlier of the two; of equal times the first.
-fn earlier(due: Option<Due>, later: Option<Due>) -> Option<Due>
-    ensures { result ≡ timers.earlier due later }
-{
-    match (due, later) {
-        (None, _) => later,
-        (Some(first), Some(second)) if second.time < first.time => later,
-        _ => due,
-    }
-}
-
-/// The first of the two that there is.
-fn or_else(due: Option<Due>, other: Option<Due>) -> Option<Due>
-    ensures { result ≡ option_or due other }
-{
-    match due {
-        None => other,
-        Some(due) => Some(due),
-    }
 }
 
 // ---- losses
@@ -79,7 +46,7 @@ fn loss_due(
 {
     match oldest {
         Some(packet) if is_below_largest(packet.number, largest) => Some(Due {
-            kind: Kind::Loss,
+            kind: TimerKind::Loss,
             space,
             time: u128::from(packet.time.get() + rtt.loss_delay()),
         }),
@@ -89,29 +56,6 @@ fn loss_due(
 
 // ---- probe timeouts
 
-/// The most doublings of a probe timeout. No run has more.
-const MOST_DOUBLINGS: u64 = 40;
-
-/// Two to the power of the PTO count.
-#[tactic(auto, using(crate::proofs::Powers::power_is, crate::proofs::Powers::power_small))]
-fn power(count: u64) -> u128
-    requires count { count ≤ 40 }
-    ensures value { result ≡ 2 ^ count }
-    ensures bound { result ≤ 1099511627776 }
-{
-    1 << count
-}
-
-/// A duration, doubled for each probe timeout.
-#[tactic(auto, using(crate::proofs::Powers::product_small))]
-fn doubled(base: u64, count: u64) -> u128
-    requires base { base ≤ 6000000000000000 }
-    ensures value { result ≡ base * 2 ^ min count 40 }
-    ensures bound { result ≤ 6597069766656000000000000000 }
-{
-    u128::from(base) * power(count.min(MOST_DOUBLINGS))
-}
-
 /// A probe timeout of the space, so long after a time, where there is one.
 fn pto_at(space: Space, since: Option<Micros>, base: u64, count: u64) -> Option<Due>
     requires base { base ≤ 6000000000000000 }
@@ -119,11 +63,7 @@ fn pto_at(space: Space, since: Option<Micros>, base: u64, count: u64) -> Option<
 {
     match since {
         None => None,
-        Some(since) => Some(Due {
-            kind: Kind::Pto,
-            space,
-            time: u128::from(since.get()) + doubled(base, count),
-        }),
+        Some(since) => Some(Due::probe_timeout(space, since, base, count)),
     }
 }
 
@@ -146,18 +86,18 @@ fn pto_due(
 
 impl Connection {
     /// When the first open packet is old enough to be lost (RFC 9002, section 6.1.2).
-    fn earliest_loss(&self, packets: &OpenPackets) -> Option<Due>
+    fn earliest_loss(&self, packets: &PerSpace<OpenInSpace>) -> Option<Due>
         ensures { result ≡ deadlines.earliest_loss self.now packets.now }
     {
         let spaces = &self.spaces;
-        earlier(
+        Due::earlier(
             loss_due(
                 self.rtt,
                 spaces.initial.largest,
                 Space::Initial,
                 packets.initial.oldest,
             ),
-            earlier(
+            Due::earlier(
                 loss_due(
                     self.rtt,
                     spaces.handshake.largest,
@@ -174,7 +114,7 @@ impl Connection {
     fn app_pto(&self, awaits: bool) -> Option<Due>
         ensures { result ≡ deadlines.app_pto self.now awaits }
     {
-        if !self.confirmed {
+        if !self.handshake.confirmed {
             return None;
         }
         pto_due(
@@ -182,31 +122,31 @@ impl Connection {
             awaits,
             self.spaces.app.last_eliciting,
             self.rtt.pto_base() + self.header.max_ack_delay(),
-            self.pto_count,
+            self.timer.pto_count,
         )
     }
 
     /// The earliest probe timeout of all spaces (section 6.2.1).
-    fn earliest_pto(&self, packets: &OpenPackets) -> Option<Due>
+    fn earliest_pto(&self, packets: &PerSpace<OpenInSpace>) -> Option<Due>
         ensures { result ≡ deadlines.earliest_pto self.now packets.now }
     {
         let base = self.rtt.pto_base();
         let spaces = &self.spaces;
-        earlier(
+        Due::earlier(
             pto_due(
                 Space::Initial,
                 packets.initial.awaits,
                 spaces.initial.last_eliciting,
                 base,
-                self.pto_count,
+                self.timer.pto_count,
             ),
-            earlier(
+            Due::earlier(
                 pto_due(
                     Space::Handshake,
                     packets.handshake.awaits,
                     spaces.handshake.last_eliciting,
                     base,
-                    self.pto_count,
+                    self.timer.pto_count,
                 ),
                 self.app_pto(packets.app.awaits),
             ),
@@ -217,34 +157,41 @@ impl Connection {
     fn anti_deadlock(&self) -> Option<Due>
         ensures { result ≡ deadlines.anti_deadlock self.now }
     {
-        if is_validated(&self.header, self.handshake_acknowledged, self.confirmed) {
+        if self.handshake.is_validated(self.header.role()) {
             return None;
         }
-        let space = if self.has_keys {
+        let space = if self.handshake.has_keys {
             Space::Handshake
         } else {
             Space::Initial
         };
-        pto_at(space, self.last_set, self.rtt.pto_base(), self.pto_count)
+        pto_at(
+            space,
+            self.timer.last_set,
+            self.rtt.pto_base(),
+            self.timer.pto_count,
+        )
     }
 
     /// What the loss detection timer is set for by the packets that are open: the first of them that
     /// is old enough to be lost, else a probe timeout; None where they do not set it. The timer that a
     /// client keeps until its address is validated is no part of it. `packets` is what the timer asks
     /// of the packets.
-    pub fn packet_deadline(&self, packets: &OpenPackets) -> Option<Due>
+    pub fn packet_deadline(&self, packets: &PerSpace<OpenInSpace>) -> Option<Due>
         ensures value { result ≡ deadlines.packet_deadline self.now packets.now }
-        ensures meaning { (c : Settings) (h : List Event) → IsOf self.now c h → IsProperRun c h → AreOpen packets.now c h → result ≡ timers.packet_deadline c h }
+        ensures meaning { (c : Settings) (h : List Event) → IsOf self.now c h → IsProperRun c h
+            → AreOpen packets.now c h → result ≡ timers.packet_deadline c h }
     {
-        or_else(self.earliest_loss(packets), self.earliest_pto(packets))
+        self.earliest_loss(packets).or(self.earliest_pto(packets))
     }
 
     /// What the loss detection timer is set for; None where it is not set (RFC 9002, A.8). `packets`
     /// is what it asks of the packets that are open.
     #[tactic(auto, using(crate::proofs::Due::deadline_is))]
-    pub fn deadline(&self, packets: &OpenPackets) -> Option<Due>
-        ensures { (c : Settings) (h : List Event) → IsOf self.now c h → IsProperRun c h → AreOpen packets.now c h → result ≡ timers.deadline c h }
+    pub fn deadline(&self, packets: &PerSpace<OpenInSpace>) -> Option<Due>
+        ensures { (c : Settings) (h : List Event) → IsOf self.now c h → IsProperRun c h
+            → AreOpen packets.now c h → result ≡ timers.deadline c h }
     {
-        or_else(self.packet_deadline(packets), self.anti_deadlock())
+        self.packet_deadline(packets).or(self.anti_deadlock())
     }
 }

@@ -1,53 +1,64 @@
 //! How far the handshake is.
-ghost use Rattle.std.specs.Prelude.{◌≡◌, ◌||◌};
-ghost use Rattle.qa_base.specs.machine.Handshake as handshake;
+ghost use Rattle.std.specs.Prelude.{◌≡◌, []};
+ghost use Rattle.qa_connection.specs.Handshaking as steps;
 
-use qa_base::{Event, Header, Role, Space};
+use qa_base::{Role, Space};
 
-/// Sets whether the handshake is confirmed, by an event or before it (RFC 9001, section 4.1.2).
-pub(crate) fn confirm(confirmed: &mut bool, event: &Event)
-    ensures { confirmed.new ≡ (handshake.confirms event.now || confirmed.old) }
-{
-    if let Event::Confirmed { .. } = event {
-        *confirmed = true;
-    }
+/// How far the handshake is.
+#[derive(Clone, Copy)]
+pub struct HandshakeState {
+    /// Whether it is confirmed (RFC 9001, section 4.1.2).
+    pub confirmed: bool,
+    /// Whether a packet of the Handshake space was acknowledged.
+    pub acknowledged: bool,
+    /// Whether the keys of the Handshake space are there.
+    pub has_keys: bool,
 }
 
-/// Sets whether a Handshake packet was acknowledged, by an event or before it.
-pub(crate) fn acknowledge(acknowledged: &mut bool, event: &Event)
-    ensures { acknowledged.new ≡ (handshake.acknowledges_handshake event.now || acknowledged.old) }
-{
-    if let Event::Ack {
-        space: Space::Handshake,
-        ..
-    } = event
+impl HandshakeState {
+    /// Before any event.
+    pub(crate) fn start() -> HandshakeState
+        ensures { result ≡ steps.handshake_after [] }
     {
-        *acknowledged = true;
-    }
-}
-
-/// Sets whether the keys of the Handshake space are there, as an event shows or one before it did.
-pub(crate) fn show_keys(has_keys: &mut bool, event: &Event)
-    ensures { has_keys.new ≡ (handshake.shows_keys event.now || has_keys.old) }
-{
-    match event {
-        Event::Keys { .. }
-        | Event::Sent {
-            space: Space::Handshake,
-            ..
+        HandshakeState {
+            confirmed: false,
+            acknowledged: false,
+            has_keys: false,
         }
-        | Event::Discard {
-            space: Space::Initial,
-            ..
-        } => *has_keys = true,
-        _ => {}
     }
-}
 
-/// Whether the peer has validated the sender's address: a server's peer always has, and a client's
-/// once it acknowledged a Handshake packet or the handshake is confirmed (RFC 9002, A.8).
-pub(crate) fn is_validated(header: &Header, acknowledged: bool, confirmed: bool) -> bool
-    ensures { result ≡ (handshake.is_server header.now.role || acknowledged || confirmed) }
-{
-    header.role() == Role::Server || acknowledged || confirmed
+    /// Whether the peer has validated the address of a sender of this role (RFC 9002, A.8).
+    pub(crate) fn is_validated(&self, role: Role) -> bool
+        ensures { result ≡ steps.is_validated role self.now }
+    {
+        role == Role::Server || self.acknowledged || self.confirmed
+    }
+
+    /// A packet of the space was acknowledged.
+    pub(crate) fn acknowledge(&mut self, space: Space)
+        ensures { self.new ≡ steps.acknowledged_in space self.old }
+    {
+        if space == Space::Handshake {
+            self.acknowledged = true;
+        }
+    }
+
+    /// A packet of the space was sent, so its keys are there.
+    pub(crate) fn send(&mut self, space: Space)
+        ensures { self.new ≡ steps.sent_in space self.old }
+    {
+        if space == Space::Handshake {
+            self.has_keys = true;
+        }
+    }
+
+    /// The keys of the space were discarded. Those of the Initial space are once there are keys of
+    /// the Handshake space.
+    pub(crate) fn discard(&mut self, space: Space)
+        ensures { self.new ≡ steps.discarded_in space self.old }
+    {
+        if space == Space::Initial {
+            self.has_keys = true;
+        }
+    }
 }

@@ -4,8 +4,7 @@ ghost use Rattle.std.specs.List.{list_any};
 ghost use Rattle.qa_base.specs.machine.Rtt as estimates;
 ghost use Rattle.qa_connection.specs.Steps as steps;
 
-use crate::event::greatest;
-use qa_base::{Event, Header, Micros, PacketNumber};
+use qa_base::{Header, Micros, PacketNumber};
 use qa_recovery::Rtt;
 use qa_sent::SentPacket;
 
@@ -37,7 +36,7 @@ fn some_eliciting(packets: &[SentPacket]) -> bool
 }
 
 /// The peer's delay, limited once the handshake is confirmed (RFC 9002, section 5.3).
-fn limited_delay(header: &Header, confirmed: bool, delay: u64) -> u64
+pub(crate) fn limited_delay(header: &Header, confirmed: bool, delay: u64) -> u64
     ensures { result ≡ steps.limited_delay header.now.max_ack_delay confirmed delay }
 {
     if confirmed {
@@ -59,7 +58,13 @@ fn sample(rtt: &mut Rtt, sent: Option<Micros>, delay: u64, now: Micros)
 /// An acknowledgment is taken in that newly acknowledges these packets, which stand in the order of
 /// sending. It gives a sample where the largest acknowledged number and an ack-eliciting packet are
 /// among them (RFC 9002, section 5.1).
-fn acknowledge(rtt: &mut Rtt, packets: &[SentPacket], number: PacketNumber, delay: u64, now: Micros)
+pub(crate) fn acknowledge(
+    rtt: &mut Rtt,
+    packets: &[SentPacket],
+    number: PacketNumber,
+    delay: u64,
+    now: Micros,
+)
     ensures { rtt.new ≡ estimates.updated rtt.old (steps.sample_by now delay number packets.now) }
 {
     if some_eliciting(packets) {
@@ -74,32 +79,5 @@ pub(crate) fn refresh(rtt: &mut Rtt, header: &Header, is_persistent: bool)
 {
     if header.options().refresh_min_rtt && is_persistent {
         rtt.refresh();
-    }
-}
-
-/// An event is taken in that newly acknowledges these packets.
-pub(crate) fn follow(
-    rtt: &mut Rtt,
-    header: &Header,
-    confirmed: bool,
-    event: &Event,
-    packets: &[SentPacket],
-)
-    ensures { rtt.new ≡ estimates.updated rtt.old (steps.sample_of header.now.max_ack_delay confirmed event.now packets.now) }
-{
-    match event {
-        Event::Ack {
-            time,
-            ranges,
-            delay,
-            ..
-        } => acknowledge(
-            rtt,
-            packets,
-            greatest(ranges.as_slice()),
-            limited_delay(header, confirmed, *delay),
-            *time,
-        ),
-        _ => {}
     }
 }

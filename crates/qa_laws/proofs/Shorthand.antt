@@ -2,7 +2,7 @@
 use Rattle.std.specs.Prelude.{ℕ, List, Bool, true, false, Option}
 use Rattle.qa_base.specs.declared.event.Event.{Event}
 use Rattle.qa_base.specs.declared.event.Event.TheVariants.{Sent, Ack, Lost, Timer, Metrics}
-use Rattle.qa_base.specs.declared.space.Kind.TheVariants as kind
+use Rattle.qa_base.specs.declared.space.TimerKind.TheVariants as kind
 use Rattle.qa_base.specs.declared.space.Leave.TheVariants as leave
 use Rattle.qa_base.specs.declared.space.Role.TheVariants as role
 use Rattle.qa_base.specs.declared.space.Space.{Space}

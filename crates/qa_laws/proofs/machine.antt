@@ -1,7 +1,7 @@
 -- Lemmas about runs: their packets in order, what one more event makes of them, and what a sender does.
 pub mod Pairs
 pub mod Courses
-pub mod Lateness
+pub mod Thresholds
 pub mod Settled
 pub mod Deadline
 pub mod Detection

@@ -1,5 +1,5 @@
 //! Facts over the definitions alone. Each is the contract of a function that does nothing.
-ghost use Rattle.std.specs.Prelude.{◌≡◌, ◌≢◌, ◌≤◌, ◌++◌, ◌∷◌, ◌+◌, ◌-◌, ◌*◌, ◌&&◌, ◌↔◌, [], List, length, ℕ, Bool, true, false, not, Some, None, Ok, if◌then◌else◌};
+ghost use Rattle.std.specs.Prelude.{◌≡◌, ◌≢◌, ◌≤◌, ◌++◌, ◌∷◌, ◌+◌, ◌-◌, ◌*◌, ◌&&◌, ◌↔◌, [], List, length, ℕ, Bool, true, false, not, Some, None, Ok, max, if◌then◌else◌};
 ghost use Rattle.qa_base.specs.declared.event.Event.{Event};
 ghost use Rattle.qa_base.specs.declared.event.Event.TheVariants as events;
 ghost use Rattle.qa_base.specs.declared.header.Version.TheVariants as versions;
@@ -19,26 +19,27 @@ ghost use Rattle.qa_base.specs.machine.FirstVersion.{exact_tests, rtt_by_samples
 ghost use Rattle.qa_base.specs.machine.Loss.{bytes_in_flight, owed};
 ghost use Rattle.qa_base.specs.machine.Numbers.{AreRanges, Names, NamesOnly, has_all, names_exactly};
 ghost use Rattle.qa_base.specs.machine.Order.{NumbersFall};
-ghost use Rattle.qa_base.specs.machine.Packets.{Packet, packets, is_gone, newly_acknowledged};
+ghost use Rattle.qa_base.specs.machine.Packets.{Packet, packets, is_discarded, newly_acknowledged};
 ghost use Rattle.qa_format.specs.format.Proper.{IsProperEvent, IsProperLine};
 ghost use Rattle.qa_format.specs.format.Reading.{reading};
 ghost use Rattle.qa_base.specs.machine.Reno.{moves, reno};
-ghost use Rattle.qa_base.specs.machine.Rtt.{Estimate};
+ghost use Rattle.qa_base.specs.machine.Rtt.{Estimate, loss_delay};
 ghost use Rattle.qa_base.specs.machine.Metrics.{metric_tests};
 ghost use Rattle.qa_base.specs.machine.Rules.{first_broken, IsRun};
 ghost use Rattle.qa_base.specs.machine.Slack.{with_slacks};
-ghost use Rattle.qa_base.specs.values.Constants.{minimum_window};
+ghost use Rattle.qa_base.specs.values.Constants.{granularity, minimum_window, time_threshold_divisor, time_threshold_parts};
 ghost use Rattle.qa_base.specs.values.Limits.{max_packet_size};
 ghost use Rattle.qa_base.specs.values.Settings.{Settings, AreInRange, no_options};
-ghost use Rattle.qa_base.specs.machine.Timer.{backoff, loss_delay};
+ghost use Rattle.qa_base.specs.machine.Timer.{pto_count};
 ghost use Rattle.qa_format.specs.verdicts.Verdict.{Reading, IsFixed, IsTraceOfRun, verdict};
 ghost use Rattle.qa_format.specs.format.Written.{Pairs, written};
-ghost use Rattle.qa_base.specs.machine.Widths.{Fits, IsTimely, covered_count};
+ghost use Rattle.qa_base.specs.machine.Widths.{Fits, IsTimely, acknowledged_count};
 ghost use Rattle.std.specs.List.{AllByRecursion};
 
 /// No byte that follows changes a verdict that is fixed, whatever the reading of lines.
 pub fn fixed_stays()
-    ensures { (reading : Reading) (f g : List ℕ) → IsFixed reading f → verdict reading (f ++ g) ≡ verdict reading f }
+    ensures { (reading : Reading) (f g : List ℕ) → IsFixed reading f
+        → verdict reading (f ++ g) ≡ verdict reading f }
 {}
 
 /// What a line is read as is in the ranges of its format: a header's values are, and so are an
@@ -59,14 +60,17 @@ pub fn written_is_read()
 /// are in their ranges. Keys that have their default may be left out. (The text may be longer than a
 /// line of a trace may be.)
 pub fn any_order_is_read()
-    ensures event { (e : Event) (ps : Pairs) → IsProperEvent e → AreOf e ps → reading (text_of ps) ≡ Ok (line.Event e) }
-    ensures header { (s : Settings) (ps : Pairs) → AreInRange s → AreOfHeader s ps → reading (text_of ps) ≡ Ok (line.Header s) }
+    ensures event { (e : Event) (ps : Pairs) → IsProperEvent e → AreOf e ps
+        → reading (text_of ps) ≡ Ok (line.Event e) }
+    ensures header { (s : Settings) (ps : Pairs) → AreInRange s → AreOfHeader s ps
+        → reading (text_of ps) ≡ Ok (line.Header s) }
 {}
 
 /// Bytes are accepted with some totals exactly where their lines say a header and the events of a
 /// complete run with those totals, whatever the reading of lines.
 pub fn accepted_is_run()
-    ensures { (reading : Reading) (bytes : List ℕ) (t : Totals) → (verdict reading bytes ≡ verdicts.Accepted t) ↔ IsTraceOfRun reading (lines bytes) t }
+    ensures { (reading : Reading) (bytes : List ℕ) (t : Totals)
+        → (verdict reading bytes ≡ verdicts.Accepted t) ↔ IsTraceOfRun reading (lines bytes) t }
 {}
 
 /// A prefix of a run is a run.
@@ -80,68 +84,88 @@ pub fn sent_adds_its_size()
     ensures { (c : Settings) (h : List Event) (time : ℕ) (space : Space) (number size : ℕ) (eliciting in_flight : Bool) (leave : Leave)
         → owed c h ≡ []
         → bytes_in_flight c (events.Sent time space number size eliciting in_flight leave ∷ h)
-        ≡ bytes_in_flight c h + (if in_flight && not (is_gone h space) then size else 0) }
+        ≡ bytes_in_flight c h + (if in_flight && not (is_discarded h space) then size else 0) }
 {}
 
 /// An event that is no acknowledgment, no timer and no discard leaves the RTT, the moves of the
 /// window and the PTO count as they were.
 pub fn quiet_events_change_little()
-    ensures rtt { (c : Settings) (e : Event) (h : List Event) → is_quiet e ≡ true → rtt c (e ∷ h) ≡ rtt c h }
-    ensures moves { (c : Settings) (e : Event) (h : List Event) → is_quiet e ≡ true → moves c (e ∷ h) ≡ moves c h }
-    ensures backoff { (c : Settings) (e : Event) (h : List Event) → is_quiet e ≡ true → backoff c (e ∷ h) ≡ backoff c h }
+    ensures rtt { (c : Settings) (e : Event) (h : List Event) → is_quiet e ≡ true
+        → rtt c (e ∷ h) ≡ rtt c h }
+    ensures moves { (c : Settings) (e : Event) (h : List Event) → is_quiet e ≡ true
+        → moves c (e ∷ h) ≡ moves c h }
+    ensures pto_count { (c : Settings) (e : Event) (h : List Event) → is_quiet e ≡ true
+        → pto_count c (e ∷ h) ≡ pto_count c h }
 {}
 
 /// In a run the packets of a space have rising numbers in the order of sending, and so have those
 /// that an acknowledgment newly acknowledges: both lists have the latest first.
 pub fn numbers_rise()
     ensures packets { (c : Settings) (h : List Event) → IsRun c h → NumbersFall (packets h) }
-    ensures newly { (c : Settings) (e : Event) (h : List Event) → IsRun c h → NumbersFall (newly_acknowledged (e ∷ h)) }
+    ensures newly { (c : Settings) (e : Event) (h : List Event) → IsRun c h
+        → NumbersFall (newly_acknowledged (e ∷ h)) }
 {}
 
 /// The tests of ranges are what they stand for, over all numbers: that no number is named but
 /// these, and that exactly these are.
 pub fn ranges_name()
-    ensures only { (numbers : List ℕ) (ranges : List (ℕ × ℕ)) → AreRanges ranges → (has_all numbers ranges ≡ true) ↔ NamesOnly ranges numbers }
-    ensures exactly { (ranges : List (ℕ × ℕ)) (numbers : List ℕ) → AreRanges ranges → (names_exactly ranges numbers ≡ true) ↔ Names ranges numbers }
+    ensures only { (numbers : List ℕ) (ranges : List (ℕ × ℕ)) → AreRanges ranges
+        → (has_all numbers ranges ≡ true) ↔ NamesOnly ranges numbers }
+    ensures exactly { (ranges : List (ℕ × ℕ)) (numbers : List ℕ) → AreRanges ranges
+        → (names_exactly ranges numbers ≡ true) ↔ Names ranges numbers }
 {}
 
-/// A packet is old, by the exact fraction 9/8 of the RTT, exactly when the loss delay, which is
-/// rounded up, has passed since it was sent.
+/// A packet is old exactly when the loss delay has passed since it was sent. That the loss delay is
+/// rounded up changes nothing: so it is by the exact fraction 9/8 of the RTT, too.
 pub fn old_is_after_loss_delay()
-    ensures { (r : Estimate) (now : ℕ) (p : Packet) → (is_old r now p ≡ true) ↔ (loss_delay r ≤ now - p.time) }
+    ensures delay { (r : Estimate) (now : ℕ) (p : Packet) → (is_old r now p ≡ true)
+        ↔ (loss_delay r ≤ now - p.time) }
+    ensures exact { (r : Estimate) (now : ℕ) (p : Packet) → (is_old r now p ≡ true)
+        ↔ ((time_threshold_parts * max r.latest_rtt r.smoothed_rtt
+        ≤ time_threshold_divisor * (now - p.time)) × (granularity ≤ now - p.time)) }
 {}
 
 /// In a run whose times are in their range the PTO count is at most 40: a timeout is not before its
 /// deadline, which lies as many doublings of the granularity behind.
 pub fn pto_count_is_small()
-    ensures { (c : Settings) (h : List Event) → IsRun c h → AllByRecursion IsTimely h → backoff c h ≤ 40 }
+    ensures { (c : Settings) (h : List Event) → IsRun c h → AllByRecursion IsTimely h
+        → pto_count c h ≤ 40 }
 {}
 
 /// The window is at least two datagrams, and at most the initial window and the greatest size of a
 /// packet for each that was acknowledged.
 pub fn window_is_bounded()
-    ensures low { (c : Settings) (h : List Event) → AreInRange c → minimum_window c.max_datagram_size ≤ (reno c h).window }
-    ensures high { (c : Settings) (h : List Event) → AreInRange c → AllByRecursion Fits h → (reno c h).window ≤ c.initial_window + max_packet_size * covered_count h }
+    ensures low { (c : Settings) (h : List Event) → AreInRange c
+        → minimum_window c.max_datagram_size ≤ (reno c h).window }
+    ensures high { (c : Settings) (h : List Event) → AreInRange c → AllByRecursion Fits h
+        → (reno c h).window ≤ c.initial_window + max_packet_size * acknowledged_count h }
 {}
 
 /// The bytes in flight are at most the greatest size of a packet for each event.
 pub fn bytes_in_flight_are_bounded()
-    ensures { (c : Settings) (h : List Event) → AllByRecursion Fits h → bytes_in_flight c h ≤ max_packet_size * length h }
+    ensures { (c : Settings) (h : List Event) → AllByRecursion Fits h
+        → bytes_in_flight c h ≤ max_packet_size * length h }
 {}
 
 /// A header that asks for no refresh has the RTT of its samples, one without a limit has no event that
 /// is late, and one without slack compares reported values exactly. So it is with each header of
 /// version 1 that is read: it has no options.
 pub fn first_version_asks_no_more()
-    ensures rtt { (c : Settings) (h : List Event) → c.options.refresh_min_rtt ≡ false → rtt c h ≡ rtt_by_samples c h }
-    ensures sampled { (c : Settings) (h : List Event) → c.options.refresh_min_rtt ≡ false → sampled c h ≡ rtt_by_samples c h }
-    ensures timers { (c : Settings) (h : List Event) (e : Event) → c.options.timer_late ≡ None → first_broken c h e ≢ Some rules.TimerLate }
-    ensures metrics { (c : Settings) (h : List Event) (e : Event) → c.options.report_slack_us ≡ 0 → c.options.report_slack_bytes ≡ 0 → metric_tests c h e ≡ exact_tests c h e }
-    ensures read { (l : List ℕ) (c : Settings) → reading l ≡ Ok (line.Header c) → c.version ≡ versions.One → c.options ≡ no_options }
+    ensures rtt { (c : Settings) (h : List Event) → c.options.refresh_min_rtt ≡ false
+        → rtt c h ≡ rtt_by_samples c h }
+    ensures sampled { (c : Settings) (h : List Event) → c.options.refresh_min_rtt ≡ false
+        → sampled c h ≡ rtt_by_samples c h }
+    ensures timers { (c : Settings) (h : List Event) (e : Event) → c.options.timer_late ≡ None
+        → first_broken c h e ≢ Some rules.TimerLate }
+    ensures metrics { (c : Settings) (h : List Event) (e : Event) → c.options.report_slack_us ≡ 0
+        → c.options.report_slack_bytes ≡ 0 → metric_tests c h e ≡ exact_tests c h e }
+    ensures read { (l : List ℕ) (c : Settings) → reading l ≡ Ok (line.Header c)
+        → c.version ≡ versions.One → c.options ≡ no_options }
 {}
 
 /// A run is a run of the same events under a header with greater slacks and all else equal.
 pub fn slack_admits_more()
-    ensures { (c : Settings) (slack_us slack_bytes : ℕ) (h : List Event) → c.options.report_slack_us ≤ slack_us → c.options.report_slack_bytes ≤ slack_bytes
+    ensures { (c : Settings) (slack_us slack_bytes : ℕ) (h : List Event)
+        → c.options.report_slack_us ≤ slack_us → c.options.report_slack_bytes ≤ slack_bytes
         → IsRun c h → IsRun (with_slacks c slack_us slack_bytes) h }
 {}

@@ -21,11 +21,16 @@ ghost use Rattle.qa_laws.specs.verdicts.Grounds.{BreaksAt, FailsAt, IsGround, Ow
 /// no other verdict of the bytes has one. All of it holds for any reading of lines.
 pub fn verdicts_have_grounds()
     ensures refused { (reading : Reading) (bytes : List ℕ) (n : ℕ) (r : Rule) (t : Totals)
-        → (verdict reading bytes ≡ verdicts.Refused n r t) ↔ (BreaksAt reading (lines bytes) n r t ⊎ OwesAtEnd reading (lines bytes) n r t) }
+        → (verdict reading bytes ≡ verdicts.Refused n r t)
+        ↔ (BreaksAt reading (lines bytes) n r t ⊎ OwesAtEnd reading (lines bytes) n r t) }
     ensures unreadable { (reading : Reading) (bytes : List ℕ) (n : ℕ) (f : Fault) (t : Option Totals)
-        → (verdict reading bytes ≡ verdicts.Unreadable n f t) ↔ (FailsAt reading (lines bytes) n f t ⊎ SaysNothing reading (lines bytes) n f t) }
-    ensures each { (reading : Reading) (bytes : List ℕ) (v : Verdict) → (verdict reading bytes ≡ v) ↔ IsGround reading (lines bytes) v }
-    ensures of_event { (c : Settings) (h : List Event) (e : Event) → first_broken c h e ≢ Some rules.OwedAtEnd }
-    ensures one_refusal { (reading : Reading) (ls : List (List ℕ)) (n : ℕ) (r : Rule) (t : Totals) → BreaksAt reading ls n r t → OwesAtEnd reading ls n r t → ⊥ }
+        → (verdict reading bytes ≡ verdicts.Unreadable n f t)
+        ↔ (FailsAt reading (lines bytes) n f t ⊎ SaysNothing reading (lines bytes) n f t) }
+    ensures each { (reading : Reading) (bytes : List ℕ) (v : Verdict) → (verdict reading bytes ≡ v)
+        ↔ IsGround reading (lines bytes) v }
+    ensures of_event { (c : Settings) (h : List Event) (e : Event)
+        → first_broken c h e ≢ Some rules.OwedAtEnd }
+    ensures one_refusal { (reading : Reading) (ls : List (List ℕ)) (n : ℕ) (r : Rule) (t : Totals)
+        → BreaksAt reading ls n r t → OwesAtEnd reading ls n r t → ⊥ }
     ensures one_fault { (reading : Reading) (ls : List (List ℕ)) (n : ℕ) (f : Fault) (t : Option Totals) → FailsAt reading ls n f t → SaysNothing reading ls n f t → ⊥ }
 {}

@@ -1,4 +1,2 @@
 pub mod Totals
-pub mod Sound
 pub mod Firsts
-pub mod Counted

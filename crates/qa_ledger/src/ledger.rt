@@ -55,19 +55,26 @@ pub trait Ledger {
     fn admit(&mut self, event: &Event) -> Result<(), LedgerFault>
         requires fitting { fits event.now ≡ true }
         requires few { admitted self.old < max_lines }
-        ensures ok { OnOk result ((has_failed self.new ≡ false) × (admitted self.new ≡ admitted self.old + 1)
-            × ((c : Settings) (h : List AnEvent) → stands self.old c h → (first_broken c h event.now ≡ None) × stands self.new c (event.now ∷ h))) }
+        ensures ok { OnOk result ((has_failed self.new ≡ false)
+            × (admitted self.new ≡ admitted self.old + 1)
+            × ((c : Settings) (h : List AnEvent) → stands self.old c h
+            → (first_broken c h event.now ≡ None) × stands self.new c (event.now ∷ h))) }
         ensures broken { (r : ARule) → result ≡ Err (LedgerFault.Broken r) → (self.new ≡ self.old)
-            × ((c : Settings) (h : List AnEvent) → stands self.old c h → first_broken c h event.now ≡ Some r) }
-        ensures out_of_memory { result ≡ Err LedgerFault.OutOfMemory → (has_failed self.new ≡ true) × (admitted self.new ≡ admitted self.old)
+            × ((c : Settings) (h : List AnEvent) → stands self.old c h
+            → first_broken c h event.now ≡ Some r) }
+        ensures out_of_memory { result ≡ Err LedgerFault.OutOfMemory
+            → (has_failed self.new ≡ true) × (admitted self.new ≡ admitted self.old)
             × ((c : Settings) (h : List AnEvent) → stands self.old c h → stands self.new c h) }
-        ensures failed { has_failed self.old ≡ true → (result ≡ Err LedgerFault.OutOfMemory) × (self.new ≡ self.old) };
+        ensures failed { has_failed self.old ≡ true
+            → (result ≡ Err LedgerFault.OutOfMemory) × (self.new ≡ self.old) };
 
     /// The state of the machine after the events that were admitted. Takes no memory.
     fn totals(&self) -> Totals
-        ensures { (c : Settings) (h : List AnEvent) → stands self.now c h → result ≡ state.totals c h };
+        ensures { (c : Settings) (h : List AnEvent) → stands self.now c h
+            → result ≡ state.totals c h };
 
     /// Whether packets are detected as lost that no event has declared yet. Takes no memory.
     fn owes(&self) -> bool
-        ensures { (c : Settings) (h : List AnEvent) → stands self.now c h → result ≡ is_some_packet (owed c h) };
+        ensures { (c : Settings) (h : List AnEvent) → stands self.now c h
+            → result ≡ is_some_packet (owed c h) };
 }

@@ -5,12 +5,8 @@ mod ledger;
 mod metrics;
 mod rules;
 mod state;
-mod whole;
 
 pub use ledger::{Ledger, LedgerFault};
 pub use metrics::totals_by;
-pub use qa_plain as plain;
-pub use qa_ranges as ranges;
 pub use rules::first_broken;
 pub use state::State;
-pub use whole::Whole;

@@ -1,59 +1,53 @@
 //! The totals of a history, and what a sender reports compared with them.
-ghost use Rattle.std.specs.Prelude.{◌≡◌, ◌<◌, ◌^◌, length, List};
-ghost use Rattle.std.specs.List.{All};
+ghost use Rattle.std.specs.Prelude.{◌≡◌, List};
 ghost use Rattle.qa_base.specs.declared.event.Event.{Event as AnEvent};
-ghost use Rattle.qa_base.specs.machine.Loss as loss;
 ghost use Rattle.qa_base.specs.machine.Metrics as metrics;
-ghost use Rattle.qa_base.specs.machine.Packets.{history_of};
 ghost use Rattle.qa_base.specs.machine.Rules as rules;
-ghost use Rattle.qa_base.specs.machine.State as state;
-ghost use Rattle.qa_base.specs.machine.Widths.{Fits};
 ghost use Rattle.qa_base.specs.values.Settings.{Settings};
 ghost use Rattle.qa_ledger.specs.Tests.{totals_of};
 
 use crate::state::State;
-use qa_base::{Event, Field, Header, MetricValues, Options, Rule, Totals};
-use qa_plain::{backoff, owed_count, reno, rtt};
+use qa_base::{Event, Field, MetricValues, Options, Rule, Totals};
 use qa_recovery::{Reno, Rtt};
 
 /// Whether a value is reported that differs by more than the slack from the machine's, which may have
 /// none.
-fn differs(slack: u64, reported: Option<u64>, held: Option<u64>) -> bool
-    ensures { result ≡ metrics.differs slack reported held }
+fn differs(slack: u64, reported: Option<u64>, own: Option<u64>) -> bool
+    ensures { result ≡ metrics.differs slack reported own }
 {
-    match (reported, held) {
+    match (reported, own) {
         (None, _) => false,
         (Some(_), None) => true,
-        (Some(reported), Some(held)) => slack < reported.abs_diff(held),
+        (Some(reported), Some(own)) => slack < reported.abs_diff(own),
     }
 }
 
 /// The first of the reported values that differs from the machine's by more than the header's slack,
 /// of bytes or of times, as a rule that is broken.
-fn metric_rule(options: Options, values: &MetricValues, held: &Totals) -> Option<Rule>
-    ensures { result ≡ rules.first_of (metrics.tests options values.now held.now) }
+fn metric_rule(options: Options, values: &MetricValues, totals: &Totals) -> Option<Rule>
+    ensures { result ≡ rules.first_of (metrics.tests options values.now totals.now) }
 {
     let bytes = options.report_slack_bytes;
     let times = options.report_slack_us;
-    if differs(bytes, values.window, Some(held.window)) {
+    if differs(bytes, values.window, Some(totals.window)) {
         return Some(Rule::Metric(Field::Window));
     }
-    if differs(bytes, values.ssthresh, held.ssthresh) {
+    if differs(bytes, values.ssthresh, totals.ssthresh) {
         return Some(Rule::Metric(Field::Ssthresh));
     }
-    if differs(bytes, values.bytes_in_flight, Some(held.bytes_in_flight)) {
+    if differs(bytes, values.bytes_in_flight, Some(totals.bytes_in_flight)) {
         return Some(Rule::Metric(Field::BytesInFlight));
     }
-    if differs(times, values.latest_rtt, Some(held.latest_rtt)) {
+    if differs(times, values.latest_rtt, Some(totals.latest_rtt)) {
         return Some(Rule::Metric(Field::LatestRtt));
     }
-    if differs(times, values.min_rtt, Some(held.min_rtt)) {
+    if differs(times, values.min_rtt, Some(totals.min_rtt)) {
         return Some(Rule::Metric(Field::MinRtt));
     }
-    if differs(times, values.smoothed_rtt, Some(held.smoothed_rtt)) {
+    if differs(times, values.smoothed_rtt, Some(totals.smoothed_rtt)) {
         return Some(Rule::Metric(Field::SmoothedRtt));
     }
-    if differs(times, values.rttvar, Some(held.rttvar)) {
+    if differs(times, values.rttvar, Some(totals.rttvar)) {
         return Some(Rule::Metric(Field::Rttvar));
     }
     None
@@ -78,38 +72,13 @@ pub fn totals_by(events: u64, reno: Reno, rtt: Rtt, bytes: u64, count: u64, owed
     }
 }
 
-/// The bytes in flight, which 64 bits hold.
-#[tactic(auto, using(qa_base::proofs::machine::WindowBound::bytes_bound))]
-pub fn bytes_in_flight(header: &Header, events: &[Event]) -> u64
-    requires few { length events.now < 2 ^ 32 }
-    requires fit { All Fits events.now }
-    ensures { result ≡ loss.bytes_in_flight header.now (history_of events.now) }
-{
-    qa_plain::bytes_in_flight(header, events) as u64
-}
-
-/// The state of the machine after these events.
-pub fn totals(header: &Header, events: &[Event]) -> Totals
-    requires few { length events.now < 2 ^ 32 }
-    requires fit { All Fits events.now }
-    ensures { result ≡ state.totals header.now (history_of events.now) }
-{
-    totals_by(
-        events.len() as u64,
-        reno(header, events),
-        rtt(header, events),
-        bytes_in_flight(header, events),
-        backoff(header, events),
-        owed_count(header, events),
-    )
-}
-
 /// V16: the first reported value that is not the machine's, by more than the header's slack.
 pub fn metrics_rule<S: State>(state: &S, event: &Event) -> Option<Rule>
-    ensures { (c : Settings) (h : List AnEvent) → S.tells state.now c h → result ≡ rules.first_of (metrics.metric_tests c h event.now) }
+    ensures { (c : Settings) (h : List AnEvent) → S.tells state.now c h
+        → result ≡ rules.first_of (metrics.metric_tests c h event.now) }
 {
     match event {
-        Event::Metrics { values, .. } => metric_rule(state.options(), values, &state.held()),
+        Event::Metrics { values, .. } => metric_rule(state.options(), values, &state.totals()),
         _ => None,
     }
 }

@@ -28,76 +28,94 @@ pub trait State {
 
     /// The header's maximum datagram size, 1200 to 65527 bytes.
     fn max_datagram_size(&self) -> u64
-        ensures value { (c : Settings) (h : List AnEvent) → tells self.now c h → result ≡ c.max_datagram_size }
+        ensures value { (c : Settings) (h : List AnEvent) → tells self.now c h
+            → result ≡ c.max_datagram_size }
         ensures bound { result ≤ max_packet_size };
 
     /// What the header asks beside the machine of version 1: limits and slack.
     fn options(&self) -> Options
-        ensures value { (c : Settings) (h : List AnEvent) → tells self.now c h → result ≡ c.options };
+        ensures value { (c : Settings) (h : List AnEvent) → tells self.now c h
+            → result ≡ c.options };
 
     /// The time of the last event; None before any.
     fn last_time(&self) -> Option<Micros>
-        ensures { (c : Settings) (h : List AnEvent) → tells self.now c h → result ≡ timers.time_of_moment h };
+        ensures { (c : Settings) (h : List AnEvent) → tells self.now c h
+            → result ≡ timers.time_of_moment h };
 
     /// Whether packets are detected as lost and not declared yet (RFC 9002, section 6.1).
     fn has_owed(&self) -> bool
-        ensures { (c : Settings) (h : List AnEvent) → tells self.now c h → result ≡ packets.is_some_packet (loss.owed c h) };
+        ensures { (c : Settings) (h : List AnEvent) → tells self.now c h
+            → result ≡ packets.is_some_packet (loss.owed c h) };
 
     /// Whether there are such packets in the space.
     fn has_owed_in(&self, space: Space) -> bool
-        ensures { (c : Settings) (h : List AnEvent) → tells self.now c h → result ≡ list_any (packets.is_of space) (loss.owed c h) };
+        ensures { (c : Settings) (h : List AnEvent) → tells self.now c h
+            → result ≡ list_any (packets.is_of space) (loss.owed c h) };
 
     /// Whether the ranges name the numbers of exactly those packets.
     fn names_owed(&self, ranges: &[Span]) -> bool
-        ensures { (c : Settings) (h : List AnEvent) → tells self.now c h → result ≡ tests.names_exactly ranges.now (breaches.numbers (loss.owed c h)) };
+        ensures { (c : Settings) (h : List AnEvent) → tells self.now c h
+            → result ≡ tests.names_exactly ranges.now (breaches.numbers (loss.owed c h)) };
 
     /// Whether the keys of the space were discarded (RFC 9002, section 6.4).
-    fn is_gone(&self, space: Space) -> bool
-        ensures { (c : Settings) (h : List AnEvent) → tells self.now c h → result ≡ packets.is_gone h space };
+    fn is_discarded(&self, space: Space) -> bool
+        ensures { (c : Settings) (h : List AnEvent) → tells self.now c h
+            → result ≡ packets.is_discarded h space };
 
     /// Whether a packet of the space was sent with this number or a higher one.
     fn has_at_or_above(&self, space: Space, number: PacketNumber) -> bool
-        ensures { (c : Settings) (h : List AnEvent) → tells self.now c h → result ≡ breaches.has_at_or_above space number h };
+        ensures { (c : Settings) (h : List AnEvent) → tells self.now c h
+            → result ≡ breaches.has_at_or_above space number h };
 
     /// Whether each number of the ranges was sent in the space.
     fn were_sent(&self, space: Space, ranges: &[Span]) -> bool
-        ensures { (c : Settings) (h : List AnEvent) → tells self.now c h → result ≡ tests.has_all (breaches.numbers (packets.packets_of h space)) ranges.now };
+        ensures { (c : Settings) (h : List AnEvent) → tells self.now c h
+            → result ≡ tests.has_all (breaches.numbers (packets.packets_of h space)) ranges.now };
 
     /// The congestion window in bytes (RFC 9002, section 7).
     fn window(&self) -> u64
-        ensures { (c : Settings) (h : List AnEvent) → tells self.now c h → result ≡ (windows.reno c h).window };
+        ensures { (c : Settings) (h : List AnEvent) → tells self.now c h
+            → result ≡ (windows.reno c h).window };
 
     /// The bytes in flight (RFC 9002, B.2).
     fn bytes_in_flight(&self) -> u64
-        ensures { (c : Settings) (h : List AnEvent) → tells self.now c h → result ≡ loss.bytes_in_flight c h };
+        ensures { (c : Settings) (h : List AnEvent) → tells self.now c h
+            → result ≡ loss.bytes_in_flight c h };
 
     /// The bytes of probes since the last probe timeout; None without one (RFC 9002, section 6.2.4).
     fn probe_spent(&self) -> Option<u128>
-        ensures value { (c : Settings) (h : List AnEvent) → tells self.now c h → result ≡ leaves.probe_spent h }
+        ensures value { (c : Settings) (h : List AnEvent) → tells self.now c h
+            → result ≡ leaves.probe_spent h }
         ensures bound { ForSome result (λ n. n ≤ 2 ^ 100) };
 
     /// The packets marked for recovery since the last entry into it; None without one (RFC 9002,
     /// section 7.3.2).
     fn recovery_spent(&self) -> Option<u64>
-        ensures { (c : Settings) (h : List AnEvent) → tells self.now c h → result ≡ leaves.recovery_spent c h };
+        ensures { (c : Settings) (h : List AnEvent) → tells self.now c h
+            → result ≡ leaves.recovery_spent c h };
 
     /// What the loss detection timer is set for; None where it is not (RFC 9002, A.8).
     fn deadline(&self) -> Option<Due>
-        ensures { (c : Settings) (h : List AnEvent) → tells self.now c h → result ≡ timers.deadline c h };
+        ensures { (c : Settings) (h : List AnEvent) → tells self.now c h
+            → result ≡ timers.deadline c h };
 
     /// Whether the next event, at this time, shows that the timer was too late, by the header's limit.
     fn is_late(&self, time: Micros) -> bool
-        ensures { (c : Settings) (h : List AnEvent) → tells self.now c h → result ≡ breaches.is_late_by c h time c.options.timer_late };
+        ensures { (c : Settings) (h : List AnEvent) → tells self.now c h
+            → result ≡ breaches.is_late_by c h time c.options.timer_late };
 
     /// Whether the probe of the last probe timeout is due (RFC 9002, section 6.2.4).
     fn is_probe_due(&self) -> bool
-        ensures { (c : Settings) (h : List AnEvent) → tells self.now c h → result ≡ leaves.is_probe_due h };
+        ensures { (c : Settings) (h : List AnEvent) → tells self.now c h
+            → result ≡ leaves.is_probe_due h };
 
     /// Whether the handshake is confirmed (RFC 9001, section 4.1.2).
     fn is_confirmed(&self) -> bool
-        ensures { (c : Settings) (h : List AnEvent) → tells self.now c h → result ≡ handshake.is_confirmed h };
+        ensures { (c : Settings) (h : List AnEvent) → tells self.now c h
+            → result ≡ handshake.is_confirmed h };
 
     /// The totals, with which a sender's own values are compared.
-    fn held(&self) -> Totals
-        ensures { (c : Settings) (h : List AnEvent) → tells self.now c h → result ≡ state.totals c h };
+    fn totals(&self) -> Totals
+        ensures { (c : Settings) (h : List AnEvent) → tells self.now c h
+            → result ≡ state.totals c h };
 }

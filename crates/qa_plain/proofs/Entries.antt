@@ -6,7 +6,7 @@ use Rattle.qa_base.specs.values.Events.{time_of}
 use Rattle.qa_base.specs.machine.Leave.{recovery_spent, is_recovery_packet}
 use Rattle.qa_base.specs.machine.Loss.{owed, is_persistent}
 use Rattle.qa_base.specs.machine.Packets.{Packet, newly_acknowledged}
-use Rattle.qa_base.specs.machine.Reno.{Move, Grow, reno, is_entry, enters, grows, collapses, is_limited}
+use Rattle.qa_base.specs.machine.Reno.{Move, Grow, reno, is_entry, enters, grows, collapses, is_app_limited}
 use Rattle.qa_base.specs.values.Settings.{Settings}
 use Rattle.qa_plain.specs.Words.{last_sending, hits_at, entry_by}
 use Rattle.qa_plain.proofs.Moved.{hits_is}
@@ -16,7 +16,7 @@ no_growth_enters : (r : Option ℕ) (ps : List Packet) → enters r (map (λ (p 
 no_growth_enters r [] = refl
 no_growth_enters r (p ∷ ps) = refl
 
-open_growth : (r : Option ℕ) (limited : Bool) (ps : List Packet) → enters r (if limited then [] else map (λ (p : Packet). Grow p.size p.time) ps) ≡ false
+open_growth : (r : Option ℕ) (app_limited : Bool) (ps : List Packet) → enters r (if app_limited then [] else map (λ (p : Packet). Grow p.size p.time) ps) ≡ false
 open_growth r true ps = refl
 open_growth r false ps = no_growth_enters r ps
 
@@ -27,9 +27,9 @@ by_last r now None false zs none = none
 
 pub entry_is : (c : Settings) (e : Event) (h : List Event) → is_entry c (e ∷ h) ≡ entry_by (reno c h).recovery_start_time (last_sending (owed c (e ∷ h)))
 entry_is c e h =
-    let zs : List Move = if is_limited e then [] else grows (newly_acknowledged (e ∷ h)) in
+    let zs : List Move = if is_app_limited e then [] else grows (newly_acknowledged (e ∷ h)) in
     ap (λ (xs : List Move). enters (reno c h).recovery_start_time ((xs ++ collapses (is_persistent c (e ∷ h))) ++ zs)) (hits_is (time_of e) (owed c (e ∷ h)))
-    ∙ by_last (reno c h).recovery_start_time (time_of e) (last_sending (owed c (e ∷ h))) (is_persistent c (e ∷ h)) zs (open_growth (reno c h).recovery_start_time (is_limited e) _)
+    ∙ by_last (reno c h).recovery_start_time (time_of e) (last_sending (owed c (e ∷ h))) (is_persistent c (e ∷ h)) zs (open_growth (reno c h).recovery_start_time (is_app_limited e) _)
 
 pub recovery_spent_is : (c : Settings) (e : Event) (h : List Event)
     → recovery_spent c (e ∷ h) ≡ (if entry_by (reno c h).recovery_start_time (last_sending (owed c (e ∷ h))) then Some 0 else option_map (λ n. (if is_recovery_packet (e ∷ h) then 1 else 0) + n) (recovery_spent c h))

@@ -1,4 +1,4 @@
--- Lateness by two tests.
+-- Thresholds by two tests.
 use Rattle.std.proofs.Common.{◌≡◌, ◌+◌, ◌-◌, ℕ, max, true, false, ◌&&◌, ◌⊎◌, inl, inr, arith}
 use Rattle.std.proofs.lemmas.Bool.{cases_Bool, ltb-true, ltb-false, lt-ltb, le-ltb}
 use Rattle.std.specs.Prelude.{nat_lt}

@@ -9,3 +9,5 @@ pub mod Followed
 pub mod Refreshed
 pub mod Late
 pub mod Filtered
+pub mod Sound
+pub mod Counted

@@ -5,8 +5,7 @@ use Rattle.qa_base.specs.declared.event.Event.{Event}
 use Rattle.qa_base.specs.machine.Detection.{is_persistent_by}
 use Rattle.qa_base.specs.machine.Estimates.{rtt, sampled, refreshed_by}
 use Rattle.qa_base.specs.machine.Loss.{is_persistent}
-use Rattle.qa_base.specs.machine.Rtt.{Estimate, pto_base, refreshed}
-use Rattle.qa_base.specs.machine.Timer.{loss_delay}
+use Rattle.qa_base.specs.machine.Rtt.{Estimate, pto_base, refreshed, loss_delay}
 use Rattle.qa_base.specs.values.Settings.{Settings}
 
 refreshed_by_is : (asked : Bool) (c : Settings) (h : List Event) (r : Estimate) → refreshed_by asked c h r ≡ (if asked && is_persistent_by r c h then refreshed r else r)

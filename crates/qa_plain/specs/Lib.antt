@@ -1,3 +1,4 @@
 pub mod Listed
 pub mod Words
 pub mod Looks
+pub mod Holding

@@ -3,7 +3,7 @@ use Rattle.std.specs.Prelude.{◌≡◌, ◌&&◌, ℕ, Bool, false, List, Optio
 use Rattle.qa_base.specs.declared.event.Event.{Event}
 use Rattle.qa_base.specs.declared.space.Space.{Space}
 use Rattle.qa_base.specs.machine.Estimates.{sampled}
-use Rattle.qa_base.specs.machine.Detection.{detection, is_late, is_unsettled}
+use Rattle.qa_base.specs.machine.Detection.{detection, is_past_threshold, is_unsettled}
 use Rattle.qa_base.specs.machine.Breaches.{numbers}
 use Rattle.qa_base.specs.machine.Packets.{Packet, packets, is_of, largest_acknowledged}
 use Rattle.qa_base.specs.machine.Rtt.{Estimate}
@@ -26,7 +26,7 @@ IsLook c h look = (look.rtt ≡ sampled c h) × (look.detection ≡ detection h)
 -- a detection there and then, with this estimate and largest number, finds the packet lost
 abbrev pub is_found_where : List Event → Estimate → Option ℕ → Packet → Option (Space × ℕ) → Bool
 is_found_where h r largest p None = false
-is_found_where h r largest p (Some (s, now)) = is_of s p && (p.in_flight && is_unsettled h p && is_late r now largest p)
+is_found_where h r largest p (Some (s, now)) = is_of s p && (p.in_flight && is_unsettled h p && is_past_threshold r now largest p)
 
 -- by what is seen, the last event found the packet lost
 abbrev pub is_found_by : List Event → Seen → Packet → Bool

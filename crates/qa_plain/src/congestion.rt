@@ -8,7 +8,7 @@ ghost use Rattle.qa_plain.specs.Looks.{IsLook, found_in};
 
 use crate::losses::{Look, found_of};
 use crate::packet::{Packet, packet_of};
-use crate::settled::is_covered;
+use crate::settled::is_acknowledged;
 use qa_base::{Event, Header, Micros};
 use qa_recovery::Rtt;
 
@@ -39,7 +39,7 @@ pub fn is_acknowledged_between(events: &[Event], first: Packet, second: Packet) 
         if let Some(packet) = packet_of(place, event) {
             if first.place < packet.place
                 && packet.place < second.place
-                && is_covered(events, packet)
+                && is_acknowledged(events, packet)
             {
                 found = true;
             }

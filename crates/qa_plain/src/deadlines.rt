@@ -7,31 +7,13 @@ ghost use Rattle.qa_base.specs.machine.Packets.{history_of, packets_of};
 ghost use Rattle.qa_plain.specs.Looks.{IsLook};
 ghost use Rattle.qa_base.specs.machine.Timer as timers;
 ghost use Rattle.qa_base.specs.declared.space.Space.TheVariants as spaces;
-ghost use Rattle.qa_base.specs.values.Limits.{max_time, greatest_max_ack_delay};
+ghost use Rattle.qa_base.specs.values.Limits.{max_time, max_max_ack_delay};
 
-use crate::event::time_of;
 use crate::handshake::{has_keys, is_confirmed, is_validated};
 use crate::losses::{Look, is_open};
 use crate::packet::{Packet, packet_in};
 use crate::settled::{acknowledges_new, largest_acknowledged};
-use qa_base::{Due, Event, Header, Kind, Micros, Space};
-
-/// The earlier of the two; of equal times the first.
-fn earlier(due: Option<Due>, later: Option<Due>) -> Option<Due>
-    ensures { result ≡ timers.earlier due later }
-{
-    match (due, later) {
-        (None, later) => later,
-        (Some(due), None) => Some(due),
-        (Some(due), Some(later)) => {
-            if due.time <= later.time {
-                Some(due)
-            } else {
-                Some(later)
-            }
-        }
-    }
-}
+use qa_base::{Due, Event, Header, Micros, Space, TimerKind};
 
 /// The earlier of the two times.
 fn sooner(least: Option<Micros>, time: Micros) -> Micros
@@ -92,7 +74,7 @@ fn loss_due(header: &Header, events: &[Event], look: Look, space: Space) -> Opti
     match first_awaiting(header, events, look, space) {
         None => None,
         Some(sent) => Some(Due {
-            kind: Kind::Loss,
+            kind: TimerKind::Loss,
             space,
             time: u128::from(sent.get() + look.rtt.loss_delay()),
         }),
@@ -104,9 +86,9 @@ fn earliest_loss(header: &Header, events: &[Event], look: Look) -> Option<Due>
     requires seen { IsLook header.now (history_of events.now) look }
     ensures { result ≡ timers.earliest_loss header.now (history_of events.now) }
 {
-    earlier(
+    Due::earlier(
         loss_due(header, events, look, Space::Initial),
-        earlier(
+        Due::earlier(
             loss_due(header, events, look, Space::Handshake),
             loss_due(header, events, look, Space::App),
         ),
@@ -144,30 +126,9 @@ pub fn last_eliciting(events: &[Event], space: Space) -> Option<Micros>
     last
 }
 
-/// Two to the power of the PTO count.
-#[tactic(auto, using(crate::proofs::Powers::power_is, crate::proofs::Powers::power_small))]
-fn power(count: u64) -> u128
-    requires count { count ≤ 40 }
-    ensures value { result ≡ 2 ^ count }
-    ensures bound { result ≤ 2 ^ 40 }
-{
-    1 << count
-}
-
-/// A duration, doubled for each probe timeout.
-#[tactic(auto, using(crate::proofs::Powers::product_small))]
-fn doubled(base: u64, count: u64) -> u128
-    requires count { count ≤ 40 }
-    requires base { base ≤ 6 * max_time }
-    ensures value { result ≡ base * 2 ^ count }
-    ensures bound { result ≤ 6 * max_time * 2 ^ 40 }
-{
-    u128::from(base) * power(count)
-}
-
 /// The probe timeout of the space, doubled for each before it; the peer may delay its
 /// acknowledgments.
-#[tactic(auto, using(crate::proofs::Refreshed::same_pto_base))]
+#[tactic(auto, using(crate::proofs::Powers::few_doublings, crate::proofs::Refreshed::same_pto_base))]
 fn pto_due(
     header: &Header,
     events: &[Event],
@@ -177,9 +138,9 @@ fn pto_due(
     space: Space,
 ) -> Option<Due>
     requires seen { IsLook header.now (history_of events.now) look }
-    requires counted { count ≡ timers.backoff header.now (history_of events.now) }
+    requires counted { count ≡ timers.pto_count header.now (history_of events.now) }
     requires few { count ≤ 40 }
-    requires delay { peer_delay ≤ greatest_max_ack_delay }
+    requires delay { peer_delay ≤ max_max_ack_delay }
     ensures { result ≡ timers.pto_due header.now (history_of events.now) peer_delay space }
 {
     if !some_awaits(header, events, look, space) {
@@ -187,18 +148,19 @@ fn pto_due(
     }
     match last_eliciting(events, space) {
         None => None,
-        Some(sent) => Some(Due {
-            kind: Kind::Pto,
+        Some(sent) => Some(Due::probe_timeout(
             space,
-            time: u128::from(sent.get()) + doubled(look.rtt.pto_base() + peer_delay, count),
-        }),
+            sent,
+            look.rtt.pto_base() + peer_delay,
+            count,
+        )),
     }
 }
 
 /// The probe timeout of application data, which counts once the handshake is confirmed.
 fn app_pto(header: &Header, events: &[Event], look: Look, count: u64) -> Option<Due>
     requires seen { IsLook header.now (history_of events.now) look }
-    requires counted { count ≡ timers.backoff header.now (history_of events.now) }
+    requires counted { count ≡ timers.pto_count header.now (history_of events.now) }
     requires few { count ≤ 40 }
     ensures { result ≡ (if handshake.is_confirmed (history_of events.now) then timers.pto_due header.now (history_of events.now) header.now.max_ack_delay spaces.App else None) }
 {
@@ -218,13 +180,13 @@ fn app_pto(header: &Header, events: &[Event], look: Look, count: u64) -> Option<
 /// The earliest probe timeout of all spaces.
 fn earliest_pto(header: &Header, events: &[Event], look: Look, count: u64) -> Option<Due>
     requires seen { IsLook header.now (history_of events.now) look }
-    requires counted { count ≡ timers.backoff header.now (history_of events.now) }
+    requires counted { count ≡ timers.pto_count header.now (history_of events.now) }
     requires few { count ≤ 40 }
     ensures { result ≡ timers.earliest_pto header.now (history_of events.now) }
 {
-    earlier(
+    Due::earlier(
         pto_due(header, events, look, count, 0, Space::Initial),
-        earlier(
+        Due::earlier(
             pto_due(header, events, look, count, 0, Space::Handshake),
             app_pto(header, events, look, count),
         ),
@@ -249,17 +211,17 @@ pub fn last_set(events: &[Event]) -> Option<Micros>
     let mut last = None;
     for (place, event) in events.iter().enumerate() {
         if sets_timer(&events[..place], event) {
-            last = Some(time_of(event));
+            last = Some(event.time());
         }
     }
     last
 }
 
 /// The timer that a client keeps until its address is validated (RFC 9002, section 6.2.2.1).
-#[tactic(auto, using(crate::proofs::Refreshed::same_pto_base))]
+#[tactic(auto, using(crate::proofs::Powers::few_doublings, crate::proofs::Refreshed::same_pto_base))]
 fn anti_deadlock(header: &Header, events: &[Event], look: Look, count: u64) -> Option<Due>
     requires seen { IsLook header.now (history_of events.now) look }
-    requires counted { count ≡ timers.backoff header.now (history_of events.now) }
+    requires counted { count ≡ timers.pto_count header.now (history_of events.now) }
     requires few { count ≤ 40 }
     ensures { result ≡ timers.anti_deadlock header.now (history_of events.now) }
 {
@@ -273,18 +235,14 @@ fn anti_deadlock(header: &Header, events: &[Event], look: Look, count: u64) -> O
     };
     match last_set(events) {
         None => None,
-        Some(set) => Some(Due {
-            kind: Kind::Pto,
-            space,
-            time: u128::from(set.get()) + doubled(look.rtt.pto_base(), count),
-        }),
+        Some(set) => Some(Due::probe_timeout(space, set, look.rtt.pto_base(), count)),
     }
 }
 
 /// What the timer is set for by packets: one that will be old, else a probe timeout.
 pub fn packet_deadline(header: &Header, events: &[Event], look: Look, count: u64) -> Option<Due>
     requires seen { IsLook header.now (history_of events.now) look }
-    requires counted { count ≡ timers.backoff header.now (history_of events.now) }
+    requires counted { count ≡ timers.pto_count header.now (history_of events.now) }
     requires few { count ≤ 40 }
     ensures { result ≡ timers.packet_deadline header.now (history_of events.now) }
 {
@@ -295,7 +253,7 @@ pub fn packet_deadline(header: &Header, events: &[Event], look: Look, count: u64
 /// client keeps until its address is validated.
 pub fn deadline(header: &Header, events: &[Event], look: Look, count: u64) -> Option<Due>
     requires seen { IsLook header.now (history_of events.now) look }
-    requires counted { count ≡ timers.backoff header.now (history_of events.now) }
+    requires counted { count ≡ timers.pto_count header.now (history_of events.now) }
     requires few { count ≤ 40 }
     ensures { result ≡ timers.deadline header.now (history_of events.now) }
 {

@@ -4,23 +4,7 @@ ghost use Rattle.qa_base.specs.values.Events as events;
 ghost use Rattle.qa_base.specs.machine.Packets as packets;
 ghost use Rattle.qa_plain.specs.Listed.{listed};
 
-use qa_base::{Event, Micros, PacketNumber, Space, Span};
-
-/// When the event happened.
-pub fn time_of(event: &Event) -> Micros
-    ensures { result ≡ events.time_of event.now }
-{
-    match event {
-        Event::Sent { time, .. }
-        | Event::Ack { time, .. }
-        | Event::Lost { time, .. }
-        | Event::Timer { time, .. }
-        | Event::Discard { time, .. }
-        | Event::Confirmed { time }
-        | Event::Keys { time }
-        | Event::Metrics { time, .. } => *time,
-    }
-}
+use qa_base::{Event, PacketNumber, Space, Span};
 
 /// Whether a range has the number.
 pub fn is_named(ranges: &[Span], number: PacketNumber) -> bool
@@ -65,23 +49,12 @@ pub fn discards(event: &Event, in_space: Space) -> bool
     }
 }
 
-/// The greatest number of the ranges; 0 where there is none.
-pub fn greatest(ranges: &[Span]) -> u64
-    ensures { result ≡ packets.greatest ranges.now }
-{
-    let mut most = 0;
-    for range in ranges {
-        most = range.hi().get().max(most);
-    }
-    most
-}
-
 /// The greatest number that the event acknowledges in the space.
 pub fn greatest_in(event: &Event, in_space: Space) -> Option<u64>
     ensures { listed result ≡ packets.greatest_in in_space event.now }
 {
     match event {
-        Event::Ack { space, ranges, .. } if in_space == *space => Some(greatest(ranges.as_slice())),
+        Event::Ack { space, ranges, .. } if in_space == *space => Some(ranges.greatest().get()),
         _ => None,
     }
 }

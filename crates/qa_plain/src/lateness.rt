@@ -4,43 +4,29 @@ ghost use Rattle.qa_base.specs.machine.Breaches as breaches;
 ghost use Rattle.qa_base.specs.machine.Packets.{history_of};
 ghost use Rattle.qa_base.specs.machine.Timer as timers;
 
-use crate::event::time_of;
 use crate::questions::{deadline, packet_deadline};
 use qa_base::{Due, Event, Header, Micros};
 
-/// Whether both are there, of the same kind, space and time.
-fn is_same_due(due: Option<Due>, other: Option<Due>) -> bool
-    ensures { result ≡ timers.is_same_due due other }
-{
-    match (due, other) {
-        (Some(due), Some(other)) => {
-            due.kind == other.kind && due.space == other.space && due.time == other.time
-        }
-        (Some(_), None) => false,
-        (None, _) => false,
-    }
-}
-
 /// Whether an event, the last of those after it, leaves the deadline as it was.
 fn keeps_deadline(header: &Header, before: &[Event], after: &[Event]) -> bool
-    requires before { timers.backoff header.now (history_of before.now) ≤ 40 }
-    requires after { timers.backoff header.now (history_of after.now) ≤ 40 }
+    requires before { timers.pto_count header.now (history_of before.now) ≤ 40 }
+    requires after { timers.pto_count header.now (history_of after.now) ≤ 40 }
     ensures { result ≡ timers.is_same_due (timers.deadline header.now (history_of before.now)) (timers.deadline header.now (history_of after.now)) }
 {
-    is_same_due(deadline(header, before), deadline(header, after))
+    Due::is_same(deadline(header, before), deadline(header, after))
 }
 
 /// The time since which the timer is set as it is, that of the event that made it so; 0 before any.
 ///
 /// Asks for a PTO count of at most 40 after each of the events.
 pub fn set_since(header: &Header, events: &[Event]) -> Micros
-    requires counted { (n : ℕ) → timers.backoff header.now (history_of (take n events.now)) ≤ 40 }
+    requires counted { (n : ℕ) → timers.pto_count header.now (history_of (take n events.now)) ≤ 40 }
     ensures { result ≡ timers.set_since header.now (history_of events.now) }
 {
     let mut since = Micros::of(0);
     for (place, event) in events.iter().enumerate() {
         if !keeps_deadline(header, &events[..place], &events[..place + 1]) {
-            since = time_of(event);
+            since = event.time();
         }
     }
     since
@@ -52,7 +38,7 @@ pub fn set_since(header: &Header, events: &[Event]) -> Micros
 /// That time takes the deadline after each event, so it is asked only past the deadline itself.
 #[tactic(auto, using(crate::proofs::Late::late_is))]
 fn is_past_due(header: &Header, events: &[Event], limit: u64, time: Micros) -> bool
-    requires counted { (n : ℕ) → timers.backoff header.now (history_of (take n events.now)) ≤ 40 }
+    requires counted { (n : ℕ) → timers.pto_count header.now (history_of (take n events.now)) ≤ 40 }
     ensures { result ≡ breaches.is_past_due limit (timers.set_since header.now (history_of events.now)) time (timers.packet_deadline header.now (history_of events.now)) }
 {
     let last = time.get().saturating_sub(limit);
@@ -68,7 +54,7 @@ fn is_past_due(header: &Header, events: &[Event], limit: u64, time: Micros) -> b
 ///
 /// Asks for a PTO count of at most 40 after each of the events.
 pub fn is_late(header: &Header, events: &[Event], time: Micros) -> bool
-    requires counted { (n : ℕ) → timers.backoff header.now (history_of (take n events.now)) ≤ 40 }
+    requires counted { (n : ℕ) → timers.pto_count header.now (history_of (take n events.now)) ≤ 40 }
     ensures { result ≡ breaches.is_late_by header.now (history_of events.now) time header.now.options.timer_late }
 {
     match header.options().timer_late {

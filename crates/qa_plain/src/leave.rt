@@ -16,7 +16,7 @@ use crate::estimates::{look_after, refreshed_where_asked};
 use crate::losses::Look;
 use crate::sampling::start;
 use crate::settled::acknowledges_new;
-use crate::timer::{is_discard, is_pto};
+use crate::timer::is_discard;
 use crate::window::{last_owed, reno_after};
 use qa_base::{Event, Header, Leave, Micros, Space};
 use qa_recovery::Reno;
@@ -57,7 +57,7 @@ pub fn probe_spent(events: &[Event]) -> Option<u128>
 {
     let mut spent: Option<u128> = None;
     for (place, event) in events.iter().enumerate() {
-        if is_pto(event) {
+        if event.is_pto() {
             spent = Some(0);
         } else {
             spent = more_spent(spent, probe_size(event), place);
@@ -127,7 +127,7 @@ pub fn probe_due(events: &[Event]) -> Option<Space>
 {
     let mut due: Option<Space> = None;
     for (place, event) in events.iter().enumerate() {
-        if is_pto(event) {
+        if event.is_pto() {
             due = timer_space(event);
         } else {
             due = unanswered_by(&events[..place], event, due);
@@ -157,7 +157,8 @@ fn enters(reno: Reno, last: Option<Micros>) -> bool
 
 /// 1 for an in-flight packet that is marked for recovery, else 0.
 fn recovery_mark(event: &Event) -> u64
-    ensures value { (h : List Event) → result ≡ (if leaves.is_recovery_packet (event.now ∷ h) then 1 else 0) }
+    ensures value { (h : List Event)
+        → result ≡ (if leaves.is_recovery_packet (event.now ∷ h) then 1 else 0) }
     ensures one { result ≤ 1 }
 {
     match event {

@@ -25,10 +25,11 @@ mod questions;
 mod sampling;
 mod settled;
 mod timer;
+mod totals;
+mod whole;
 mod window;
 
 pub use estimates::{rtt, sampled};
-pub use event::time_of;
 pub use handshake::is_confirmed;
 pub use lateness::{is_late, set_since};
 pub use leave::{is_probe_due, probe_spent, recovery_spent};
@@ -36,6 +37,9 @@ pub use packet::{Packet, packet_of};
 pub use questions::{
     bytes_in_flight, deadline, is_owed, names_owed, owed_count, owes, owes_in, packet_deadline,
 };
-pub use settled::{is_covered, is_gone, is_lost, is_newly_acknowledged, largest_acknowledged};
-pub use timer::backoff;
+pub use settled::{
+    is_acknowledged, is_declared_lost, is_discarded, is_newly_acknowledged, largest_acknowledged,
+};
+pub use timer::pto_count;
+pub use whole::Whole;
 pub use window::reno;

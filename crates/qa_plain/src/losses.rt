@@ -11,11 +11,11 @@ ghost use Rattle.qa_plain.specs.Looks.{IsLook, is_found_by, largest_there as lar
 ghost use Rattle.std.specs.List.{list_any};
 
 use crate::packet::{Packet, packet_of};
-use crate::settled::{acknowledges_new, is_covered, is_gone, is_lost, largest_acknowledged};
-use qa_base::constants::{
-    GRANULARITY, PACKET_THRESHOLD, TIME_THRESHOLD_DIVISOR, TIME_THRESHOLD_PARTS,
+use crate::settled::{
+    acknowledges_new, is_acknowledged, is_declared_lost, is_discarded, largest_acknowledged,
 };
-use qa_base::{Event, Header, Kind, Micros, Space};
+use qa_base::constants::PACKET_THRESHOLD;
+use qa_base::{Event, Header, Micros, Space, TimerKind};
 use qa_recovery::Rtt;
 use std::marker::Model;
 
@@ -40,21 +40,17 @@ impl Model for Look {
     ghost inverse = { λ l. record { rtt = l.rtt; detection = l.detection; largest = l.largest } };
 }
 
-/// Whether the packet was sent as long ago as the time threshold of the RTT and the granularity
-/// (RFC 9002, section 6.1.2).
+/// Whether the loss delay has passed since the packet was sent (RFC 9002, section 6.1.2).
 fn is_old(rtt: Rtt, now: Micros, packet: Packet) -> bool
     ensures { result ≡ detections.is_old rtt now packet }
 {
-    let age = now.get().saturating_sub(packet.time.get());
-    TIME_THRESHOLD_PARTS * rtt.latest_rtt.get().max(rtt.smoothed_rtt.get())
-        <= TIME_THRESHOLD_DIVISOR * age
-        && GRANULARITY <= age
+    rtt.loss_delay() <= now.get().saturating_sub(packet.time.get())
 }
 
 /// Whether the packet is below the largest acknowledged number, by the packet threshold or for long
 /// enough.
-fn is_late(rtt: Rtt, now: Micros, largest: Option<u64>, packet: Packet) -> bool
-    ensures { result ≡ detections.is_late rtt now largest packet }
+fn is_past_threshold(rtt: Rtt, now: Micros, largest: Option<u64>, packet: Packet) -> bool
+    ensures { result ≡ detections.is_past_threshold rtt now largest packet }
 {
     match largest {
         None => false,
@@ -69,7 +65,7 @@ fn is_late(rtt: Rtt, now: Micros, largest: Option<u64>, packet: Packet) -> bool
 pub fn is_unsettled(events: &[Event], packet: Packet) -> bool
     ensures { result ≡ detections.is_unsettled (history_of events.now) packet }
 {
-    !is_covered(events, packet) && !is_lost(events, packet)
+    !is_acknowledged(events, packet) && !is_declared_lost(events, packet)
 }
 
 /// Where and when an event looks for losses.
@@ -86,7 +82,7 @@ pub fn detection_by(before: &[Event], event: &Event) -> Option<(Space, Micros)>
         }
         Event::Timer {
             time,
-            kind: Kind::Loss,
+            kind: TimerKind::Loss,
             space,
         } => Some((*space, *time)),
         _ => None,
@@ -125,7 +121,7 @@ pub fn look_at(header: &Header, events: &[Event], rtt: Rtt) -> Look
     }
 }
 
-/// Whether the packet is late and unsettled, the cheaper test first.
+/// Whether the packet is past a threshold and unsettled, the cheaper test first.
 #[tactic(auto, using(crate::proofs::Owed::and_turned))]
 fn is_late_open(
     events: &[Event],
@@ -134,9 +130,9 @@ fn is_late_open(
     now: Micros,
     packet: Packet,
 ) -> bool
-    ensures { result ≡ (detections.is_unsettled (history_of events.now) packet && detections.is_late rtt now largest packet) }
+    ensures { result ≡ (detections.is_unsettled (history_of events.now) packet && detections.is_past_threshold rtt now largest packet) }
 {
-    is_late(rtt, now, largest, packet) && is_unsettled(events, packet)
+    is_past_threshold(rtt, now, largest, packet) && is_unsettled(events, packet)
 }
 
 /// Whether by what is known the last event found the packet lost.
@@ -155,7 +151,8 @@ pub fn is_found(events: &[Event], look: Look, packet: Packet) -> bool
 
 /// The packet that the event sent, where by what is known the last of the events found it lost.
 pub fn found_of(events: &[Event], look: Look, place: usize, event: &Event) -> Option<Packet>
-    ensures { listed result ≡ filter (is_found_by (history_of events.now) look) (packets.packet_of place event.now) }
+    ensures { listed result
+        ≡ filter (is_found_by (history_of events.now) look) (packets.packet_of place event.now) }
 {
     match packet_of(place, event) {
         Some(packet) if is_found(events, look, packet) => Some(packet),
@@ -184,7 +181,7 @@ pub fn is_open(header: &Header, events: &[Event], look: Look, packet: Packet) ->
 {
     is_unsettled(events, packet)
         && !is_found(events, look, packet)
-        && !is_gone(events, packet.space)
+        && !is_discarded(events, packet.space)
 }
 
 /// What the packet adds to the bytes in flight.

@@ -12,7 +12,7 @@ ghost use Rattle.qa_plain.specs.Looks.{IsLook};
 use crate::estimates::sampled;
 use crate::losses::{Look, look_at};
 use crate::packet::Packet;
-use crate::timer::backoff;
+use crate::timer::pto_count;
 use crate::{deadlines, losses, named};
 use qa_base::{Due, Event, Header, Space, Span};
 
@@ -74,14 +74,14 @@ pub fn bytes_in_flight(header: &Header, events: &[Event]) -> u128
 ///
 /// Asks for a PTO count of at most 40. The count of a run is, where its times are in their range.
 pub fn deadline(header: &Header, events: &[Event]) -> Option<Due>
-    requires counted { timers.backoff header.now (history_of events.now) ≤ 40 }
+    requires counted { timers.pto_count header.now (history_of events.now) ≤ 40 }
     ensures { result ≡ timers.deadline header.now (history_of events.now) }
 {
     deadlines::deadline(
         header,
         events,
         look(header, events),
-        backoff(header, events),
+        pto_count(header, events),
     )
 }
 
@@ -90,13 +90,13 @@ pub fn deadline(header: &Header, events: &[Event]) -> Option<Due>
 ///
 /// Asks for a PTO count of at most 40.
 pub fn packet_deadline(header: &Header, events: &[Event]) -> Option<Due>
-    requires counted { timers.backoff header.now (history_of events.now) ≤ 40 }
+    requires counted { timers.pto_count header.now (history_of events.now) ≤ 40 }
     ensures { result ≡ timers.packet_deadline header.now (history_of events.now) }
 {
     deadlines::packet_deadline(
         header,
         events,
         look(header, events),
-        backoff(header, events),
+        pto_count(header, events),
     )
 }

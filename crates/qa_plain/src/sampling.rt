@@ -4,7 +4,6 @@ ghost use Rattle.std.specs.List.{list_any};
 ghost use Rattle.qa_base.specs.machine.Packets.{history_of, newly_acknowledged};
 ghost use Rattle.qa_base.specs.machine.Rtt as estimates;
 
-use crate::event::greatest;
 use crate::handshake::is_confirmed;
 use crate::packet::{Packet, packet_of};
 use crate::settled::is_newly_acknowledged;
@@ -102,7 +101,7 @@ pub fn sample_of(header: &Header, before: &[Event], event: &Event) -> Option<Sam
             if !acknowledges_eliciting(before, event) {
                 return None;
             }
-            let packet = newly_numbered(before, event, greatest(ranges.as_slice()));
+            let packet = newly_numbered(before, event, ranges.greatest().get());
             sample_by(*time, limited_delay(header, before, *delay), packet)
         }
         _ => None,

@@ -1,4 +1,4 @@
-//! What became of packets: acknowledged, lost, or gone with their space.
+//! What became of packets: acknowledged, declared lost, or discarded with their space.
 ghost use Rattle.std.specs.Prelude.{◌≡◌, ◌∷◌, ◌+◌, drop};
 ghost use Rattle.std.specs.List.{list_any};
 ghost use Rattle.qa_base.specs.values.Events as questions;
@@ -41,23 +41,23 @@ fn some_declares_lost(events: &[Event], packet: Packet) -> bool
 
 /// Whether an acknowledgment that came after the packet covers its number in its space, also one
 /// that came after the packet was declared lost (RFC 9002, A.7).
-pub fn is_covered(events: &[Event], packet: Packet) -> bool
-    ensures { result ≡ packets.is_covered (history_of events.now) packet }
+pub fn is_acknowledged(events: &[Event], packet: Packet) -> bool
+    ensures { result ≡ packets.is_acknowledged (history_of events.now) packet }
 {
     some_acknowledges(behind(events, packet), packet)
 }
 
 /// Whether the sender declared the packet lost after it was sent: a Lost line of its space names
 /// its number (RFC 9002, A.10).
-pub fn is_lost(events: &[Event], packet: Packet) -> bool
-    ensures { result ≡ packets.is_lost (history_of events.now) packet }
+pub fn is_declared_lost(events: &[Event], packet: Packet) -> bool
+    ensures { result ≡ packets.is_declared_lost (history_of events.now) packet }
 {
     some_declares_lost(behind(events, packet), packet)
 }
 
 /// Whether the keys of the space were discarded (RFC 9002, section 6.4).
-pub fn is_gone(events: &[Event], space: Space) -> bool
-    ensures { result ≡ packets.is_gone (history_of events.now) space }
+pub fn is_discarded(events: &[Event], space: Space) -> bool
+    ensures { result ≡ packets.is_discarded (history_of events.now) space }
 {
     events.iter().any(|event| discards(event, space))
 }
@@ -68,8 +68,8 @@ pub fn is_newly_acknowledged(before: &[Event], event: &Event, packet: Packet) ->
     ensures { result ≡ packets.is_newly_acknowledged event.now (history_of before.now) packet }
 {
     acknowledges(event, packet.space, packet.number)
-        && !is_covered(before, packet)
-        && !is_lost(before, packet)
+        && !is_acknowledged(before, packet)
+        && !is_declared_lost(before, packet)
 }
 
 /// Whether an event after these newly acknowledges some packet.

@@ -7,20 +7,7 @@ ghost use Rattle.qa_plain.specs.Words.{is_discard as is_discard_of};
 
 use crate::handshake::is_validated;
 use crate::settled::acknowledges_new;
-use qa_base::{Event, Header, Kind};
-
-/// Whether the event is a probe timeout.
-pub fn is_pto(event: &Event) -> bool
-    ensures { (h : List Event) → result ≡ timers.is_pto (event.now ∷ h) }
-{
-    match event {
-        Event::Timer {
-            kind: Kind::Pto,
-            ..
-        } => true,
-        _ => false,
-    }
-}
+use qa_base::{Event, Header};
 
 /// Whether the event discards the keys of a space.
 pub fn is_discard(event: &Event) -> bool
@@ -43,15 +30,15 @@ pub fn resets_count(header: &Header, before: &[Event], event: &Event, after: &[E
 /// The PTO count after the events: how many probe timeouts there were since the last event that
 /// sets it to 0 (RFC 9002, section 6.2.1). Those are a discard, and an acknowledgment of something
 /// new where the peer has validated the sender's address.
-pub fn backoff(header: &Header, events: &[Event]) -> u64
-    ensures value { result ≡ timers.backoff header.now (history_of events.now) }
+pub fn pto_count(header: &Header, events: &[Event]) -> u64
+    ensures value { result ≡ timers.pto_count header.now (history_of events.now) }
     ensures bound { result ≤ length events.now }
 {
     let mut count = 0;
     for (place, event) in events.iter().enumerate() {
         if resets_count(header, &events[..place], event, &events[..place + 1]) {
             count = 0;
-        } else if is_pto(event) {
+        } else if event.is_pto() {
             count += 1;
         }
     }

@@ -13,7 +13,6 @@ ghost use Rattle.qa_plain.specs.Words.{last_sending, hits_at};
 
 use crate::congestion::is_persistent;
 use crate::estimates::{look_after, refreshed_where_asked};
-use crate::event::time_of;
 use crate::losses::{Look, found_of};
 use crate::packet::packet_of;
 use crate::sampling::start;
@@ -109,26 +108,16 @@ fn grown(header: &Header, before: &[Event], event: &Event, reno: Reno) -> Reno
     reno
 }
 
-/// Whether the sender did not use the window that it had.
-fn is_limited(event: &Event) -> bool
-    ensures { result ≡ steps.is_limited event.now }
-{
-    match event {
-        Event::Ack { limited, .. } => *limited,
-        _ => false,
-    }
-}
-
 /// The window after the growth by an event, if the sender used the window that it had.
-fn grown_unless_limited(header: &Header, before: &[Event], event: &Event, reno: Reno) -> Reno
+fn grown_unless_app_limited(header: &Header, before: &[Event], event: &Event, reno: Reno) -> Reno
     requires low { minimum_window header.now.max_datagram_size ≤ reno.window }
     requires high { reno.window ≤ 2 ^ 60 }
     requires few { length before.now < 2 ^ 32 }
     requires fit { All Fits before.now }
     ensures low { minimum_window header.now.max_datagram_size ≤ result.window }
-    ensures value { result ≡ fold (steps.moved header.now.max_datagram_size) reno (if steps.is_limited event.now then [] else steps.grows (newly_acknowledged (event.now ∷ history_of before.now))) }
+    ensures value { result ≡ fold (steps.moved header.now.max_datagram_size) reno (if steps.is_app_limited event.now then [] else steps.grows (newly_acknowledged (event.now ∷ history_of before.now))) }
 {
-    if is_limited(event) {
+    if event.is_app_limited() {
         reno
     } else {
         grown(header, before, event, reno)
@@ -153,9 +142,9 @@ pub fn reno_after(
     requires fit { All Fits before.now }
     ensures { result ≡ steps.reno header.now (event.now ∷ history_of before.now) }
 {
-    let hit = hit_by(header, reno, last_owed(header, after, look), time_of(event));
+    let hit = hit_by(header, reno, last_owed(header, after, look), event.time());
     let collapsed = collapsed(header, hit, is_persistent(header, after, look));
-    grown_unless_limited(header, before, event, collapsed)
+    grown_unless_app_limited(header, before, event, collapsed)
 }
 
 /// The congestion window, the slow start threshold and recovery after the events (RFC 9002, section

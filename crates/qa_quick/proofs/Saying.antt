@@ -4,7 +4,7 @@ use Rattle.std.proofs.lemmas.Bool.{and_parts, leb-true}
 use Rattle.std.specs.Prelude.{nat_le, option_map, IfSome, unwrap_or}
 use Rattle.std.specs.List.{AllByRecursion}
 use Rattle.qa_base.specs.declared.event.Event.TheVariants.{Sent, Ack, Lost, Timer, Discard, Confirmed, Keys, Metrics}
-use Rattle.qa_base.specs.declared.space.Kind.{Kind}
+use Rattle.qa_base.specs.declared.space.TimerKind.{TimerKind}
 use Rattle.qa_base.specs.declared.space.Leave.{Leave}
 use Rattle.qa_base.specs.declared.space.Leave.TheVariants.{Window}
 use Rattle.qa_base.specs.declared.space.Space.{Space}
@@ -61,21 +61,21 @@ says_sent f t n m s size eliciting in_flight leave is_event time_is is_space is_
     h.leave
     (record { fitting = fit; in_time = time_is.1; numbers = number_is.1 })) fitting
 
-pub says_ack : (f : Found) (t : ℕ) (s : Space) (rs : List (ℕ × ℕ)) (delay : ℕ) (limited : Bool)
+pub says_ack : (f : Found) (t : ℕ) (s : Space) (rs : List (ℕ × ℕ)) (delay : ℕ) (app_limited : Bool)
     → f.event ≡ Some kinds.Ack → (f.time ≡ Some t) × (t ≤ max_time) → f.space ≡ Some s → f.ranges ≡ Some rs
-    → delay ≡ unwrap_or f.delay 0 → delay < 2 ^ 64 → limited ≡ unwrap_or f.limited false
-    → Says f (Ack t s rs delay limited)
-says_ack f t s rs delay limited is_event time_is is_space is_ranges is_delay small is_limited = λ ms h.
+    → delay ≡ unwrap_or f.delay 0 → delay < 2 ^ 64 → app_limited ≡ unwrap_or f.app_limited false
+    → Says f (Ack t s rs delay app_limited)
+says_ack f t s rs delay app_limited is_event time_is is_space is_ranges is_delay small is_app_limited = λ ms h.
     let are = ranges_are f.ranges rs h.are_ranges is_ranges in
-    let says = ack_found ms t s rs f.delay f.limited
+    let says = ack_found ms t s rs f.delay f.app_limited
     (h.event ∙ ap (option_map line_kind_data) is_event)
     (h.time ∙ ap (option_map integer) time_is.0)
     (h.space ∙ ap (option_map space_data) is_space)
     (h.ranges ∙ ap (option_map ranges_data) is_ranges)
     h.delay
-    h.limited
+    h.app_limited
     (record { fitting = are.0; in_time = time_is.1; numbers = (are.1, omega (arith, is_delay)) }) in
-    rw (is_delay, is_limited) says
+    rw (is_delay, is_app_limited) says
 
 pub says_lost : (f : Found) (t : ℕ) (s : Space) (rs : List (ℕ × ℕ))
     → f.event ≡ Some kinds.Lost → (f.time ≡ Some t) × (t ≤ max_time) → f.space ≡ Some s → f.ranges ≡ Some rs
@@ -89,7 +89,7 @@ says_lost f t s rs is_event time_is is_space is_ranges = λ ms h.
     (h.ranges ∙ ap (option_map ranges_data) is_ranges)
     (record { fitting = are.0; in_time = time_is.1; numbers = are.1 })
 
-pub says_timer : (f : Found) (t : ℕ) (k : Kind) (s : Space)
+pub says_timer : (f : Found) (t : ℕ) (k : TimerKind) (s : Space)
     → f.event ≡ Some kinds.Timer → (f.time ≡ Some t) × (t ≤ max_time) → f.kind ≡ Some k → f.space ≡ Some s
     → Says f (Timer t k s)
 says_timer f t k s is_event time_is is_kind is_space = λ ms h.

@@ -7,8 +7,8 @@ use Rattle.qa_base.specs.declared.rule.Field.{Field}
 use Rattle.qa_base.specs.declared.rule.Field.TheVariants as field
 use Rattle.qa_base.specs.declared.line_kind.LineKind.{LineKind}
 use Rattle.qa_base.specs.declared.line_kind.LineKind.TheVariants as kinds
-use Rattle.qa_base.specs.declared.space.Kind.{Kind}
-use Rattle.qa_base.specs.declared.space.Kind.TheVariants.{Loss, Pto}
+use Rattle.qa_base.specs.declared.space.TimerKind.{TimerKind}
+use Rattle.qa_base.specs.declared.space.TimerKind.TheVariants.{Loss, Pto}
 use Rattle.qa_base.specs.declared.space.Leave.{Leave}
 use Rattle.qa_base.specs.declared.space.Leave.TheVariants.{Window, Probe, Recovery}
 use Rattle.qa_base.specs.declared.space.Space.{Space}
@@ -37,7 +37,7 @@ leave_is_plain Window = refl
 leave_is_plain Probe = refl
 leave_is_plain Recovery = refl
 
-pub kind_is_plain : (k : Kind) → list_all is_plain (kind_name k) ≡ true
+pub kind_is_plain : (k : TimerKind) → list_all is_plain (kind_name k) ≡ true
 kind_is_plain Loss = refl
 kind_is_plain Pto = refl
 

@@ -91,7 +91,7 @@ other_keeps key value unknown f ms h =
       leave = get_put_other (codes "leave") key value ms (apart (codes "leave") key w7.1) ∙ h.leave;
       ranges = get_put_other (codes "ranges") key value ms (apart (codes "ranges") key w8.1) ∙ h.ranges;
       delay = get_put_other (codes "delay") key value ms (apart (codes "delay") key w9.1) ∙ h.delay;
-      limited = get_put_other (codes "limited") key value ms (apart (codes "limited") key w10.1) ∙ h.limited;
+      app_limited = get_put_other (codes "limited") key value ms (apart (codes "limited") key w10.1) ∙ h.app_limited;
       kind = get_put_other (codes "kind") key value ms (apart (codes "kind") key w11.1) ∙ h.kind;
       window = get_put_other (codes "window") key value ms (apart (codes "window") key m1.0) ∙ h.window;
       ssthresh = get_put_other (codes "ssthresh") key value ms (apart (codes "ssthresh") key m1.1) ∙ h.ssthresh;
@@ -112,13 +112,13 @@ takes_nothing key bytes behind middle rest all_plain is at_colon unknown one f =
 -- ---- the object
 
 abbrev pub nothing : Found
-nothing = record { event = None; time = None; space = None; number = None; size = None; eliciting = None; in_flight = None; leave = None; ranges = None; delay = None; limited = None; kind = None; values = record { window = None; ssthresh = None; bytes_in_flight = None; latest_rtt = None; min_rtt = None; smoothed_rtt = None; rttvar = None } }
+nothing = record { event = None; time = None; space = None; number = None; size = None; eliciting = None; in_flight = None; leave = None; ranges = None; delay = None; app_limited = None; kind = None; values = record { window = None; ssthresh = None; bytes_in_flight = None; latest_rtt = None; min_rtt = None; smoothed_rtt = None; rttvar = None } }
 
 no_word : IsWord None
 no_word n e = cc
 
 nothing_holds : Holds nothing no_members
-nothing_holds = record { event = refl; time = refl; space = refl; number = refl; size = refl; eliciting = refl; in_flight = refl; leave = refl; ranges = refl; delay = refl; limited = refl; kind = refl; window = refl; ssthresh = refl; bytes_in_flight = refl; latest_rtt = refl; min_rtt = refl; smoothed_rtt = refl; rttvar = refl; are_words = (no_word, no_word, no_word, no_word, no_word, no_word, no_word); are_ranges = tt }
+nothing_holds = record { event = refl; time = refl; space = refl; number = refl; size = refl; eliciting = refl; in_flight = refl; leave = refl; ranges = refl; delay = refl; app_limited = refl; kind = refl; window = refl; ssthresh = refl; bytes_in_flight = refl; latest_rtt = refl; min_rtt = refl; smoothed_rtt = refl; rttvar = refl; are_words = (no_word, no_word, no_word, no_word, no_word, no_word, no_word); are_ranges = tt }
 
 pub begins : (bytes rest : List ℕ) → Lexes bytes rest (token tokens.begin_object ∷ []) → Follows nothing bytes rest
 begins bytes rest opened = record {

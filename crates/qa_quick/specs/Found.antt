@@ -15,7 +15,7 @@ use Rattle.qa_base.specs.declared.event.Event.{Event}
 use Rattle.qa_format.specs.declared.line.Line.{Line}
 use Rattle.qa_format.specs.declared.line.Line.TheVariants as line
 use Rattle.qa_base.specs.declared.line_kind.LineKind.{LineKind}
-use Rattle.qa_base.specs.declared.space.Kind.{Kind}
+use Rattle.qa_base.specs.declared.space.TimerKind.{TimerKind}
 use Rattle.qa_base.specs.declared.space.Leave.{Leave}
 use Rattle.qa_base.specs.declared.space.Space.{Space}
 use Rattle.qa_base.specs.values.Events.{has_ranges}
@@ -38,7 +38,7 @@ space_data space = string (space_name space)
 abbrev pub leave_data : Leave → Data
 leave_data leave = string (leave_name leave)
 
-abbrev pub kind_data : Kind → Data
+abbrev pub kind_data : TimerKind → Data
 kind_data kind = string (kind_name kind)
 
 -- ---- keys
@@ -85,7 +85,7 @@ pub record Holds (f : Found) (ms : Members) : Type 0 where
   pub leave : get_member (codes "leave") ms ≡ option_map leave_data f.leave
   pub ranges : get_member (codes "ranges") ms ≡ option_map ranges_data f.ranges
   pub delay : get_member (codes "delay") ms ≡ option_map integer f.delay
-  pub limited : get_member (codes "limited") ms ≡ option_map boolean f.limited
+  pub app_limited : get_member (codes "limited") ms ≡ option_map boolean f.app_limited
   pub kind : get_member (codes "kind") ms ≡ option_map kind_data f.kind
   pub window : get_member (codes "window") ms ≡ option_map integer f.values.window
   pub ssthresh : get_member (codes "ssthresh") ms ≡ option_map integer f.values.ssthresh

@@ -58,14 +58,14 @@ impl Found {
         let time = self.micros()?;
         let space = self.space?;
         let delay = self.delay.unwrap_or(0);
-        let limited = self.limited.unwrap_or(false);
+        let app_limited = self.app_limited.unwrap_or(false);
         let ranges = self.ranges.take()?;
         Some(Line::Event(Event::Ack {
             time,
             space,
             ranges,
             delay,
-            limited,
+            app_limited,
         }))
     }
 

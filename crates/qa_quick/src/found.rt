@@ -9,7 +9,7 @@ use crate::names::{leave, line_kind, space, timer_kind};
 use crate::ranges::ranges;
 use crate::tokens::{boolean, integer};
 use crate::unknown::unknown_member;
-use qa_base::{Field, Key, Kind, Leave, LineKind, MetricValues, Space, Spans};
+use qa_base::{Field, Key, Leave, LineKind, MetricValues, Space, Spans, TimerKind};
 use std::alloc::Global;
 
 /// What was found at the keys of an object.
@@ -25,8 +25,8 @@ pub struct Found {
     pub leave: Option<Leave>,
     pub ranges: Option<Spans>,
     pub delay: Option<u64>,
-    pub limited: Option<bool>,
-    pub kind: Option<Kind>,
+    pub app_limited: Option<bool>,
+    pub kind: Option<TimerKind>,
     pub values: MetricValues,
 }
 
@@ -59,7 +59,7 @@ impl Found {
             Key::Leave => self.leave(bytes),
             Key::Ranges => self.ranges(alloc, bytes),
             Key::Delay => self.delay(bytes),
-            Key::Limited => self.limited(bytes),
+            Key::Limited => self.app_limited(bytes),
             Key::Kind => self.kind(bytes),
             Key::Metric(field) => self.metric_value(field, bytes),
             _ => None,
@@ -169,11 +169,11 @@ impl Found {
 
     /// Whether the sender was limited by the application is found.
     #[inline(always)]
-    fn limited<'a>(&mut self, bytes: &'a [u8]) -> Option<&'a [u8]>
+    fn app_limited<'a>(&mut self, bytes: &'a [u8]) -> Option<&'a [u8]>
         ensures { IfSome result (λ rest. Puts (codes "limited") self.old self.new bytes.now rest.now) }
     {
         let (value, rest) = boolean(bytes)?;
-        self.limited = Some(value);
+        self.app_limited = Some(value);
         Some(rest)
     }
 

@@ -31,7 +31,7 @@ pub fn quick_line(alloc: Global, bytes: &[u8]) -> Option<Line>
         leave: None,
         ranges: None,
         delay: None,
-        limited: None,
+        app_limited: None,
         kind: None,
         values: MetricValues {
             window: None,

@@ -4,7 +4,7 @@ ghost use Rattle.qa_base.specs.values.Names.{line_kind_name, space_name, leave_n
 ghost use Rattle.qa_quick.specs.Lexes.{IsQuoted};
 
 use crate::tokens::after;
-use qa_base::{Kind, Leave, LineKind, Space};
+use qa_base::{Leave, LineKind, Space, TimerKind};
 
 /// The kind of an event's line, and what follows it.
 #[inline(always)]
@@ -65,11 +65,11 @@ pub fn leave(bytes: &[u8]) -> Option<(Leave, &[u8])>
 
 /// The kind of a timer, and what follows it.
 #[inline(always)]
-pub fn timer_kind(bytes: &[u8]) -> Option<(Kind, &[u8])>
+pub fn timer_kind(bytes: &[u8]) -> Option<(TimerKind, &[u8])>
     ensures { IfSome result (λ found. IsQuoted (kind_name found.0) bytes.now found.1.now) }
 {
     if let Some(rest) = after(bytes, b"\"loss\"") {
-        return Some((Kind::Loss, rest));
+        return Some((TimerKind::Loss, rest));
     }
-    Some((Kind::Pto, after(bytes, b"\"pto\"")?))
+    Some((TimerKind::Pto, after(bytes, b"\"pto\"")?))
 }

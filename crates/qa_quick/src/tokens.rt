@@ -21,7 +21,8 @@ const NINE: u64 = 57;
 #[inline(always)]
 fn four_equal(bytes: &[u8], word: &[u8], i: usize) -> bool
     requires { (i + 4 ≤ length bytes.now) × (i + 4 ≤ length word.now) }
-    ensures { result ≡ true → take i bytes.now ≡ take i word.now → take (i + 4) bytes.now ≡ take (i + 4) word.now }
+    ensures { result ≡ true → take i bytes.now ≡ take i word.now
+        → take (i + 4) bytes.now ≡ take (i + 4) word.now }
 {
     // Without branches between them, so that the four are compared at once.
     (bytes[i] == word[i])
@@ -225,7 +226,8 @@ fn ends_word(bytes: &[u8]) -> bool
 /// The digits of an integer, and what follows them. Of more than 19 digits some are left.
 #[inline(always)]
 fn digits(bytes: &[u8]) -> Option<(u64, &[u8])>
-    ensures { IfSome result (λ found. (bytes.now ≡ decimal found.0 ++ found.1.now) × (found.0 < 2 ^ 64)) }
+    ensures { IfSome result (λ found. (bytes.now ≡ decimal found.0 ++ found.1.now)
+        × (found.0 < 2 ^ 64)) }
 {
     let [first, rest @ ..] = bytes else {
         return None;
@@ -254,7 +256,8 @@ fn digits(bytes: &[u8]) -> Option<(u64, &[u8])>
 /// An integer of at most 19 digits, and what follows it.
 #[inline(always)]
 pub fn integer(bytes: &[u8]) -> Option<(u64, &[u8])>
-    ensures { IfSome result (λ found. (found.0 < 2 ^ 64) × Lexes bytes.now found.1.now (token (tokens.number (decimal found.0)) ∷ [])) }
+    ensures { IfSome result (λ found. (found.0 < 2 ^ 64)
+        × Lexes bytes.now found.1.now (token (tokens.number (decimal found.0)) ∷ [])) }
 {
     let (n, rest) = digits(bytes)?;
     if ends_word(rest) {
@@ -267,7 +270,8 @@ pub fn integer(bytes: &[u8]) -> Option<(u64, &[u8])>
 /// One of the literals `true` and `false`, and what follows it.
 #[inline(always)]
 fn literal(bytes: &[u8]) -> Option<(bool, &[u8])>
-    ensures { IfSome result (λ found. bytes.now ≡ compact_text (written.boolean found.0) ++ found.1.now) }
+    ensures { IfSome result (λ found. bytes.now
+        ≡ compact_text (written.boolean found.0) ++ found.1.now) }
 {
     if let Some(rest) = after(bytes, b"true") {
         return Some((true, rest));
@@ -307,7 +311,8 @@ fn is_plain(byte: u8) -> bool
 /// What stands in a string of printable ASCII without an escape, and what follows the string.
 #[inline(always)]
 pub fn string(bytes: &[u8]) -> Option<(&[u8], &[u8])>
-    ensures { IfSome result (λ found. (list_all is_plain_byte found.0.now ≡ true) × IsQuoted found.0.now bytes.now found.1.now) }
+    ensures { IfSome result (λ found. (list_all is_plain_byte found.0.now ≡ true)
+        × IsQuoted found.0.now bytes.now found.1.now) }
 {
     let inside = after_byte(bytes, b'"')?;
     let mut i = 0;

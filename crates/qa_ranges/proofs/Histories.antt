@@ -6,6 +6,7 @@ use Rattle.std.proofs.lemmas.List.{length-map}
 use Rattle.std.proofs.lemmas.List.Sums.{count_by-le-length}
 use Rattle.qa_base.specs.declared.event.Event.{Event}
 use Rattle.qa_base.specs.declared.event.Event.TheVariants.{Sent, Ack, Lost, Timer, Discard, Confirmed, Keys, Metrics}
+use Rattle.qa_base.specs.declared.space.Leave.{Leave}
 use Rattle.qa_base.specs.declared.space.Space.{Space}
 use Rattle.qa_base.specs.declared.space.Space.TheVariants.{Initial, Handshake, App}
 use Rattle.qa_base.specs.machine.Breaches.{has_at_or_above, numbers}
@@ -19,6 +20,7 @@ use Rattle.qa_base.specs.values.Settings.{Settings}
 use Rattle.qa_base.proofs.machine.Ranges.{has_all_names, names_has_all}
 use Rattle.qa_base.proofs.machine.RunLaws.{numbers_fall}
 use Rattle.qa_ranges.specs.Runs.{AreApart, AreDistinct, HasEach, IsGreatest}
+use Rattle.qa_base.specs.values.PerSpace.{with_space}
 use Rattle.qa_ranges.specs.Sent.{BySpace, AreSent, AreSentWith, runs_in}
 use Rattle.qa_ranges.proofs.Counts.{counted}
 
@@ -155,7 +157,7 @@ sent_at_most [] = omega arith
 sent_at_most (Sent time Initial number size eliciting in_flight leave ∷ h) = (let rest = sent_at_most h in omega arith)
 sent_at_most (Sent time Handshake number size eliciting in_flight leave ∷ h) = (let rest = sent_at_most h in omega arith)
 sent_at_most (Sent time App number size eliciting in_flight leave ∷ h) = (let rest = sent_at_most h in omega arith)
-sent_at_most (Ack time space ranges delay limited ∷ h) = (let rest = sent_at_most h in omega arith)
+sent_at_most (Ack time space ranges delay app_limited ∷ h) = (let rest = sent_at_most h in omega arith)
 sent_at_most (Lost time space ranges ∷ h) = (let rest = sent_at_most h in omega arith)
 sent_at_most (Timer time kind space ∷ h) = (let rest = sent_at_most h in omega arith)
 sent_at_most (Discard time space ∷ h) = (let rest = sent_at_most h in omega arith)
@@ -175,7 +177,7 @@ runs_at_most h = omega (arith, sent_at_most h, runs_of_at_most h Initial, runs_o
 -- an event that sends no packet leaves the numbers as they were
 pub numbers_stay : (e : Event) (h : List Event) (s : Space) → is_sent e ≡ false → numbers_of (e ∷ h) s ≡ numbers_of h s
 numbers_stay (Sent time space number size eliciting in_flight leave) h s quiet = cc
-numbers_stay (Ack time space ranges delay limited) h s quiet = refl
+numbers_stay (Ack time space ranges delay app_limited) h s quiet = refl
 numbers_stay (Lost time space ranges) h s quiet = refl
 numbers_stay (Timer time kind space) h s quiet = refl
 numbers_stay (Discard time space) h s quiet = refl
@@ -186,37 +188,29 @@ numbers_stay (Metrics time values) h s quiet = refl
 pub sent_stay : (sets : BySpace) (e : Event) (h : List Event) → is_sent e ≡ false → AreSent sets h → AreSent sets (e ∷ h)
 sent_stay sets e h quiet sent = record { each = λ s. rw (numbers_stay e h s quiet) (sent.each s) }
 
-each_space : (P : Space → Type 0) → P Initial → P Handshake → P App → (s : Space) → P s
-each_space P initial handshake app Initial = initial
-each_space P initial handshake app Handshake = handshake
-each_space P initial handshake app App = app
+-- in each space, where the set of one has one number more
+each_more : (sets : BySpace) (new : List (ℕ × ℕ)) (number : ℕ) (h : List Event) (time size : ℕ) (eliciting in_flight : Bool) (leave : Leave) (s : Space)
+    → ((n : ℕ) → is_named new n ≡ is_named ((number, number) ∷ runs_in sets s) n) → AreSent sets h
+    → (t : Space) → Names (runs_in (with_space s sets new) t) (numbers_of (Sent time s number size eliciting in_flight leave ∷ h) t)
+each_more sets new number h time size eliciting in_flight leave Initial more sent Initial = names_more sets.initial new (numbers_of h Initial) number (sent.each Initial) more
+each_more sets new number h time size eliciting in_flight leave Initial more sent Handshake = sent.each Handshake
+each_more sets new number h time size eliciting in_flight leave Initial more sent App = sent.each App
+each_more sets new number h time size eliciting in_flight leave Handshake more sent Initial = sent.each Initial
+each_more sets new number h time size eliciting in_flight leave Handshake more sent Handshake = names_more sets.handshake new (numbers_of h Handshake) number (sent.each Handshake) more
+each_more sets new number h time size eliciting in_flight leave Handshake more sent App = sent.each App
+each_more sets new number h time size eliciting in_flight leave App more sent Initial = sent.each Initial
+each_more sets new number h time size eliciting in_flight leave App more sent Handshake = sent.each Handshake
+each_more sets new number h time size eliciting in_flight leave App more sent App = names_more sets.app new (numbers_of h App) number (sent.each App) more
 
--- a packet of the Initial space adds its number to that set
-pub initial_more : (sets : BySpace) (new : List (ℕ × ℕ)) (number : ℕ) (h : List Event) → ((n : ℕ) → is_named new n ≡ is_named ((number, number) ∷ sets.initial) n) → AreSent sets h
-    → AreSentWith (record { initial = new; handshake = sets.handshake; app = sets.app }) Initial number h
-initial_more sets new number h more sent time size eliciting in_flight leave = record {
-  each = each_space (λ s. Names (runs_in (record { initial = new; handshake = sets.handshake; app = sets.app }) s) (numbers_of (Sent time Initial number size eliciting in_flight leave ∷ h) s))
-      (names_more sets.initial new (numbers_of h Initial) number (sent.each Initial) more)
-      (sent.each Handshake)
-      (sent.each App);
+-- a packet of a space adds its number to the set of that space
+pub sent_more : (sets : BySpace) (new : List (ℕ × ℕ)) (number : ℕ) (h : List Event) (s : Space)
+    → ((n : ℕ) → is_named new n ≡ is_named ((number, number) ∷ runs_in sets s) n) → AreSent sets h → AreSentWith (with_space s sets new) s number h
+sent_more sets new number h s more sent time size eliciting in_flight leave = record {
+  each = each_more sets new number h time size eliciting in_flight leave s more sent;
 }
 
--- a packet of the Handshake space adds its number to that set
-pub handshake_more : (sets : BySpace) (new : List (ℕ × ℕ)) (number : ℕ) (h : List Event) → ((n : ℕ) → is_named new n ≡ is_named ((number, number) ∷ sets.handshake) n) → AreSent sets h
-    → AreSentWith (record { initial = sets.initial; handshake = new; app = sets.app }) Handshake number h
-handshake_more sets new number h more sent time size eliciting in_flight leave = record {
-  each = each_space (λ s. Names (runs_in (record { initial = sets.initial; handshake = new; app = sets.app }) s) (numbers_of (Sent time Handshake number size eliciting in_flight leave ∷ h) s))
-      (sent.each Initial)
-      (names_more sets.handshake new (numbers_of h Handshake) number (sent.each Handshake) more)
-      (sent.each App);
-}
-
--- a packet of the application space adds its number to that set
-pub app_more : (sets : BySpace) (new : List (ℕ × ℕ)) (number : ℕ) (h : List Event) → ((n : ℕ) → is_named new n ≡ is_named ((number, number) ∷ sets.app) n) → AreSent sets h
-    → AreSentWith (record { initial = sets.initial; handshake = sets.handshake; app = new }) App number h
-app_more sets new number h more sent time size eliciting in_flight leave = record {
-  each = each_space (λ s. Names (runs_in (record { initial = sets.initial; handshake = sets.handshake; app = new }) s) (numbers_of (Sent time App number size eliciting in_flight leave ∷ h) s))
-      (sent.each Initial)
-      (sent.each Handshake)
-      (names_more sets.app new (numbers_of h App) number (sent.each App) more);
-}
+-- a set that is put back as it was
+pub with_same : (sets : BySpace) (s : Space) → with_space s sets (runs_in sets s) ≡ sets
+with_same sets Initial = refl
+with_same sets Handshake = refl
+with_same sets App = refl

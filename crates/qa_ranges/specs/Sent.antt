@@ -4,20 +4,17 @@ use Rattle.qa_base.specs.declared.event.Event.{Event}
 use Rattle.qa_base.specs.declared.event.Event.TheVariants as events
 use Rattle.qa_base.specs.declared.space.Leave.{Leave}
 use Rattle.qa_base.specs.declared.space.Space.{Space}
-use Rattle.qa_base.specs.declared.space.Space.TheVariants.{Initial, Handshake, App}
+use Rattle.qa_base.specs.declared.per_space.PerSpace.{PerSpace}
 use Rattle.qa_base.specs.machine.Kept.{numbers_of}
 use Rattle.qa_base.specs.machine.Numbers.{Names}
+use Rattle.qa_base.specs.values.PerSpace.{of_space}
 
 -- the runs of each space
-pub record BySpace : Type 0 where
-  pub initial : List (ℕ × ℕ)
-  pub handshake : List (ℕ × ℕ)
-  pub app : List (ℕ × ℕ)
+abbrev pub BySpace : Type 0
+BySpace = PerSpace (List (ℕ × ℕ))
 
 abbrev pub runs_in : BySpace → Space → List (ℕ × ℕ)
-runs_in sets Initial = sets.initial
-runs_in sets Handshake = sets.handshake
-runs_in sets App = sets.app
+runs_in sets s = of_space s sets
 
 -- in each space they are those of the numbers that were sent there, and of no others
 pub record AreSent (sets : BySpace) (h : List Event) : Type 0 where

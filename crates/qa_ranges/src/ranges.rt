@@ -65,7 +65,8 @@ impl Ranges {
     /// Whether each number of the span is in the set, by a binary search.
     pub fn covers(&self, span: Span) -> bool
         ensures each { IsTrue result ↔ HasEach self.now span }
-        ensures numbers { (numbers : List ℕ) → Names self.now numbers → result ≡ has_range numbers span }
+        ensures numbers { (numbers : List ℕ) → Names self.now numbers
+            → result ≡ has_range numbers span }
     {
         self.run_from(span.lo())
             .is_some_and(|run| is_within(span, run))
@@ -77,7 +78,8 @@ impl Ranges {
     pub fn runs(&self) -> u64
         ensures kept { result ≡ length self.now }
         ensures maximal { AreApart self.now }
-        ensures count { (numbers : List ℕ) → Names self.now numbers → AreDistinct numbers → result ≡ run_count numbers }
+        ensures count { (numbers : List ℕ) → Names self.now numbers → AreDistinct numbers
+            → result ≡ run_count numbers }
     {
         self.runs.len() as u64
     }
@@ -125,7 +127,8 @@ fn joined(a: Span, b: Span) -> Span
 fn count_before(runs: &[Span], number: PacketNumber) -> usize
     requires apart { AreApart runs.now }
     ensures bound { result ≤ length runs.now }
-    ensures point { IsPartitionPoint (λ run. defined.ends_before run number ≡ true) (λ run. defined.ends_before run number ≡ false) runs.now result }
+    ensures point { IsPartitionPoint (λ run. defined.ends_before run number
+        ≡ true) (λ run. defined.ends_before run number ≡ false) runs.now result }
 {
     // Numbers are sent in rising order, so that the place is mostly at the end.
     match runs.last() {
@@ -138,7 +141,8 @@ fn count_before(runs: &[Span], number: PacketNumber) -> usize
 /// The run that the span makes with all that it touches from a place on, and where those end.
 fn reach(runs: &[Span], first: usize, span: Span) -> (usize, Span)
     requires within { first ≤ length runs.now }
-    requires reached { AllWithin (λ run. defined.ends_before run span.0 ≡ false) runs.now first (length runs.now) }
+    requires reached { AllWithin (λ run. defined.ends_before run span.0
+        ≡ false) runs.now first (length runs.now) }
     ensures from { first ≤ result.0 }
     ensures within { result.0 ≤ length runs.now }
     ensures joined { inserted span (drop first runs.now) ≡ result.1 ∷ drop result.0 runs.now }
@@ -156,7 +160,8 @@ fn reach(runs: &[Span], first: usize, span: Span) -> (usize, Span)
 fn replace(runs: &mut Vec<Span>, first: usize, end: usize, run: Span) -> Result<(), AllocError>
     requires order { first ≤ end }
     requires within { end ≤ length runs.old.items }
-    ensures ok { OnOk result (runs.new.items ≡ take first runs.old.items ++ run ∷ drop end runs.old.items) }
+    ensures ok { OnOk result (runs.new.items
+        ≡ take first runs.old.items ++ run ∷ drop end runs.old.items) }
     ensures err { OnErr result (runs.new.items ≡ runs.old.items) }
 {
     if first == end {

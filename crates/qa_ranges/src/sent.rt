@@ -12,7 +12,7 @@ ghost use Rattle.qa_ranges.specs.Runs.{AreApart};
 ghost use Rattle.qa_ranges.specs.Sent.{AreSent, AreSentWith, runs_in};
 
 use crate::Ranges;
-use qa_base::{Event, PacketNumber, Space, Span};
+use qa_base::{Event, PacketNumber, PerSpace, Space, Span};
 use std::alloc::{AllocError, Global};
 use std::marker::Model;
 
@@ -22,9 +22,7 @@ use std::marker::Model;
 /// numbers.
 #[derive(Drop)]
 pub struct SentNumbers {
-    initial: Ranges,
-    handshake: Ranges,
-    app: Ranges,
+    sets: PerSpace<Ranges>,
 }
 
 impl Model for SentNumbers {
@@ -32,7 +30,7 @@ impl Model for SentNumbers {
 
     ghost Value = { BySpace };
 
-    ghost view = { λ s. record { initial = s.initial; handshake = s.handshake; app = s.app } };
+    ghost view = { λ s. s.sets };
 }
 
 impl SentNumbers {
@@ -41,37 +39,31 @@ impl SentNumbers {
         ensures { AreSent result [] }
     {
         SentNumbers {
-            initial: Ranges::new(alloc),
-            handshake: Ranges::new(alloc),
-            app: Ranges::new(alloc),
-        }
-    }
-
-    /// The set of the space.
-    pub fn of_space(&self, space: Space) -> &Ranges
-        ensures { result.now ≡ runs_in self.now space }
-    {
-        match space {
-            Space::Initial => &self.initial,
-            Space::Handshake => &self.handshake,
-            Space::App => &self.app,
+            sets: PerSpace {
+                initial: Ranges::new(alloc),
+                handshake: Ranges::new(alloc),
+                app: Ranges::new(alloc),
+            },
         }
     }
 
     /// Whether a packet of the space was sent with this number or a higher one.
     pub fn has_at_or_above(&self, space: Space, number: PacketNumber) -> bool
-        ensures { (h : List AnEvent) → AreSent self.now h → result ≡ breaches.has_at_or_above space number h }
+        ensures { (h : List AnEvent) → AreSent self.now h
+            → result ≡ breaches.has_at_or_above space number h }
     {
-        self.of_space(space)
+        self.sets
+            .of(space)
             .greatest()
             .is_some_and(|greatest| number <= greatest)
     }
 
     /// Whether each number of the ranges was sent in the space.
     pub fn were_sent(&self, space: Space, ranges: &[Span]) -> bool
-        ensures { (h : List AnEvent) → AreSent self.now h → result ≡ numbers.has_all (kept.numbers_of h space) ranges.now }
+        ensures { (h : List AnEvent) → AreSent self.now h
+            → result ≡ numbers.has_all (kept.numbers_of h space) ranges.now }
     {
-        let sent = self.of_space(space);
+        let sent = self.sets.of(space);
         for range in ranges {
             if !sent.covers(*range) {
                 return false;
@@ -82,22 +74,21 @@ impl SentNumbers {
 
     /// Adds the number of a packet that is sent in the space. `AllocError` comes where it is out of
     /// memory, and leaves the sets as they were.
+    #[tactic(auto, using(crate::proofs::Histories::sent_more, crate::proofs::Histories::with_same))]
     pub fn insert(&mut self, space: Space, number: PacketNumber) -> Result<(), AllocError>
-        ensures ok { OnOk result ((h : List AnEvent) → AreSent self.old h → AreSentWith self.new space number h) }
+        ensures ok { OnOk result ((h : List AnEvent) → AreSent self.old h
+            → AreSentWith self.new space number h) }
         ensures err { OnErr result (self.new ≡ self.old) }
     {
         let alone = Span::new(number, number).unwrap();
-        match space {
-            Space::Initial => self.initial.insert_range(alone),
-            Space::Handshake => self.handshake.insert_range(alone),
-            Space::App => self.app.insert_range(alone),
-        }
+        self.sets.of_mut(space).insert_range(alone)
     }
 
     /// Adds the number of the packet that the event sends, where it sends one. `AllocError` comes
     /// where it is out of memory, which only such an event can be, and leaves the sets as they were.
     pub fn insert_sent(&mut self, event: &Event) -> Result<(), AllocError>
-        ensures ok { OnOk result ((h : List AnEvent) → AreSent self.old h → AreSent self.new (event.now ∷ h)) }
+        ensures ok { OnOk result ((h : List AnEvent) → AreSent self.old h
+            → AreSent self.new (event.now ∷ h)) }
         ensures err { OnErr result (self.new ≡ self.old) }
         ensures memory { OnErr result (is_sent event.now ≡ true) }
     {
@@ -110,13 +101,16 @@ impl SentNumbers {
     /// How many runs of consecutive numbers were sent, in all spaces: the spans that it keeps. Of a
     /// run there are no more than events.
     pub fn runs(&self) -> u128
-        ensures kept { result ≡ length (runs_in self.now Initial) + length (runs_in self.now Handshake) + length (runs_in self.now App) }
-        ensures sent { (c : Settings) (h : List AnEvent) → IsRun c h → AreSent self.now h → result ≡ kept.runs h }
+        ensures kept { result ≡ length (runs_in self.now Initial)
+            + length (runs_in self.now Handshake) + length (runs_in self.now App) }
+        ensures sent { (c : Settings) (h : List AnEvent) → IsRun c h → AreSent self.now h
+            → result ≡ kept.runs h }
         ensures small { result < 2 ^ 66 }
-        ensures bound { (c : Settings) (h : List AnEvent) → IsRun c h → AreSent self.now h → result ≤ length h }
+        ensures bound { (c : Settings) (h : List AnEvent) → IsRun c h → AreSent self.now h
+            → result ≤ length h }
     {
-        u128::from(self.initial.runs())
-            + u128::from(self.handshake.runs())
-            + u128::from(self.app.runs())
+        u128::from(self.sets.initial.runs())
+            + u128::from(self.sets.handshake.runs())
+            + u128::from(self.sets.app.runs())
     }
 }

@@ -11,7 +11,7 @@ ghost use Rattle.qa_base.specs.values.Names.{role_named, discarded_named, leave_
 ghost use Rattle.qa_format.specs.format.Tables as tables;
 
 use qa_base::limits::MAX_PACKET_SIZE;
-use qa_base::{Field, Key, Kind, Leave, Micros, PacketNumber, Role, Space};
+use qa_base::{Field, Key, Leave, Micros, PacketNumber, Role, Space, TimerKind};
 use qa_format::Fault;
 use serde_json::Value;
 
@@ -65,7 +65,8 @@ fn present(key: Key, object: &Value) -> Option<&Value>
 
 /// The value of a key that has to be there.
 pub fn required_value(key: Key, object: &Value) -> Result<&Value, Fault>
-    ensures { result_map_both (λ v. view v.now) (λ e. e) result ≡ keys.required_value key (view object.now) }
+    ensures { result_map_both (λ v. view v.now) (λ e. e) result
+        ≡ keys.required_value key (view object.now) }
 {
     present(key, object).ok_or(Fault::Missing(key))
 }
@@ -92,7 +93,8 @@ fn boolean(key: Key, value: &Value) -> Result<bool, Fault>
 
 /// A required string.
 pub fn required_string(key: Key, object: &Value) -> Result<&str, Fault>
-    ensures { result_map_both (λ t. t.now) (λ e. e) result ≡ keys.required keys.string key (view object.now) }
+    ensures { result_map_both (λ t. t.now) (λ e. e) result
+        ≡ keys.required keys.string key (view object.now) }
 {
     string(key, required_value(key, object)?)
 }
@@ -178,11 +180,11 @@ pub fn role(object: &Value) -> Result<Role, Fault>
 }
 
 /// The key `kind`.
-pub fn kind(object: &Value) -> Result<Kind, Fault>
+pub fn kind(object: &Value) -> Result<TimerKind, Fault>
     ensures { result ≡ keys.required (keys.string_among kind_named) Key.Kind (view object.now) }
 {
     let name = required_string(Key::Kind, object)?;
-    Kind::named(name).ok_or(Fault::OutOfRange(Key::Kind))
+    TimerKind::named(name).ok_or(Fault::OutOfRange(Key::Kind))
 }
 
 /// The key `number`.

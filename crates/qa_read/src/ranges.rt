@@ -25,7 +25,8 @@ fn pair_of(value: &Value) -> Option<(u64, u64)>
 
 /// The pairs that the values are, or None where one is no pair of integers.
 fn pairs_of(alloc: Global, values: &[Value]) -> Result<Option<Vec<(u64, u64)>>, AllocError>
-    ensures { IfOk result (λ pairs. option_map (λ v. v.items) pairs ≡ keys.pairs_of (items_view values.now)) }
+    ensures { IfOk result (λ pairs. option_map (λ v. v.items) pairs
+        ≡ keys.pairs_of (items_view values.now)) }
 {
     let mut pairs = Vec::new(alloc);
     for value in values {
@@ -46,7 +47,8 @@ fn span_of(pair: (u64, u64)) -> Option<Span>
 
 /// The ranges that the pairs are, or None where one is no range.
 fn spans_of(alloc: Global, pairs: &[(u64, u64)]) -> Result<Option<Spans>, AllocError>
-    ensures { IfOk result (λ spans. spans ≡ (if list_all keys.is_range pairs.now then Some pairs.now else None)) }
+    ensures { IfOk result (λ spans. spans
+        ≡ (if list_all keys.is_range pairs.now then Some pairs.now else None)) }
 {
     let mut spans = Spans::new(alloc);
     for pair in pairs {
@@ -77,7 +79,8 @@ fn spans_in(alloc: Global, value: &Value) -> Result<Result<Spans, Fault>, AllocE
 
 /// The key `ranges`, or its fault. `AllocError` comes where it is out of memory.
 pub fn ranges(alloc: Global, object: &Value) -> Result<Result<Spans, Fault>, AllocError>
-    ensures { IfOk result (λ spans. spans ≡ keys.required keys.ranges Key.Ranges (view object.now)) }
+    ensures { IfOk result (λ spans. spans
+        ≡ keys.required keys.ranges Key.Ranges (view object.now)) }
 {
     match fields::required_value(Key::Ranges, object) {
         Ok(value) => spans_in(alloc, value),

@@ -10,8 +10,8 @@ use crate::fields;
 use crate::fields::both;
 use crate::ranges::ranges;
 use qa_base::{
-    Event, Field, Header, Key, Kind, Leave, MetricValues, Micros, Options, PacketNumber,
-    RangeFault, Role, Space, Spans, Version,
+    Event, Field, Header, Key, Leave, MetricValues, Micros, Options, PacketNumber, RangeFault,
+    Role, Space, Spans, TimerKind, Version,
 };
 use qa_format::Fault;
 use serde_json::Value;
@@ -199,13 +199,13 @@ fn ack_fields(alloc: Global, object: &Value) -> Result<Result<AckFields, Fault>,
 pub fn ack_of(alloc: Global, object: &Value) -> Result<Event, LineFault>
     ensures { Gives (λ event. event) result (tables.ack_of (view object.now)) }
 {
-    let (time, (space, (ranges, (delay, limited)))) = ack_fields(alloc, object)??;
+    let (time, (space, (ranges, (delay, app_limited)))) = ack_fields(alloc, object)??;
     Ok(Event::Ack {
         time,
         space,
         ranges,
         delay,
-        limited,
+        app_limited,
     })
 }
 
@@ -236,7 +236,7 @@ pub fn lost_of(alloc: Global, object: &Value) -> Result<Event, LineFault>
 // ---- the timer and the handshake
 
 /// What stands at the keys of a timer line, in the order of their table.
-type TimerFields = (Micros, (Kind, Space));
+type TimerFields = (Micros, (TimerKind, Space));
 
 fn timer_fields(object: &Value) -> Result<TimerFields, Fault>
     ensures { result ≡ tables.timer_fields (view object.now) }

@@ -1,7 +1,7 @@
 //! The congestion window of NewReno (RFC 9002, section 7 and appendix B).
 ghost use Rattle.std.specs.Prelude.{◌≡◌, ◌≤◌, ◌^◌};
 ghost use Rattle.qa_base.specs.machine.Reno as steps;
-ghost use Rattle.qa_base.specs.values.Limits.{least_datagram_size, max_packet_size, greatest_initial_window};
+ghost use Rattle.qa_base.specs.values.Limits.{min_datagram_size, max_packet_size, max_initial_window};
 
 use qa_base::Micros;
 use qa_base::constants::{LOSS_REDUCTION_DIVISOR, minimum_window};
@@ -36,7 +36,7 @@ impl Reno {
     /// (RFC 9002, B.3).
     pub fn start(window: u64) -> Reno
         requires some { 1 ≤ window }
-        requires small { window ≤ greatest_initial_window }
+        requires small { window ≤ max_initial_window }
         ensures { result ≡ steps.start window }
     {
         Reno {
@@ -64,7 +64,7 @@ impl Reno {
     /// recovery and returns true: `ssthresh` is half the window, and the window is that, but at
     /// least two datagrams. Else nothing changes and it returns false.
     pub fn hit(&mut self, last_sent: Micros, now: Micros, max_datagram_size: u64) -> bool
-        requires datagram_low { least_datagram_size ≤ max_datagram_size }
+        requires datagram_low { min_datagram_size ≤ max_datagram_size }
         requires datagram_high { max_datagram_size ≤ max_packet_size }
         ensures entered { result ≡ steps.is_outside_recovery self.old.recovery_start_time last_sent }
         ensures state { self.new ≡ steps.hit max_datagram_size last_sent now self.old }
@@ -84,7 +84,7 @@ impl Reno {
     /// Persistent congestion: the window falls to two datagrams, and recovery ends (RFC 9002,
     /// section 7.6.2, B.8). `max_datagram_size` is 1200 to 65527 bytes.
     pub fn collapse(&mut self, max_datagram_size: u64)
-        requires datagram_low { least_datagram_size ≤ max_datagram_size }
+        requires datagram_low { min_datagram_size ≤ max_datagram_size }
         requires datagram_high { max_datagram_size ≤ max_packet_size }
         ensures { self.new ≡ steps.collapse max_datagram_size self.old }
     {
@@ -105,7 +105,7 @@ impl Reno {
     pub fn grow(&mut self, size: u64, sent: Micros, max_datagram_size: u64)
         requires window_low { 1 ≤ self.old.window }
         requires window_high { self.old.window ≤ 2 ^ 62 }
-        requires datagram_low { least_datagram_size ≤ max_datagram_size }
+        requires datagram_low { min_datagram_size ≤ max_datagram_size }
         requires datagram_high { max_datagram_size ≤ max_packet_size }
         requires size_low { 1 ≤ size }
         requires size_high { size ≤ max_packet_size }

@@ -3,7 +3,6 @@ ghost use Rattle.std.specs.Prelude.{◌≡◌, ◌≤◌, ◌-◌, ◌+◌, ◌*
 ghost use Rattle.qa_base.specs.values.Constants.{persistent_congestion_threshold, time_threshold_parts, time_threshold_divisor};
 ghost use Rattle.qa_base.specs.values.Limits.{max_time};
 ghost use Rattle.qa_base.specs.machine.Rtt as estimates;
-ghost use Rattle.qa_base.specs.machine.Timer.{loss_delay as loss_delay_of};
 
 use qa_base::Micros;
 use qa_base::constants::{
@@ -107,7 +106,7 @@ impl Rtt {
     /// threshold of the greater of the latest and the smoothed RTT, rounded up, and the granularity
     /// at least, in microseconds (RFC 9002, section 6.1.2).
     pub fn loss_delay(&self) -> u64
-        ensures value { result ≡ loss_delay_of self.now }
+        ensures value { result ≡ estimates.loss_delay self.now }
         ensures bound { result ≤ time_threshold_parts * max_time / time_threshold_divisor }
     {
         let rtt = self.latest_rtt.get().max(self.smoothed_rtt.get());

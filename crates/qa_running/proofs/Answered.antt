@@ -9,9 +9,11 @@ use Rattle.qa_base.specs.machine.Packets.{largest_acknowledged}
 use Rattle.qa_base.specs.machine.Rules.{IsRun}
 use Rattle.qa_base.specs.machine.State.{totals}
 use Rattle.qa_base.specs.values.Settings.{Settings}
-use Rattle.qa_connection.specs.Deadlines.{AreOpen, IsOpenIn, loss_due, open_in}
+use Rattle.qa_connection.specs.Deadlines.{AreOpen, IsOpenIn, loss_due}
 use Rattle.qa_connection.specs.declared.deadline.OpenInSpace.{OpenInSpace}
-use Rattle.qa_connection.specs.declared.deadline.OpenPackets.{OpenPackets}
+use Rattle.qa_connection.specs.declared.timer.TimerState.{TimerState}
+use Rattle.qa_base.specs.values.PerSpace.{of_space}
+use Rattle.qa_base.specs.declared.per_space.PerSpace.{PerSpace}
 use Rattle.qa_ledger.proofs.Totals.{totals_are}
 use Rattle.qa_ledger.specs.Tests.{totals_of}
 use Rattle.qa_running.proofs.Losses.{owed_are_counted}
@@ -31,23 +33,23 @@ open_in_is told c h s held awaits oldest run stands = record {
   oldest = ap (loss_due (rtt c h) (largest_acknowledged h s) s) oldest ∙ sym (loss_due_is_held c h run s held stands);
 }
 
-each_open : (told : OpenPackets) (c : Settings) (h : List Event) → IsOpenIn told.initial c h Initial → IsOpenIn told.handshake c h Handshake → IsOpenIn told.app c h App
-    → (s : Space) → IsOpenIn (open_in s told) c h s
+each_open : (told : PerSpace OpenInSpace) (c : Settings) (h : List Event) → IsOpenIn told.initial c h Initial → IsOpenIn told.handshake c h Handshake → IsOpenIn told.app c h App
+    → (s : Space) → IsOpenIn (of_space s told) c h s
 each_open told c h initial handshake app Initial = initial
 each_open told c h initial handshake app Handshake = handshake
 each_open told c h initial handshake app App = app
 
 -- and of all of them
-pub are_open : (told : OpenPackets) (c : Settings) (h : List Event) → IsOpenIn told.initial c h Initial → IsOpenIn told.handshake c h Handshake → IsOpenIn told.app c h App → AreOpen told c h
+pub are_open : (told : PerSpace OpenInSpace) (c : Settings) (h : List Event) → IsOpenIn told.initial c h Initial → IsOpenIn told.handshake c h Handshake → IsOpenIn told.app c h App → AreOpen told c h
 are_open told c h initial handshake app = record { each = each_open told c h initial handshake app }
 
 -- ---- the totals
 
 -- they are those of the history, by what is kept
 pub totals_kept : (state : State) (c : Settings) (h : List Event) (bytes owed : ℕ) → bytes ≡ sum_by flight_bytes state.packets.packets → owed ≡ count_by (λ p. is_owed p.fate) state.packets.packets
-    → IsAfter state c h → totals_of state.connection.events state.connection.reno state.connection.rtt bytes state.connection.pto_count owed ≡ totals c h
+    → IsAfter state c h → totals_of state.connection.events state.connection.reno state.connection.rtt bytes state.connection.timer.pto_count owed ≡ totals c h
 totals_kept state c h bytes owed is_bytes is_owed after =
-    let known = after.connection.settled in
-    totals_are c h _ _ _ bytes _ owed known.events known.reno after.connection.measured.rtt
-    (is_bytes ∙ sym (bytes_are_held c h state.packets after.packets)) known.pto_count
+    let known = after.connection.parts in
+    totals_are c h _ _ _ bytes _ owed after.connection.events known.reno known.rtt
+    (is_bytes ∙ sym (bytes_are_held c h state.packets after.packets)) (ap (λ (t : TimerState). t.pto_count) known.timer)
     (is_owed ∙ sym (owed_are_counted c h after.run.run state.packets after.packets))

@@ -1,5 +1,5 @@
 -- How the packets that are held go on standing for a history: what holds of all of them, and what one more event owes for each.
-use Rattle.std.proofs.Common.{◌≡◌, ◌∙◌, List, [], ◌∷◌, map, false, refl, sym, ap, subst, reverse, Contains}
+use Rattle.std.proofs.Common.{◌≡◌, ◌∙◌, List, ◌∷◌, map, false, sym, ap, subst, reverse, Contains}
 use Rattle.std.proofs.lemmas.Bool.{and_parts, or_parts, or_from, both_ways, false_from_ne_true}
 use Rattle.std.proofs.lemmas.List.Elements.{Contains-append_left, Contains-append_right}
 use Rattle.std.specs.List.{AllByRecursion}
@@ -15,7 +15,7 @@ use Rattle.qa_laws.proofs.machine.Settled.{closed_stays, has_some, owed_has}
 use Rattle.qa_laws.proofs.machine.Walks.{turned_has}
 use Rattle.qa_laws.specs.machine.Parts.{AreClosed, AreDropped}
 use Rattle.qa_running.proofs.Fates.{is_owed_told}
-use Rattle.qa_running.proofs.Lists.{each_of_map, map_fused}
+use Rattle.qa_connection.proofs.Lists.{each_of_map, map_fused}
 use Rattle.qa_running.specs.Standing.{StandsFor}
 use Rattle.qa_sent.specs.Fates.{is_owed}
 use Rattle.qa_sent.specs.Held.{Held}
@@ -23,17 +23,6 @@ use Rattle.qa_sent.specs.Told.{sent_of}
 use Rattle.qa_sent.specs.declared.packet.SentPacket.{SentPacket}
 
 -- ---- the packets that are held, and those that were dropped
-
--- no packets stand for no events
-pub stands_at_start : (c : Settings) (held : Held) → held ≡ record { dropped = 0; packets = [] } → StandsFor held c []
-stands_at_start c held is = record {
-  gone = [];
-  kept = [];
-  parts = refl;
-  place = ap (λ (k : Held). k.dropped) is;
-  packets_are = ap (λ (k : Held). k.packets) is;
-  forgotten = tt;
-}
 
 -- each packet that is held is one of the history
 pub kept_has : (held : Held) (c : Settings) (h : List Event) (stands : StandsFor held c h) (p : Packet) → Contains stands.kept p → Contains (packets h) p

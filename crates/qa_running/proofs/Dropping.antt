@@ -5,18 +5,18 @@ use Rattle.std.proofs.lemmas.List.{drop-map, length-map, length-reverse, take-ap
 use Rattle.std.proofs.lemmas.List.Folds.{length-prefix_len}
 use Rattle.std.specs.List.{prefix_len}
 use Rattle.qa_base.specs.declared.event.Event.{Event}
-use Rattle.qa_base.specs.declared.event.Event.TheVariants.{Sent}
 use Rattle.qa_base.specs.machine.Kept.{is_kept, kept_count}
 use Rattle.qa_base.specs.machine.Loss.{is_open as opens, is_owed as owes}
 use Rattle.qa_base.specs.machine.Packets.{Packet, packets}
 use Rattle.qa_base.specs.machine.Rules.{IsRun}
 use Rattle.qa_base.specs.values.Settings.{Settings}
 use Rattle.qa_base.proofs.machine.WindowBound.{each_append}
+use Rattle.qa_connection.proofs.Grown.{packets_few}
 use Rattle.qa_laws.proofs.machine.KeptCount.{kept_count_is}
 use Rattle.qa_laws.proofs.machine.Pairs.{each_weaker}
 use Rattle.qa_laws.specs.machine.Parts.{BeginsKept}
 use Rattle.qa_running.proofs.Fates.{is_open_told, is_owed_told}
-use Rattle.qa_running.proofs.Lists.{each_value, front_of_map, front_passes}
+use Rattle.qa_connection.proofs.Lists.{each_value, front_of_map, front_passes}
 use Rattle.qa_running.specs.Standing.{StandsFor}
 use Rattle.qa_running.specs.Trimmed.{IsTrimmed}
 use Rattle.qa_sent.specs.Fates.{is_closed, is_open, is_owed}
@@ -79,11 +79,8 @@ front_behind [] = tt
 front_behind (p ∷ ps) = trimmed_if p ps (prefix_len is_closed ps) (is_closed p) refl (front_behind ps)
 
 -- the first that is left is open or owed
-pub trimmed_begins : (old new : Held) → new ≡ trimmed old → IsTrimmed new.packets
-trimmed_begins old new is =
-    let packets_are : new.packets ≡ drop (prefix_len is_closed old.packets) old.packets =
-    ap (λ (k : Held). k.packets) is ∙ ap (λ n. drop n old.packets) (length-prefix_len is_closed old.packets) in
-    subst (λ (ps : List SentPacket). IsTrimmed ps) (sym packets_are) (front_behind old.packets)
+pub front_dropped : (ps : List SentPacket) → IsTrimmed (drop (closed_count ps) ps)
+front_dropped ps = subst (λ n. IsTrimmed (drop n ps)) (sym (length-prefix_len is_closed ps)) (front_behind ps)
 
 -- ---- how many are held
 
@@ -98,16 +95,7 @@ kept_is_held c h run held stands first =
     kept_count_is c h stands.gone stands.kept stands.parts stands.forgotten begins
     ∙ sym (ap length stands.packets_are ∙ length-map stands.kept (sent_of c h))
 
--- so it is after dropping
-pub kept_is_trimmed : (c : Settings) (h : List Event) → IsRun c h → (held : Held) → StandsFor held c h → kept_count c h ≡ length (trimmed held).packets
-kept_is_trimmed c h run held stands = kept_is_held c h run (trimmed held) (stands_trimmed c h run held (trimmed held) stands refl) (trimmed_begins held (trimmed held) refl)
-
 -- ---- room
-
-packets_few : (h : List Event) → length (packets h) ≤ length h
-packets_few [] = omega arith
-packets_few (Sent time space number size eliciting in_flight leave ∷ h) = let rest = packets_few h in omega (arith, rest)
-packets_few (_ ∷ h) = let rest = packets_few h in omega (arith, rest)
 
 -- no more packets were dropped and are held than there are events
 pub held_are_few : (held : Held) (c : Settings) (h : List Event) → StandsFor held c h → held.dropped + length held.packets ≤ length h

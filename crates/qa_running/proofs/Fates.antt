@@ -6,10 +6,10 @@ use Rattle.qa_base.specs.declared.event.Event.{Event}
 use Rattle.qa_base.specs.declared.event.Event.TheVariants.{Ack, Lost, Discard}
 use Rattle.qa_base.specs.declared.space.Space.{Space}
 use Rattle.qa_base.specs.declared.space.Space.TheVariants.{Initial, Handshake, App}
-use Rattle.qa_base.specs.machine.Detection.{detection, is_found, is_found_at, is_late}
+use Rattle.qa_base.specs.machine.Detection.{detection, is_found, is_found_at, is_past_threshold}
 use Rattle.qa_base.specs.machine.Estimates.{sampled}
 use Rattle.qa_base.specs.machine.Loss.{is_open as opens, is_owed as owes}
-use Rattle.qa_base.specs.machine.Packets.{Packet, packets, is_covered as covers, is_gone, is_lost, is_newly_acknowledged, is_of, largest_acknowledged}
+use Rattle.qa_base.specs.machine.Packets.{Packet, packets, is_acknowledged as covers, is_discarded, is_declared_lost, is_newly_acknowledged, is_of, largest_acknowledged}
 use Rattle.qa_base.specs.machine.Rtt.{Estimate}
 use Rattle.qa_base.specs.machine.Rules.{IsRun}
 use Rattle.qa_base.specs.values.Events.{is_space, is_named, acknowledges, discards}
@@ -17,12 +17,12 @@ use Rattle.qa_base.specs.values.Settings.{Settings}
 use Rattle.qa_laws.proofs.machine.Changes.{covered_after, lost_is_owed, found_unsettled}
 use Rattle.qa_laws.proofs.machine.Courses.{is_space_is}
 use Rattle.qa_laws.proofs.machine.Detection.{space_of_detection}
-use Rattle.qa_running.specs.Lateness.{IsLatenessAt}
-use Rattle.qa_sent.specs.Fates.{is_covered, is_flying, is_new, is_open, is_owed, is_uncovered}
-use Rattle.qa_sent.specs.Steps.{Lateness, covered_by, declared, discarded_in, found_by, is_late_by, packet_at, with_fate}
+use Rattle.qa_running.specs.Thresholds.{AreThresholdsAt}
+use Rattle.qa_sent.specs.Fates.{is_acknowledged, is_flying, is_new, is_open, is_owed, is_unacknowledged}
+use Rattle.qa_sent.specs.Steps.{Thresholds, covered_by, declared, discarded_in, found_by, is_past_threshold_by, packet_at, with_fate}
 use Rattle.qa_sent.specs.Told.{fate, fate_by, sent_of}
 use Rattle.qa_sent.specs.declared.fate.Fate.{Fate}
-use Rattle.qa_sent.specs.declared.fate.Fate.TheVariants.{Owed, Covered, Discarded}
+use Rattle.qa_sent.specs.declared.fate.Fate.TheVariants.{Owed, Acknowledged, Discarded}
 use Rattle.qa_sent.specs.declared.packet.SentPacket.{SentPacket}
 
 -- the packet as it is kept, with this fate
@@ -61,9 +61,9 @@ open_by false false false false = refl
 
 -- the packet is kept as open where it is open
 pub is_open_told : (c : Settings) (h : List Event) (p : Packet) → is_open (fate c h p) ≡ opens c h p
-is_open_told c h p = open_by (covers h p) (is_lost h p) (owes c h p) (is_gone h p.space)
+is_open_told c h p = open_by (covers h p) (is_declared_lost h p) (owes c h p) (is_discarded h p.space)
 
-covered_of : (cov los own gone : Bool) → is_covered (fate_by cov los own gone) ≡ cov
+covered_of : (cov los own gone : Bool) → is_acknowledged (fate_by cov los own gone) ≡ cov
 covered_of true los own gone = refl
 covered_of false los own true = refl
 covered_of false true own false = refl
@@ -71,8 +71,8 @@ covered_of false false true false = refl
 covered_of false false false false = refl
 
 -- as covered where it is covered
-pub is_covered_told : (c : Settings) (h : List Event) (p : Packet) → is_covered (fate c h p) ≡ covers h p
-is_covered_told c h p = covered_of (covers h p) (is_lost h p) (owes c h p) (is_gone h p.space)
+pub is_acknowledged_told : (c : Settings) (h : List Event) (p : Packet) → is_acknowledged (fate c h p) ≡ covers h p
+is_acknowledged_told c h p = covered_of (covers h p) (is_declared_lost h p) (owes c h p) (is_discarded h p.space)
 
 owed_by : (cov los own gone : Bool) → (own ≡ true → (not cov && not los) ≡ true) → (own ≡ true → gone ≡ false) → is_owed (fate_by cov los own gone) ≡ own
 owed_by true los true gone free there = let not_so : false ≡ true = free refl in cc
@@ -85,34 +85,34 @@ owed_by false true false false free there = refl
 owed_by false false false false free there = refl
 
 found_there : (c : Settings) (e : Event) (h : List Event) → IsRun c (e ∷ h) → (p : Packet) (d : Option (Space × ℕ)) → detection (e ∷ h) ≡ d → is_found_at (sampled c (e ∷ h)) (e ∷ h) p d ≡ true
-    → is_gone h p.space ≡ false
+    → is_discarded h p.space ≡ false
 found_there c e h run p None at is = cc
 found_there c e h run p (Some (s, now)) at is =
     let of_space = is_space_is s p.space (and_parts (is_of s p) (is_found (sampled c (e ∷ h)) (e ∷ h) now s p) is).0 in
-    subst (λ (t : Space). is_gone h t ≡ false) of_space (space_of_detection c e h run s now at)
+    subst (λ (t : Space). is_discarded h t ≡ false) of_space (space_of_detection c e h run s now at)
 
 not_discarded : (c : Settings) (e : Event) (h : List Event) (p : Packet) → owes c (e ∷ h) p ≡ true → discards p.space e ≡ false
 not_discarded c (Discard time space) h p is = cc
 not_discarded c _ h p is = refl
 
 -- in a run the space of a packet that is owed was not discarded
-pub owed_there : (c : Settings) (h : List Event) → IsRun c h → (p : Packet) → owes c h p ≡ true → is_gone h p.space ≡ false
+pub owed_there : (c : Settings) (h : List Event) → IsRun c h → (p : Packet) → owes c h p ≡ true → is_discarded h p.space ≡ false
 owed_there c [] run p is = cc
-owed_there c (e ∷ h) run p is = or_from (discards p.space e) (is_gone h p.space) (not_discarded c e h p is) (found_there c e h run p (detection (e ∷ h)) refl is)
+owed_there c (e ∷ h) run p is = or_from (discards p.space e) (is_discarded h p.space) (not_discarded c e h p is) (found_there c e h run p (detection (e ∷ h)) refl is)
 
 -- in a run it is kept as owed where it is owed
 pub is_owed_told : (c : Settings) (h : List Event) → IsRun c h → (p : Packet) → is_owed (fate c h p) ≡ owes c h p
-is_owed_told c h run p = owed_by (covers h p) (is_lost h p) (owes c h p) (is_gone h p.space) (found_unsettled c h p (detection h)) (owed_there c h run p)
+is_owed_told c h run p = owed_by (covers h p) (is_declared_lost h p) (owes c h p) (is_discarded h p.space) (found_unsettled c h p (detection h)) (owed_there c h run p)
 
 -- ---- what one more event makes of it
 
 -- in a run it is covered by an acknowledgment that names it, declared lost where it was owed, and gone where its space is discarded
 pub fate_after : (c : Settings) (e : Event) (h : List Event) → IsRun c (e ∷ h) → (p : Packet) → Contains (packets h) p
     → fate c (e ∷ h) p
-    ≡ fate_by (acknowledges p.space p.number e || covers h p) (owes c h p || is_lost h p) (owes c (e ∷ h) p) (discards p.space e || is_gone h p.space)
+    ≡ fate_by (acknowledges p.space p.number e || covers h p) (owes c h p || is_declared_lost h p) (owes c (e ∷ h) p) (discards p.space e || is_discarded h p.space)
 fate_after c e h run p has =
-    ap (λ b. fate_by b (is_lost (e ∷ h) p) (owes c (e ∷ h) p) (is_gone (e ∷ h) p.space)) (covered_after e h p has)
-    ∙ ap (λ b. fate_by (acknowledges p.space p.number e || covers h p) b (owes c (e ∷ h) p) (is_gone (e ∷ h) p.space)) (lost_is_owed c e h run p has)
+    ap (λ b. fate_by b (is_declared_lost (e ∷ h) p) (owes c (e ∷ h) p) (is_discarded (e ∷ h) p.space)) (covered_after e h p has)
+    ∙ ap (λ b. fate_by (acknowledges p.space p.number e || covers h p) b (owes c (e ∷ h) p) (is_discarded (e ∷ h) p.space)) (lost_is_owed c e h run p has)
 
 stays_by : (ack cov los was own disc gone : Bool) → ack ≡ false → was ≡ false → own ≡ false → disc ≡ false
     → fate_by (ack || cov) (was || los) own (disc || gone) ≡ fate_by cov los was gone
@@ -124,7 +124,7 @@ pub same_told : (c : Settings) (e : Event) (h : List Event) → IsRun c (e ∷ h
     → sent_of c h p ≡ sent_of c (e ∷ h) p
 same_told c e h run p has no_ack not_was not_own no_disc =
     sym (ap (λ f. told f p) (fate_after c e h run p has
-    ∙ stays_by (acknowledges p.space p.number e) (covers h p) (is_lost h p) (owes c h p) (owes c (e ∷ h) p) (discards p.space e) (is_gone h p.space) no_ack not_was not_own no_disc))
+    ∙ stays_by (acknowledges p.space p.number e) (covers h p) (is_declared_lost h p) (owes c h p) (owes c (e ∷ h) p) (discards p.space e) (is_discarded h p.space) no_ack not_was not_own no_disc))
 
 declared_if : (cov los own gone : Bool) (p : Packet) → declared (told (fate_by cov los own gone) p) ≡ told (fate_by cov (own || los) false gone) p
 declared_if true los own gone p = refl
@@ -139,11 +139,11 @@ declared_if false false false false p = refl
 pub declared_told : (c : Settings) (h : List Event) (time : ℕ) (space : Space) (ranges : List (ℕ × ℕ)) → IsRun c (Lost time space ranges ∷ h)
     → (p : Packet) → Contains (packets h) p → declared (sent_of c h p) ≡ sent_of c (Lost time space ranges ∷ h) p
 declared_told c h time space ranges run p has =
-    declared_if (covers h p) (is_lost h p) (owes c h p) (is_gone h p.space) p
+    declared_if (covers h p) (is_declared_lost h p) (owes c h p) (is_discarded h p.space) p
     ∙ sym (ap (λ f. told f p) (fate_after c (Lost time space ranges) h run p has))
 
 discarded_if : (of cov los gone : Bool) (p : Packet)
-    → (if of && is_uncovered (fate_by cov los false gone) then with_fate Discarded (told (fate_by cov los false gone) p) else told (fate_by cov los false gone) p)
+    → (if of && is_unacknowledged (fate_by cov los false gone) then with_fate Discarded (told (fate_by cov los false gone) p) else told (fate_by cov los false gone) p)
     ≡ told (fate_by cov los false (of || gone)) p
 discarded_if true true los gone p = refl
 discarded_if true false los true p = refl
@@ -152,7 +152,7 @@ discarded_if true false false false p = refl
 discarded_if false cov los gone p = refl
 
 discarded_by : (of back cov los own gone : Bool) (p : Packet) → of ≡ back → own ≡ false
-    → (if of && is_uncovered (fate_by cov los own gone) then with_fate Discarded (told (fate_by cov los own gone) p) else told (fate_by cov los own gone) p)
+    → (if of && is_unacknowledged (fate_by cov los own gone) then with_fate Discarded (told (fate_by cov los own gone) p) else told (fate_by cov los own gone) p)
     ≡ told (fate_by cov (own || los) false (back || gone)) p
 discarded_by of back cov los own gone p same not_own = rw (same, not_own) (discarded_if back cov los gone p)
 
@@ -160,17 +160,17 @@ discarded_by of back cov los own gone p same not_own = rw (same, not_own) (disca
 pub discarded_told : (c : Settings) (h : List Event) (time : ℕ) (space : Space) → IsRun c (Discard time space ∷ h)
     → (p : Packet) → Contains (packets h) p → owes c h p ≡ false → discarded_in space (sent_of c h p) ≡ sent_of c (Discard time space ∷ h) p
 discarded_told c h time space run p has not_was =
-    discarded_by (is_space space p.space) (is_space p.space space) (covers h p) (is_lost h p) (owes c h p) (is_gone h p.space) p (space_turned space p.space) not_was
+    discarded_by (is_space space p.space) (is_space p.space space) (covers h p) (is_declared_lost h p) (owes c h p) (is_discarded h p.space) p (space_turned space p.space) not_was
     ∙ sym (ap (λ f. told f p) (fate_after c (Discard time space) h run p has))
 
 -- ---- acknowledgments and detections
 
 -- its fate once the event has covered what it acknowledges, and found nothing yet
 abbrev pub between : Settings → Event → List Event → Packet → Fate
-between c e h p = fate_by (acknowledges p.space p.number e || covers h p) (is_lost h p) false (is_gone h p.space)
+between c e h p = fate_by (acknowledges p.space p.number e || covers h p) (is_declared_lost h p) false (is_discarded h p.space)
 
 covered_if : (of named cov los gone : Bool) (p : Packet) → (of ≡ true → gone ≡ false)
-    → (if of && is_uncovered (fate_by cov los false gone) && named then with_fate Covered (told (fate_by cov los false gone) p) else told (fate_by cov los false gone) p)
+    → (if of && is_unacknowledged (fate_by cov los false gone) && named then with_fate Acknowledged (told (fate_by cov los false gone) p) else told (fate_by cov los false gone) p)
     ≡ told (fate_by ((of && named) || cov) los false gone) p
 covered_if true named cov los true p there = let not_so : true ≡ false = there refl in cc
 covered_if true true true los false p there = refl
@@ -182,19 +182,19 @@ covered_if true false false false false p there = refl
 covered_if false named cov los gone p there = refl
 
 covered_by_tests : (of back named cov los own gone : Bool) (p : Packet) → of ≡ back → own ≡ false → (back ≡ true → gone ≡ false)
-    → (if of && is_uncovered (fate_by cov los own gone) && named then with_fate Covered (told (fate_by cov los own gone) p) else told (fate_by cov los own gone) p)
+    → (if of && is_unacknowledged (fate_by cov los own gone) && named then with_fate Acknowledged (told (fate_by cov los own gone) p) else told (fate_by cov los own gone) p)
     ≡ told (fate_by ((back && named) || cov) los false gone) p
 covered_by_tests of back named cov los own gone p same not_own there = rw (same, not_own) (covered_if back named cov los gone p there)
 
-there_of : (h : List Event) (s t : Space) → is_gone h s ≡ false → is_space t s ≡ true → is_gone h t ≡ false
-there_of h s t there same = subst (λ (u : Space). is_gone h u ≡ false) (sym (is_space_is t s same)) there
+there_of : (h : List Event) (s t : Space) → is_discarded h s ≡ false → is_space t s ≡ true → is_discarded h t ≡ false
+there_of h s t there same = subst (λ (u : Space). is_discarded h u ≡ false) (sym (is_space_is t s same)) there
 
 -- an acknowledgment of a space that is there covers it, where it names it
-pub covered_told : (c : Settings) (h : List Event) (time : ℕ) (space : Space) (ranges : List (ℕ × ℕ)) (delay : ℕ) (limited : Bool)
-    → is_gone h space ≡ false → (p : Packet) → owes c h p ≡ false
-    → covered_by space ranges (sent_of c h p) ≡ told (between c (Ack time space ranges delay limited) h p) p
-covered_told c h time space ranges delay limited there p not_was =
-    covered_by_tests (is_space space p.space) (is_space p.space space) (is_named ranges p.number) (covers h p) (is_lost h p) (owes c h p) (is_gone h p.space) p
+pub covered_told : (c : Settings) (h : List Event) (time : ℕ) (space : Space) (ranges : List (ℕ × ℕ)) (delay : ℕ) (app_limited : Bool)
+    → is_discarded h space ≡ false → (p : Packet) → owes c h p ≡ false
+    → covered_by space ranges (sent_of c h p) ≡ told (between c (Ack time space ranges delay app_limited) h p) p
+covered_told c h time space ranges delay app_limited there p not_was =
+    covered_by_tests (is_space space p.space) (is_space p.space space) (is_named ranges p.number) (covers h p) (is_declared_lost h p) (owes c h p) (is_discarded h p.space) p
     (space_turned space p.space) not_was (there_of h space p.space there)
 
 found_if : (of flies cov los late gone : Bool) (p : Packet) → (of ≡ true → gone ≡ false)
@@ -210,18 +210,18 @@ found_if true true false false false false p there = refl
 found_if true false false false late false p there = refl
 found_if false flies cov los late gone p there = refl
 
-same_late : (r : Estimate) (now : ℕ) (largest : Option ℕ) (f : Fate) (p : Packet) → is_late r now largest (packet_at (told f p)) ≡ is_late r now largest p
+same_late : (r : Estimate) (now : ℕ) (largest : Option ℕ) (f : Fate) (p : Packet) → is_past_threshold r now largest (packet_at (told f p)) ≡ is_past_threshold r now largest p
 same_late r now None f p = refl
 same_late r now (Some n) f p = refl
 
 -- a detection asks of it whether it is late, as it asks of the packet of the history
-pub late_told : (c : Settings) (g : List Event) (s : Space) (now : ℕ) (l : Lateness) → IsLatenessAt c g s now l → (f : Fate) (p : Packet)
-    → is_late_by l (told f p) ≡ is_late (sampled c g) now (largest_acknowledged g s) p
+pub late_told : (c : Settings) (g : List Event) (s : Space) (now : ℕ) (l : Thresholds) → AreThresholdsAt c g s now l → (f : Fate) (p : Packet)
+    → is_past_threshold_by l (told f p) ≡ is_past_threshold (sampled c g) now (largest_acknowledged g s) p
 late_told c g s now l is f p =
     same_late l.rtt l.now l.largest f p
-    ∙ (ap (λ r. is_late r l.now l.largest p) is.rtt_is
-    ∙ (ap (λ n. is_late (sampled c g) n l.largest p) is.now_is
-    ∙ ap (λ o. is_late (sampled c g) now o p) is.largest_is))
+    ∙ (ap (λ r. is_past_threshold r l.now l.largest p) is.rtt_is
+    ∙ (ap (λ n. is_past_threshold (sampled c g) n l.largest p) is.now_is
+    ∙ ap (λ o. is_past_threshold (sampled c g) now o p) is.largest_is))
 
 free_by : (was los : Bool) → was ≡ false → los ≡ (was || los)
 free_by was los not_was = rw not_was refl
@@ -235,19 +235,19 @@ found_tests of flies cov los late gone cov_now los_now own_now p there covers_is
 
 -- in a run a detection finds it lost, where it is of the space, open, in flight and late
 pub found_told : (c : Settings) (e : Event) (h : List Event) → IsRun c (e ∷ h) → (s : Space) (now : ℕ) → detection (e ∷ h) ≡ Some (s, now) → discards s e ≡ false
-    → (l : Lateness) → IsLatenessAt c (e ∷ h) s now l → (p : Packet) → Contains (packets h) p → owes c h p ≡ false → discards p.space e ≡ false
+    → (l : Thresholds) → AreThresholdsAt c (e ∷ h) s now l → (p : Packet) → Contains (packets h) p → owes c h p ≡ false → discards p.space e ≡ false
     → found_by s l (told (between c e h p) p) ≡ sent_of c (e ∷ h) p
-found_told c e h run s now at none l lateness p has not_was no_disc =
+found_told c e h run s now at none l thresholds p has not_was no_disc =
     let g = e ∷ h in
-    let late = is_late (sampled c g) now (largest_acknowledged g s) p in
-    let gone_is : is_gone g p.space ≡ is_gone h p.space = ap (λ b. b || is_gone h p.space) no_disc in
-    ap (λ b. if is_flying s (told (between c e h p) p) && b then with_fate Owed (told (between c e h p) p) else told (between c e h p) p) (late_told c g s now l lateness (between c e h p) p)
-    ∙ (found_tests (is_of s p) p.in_flight (acknowledges p.space p.number e || covers h p) (is_lost h p) late (is_gone h p.space) (covers g p) (is_lost g p) (owes c g p) p
+    let late = is_past_threshold (sampled c g) now (largest_acknowledged g s) p in
+    let gone_is : is_discarded g p.space ≡ is_discarded h p.space = ap (λ b. b || is_discarded h p.space) no_disc in
+    ap (λ b. if is_flying s (told (between c e h p) p) && b then with_fate Owed (told (between c e h p) p) else told (between c e h p) p) (late_told c g s now l thresholds (between c e h p) p)
+    ∙ (found_tests (is_of s p) p.in_flight (acknowledges p.space p.number e || covers h p) (is_declared_lost h p) late (is_discarded h p.space) (covers g p) (is_declared_lost g p) (owes c g p) p
     (λ same. there_of h s p.space (space_of_detection c e h run s now at) (space_turned p.space s ∙ same))
     (covered_after e h p has)
-    (lost_is_owed c e h run p has ∙ sym (free_by (owes c h p) (is_lost h p) not_was))
+    (lost_is_owed c e h run p has ∙ sym (free_by (owes c h p) (is_declared_lost h p) not_was))
     (ap (is_found_at (sampled c g) g p) at)
-    ∙ ap (λ b. told (fate_by (covers g p) (is_lost g p) (owes c g p) b) p) (sym gone_is))
+    ∙ ap (λ b. told (fate_by (covers g p) (is_declared_lost g p) (owes c g p) b) p) (sym gone_is))
 
 -- ---- what is newly acknowledged
 
@@ -266,9 +266,9 @@ new_tests : (of back named cov los own gone : Bool) → of ≡ back → own ≡ 
 new_tests of back named cov los own gone same not_own there = rw (same, not_own) (new_if back named cov los gone there)
 
 -- an acknowledgment of a space that is there newly acknowledges it, where it names it and it is open
-pub new_told : (c : Settings) (h : List Event) (time : ℕ) (space : Space) (ranges : List (ℕ × ℕ)) (delay : ℕ) (limited : Bool)
-    → is_gone h space ≡ false → (p : Packet) → owes c h p ≡ false
-    → is_new space ranges (sent_of c h p) ≡ is_newly_acknowledged (Ack time space ranges delay limited) h p
-new_told c h time space ranges delay limited there p not_was =
-    new_tests (is_space space p.space) (is_space p.space space) (is_named ranges p.number) (covers h p) (is_lost h p) (owes c h p) (is_gone h p.space)
+pub new_told : (c : Settings) (h : List Event) (time : ℕ) (space : Space) (ranges : List (ℕ × ℕ)) (delay : ℕ) (app_limited : Bool)
+    → is_discarded h space ≡ false → (p : Packet) → owes c h p ≡ false
+    → is_new space ranges (sent_of c h p) ≡ is_newly_acknowledged (Ack time space ranges delay app_limited) h p
+new_told c h time space ranges delay app_limited there p not_was =
+    new_tests (is_space space p.space) (is_space p.space space) (is_named ranges p.number) (covers h p) (is_declared_lost h p) (owes c h p) (is_discarded h p.space)
     (space_turned space p.space) not_was (there_of h space p.space there)

@@ -1,28 +1,16 @@
--- An event that breaks no rule is followed: each step on the way gives what the next one asks for.
-use Rattle.std.proofs.Common.{◌≡◌, ◌∙◌, ◌<◌, ◌==◌, ℕ, Bool, false, not, nat_lt, List, ◌∷◌, length, reverse, None, sym, ap, arith}
-use Rattle.std.proofs.lemmas.Bool.Decides.{nat_tests}
-use Rattle.std.proofs.lemmas.List.{length-map, length-reverse}
+-- What the machine of a ledger stands for, and the ledger after it.
+use Rattle.std.proofs.Common.{◌≡◌, ◌∙◌, ◌<◌, ◌+◌, Bool, false, List, ◌∷◌, None, refl, sym, ap, subst, arith}
 use Rattle.qa_base.specs.declared.event.Event.{Event}
-use Rattle.qa_base.specs.machine.Estimates.{sampled}
-use Rattle.qa_base.specs.machine.Packets.{acknowledges_new, newly_acknowledged}
-use Rattle.qa_base.specs.machine.Rules.{IsRun, first_broken}
+use Rattle.qa_base.specs.machine.Rules.{first_broken}
 use Rattle.qa_base.specs.machine.Widths.{Fits, IsTimely}
 use Rattle.qa_base.specs.values.Settings.{Settings}
-use Rattle.qa_connection.specs.Known.{IsBegun, IsMeasured, IsOf, IsOutcome, IsProperRun, acknowledged_by}
-use Rattle.qa_connection.specs.declared.connection.Connection.{Connection}
-use Rattle.qa_connection.specs.declared.congestion.Outcome.{Outcome}
-use Rattle.qa_ranges.specs.Sent.{AreSent, BySpace}
-use Rattle.qa_running.proofs.Dropping.{stands_trimmed}
-use Rattle.qa_running.proofs.Events.{some_by_length}
-use Rattle.qa_running.specs.Following.{StandsOnceSent}
-use Rattle.qa_running.specs.Running.{IsAfter, State}
-use Rattle.qa_running.specs.Standing.{StandsFor}
-use Rattle.qa_running.specs.Watch.{IsWatched}
-use Rattle.qa_running.specs.declared.watch.TimerWatch.{TimerWatch}
-use Rattle.qa_sent.specs.Held.{Held}
-use Rattle.qa_sent.specs.Steps.{trimmed}
-use Rattle.qa_sent.specs.Told.{sent_of}
-use Rattle.qa_sent.specs.declared.packet.SentPacket.{SentPacket}
+use Rattle.qa_connection.specs.Known.{IsProperRun}
+use Rattle.qa_running.specs.Following.{IsNext}
+use Rattle.qa_running.specs.Machine.{Follows, StandsFor}
+use Rattle.qa_running.specs.Running.{IsAfter, IsSound, State}
+use Rattle.qa_running.specs.Shown.{shown}
+use Rattle.qa_running.specs.Trimmed.{IsTrimmed}
+use Rattle.qa_running.specs.declared.machine.Machine.{Machine}
 
 -- one event more that breaks no rule
 pub proper_more : (k : Settings) (h : List Event) (e : Event) (old : State) → IsAfter old k h → first_broken k h e ≡ None → IsTimely e → Fits e
@@ -31,47 +19,68 @@ proper_more k h e old after allowed timely fit few = record {
   run = (after.run.run, allowed);
   timely = (timely, after.run.timely);
   fit = (fit, after.run.fit);
-  few = omega (arith, few, after.connection.settled.events);
+  few = omega (arith, few, after.connection.events);
 }
 
--- something is newly acknowledged exactly where there are such packets
-pub new_by_length : (k : Settings) (h : List Event) (e : Event) (acked : List SentPacket) → acked ≡ acknowledged_by k e h → nat_lt 0 (length acked) ≡ acknowledges_new (e ∷ h)
-new_by_length k h e acked is =
-    ap (nat_lt 0) (ap length is ∙ (length-map (reverse (newly_acknowledged (e ∷ h))) (sent_of k h) ∙ length-reverse (newly_acknowledged (e ∷ h))))
-    ∙ sym (some_by_length (newly_acknowledged (e ∷ h)))
+-- one that has not failed
+pub machine_stands : (m : Machine) (failed : Bool) (c : Settings) (h : List Event) → IsAfter (shown m failed) c h → failed ≡ false → IsTrimmed m.packets.packets → StandsFor m c h
+machine_stands m failed c h after works trimmed = record {
+  run = after.run;
+  connection = after.connection;
+  packets = after.packets;
+  numbers = after.numbers works;
+  watch = after.watch;
+  trimmed = trimmed;
+}
 
-above_zero : (n : ℕ) → not (n == 0) ≡ nat_lt 0 n
-above_zero n = grind (arith, nat_tests)
+pub machine_after : (m : Machine) (c : Settings) (h : List Event) → StandsFor m c h → IsAfter (shown m false) c h
+machine_after m c h stands = record {
+  run = stands.run;
+  connection = stands.connection;
+  packets = stands.packets;
+  numbers = λ works. stands.numbers;
+  watch = stands.watch;
+}
 
--- a list is not empty where it has some element
-pub some_left : (is_empty : Bool) (len n : ℕ) → is_empty ≡ (len == 0) → len ≡ n → not is_empty ≡ nat_lt 0 n
-some_left is_empty len n is same = ap not (is ∙ ap (λ k. k == 0) same) ∙ above_zero n
+-- ---- an event is followed
 
-pub followed : (k : Settings) (h : List Event) (e : Event) (old : State) → IsAfter old k h → old.failed ≡ false
-    → first_broken k h e ≡ None → IsTimely e → Fits e → old.connection.events < 4294967295
-    → (acked : List SentPacket) → (StandsFor old.packets k h → IsRun k (e ∷ h) → acked ≡ acknowledged_by k e h)
-    → (numbers : BySpace) → (AreSent old.numbers h → AreSent numbers (e ∷ h))
-    → (sent : Held) → (StandsFor old.packets k h → IsRun k (e ∷ h) → StandsOnceSent sent k e h)
-    → (begun : Connection) → (IsOf old.connection k h → acked ≡ acknowledged_by k e h → IsBegun begun k e h)
-    → (is_new : Bool) → is_new ≡ nat_lt 0 (length acked)
-    → (settled : Held) → (StandsOnceSent sent k e h → IsMeasured begun (sampled k (e ∷ h)) (e ∷ h) → IsRun k (e ∷ h) → is_new ≡ acknowledges_new (e ∷ h) → StandsFor settled k (e ∷ h))
-    → (found : Outcome) → (StandsFor settled k (e ∷ h) → IsRun k (e ∷ h) → IsMeasured begun (sampled k (e ∷ h)) (e ∷ h) → begun.header ≡ k → IsOutcome found k (e ∷ h))
-    → (ended : Connection) → (IsBegun begun k e h → IsProperRun k (e ∷ h) → acked ≡ acknowledged_by k e h → IsOutcome found k (e ∷ h) → IsOf ended k (e ∷ h))
-    → (kept : Held) → kept ≡ trimmed settled
-    → (watch : TimerWatch) → (IsOf ended k (e ∷ h) → IsProperRun k (e ∷ h) → StandsFor kept k (e ∷ h) → IsWatched old.watch k h → IsWatched watch k (e ∷ h))
-    → IsAfter (record { connection = ended; packets = kept; numbers = numbers; watch = watch; failed = false }) k (e ∷ h)
-followed k h e old after works allowed timely fit few acked acks numbers adds sent sends begun begins is_new new settled settles found finds ended ends kept drops watch watches =
-    let proper = proper_more k h e old after allowed timely fit few in
-    let is = acks after.packets proper.run in
-    let half = begins after.connection is in
-    let stands = settles (sends after.packets proper.run) half.measured proper.run (new ∙ new_by_length k h e acked is) in
-    let out = finds stands proper.run half.measured half.settled.header in
-    let connection = ends half proper is out in
-    let packets = stands_trimmed k (e ∷ h) proper.run settled kept stands drops in
-    record {
-      run = proper;
-      connection = connection;
-      packets = packets;
-      numbers = λ w. adds (after.numbers works);
-      watch = watches connection proper packets after.watch;
-    }
+-- whatever history the ledger stands for, in which the event comes next
+next_proper : (old : Machine) (failed : Bool) (state : State) → shown old failed ≡ state → (e : Event)
+    → ((c : Settings) (h : List Event) → IsAfter state c h → first_broken c h e ≡ None) → IsTimely e → Fits e → state.connection.events < 4294967295
+    → (c : Settings) (h : List Event) → IsAfter (shown old failed) c h → IsProperRun c (e ∷ h)
+next_proper old failed state view e allowed timely fit few c h after =
+    let at : IsAfter state c h = subst (λ (s : State). IsAfter s c h) view after in proper_more c h e state at (allowed c h at) timely fit few
+
+pub next_is : (old : Machine) (failed : Bool) (state : State) → shown old failed ≡ state → IsSound (shown old failed) → (e : Event)
+    → ((c : Settings) (h : List Event) → IsAfter state c h → first_broken c h e ≡ None) → IsTimely e → Fits e → state.connection.events < 4294967295
+    → IsNext old.packets e
+next_is old failed state view sound e allowed timely fit few = record {
+  header = sound.header;
+  history = sound.history;
+  run = next_proper old failed state view e allowed timely fit few sound.header sound.history sound.after;
+  stands = sound.after.packets;
+}
+
+pub followed : (old new : Machine) (failed : Bool) (state : State) → shown old failed ≡ state → IsSound (shown old failed) → state.failed ≡ false → (e : Event)
+    → ((c : Settings) (h : List Event) → IsAfter state c h → first_broken c h e ≡ None) → IsTimely e → Fits e → state.connection.events < 4294967295
+    → Follows old new e → (c : Settings) (h : List Event) → IsAfter (shown old failed) c h → StandsFor new c (e ∷ h)
+followed old new failed state view sound works e allowed timely fit few follows c h after =
+    follows c h (machine_stands old failed c h after (ap (λ (s : State). s.failed) view ∙ works) sound.trimmed)
+    (next_proper old failed state view e allowed timely fit few c h after)
+
+pub sound_after : (old new : Machine) (failed : Bool) (state : State) → shown old failed ≡ state → IsSound (shown old failed) → state.failed ≡ false → (e : Event)
+    → ((c : Settings) (h : List Event) → IsAfter state c h → first_broken c h e ≡ None) → IsTimely e → Fits e → state.connection.events < 4294967295
+    → Follows old new e → IsSound (shown new false)
+sound_after old new failed state view sound works e allowed timely fit few follows =
+    let stands = followed old new failed state view sound works e allowed timely fit few follows sound.header sound.history sound.after in
+    record { header = sound.header; history = e ∷ sound.history; after = machine_after new sound.header (e ∷ sound.history) stands; trimmed = stands.trimmed }
+
+pub after_followed : (old new : Machine) (failed : Bool) (state : State) → shown old failed ≡ state → IsSound (shown old failed) → state.failed ≡ false → (e : Event)
+    → ((c : Settings) (h : List Event) → IsAfter state c h → first_broken c h e ≡ None) → IsTimely e → Fits e → state.connection.events < 4294967295
+    → Follows old new e → (false ≡ false) × (new.connection.events ≡ state.connection.events + 1) × ((c : Settings) (h : List Event) → IsAfter state c h → IsAfter (shown new false) c (e ∷ h))
+after_followed old new failed state view sound works e allowed timely fit few follows =
+    let all = followed old new failed state view sound works e allowed timely fit few follows in
+    let before : old.connection.events ≡ state.connection.events = ap (λ (s : State). s.connection.events) view in
+    let were = sound.after.connection.events in
+    let are = (all sound.header sound.history sound.after).connection.events in
+    (refl, omega (arith, before, were, are), λ c h after. machine_after new c (e ∷ h) (all c h (subst (λ (s : State). IsAfter s c h) (sym view) after)))

@@ -1,4 +1,3 @@
-pub mod Lists
 pub mod Fates
 pub mod Carrying
 pub mod Events
@@ -6,7 +5,6 @@ pub mod Dropping
 pub mod Queries
 pub mod Losses
 pub mod Sends
-pub mod Settles
 pub mod Acks
 pub mod Answered
 pub mod Followed

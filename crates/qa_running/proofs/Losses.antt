@@ -1,5 +1,6 @@
 -- What is asked of the packets held that are owed is what the definitions ask of those that the last event found lost.
 use Rattle.std.proofs.Common.{◌≡◌, ◌∙◌, ◌+◌, ℕ, List, [], ◌∷◌, ◌++◌, length, map, Bool, true, false, ◌&&◌, ◌||◌, not, Option, Some, None, refl, sym, ap, count_by, filter, reverse}
+use Rattle.std.proofs.Math.Bool.{and_comm}
 use Rattle.std.proofs.lemmas.Bool.{and_left, and_right}
 use Rattle.std.proofs.lemmas.List.{length-map, length-reverse, map_push}
 use Rattle.std.proofs.lemmas.List.Elements.{filter-append}
@@ -13,7 +14,7 @@ use Rattle.qa_base.specs.machine.Detection.{detection, found_at, is_after, is_en
 use Rattle.qa_base.specs.machine.Estimates.{sampled}
 use Rattle.qa_base.specs.machine.Loss.{is_owed as owes, is_persistent, owed}
 use Rattle.qa_base.specs.machine.Numbers.{has_all, has_next, has_range, is_in, names_exactly}
-use Rattle.qa_base.specs.machine.Packets.{Packet, packets, is_covered as covers, is_of, is_some_packet}
+use Rattle.qa_base.specs.machine.Packets.{Packet, packets, is_acknowledged as covers, is_of, is_some_packet}
 use Rattle.qa_base.specs.machine.Reno.{latest_sent}
 use Rattle.qa_base.specs.machine.Rtt.{persistent_after}
 use Rattle.qa_base.specs.machine.Rules.{IsRun}
@@ -26,8 +27,8 @@ use Rattle.qa_laws.specs.machine.Among.{counts_as_end, finds_apart}
 use Rattle.qa_laws.specs.machine.Latest.{time_of_first}
 use Rattle.qa_running.proofs.Carrying.{dropped_free}
 use Rattle.qa_running.proofs.Events.{some_by_length}
-use Rattle.qa_running.proofs.Fates.{is_covered_told, is_owed_told}
-use Rattle.qa_running.proofs.Lists.{all_same, all_turned, and_turned, any_in_filter, any_of_map, any_same, any_turned, each_value, filter_of_map, map_fused, map_turned}
+use Rattle.qa_running.proofs.Fates.{is_acknowledged_told, is_owed_told}
+use Rattle.qa_connection.proofs.Lists.{all_same, all_turned, any_in_filter, any_of_map, any_same, any_turned, each_value, filter_of_map, map_fused, map_turned}
 use Rattle.qa_connection.specs.Steps.{last_sent}
 use Rattle.qa_running.specs.Standing.{StandsFor}
 use Rattle.qa_sent.specs.Fates.{is_owed, is_owed_in}
@@ -76,7 +77,7 @@ pub owed_in_is_held : (c : Settings) (h : List Event) → IsRun c h → (s : Spa
     → list_any (is_of s) (owed c h) ≡ list_any (is_owed_in s) held.packets
 owed_in_is_held c h run s held stands =
     sym (any_same (is_owed_in s) (λ p. is_owed p.fate && is_space s p.space) held.packets
-    (each_value (λ p. is_owed_in s p ≡ (is_owed p.fate && is_space s p.space)) (λ p. and_turned (is_space s p.space) (is_owed p.fate)) held.packets)
+    (each_value (λ p. is_owed_in s p ≡ (is_owed p.fate && is_space s p.space)) (λ p. and_comm (is_space s p.space) (is_owed p.fate)) held.packets)
     ∙ (sym (any_in_filter (λ p. is_owed p.fate) (λ p. is_space s p.space) held.packets)
     ∙ (ap (list_any (λ p. is_space s p.space)) (owed_stand c h run held stands)
     ∙ (any_of_map (λ p. is_space s p.space) (sent_of c h) (is_of s) (reverse (owed c h)) (each_value (λ p. is_of s p ≡ is_of s p) (λ p. refl) (reverse (owed c h)))
@@ -173,7 +174,7 @@ apart_told c h run first taken limit began (p ∷ ps) =
     let found : Option ℕ → Bool = λ at. finds_apart (covers h) (counts_as_end c h) limit at ps in
     let far = is_far_from limit began p.time in
     let nearest = Some (earliest began p.time) in
-    ap (λ b. if b then rest None else (if is_end first (sent_of c h p) then far || rest nearest else rest began)) (is_covered_told c h p)
+    ap (λ b. if b then rest None else (if is_end first (sent_of c h p) then far || rest nearest else rest began)) (is_acknowledged_told c h p)
     ∙ (ap (λ b. if covers h p then rest None else (if b then far || rest nearest else rest began)) (end_told c h run first taken p)
     ∙ (ap (λ b. if covers h p then b else (if counts_as_end c h p then far || rest nearest else rest began)) (apart_told c h run first taken limit None ps)
     ∙ (ap (λ b. if covers h p then found None else (if counts_as_end c h p then far || b else rest began)) (apart_told c h run first taken limit nearest ps)

@@ -22,7 +22,7 @@ use Rattle.qa_laws.specs.machine.Oldest.{NoneFlies, due_of, is_flying as flies}
 use Rattle.qa_laws.specs.machine.Sums.{bytes, counted}
 use Rattle.qa_running.proofs.Carrying.{dropped_closed}
 use Rattle.qa_running.proofs.Fates.{is_open_told}
-use Rattle.qa_running.proofs.Lists.{any_in_filter, any_of_map, any_turned, each_value, find_of_map, sum_of_map}
+use Rattle.qa_connection.proofs.Lists.{any_in_filter, any_of_map, any_turned, each_value, find_of_map, sum_of_map}
 use Rattle.qa_running.specs.Standing.{StandsFor}
 use Rattle.qa_sent.specs.Fates.{flight_bytes, is_awaiting, is_flying, is_open}
 use Rattle.qa_sent.specs.Held.{Held}

@@ -1,28 +1,20 @@
--- What an event sends is kept behind all other packets.
-use Rattle.std.proofs.Common.{◌≡◌, ◌<◌, ◌+◌, List, [], ◌∷◌, ◌++◌, Result, Ok, Err, IfOk, OnOk, length, arith, subst, sym}
+-- What is known before an event of a run: what it sends is kept behind all other packets, and nothing is owed if it is no Lost line.
+use Rattle.std.proofs.Common.{◌≡◌, ◌<◌, ◌+◌, List, ◌∷◌, length, arith, subst}
 use Rattle.std.specs.List.{AllByRecursion}
 use Rattle.qa_base.specs.declared.event.Event.{Event}
 use Rattle.qa_base.specs.declared.event.Event.TheVariants.{Sent}
 use Rattle.qa_base.specs.declared.space.Leave.{Leave}
+use Rattle.qa_base.specs.machine.Breaches.{is_loss_owed}
+use Rattle.qa_base.specs.machine.Loss.{owed}
+use Rattle.qa_base.specs.machine.Packets.{is_some_packet}
 use Rattle.qa_base.specs.machine.Rules.{IsRun}
 use Rattle.qa_base.specs.values.Settings.{Settings}
 use Rattle.qa_running.proofs.Dropping.{held_are_few}
-use Rattle.qa_running.proofs.Events.{sent_last, stands_sent}
-use Rattle.qa_running.specs.Following.{IsNext, StandsOnceSent}
-use Rattle.qa_running.specs.Standing.{StandsFor}
+use Rattle.qa_running.proofs.Events.{sent_last, settled_before}
+use Rattle.qa_running.specs.Following.{IsNext}
 use Rattle.qa_sent.specs.Held.{Held, IsBefore}
-use Rattle.qa_sent.specs.declared.fate.Fate.TheVariants.{Open}
+use Rattle.qa_sent.specs.Owing.{NoneOwed}
 use Rattle.qa_sent.specs.declared.packet.SentPacket.{SentPacket}
-
--- what follows from each value follows of the value, where there is one
-pub if_ok : {T E : Type 0} {P Q : T → Type 0} (r : Result T E) → IfOk r P → ((t : T) → P t → Q t) → IfOk r Q
-if_ok (Ok t) p f = f t p
-if_ok (Err e) p f = tt
-
--- what follows from a value follows where there is one
-pub on_ok : {T E P Q : Type 0} (r : Result T E) → OnOk r P → (P → Q) → OnOk r Q
-on_ok (Ok t) p f = f p
-on_ok (Err e) p f = tt
 
 pub next_is_last : (held : Held) (e : Event) → IsNext held e → (packet : SentPacket) (leave : Leave)
     → e ≡ Sent packet.time packet.space packet.number packet.size packet.eliciting packet.in_flight leave → AllByRecursion (λ q. IsBefore packet q) held.packets
@@ -32,9 +24,8 @@ next_is_last held e next packet leave is =
 pub next_has_room : (held : Held) (e : Event) → IsNext held e → held.dropped + length held.packets < 4294967295
 next_has_room held e next = omega (arith, held_are_few held next.header next.history next.stands, next.run.few)
 
-pub sent_is_kept : (c : Settings) (h : List Event) (e : Event) (packet : SentPacket) (leave : Leave)
-    → e ≡ Sent packet.time packet.space packet.number packet.size packet.eliciting packet.in_flight leave → packet.fate ≡ Open
-    → (old new : Held) → new ≡ record { dropped = old.dropped; packets = old.packets ++ packet ∷ [] } → StandsFor old c h → IsRun c (e ∷ h) → StandsOnceSent new c e h
-sent_is_kept c h e packet leave is fresh old new more stands run =
-    subst (λ (x : Event). StandsOnceSent new c x h) (sym is)
-    (stands_sent c h packet leave fresh (subst (λ (x : Event). IsRun c (x ∷ h)) is run) old new stands more)
+-- of such an event, known by an equation, the second premise is `λ c h. refl`
+pub settled_next : (held : Held) (e x : Event) → e ≡ x → ((c : Settings) (h : List Event) → is_loss_owed c h x ≡ is_some_packet (owed c h)) → IsNext held e → NoneOwed held.packets
+settled_next held e x is asks next =
+    let at : IsNext held x = subst (λ (y : Event). IsNext held y) is next in
+    settled_before at.header x at.history at.run.run (asks at.header at.history) held at.stands

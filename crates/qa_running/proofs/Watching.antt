@@ -24,16 +24,16 @@ none_either false due none = none
 -- before any event the timer is not set
 pub watched_at_start : (watch : TimerWatch) → watch.due ≡ None → watch.since ≡ 0 → (c : Settings) → IsWatched watch c []
 watched_at_start watch due since c = record {
-  due = λ limited. due ∙ sym (none_either (is_validated c []) None refl);
-  since = λ limited. since;
+  due = λ app_limited. due ∙ sym (none_either (is_validated c []) None refl);
+  since = λ app_limited. since;
 }
 
 -- one event more
 pub watched_more : (old new : TimerWatch) (c : Settings) (e : Event) (h : List Event) (due : Option Due) (now : ℕ) → due ≡ deadline c (e ∷ h) → now ≡ time_of e
     → new.due ≡ due → new.since ≡ (if is_same_due old.due due then old.since else now) → IsWatched old c h → IsWatched new c (e ∷ h)
 watched_more old new c e h due now is_due is_now new_due new_since watched = record {
-  due = λ limited. new_due ∙ is_due;
-  since = λ limited.
-      let is : (if is_same_due old.due due then old.since else now) ≡ set_since c (e ∷ h) = rw (watched.due limited, watched.since limited, is_due, is_now) refl in
+  due = λ app_limited. new_due ∙ is_due;
+  since = λ app_limited.
+      let is : (if is_same_due old.due due then old.since else now) ≡ set_since c (e ∷ h) = rw (watched.due app_limited, watched.since app_limited, is_due, is_now) refl in
       new_since ∙ is;
 }

@@ -2,9 +2,7 @@
 #![tactic(auto)]
 
 mod answers;
-mod following;
-mod kept;
-mod ledger;
+mod machine;
 mod running;
 mod watch;
 

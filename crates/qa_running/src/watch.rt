@@ -24,18 +24,6 @@ pub(crate) struct TimerWatch {
     pub(crate) since: Micros,
 }
 
-/// Whether the timer is set by both, for the same cause, space and time.
-fn is_same_due(due: Option<Due>, other: Option<Due>) -> bool
-    ensures { result ≡ timers.is_same_due due other }
-{
-    match (due, other) {
-        (Some(due), Some(other)) => {
-            due.kind == other.kind && due.space == other.space && due.time == other.time
-        }
-        _ => false,
-    }
-}
-
 /// Whether a time is past a deadline by more than a limit in microseconds, counted from the time
 /// since which the timer is set so where that is later.
 #[tactic(auto, using(crate::proofs::Watching::late_is))]
@@ -61,11 +49,12 @@ impl TimerWatch {
     /// Notes what the timer is set for after an event that happened now.
     fn set(&mut self, due: Option<Due>, now: Micros)
         ensures due { self.new.due ≡ due }
-        ensures since { self.new.since ≡ (if timers.is_same_due self.old.due due then self.old.since else now) }
+        ensures since { self.new.since
+            ≡ (if timers.is_same_due self.old.due due then self.old.since else now) }
     {
         *self = TimerWatch {
             due,
-            since: if is_same_due(self.due, due) {
+            since: if Due::is_same(self.due, due) {
                 self.since
             } else {
                 now
@@ -76,7 +65,8 @@ impl TimerWatch {
     /// Takes in an event that happened now, by what is kept of the connection and the packets after
     /// it. Nothing is asked of them, and nothing changes, where the header has no limit.
     pub(crate) fn follow(&mut self, connection: &Connection, packets: &SentPackets, now: Micros)
-        ensures { (c : Settings) (e : AnEvent) (h : List AnEvent) → IsOf connection.now c (e ∷ h) → IsProperRun c (e ∷ h) → StandsFor packets.now c (e ∷ h)
+        ensures { (c : Settings) (e : AnEvent) (h : List AnEvent) → IsOf connection.now c (e ∷ h)
+            → IsProperRun c (e ∷ h) → StandsFor packets.now c (e ∷ h)
             → now ≡ events.time_of e → IsWatched self.old c h → IsWatched self.new c (e ∷ h) }
     {
         if connection.header.options().timer_late.is_some() {

@@ -7,8 +7,8 @@ use Rattle.std.proofs.lemmas.List.Sums.{sum_by-cons}
 use Rattle.qa_base.specs.declared.space.Space.{Space}
 use Rattle.qa_base.specs.declared.space.Space.TheVariants.{Initial, Handshake, App}
 use Rattle.qa_base.specs.values.Events.{is_space}
-use Rattle.qa_sent.specs.Fates.{flight_bytes, flight_bytes_in, is_awaiting, is_flying, is_open, is_uncovered, is_waiting}
-use Rattle.qa_sent.specs.Held.{AreOrdered, FirstFlies, IsBefore, IsBehind, IsIndexed, IsLane, NoneFlies, uncovered_in}
+use Rattle.qa_sent.specs.Fates.{flight_bytes, flight_bytes_in, is_awaiting, is_flying, is_open, is_unacknowledged, is_waiting}
+use Rattle.qa_sent.specs.Held.{AreOrdered, FirstFlies, IsBefore, IsBehind, IsIndexed, IsLane, NoneFlies, unacknowledged_in}
 use Rattle.qa_sent.specs.Steps.{with_fate}
 use Rattle.qa_sent.specs.declared.fate.Fate.{Fate}
 use Rattle.qa_sent.specs.declared.lane.Lane.{Lane}
@@ -26,10 +26,10 @@ pub record IsAlike (t : Space) (p q : SentPacket) : Type 0 where
   pub awaits : is_awaiting t q ≡ is_awaiting t p
 
 pub entries_alike : (t : Space) (f : SentPacket → SentPacket) → ((p : SentPacket) → IsAlike t p (f p)) → (place : ℕ) (ps : List SentPacket)
-    → uncovered_in t place (map f ps) ≡ uncovered_in t place ps
+    → unacknowledged_in t place (map f ps) ≡ unacknowledged_in t place ps
 entries_alike t f each place [] = refl
 entries_alike t f each place (p ∷ ps) =
-    let rest = uncovered_in t (suc place) ps in
+    let rest = unacknowledged_in t (suc place) ps in
     ap (λ es. if is_waiting t (f p) then ((f p).number, place) ∷ es else es) (entries_alike t f each (suc place) ps)
     ∙ (ap (λ b. if b then ((f p).number, place) ∷ rest else rest) (each p).waits
     ∙ ap (λ n. if is_waiting t p then (n, place) ∷ rest else rest) (each p).number)
@@ -104,14 +104,14 @@ if_off false x y out = refl
 pub alike_other : (t : Space) (g : Fate) (p : SentPacket) → is_space t p.space ≡ false → IsAlike t p (with_fate g p)
 alike_other t g p out = record {
   number = refl;
-  waits = and_off (is_space t p.space) (is_uncovered g) (is_uncovered p.fate) out;
+  waits = and_off (is_space t p.space) (is_unacknowledged g) (is_unacknowledged p.fate) out;
   flies = and_off (is_space t p.space) (p.in_flight && is_open g) (p.in_flight && is_open p.fate) out;
   bytes = if_off (is_space t p.space) (flight_bytes (with_fate g p)) (flight_bytes p) out;
   awaits = and_off (is_space t p.space) (p.eliciting && is_open g) (p.eliciting && is_open p.fate) out;
 }
 
 -- of one whose fate was open, or waited, as its new one is
-pub alike_same : (t : Space) (g : Fate) (p : SentPacket) → is_uncovered g ≡ is_uncovered p.fate → is_open g ≡ is_open p.fate → IsAlike t p (with_fate g p)
+pub alike_same : (t : Space) (g : Fate) (p : SentPacket) → is_unacknowledged g ≡ is_unacknowledged p.fate → is_open g ≡ is_open p.fate → IsAlike t p (with_fate g p)
 alike_same t g p waits opens = record {
   number = refl;
   waits = ap (λ b. is_space t p.space && b) waits;

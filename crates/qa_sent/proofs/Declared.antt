@@ -5,13 +5,14 @@ use Rattle.std.proofs.lemmas.List.{length-map, map-append, take-append-drop}
 use Rattle.qa_base.specs.declared.space.Space.{Space}
 use Rattle.qa_base.specs.declared.space.Space.TheVariants.{Initial, Handshake, App}
 use Rattle.qa_base.specs.values.Limits.{max_packet_size}
-use Rattle.qa_sent.specs.Fates.{is_open, is_owed, is_uncovered}
+use Rattle.qa_sent.specs.Fates.{is_open, is_owed, is_unacknowledged}
 use Rattle.qa_sent.specs.Held.{IsSound}
 use Rattle.qa_sent.specs.Owing.{IsOwedPart, NoneOwed}
 use Rattle.qa_sent.specs.Steps.{declared}
 use Rattle.qa_sent.specs.declared.fate.Fate.{Fate}
-use Rattle.qa_sent.specs.declared.fate.Fate.TheVariants.{Open, Owed, DeclaredLost, Covered, Discarded}
-use Rattle.qa_sent.specs.declared.lane.Lanes.{Lanes}
+use Rattle.qa_sent.specs.declared.fate.Fate.TheVariants.{Open, Owed, DeclaredLost, Acknowledged, Discarded}
+use Rattle.qa_base.specs.declared.per_space.PerSpace.{PerSpace}
+use Rattle.qa_sent.specs.declared.lane.Lane.{Lane}
 use Rattle.qa_sent.specs.declared.packet.SentPacket.{SentPacket}
 use Rattle.qa_sent.specs.declared.packets.Losses.{Losses}
 use Rattle.qa_sent.proofs.Alike.{IsAlike, IsSame, alike_if, alike_same, lane_alike, ordered_same, same_if, sizes_same}
@@ -20,18 +21,18 @@ use Rattle.qa_sent.proofs.Settled.{losses_none}
 
 -- ---- what becomes of one packet
 
-waits_owed : (f : Fate) → is_owed f ≡ true → is_uncovered DeclaredLost ≡ is_uncovered f
+waits_owed : (f : Fate) → is_owed f ≡ true → is_unacknowledged DeclaredLost ≡ is_unacknowledged f
 waits_owed Owed e = refl
 waits_owed Open e = cc
 waits_owed DeclaredLost e = cc
-waits_owed Covered e = cc
+waits_owed Acknowledged e = cc
 waits_owed Discarded e = cc
 
 opens_owed : (f : Fate) → is_owed f ≡ true → is_open DeclaredLost ≡ is_open f
 opens_owed Owed e = refl
 opens_owed Open e = cc
 opens_owed DeclaredLost e = cc
-opens_owed Covered e = cc
+opens_owed Acknowledged e = cc
 opens_owed Discarded e = cc
 
 declared_alike : (t : Space) (p : SentPacket) → IsAlike t p (declared p)
@@ -65,7 +66,7 @@ declared_all ps from to part =
     ap (λ qs. map declared (take to ps) ++ qs) (sym (declared_none (drop to ps) part.behind))
     ∙ (sym (map-append declared (take to ps) (drop to ps)) ∙ ap (map declared) (take-append-drop to ps))
 
-pub sound_declared : (d : ℕ) (ps : List SentPacket) (losses after : Losses) (lanes : Lanes) → IsSound d ps losses lanes → after.count ≡ 0 → IsSound d (map declared ps) after lanes
+pub sound_declared : (d : ℕ) (ps : List SentPacket) (losses after : Losses) (lanes : PerSpace Lane) → IsSound d ps losses lanes → after.count ≡ 0 → IsSound d (map declared ps) after lanes
 sound_declared d ps losses after lanes sound zero =
     let long : length (map declared ps) ≡ length ps = length-map ps declared in
     let few = sound.few in

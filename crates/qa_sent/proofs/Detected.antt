@@ -5,18 +5,18 @@ use Rattle.std.specs.List.{AllByRecursion}
 use Rattle.std.proofs.lemmas.Bool.{and_parts, and_from, both_ways, false_from_ne_true, le-leb, leb-true, lt-ltb, ltb-true, or_cases, or_left, or_right}
 use Rattle.std.proofs.lemmas.List.{drop_at, length-map, length-take-le, map-append, take-append-drop, take-map}
 use Rattle.qa_base.specs.declared.space.Space.{Space}
-use Rattle.qa_base.specs.machine.Detection.{is_late, is_old}
+use Rattle.qa_base.specs.machine.Detection.{is_past_threshold, is_old}
 use Rattle.qa_base.specs.machine.Packets.{Packet}
-use Rattle.qa_base.specs.machine.Rtt.{Estimate}
+use Rattle.qa_base.specs.machine.Rtt.{Estimate, loss_delay}
 use Rattle.qa_base.specs.values.Events.{is_space}
 use Rattle.qa_sent.specs.Detection.{IsEnd, lost_in}
 use Rattle.qa_sent.specs.Lanes.{awaiting_count}
-use Rattle.qa_sent.specs.Fates.{flight_bytes, is_flying, is_open, is_owed, is_uncovered, is_waiting}
+use Rattle.qa_sent.specs.Fates.{flight_bytes, is_flying, is_open, is_owed, is_unacknowledged, is_waiting}
 use Rattle.qa_sent.specs.Held.{AreLosses, AreOrdered, IsBefore, IsIndexed, NoneFlies}
 use Rattle.qa_sent.specs.Owing.{NoneOwed}
-use Rattle.qa_sent.specs.Steps.{Lateness, found_by, is_late_by, packet_at, with_fate}
+use Rattle.qa_sent.specs.Steps.{Thresholds, found_by, is_past_threshold_by, packet_at, with_fate}
 use Rattle.qa_sent.specs.declared.fate.Fate.{Fate}
-use Rattle.qa_sent.specs.declared.fate.Fate.TheVariants.{Open, Owed, DeclaredLost, Covered, Discarded}
+use Rattle.qa_sent.specs.declared.fate.Fate.TheVariants.{Open, Owed, DeclaredLost, Acknowledged, Discarded}
 use Rattle.qa_sent.specs.declared.lane.Lane.{Lane}
 use Rattle.qa_sent.specs.declared.packet.SentPacket.{SentPacket}
 use Rattle.qa_sent.proofs.Alike.{IsAlike, IsSame, alike_if, alike_other, not_other, ordered_drop, same_if, space_is}
@@ -34,11 +34,11 @@ flying_parts s p flies =
 flies_here : (s : Space) (p : SentPacket) → is_flying s p ≡ true → is_space s p.space ≡ true
 flies_here s p flies = (flying_parts s p flies).0
 
-waits_open : (f : Fate) → is_open f ≡ true → is_uncovered Owed ≡ is_uncovered f
+waits_open : (f : Fate) → is_open f ≡ true → is_unacknowledged Owed ≡ is_unacknowledged f
 waits_open Open e = refl
 waits_open Owed e = cc
 waits_open DeclaredLost e = cc
-waits_open Covered e = cc
+waits_open Acknowledged e = cc
 waits_open Discarded e = cc
 
 all_off : (a b : Bool) → (a && (b && false)) ≡ false
@@ -52,7 +52,7 @@ not_flying s f p closed = ap (λ b. is_space s p.space && (p.in_flight && b)) cl
 -- ---- one is marked
 
 pub marked : (s : Space) (d : ℕ) (ps : List SentPacket) (before after : Lane) (at : ℕ) (p : SentPacket) → IsIndexed s d ps before → at < length ps → p ≡ get_or ps at p → is_flying s p ≡ true
-    → after.uncovered.entries ≡ before.uncovered.entries → after.in_flight + flight_bytes p ≡ before.in_flight → after.awaiting + awaiting_count p ≡ before.awaiting
+    → after.unacknowledged.entries ≡ before.unacknowledged.entries → after.in_flight + flight_bytes p ≡ before.in_flight → after.awaiting + awaiting_count p ≡ before.awaiting
     → IsIndexed s d (set ps at (with_fate Owed p)) after
 marked s d ps before after at p indexed within is flies entries less_bytes less_awaiting =
     let parts = flying_parts s p flies in
@@ -70,15 +70,15 @@ found_if : (p : SentPacket) (b : Bool) → b ≡ false → (if b then with_fate 
 found_if p true is = cc
 found_if p false is = refl
 
-found_out : (s : Space) (l : Lateness) (p : SentPacket) → is_flying s p ≡ false → found_by s l p ≡ p
-found_out s l p out = found_if p (is_flying s p && is_late_by l p) (ap (λ b. b && is_late_by l p) out)
+found_out : (s : Space) (l : Thresholds) (p : SentPacket) → is_flying s p ≡ false → found_by s l p ≡ p
+found_out s l p out = found_if p (is_flying s p && is_past_threshold_by l p) (ap (λ b. b && is_past_threshold_by l p) out)
 
 passed_if : (p : SentPacket) (flies late : Bool) → (flies ≡ true → late ≡ true) → (if flies then with_fate Owed p else p) ≡ (if flies && late then with_fate Owed p else p)
 passed_if p true late goes = ap (λ b. if b then with_fate Owed p else p) (sym (goes refl))
 passed_if p false late goes = refl
 
-pub found_passed : (s : Space) (l : Lateness) (p : SentPacket) → (is_flying s p ≡ true → is_late_by l p ≡ true) → lost_in s p ≡ found_by s l p
-found_passed s l p goes = passed_if p (is_flying s p) (is_late_by l p) goes
+pub found_passed : (s : Space) (l : Thresholds) (p : SentPacket) → (is_flying s p ≡ true → is_past_threshold_by l p ≡ true) → lost_in s p ≡ found_by s l p
+found_passed s l p goes = passed_if p (is_flying s p) (is_past_threshold_by l p) goes
 
 grounded_if : (s : Space) (p : SentPacket) (b : Bool) → is_flying s p ≡ b → is_flying s (if b then with_fate Owed p else p) ≡ false
 grounded_if s p true is = not_flying s Owed p refl
@@ -92,33 +92,28 @@ of_space_if : (s : Space) (p : SentPacket) (b : Bool) → (b ≡ true → is_spa
 of_space_if s p true here none owed = here refl
 of_space_if s p false here none owed = absurd (both_ways (is_owed p.fate) none owed)
 
-found_here : (s : Space) (l : Lateness) (p : SentPacket) → (is_flying s p && is_late_by l p) ≡ true → is_space s p.space ≡ true
-found_here s l p found = flies_here s p (and_parts (is_flying s p) (is_late_by l p) found).0
+found_here : (s : Space) (l : Thresholds) (p : SentPacket) → (is_flying s p && is_past_threshold_by l p) ≡ true → is_space s p.space ≡ true
+found_here s l p found = flies_here s p (and_parts (is_flying s p) (is_past_threshold_by l p) found).0
 
-pub found_same : (s : Space) (l : Lateness) (p : SentPacket) → IsSame p (found_by s l p)
-found_same s l p = same_if (is_flying s p && is_late_by l p) Owed p
+pub found_same : (s : Space) (l : Thresholds) (p : SentPacket) → IsSame p (found_by s l p)
+found_same s l p = same_if (is_flying s p && is_past_threshold_by l p) Owed p
 
-pub found_alike : (s : Space) (l : Lateness) (t : Space) → is_space t s ≡ false → (p : SentPacket) → IsAlike t p (found_by s l p)
-found_alike s l t out p = alike_if t (is_flying s p && is_late_by l p) Owed p (λ found. alike_other t Owed p (not_other t s p out (found_here s l p found)))
+pub found_alike : (s : Space) (l : Thresholds) (t : Space) → is_space t s ≡ false → (p : SentPacket) → IsAlike t p (found_by s l p)
+found_alike s l t out p = alike_if t (is_flying s p && is_past_threshold_by l p) Owed p (λ found. alike_other t Owed p (not_other t s p out (found_here s l p found)))
 
--- ---- lateness falls
+-- ---- thresholds falls
 
 -- what was sent no later is no less old
 earlier_is_old : (r : Estimate) (now : ℕ) (p q : Packet) → q.time ≤ p.time → is_old r now p ≡ true → is_old r now q ≡ true
 earlier_is_old r now p q earlier old =
-    let m = max r.latest_rtt r.smoothed_rtt in
-    let both = and_parts (nat_le (9 * m) (8 * (now - p.time))) (nat_le 1000 (now - p.time)) old in
-    let fraction = leb-true (9 * m) (8 * (now - p.time)) both.0 in
-    let granularity = leb-true 1000 (now - p.time) both.1 in
-    and_from (nat_le (9 * m) (8 * (now - q.time))) (nat_le 1000 (now - q.time))
-    (le-leb (9 * m) (8 * (now - q.time)) (omega (arith, earlier, fraction)))
-    (le-leb 1000 (now - q.time) (omega (arith, earlier, granularity)))
+    let waited = leb-true (loss_delay r) (now - p.time) old in
+    le-leb (loss_delay r) (now - q.time) (omega (arith, earlier, waited))
 
 -- of two packets, if the one with the higher number, sent no earlier, is late, so is the other
-earlier_is_late : (r : Estimate) (now : ℕ) (largest : Option ℕ) (p q : Packet) → q.number ≤ p.number → q.time ≤ p.time
-    → is_late r now largest p ≡ true → is_late r now largest q ≡ true
-earlier_is_late r now None p q lower earlier late = cc
-earlier_is_late r now (Some largest) p q lower earlier late =
+earlier_is_past_threshold : (r : Estimate) (now : ℕ) (largest : Option ℕ) (p q : Packet) → q.number ≤ p.number → q.time ≤ p.time
+    → is_past_threshold r now largest p ≡ true → is_past_threshold r now largest q ≡ true
+earlier_is_past_threshold r now None p q lower earlier late = cc
+earlier_is_past_threshold r now (Some largest) p q lower earlier late =
     let both = and_parts (nat_lt p.number largest) (nat_le 3 (largest - p.number) || is_old r now p) late in
     let below = ltb-true p.number largest both.0 in
     and_from (nat_lt q.number largest) (nat_le 3 (largest - q.number) || is_old r now q)
@@ -130,52 +125,52 @@ earlier_is_late r now (Some largest) p q lower earlier late =
     ])
 
 -- behind a packet of the space that is not late none is found
-not_behind : (s : Space) (l : Lateness) (p q : SentPacket) → IsBefore q p → is_space s p.space ≡ true → is_late_by l p ≡ false → found_by s l q ≡ q
+not_behind : (s : Space) (l : Thresholds) (p q : SentPacket) → IsBefore q p → is_space s p.space ≡ true → is_past_threshold_by l p ≡ false → found_by s l q ≡ q
 not_behind s l p q before here not_late =
-    found_if q (is_flying s q && is_late_by l q) (false_from_ne_true (is_flying s q && is_late_by l q) (λ found.
-    let both = and_parts (is_flying s q) (is_late_by l q) found in
+    found_if q (is_flying s q && is_past_threshold_by l q) (false_from_ne_true (is_flying s q && is_past_threshold_by l q) (λ found.
+    let both = and_parts (is_flying s q) (is_past_threshold_by l q) found in
     let there : is_space s q.space ≡ true = flies_here s q both.0 in
     let together : is_space q.space p.space ≡ true = subst (λ (x : Space). is_space x p.space ≡ true) (space_is s q.space there) here in
     let lower = before.number together in
-    both_ways (is_late_by l p) not_late (earlier_is_late l.rtt l.now l.largest (packet_at q) (packet_at p) (omega (arith, lower)) before.time both.1)))
+    both_ways (is_past_threshold_by l p) not_late (earlier_is_past_threshold l.rtt l.now l.largest (packet_at q) (packet_at p) (omega (arith, lower)) before.time both.1)))
 
 off_right : (a : Bool) → (a && false) ≡ false
 off_right true = refl
 off_right false = refl
 
 -- where a detection ends, nothing more is found
-rest_kept : (s : Space) (l : Lateness) (ps : List SentPacket) → AreOrdered ps → IsEnd s l ps → map (found_by s l) ps ≡ ps
+rest_kept : (s : Space) (l : Thresholds) (ps : List SentPacket) → AreOrdered ps → IsEnd s l ps → map (found_by s l) ps ≡ ps
 rest_kept s l [] ordered end = refl
 rest_kept s l (p ∷ ps) ordered end =
-    let none : (is_flying s p && is_late_by l p) ≡ false = ap (λ b. is_flying s p && b) end.1 ∙ off_right (is_flying s p) in
-    ap (λ q. q ∷ map (found_by s l) ps) (found_if p (is_flying s p && is_late_by l p) none)
+    let none : (is_flying s p && is_past_threshold_by l p) ≡ false = ap (λ b. is_flying s p && b) end.1 ∙ off_right (is_flying s p) in
+    ap (λ q. q ∷ map (found_by s l) ps) (found_if p (is_flying s p && is_past_threshold_by l p) none)
     ∙ ap (λ qs. p ∷ qs) (map_same (found_by s l) ps
     (each_weaker (λ q. IsBefore q p) (λ q. found_by s l q ≡ q) (λ q before. not_behind s l p q before (flies_here s p end.0) end.1) ps ordered.0))
 
 -- ---- what becomes of all
 
-none_found : (s : Space) (l : Lateness) (ps : List SentPacket) → NoneFlies s ps → map (found_by s l) ps ≡ ps
+none_found : (s : Space) (l : Thresholds) (ps : List SentPacket) → NoneFlies s ps → map (found_by s l) ps ≡ ps
 none_found s l ps none = map_same (found_by s l) ps (each_weaker (λ p. is_flying s p ≡ false) (λ p. found_by s l p ≡ p) (found_out s l) ps none)
 
-pub detected_start : (s : Space) (l : Lateness) (ps : List SentPacket) (n : ℕ) → NoneFlies s (take n ps) → ps ≡ map (found_by s l) (take n ps) ++ drop n ps
+pub detected_start : (s : Space) (l : Thresholds) (ps : List SentPacket) (n : ℕ) → NoneFlies s (take n ps) → ps ≡ map (found_by s l) (take n ps) ++ drop n ps
 detected_start s l ps n none = sym (ap (λ qs. qs ++ drop n ps) (none_found s l (take n ps) none) ∙ take-append-drop n ps)
 
 rest_is : (f : SentPacket → SentPacket) (ps ys : List SentPacket) (at : ℕ) → at ≤ length ps → ys ≡ map f (take at ps) ++ drop at ps → drop at ys ≡ drop at ps
 rest_is f ps ys at within is = ap (drop at) is ∙ drop_at (map f (take at ps)) (drop at ps) at (length-map (take at ps) f ∙ length-take-le at ps within)
 
-rest_found : (s : Space) (l : Lateness) (ps ys : List SentPacket) (at : ℕ) → AreOrdered ps → at ≤ length ps → ys ≡ map (found_by s l) (take at ps) ++ drop at ps → IsEnd s l (drop at ys)
+rest_found : (s : Space) (l : Thresholds) (ps ys : List SentPacket) (at : ℕ) → AreOrdered ps → at ≤ length ps → ys ≡ map (found_by s l) (take at ps) ++ drop at ps → IsEnd s l (drop at ys)
     → map (found_by s l) (drop at ps) ≡ drop at ps
 rest_found s l ps ys at ordered within is end =
     rest_kept s l (drop at ps) (ordered_drop at ps ordered) (subst (IsEnd s l) (rest_is (found_by s l) ps ys at within is) end)
 
-pub detected_all : (s : Space) (l : Lateness) (ps ys : List SentPacket) (at : ℕ) → AreOrdered ps → at ≤ length ps → ys ≡ map (found_by s l) (take at ps) ++ drop at ps → IsEnd s l (drop at ys)
+pub detected_all : (s : Space) (l : Thresholds) (ps ys : List SentPacket) (at : ℕ) → AreOrdered ps → at ≤ length ps → ys ≡ map (found_by s l) (take at ps) ++ drop at ps → IsEnd s l (drop at ys)
     → ys ≡ map (found_by s l) ps
 detected_all s l ps ys at ordered within is end =
     is
     ∙ (ap (λ qs. map (found_by s l) (take at ps) ++ qs) (sym (rest_found s l ps ys at ordered within is end))
     ∙ (sym (map-append (found_by s l) (take at ps) (drop at ps)) ∙ ap (map (found_by s l)) (take-append-drop at ps)))
 
-pub detected_losses : (s : Space) (l : Lateness) (d : ℕ) (ps ys : List SentPacket) (at count from : ℕ) → AreOrdered ps → at ≤ length ps
+pub detected_losses : (s : Space) (l : Thresholds) (d : ℕ) (ps ys : List SentPacket) (at count from : ℕ) → AreOrdered ps → at ≤ length ps
     → ys ≡ map (found_by s l) (take at ps) ++ drop at ps → IsEnd s l (drop at ys)
     → NoneOwed ps → NoneFlies s (take (from - d) ps) → count ≡ count_by (λ p. is_owed p.fate) ys
     → AreLosses d ys (record { space = s; count = count; from = from; to = d + at })
@@ -188,7 +183,7 @@ detected_losses s l d ps ys at count from ordered within is end none before is_c
       count = is_count;
       of_space = subst (λ (qs : List SentPacket). AllByRecursion (λ p. is_owed p.fate ≡ true → is_space s p.space ≡ true) qs) (sym all)
           (each_map out (λ p. is_owed p.fate ≡ true → is_space s p.space ≡ true) f
-          (λ p none owed. of_space_if s p (is_flying s p && is_late_by l p) (found_here s l p) none owed) ps none);
+          (λ p none owed. of_space_if s p (is_flying s p && is_past_threshold_by l p) (found_here s l p) none owed) ps none);
       before = subst NoneOwed (sym (ap (take (from - d)) all ∙ (take-map f (from - d) ps ∙ none_found s l (take (from - d) ps) before))) (each_take out ps (from - d) none);
       behind = subst NoneOwed (sym (ap (λ n. drop n ys) place ∙ rest_is f ps ys at within is)) (each_drop out ps at none);
     }

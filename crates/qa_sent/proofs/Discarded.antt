@@ -5,11 +5,11 @@ use Rattle.std.proofs.lemmas.List.{drop_all, length-map}
 use Rattle.std.proofs.lemmas.List.Sums.{sum_by-cons}
 use Rattle.qa_base.specs.declared.space.Space.{Space}
 use Rattle.qa_base.specs.values.Events.{is_space}
-use Rattle.qa_sent.specs.Fates.{flight_bytes_in, is_awaiting, is_flying, is_open, is_owed, is_uncovered, is_waiting}
-use Rattle.qa_sent.specs.Held.{FirstFlies, IsLane, NoneFlies, uncovered_in}
+use Rattle.qa_sent.specs.Fates.{flight_bytes_in, is_awaiting, is_flying, is_open, is_owed, is_unacknowledged, is_waiting}
+use Rattle.qa_sent.specs.Held.{FirstFlies, IsLane, NoneFlies, unacknowledged_in}
 use Rattle.qa_sent.specs.Steps.{discarded_in, with_fate}
 use Rattle.qa_sent.specs.declared.fate.Fate.{Fate}
-use Rattle.qa_sent.specs.declared.fate.Fate.TheVariants.{Open, Owed, DeclaredLost, Covered, Discarded}
+use Rattle.qa_sent.specs.declared.fate.Fate.TheVariants.{Open, Owed, DeclaredLost, Acknowledged, Discarded}
 use Rattle.qa_sent.specs.declared.lane.Lane.{Lane}
 use Rattle.qa_sent.specs.declared.packet.SentPacket.{SentPacket}
 use Rattle.qa_sent.proofs.Alike.{IsAlike, IsSame, alike_if, alike_other, not_other, same_if}
@@ -41,11 +41,11 @@ gone s p = gone_if s p (is_waiting s p) refl
 
 -- ---- one that does not wait adds nothing
 
-open_waits : (f : Fate) → is_open f ≡ true → is_uncovered f ≡ true
+open_waits : (f : Fate) → is_open f ≡ true → is_unacknowledged f ≡ true
 open_waits Open e = refl
 open_waits Owed e = cc
 open_waits DeclaredLost e = cc
-open_waits Covered e = cc
+open_waits Acknowledged e = cc
 open_waits Discarded e = cc
 
 flies_if : (here in_flight opens waits : Bool) → (opens ≡ true → waits ≡ true) → (here && waits) ≡ false → (here && (in_flight && opens)) ≡ false
@@ -55,10 +55,10 @@ flies_if true false opens waits goes out = refl
 flies_if false in_flight opens waits goes out = refl
 
 pub grounded : (s : Space) (p : SentPacket) → is_waiting s p ≡ false → is_flying s p ≡ false
-grounded s p out = flies_if (is_space s p.space) p.in_flight (is_open p.fate) (is_uncovered p.fate) (open_waits p.fate) out
+grounded s p out = flies_if (is_space s p.space) p.in_flight (is_open p.fate) (is_unacknowledged p.fate) (open_waits p.fate) out
 
 not_awaiting : (s : Space) (p : SentPacket) → is_waiting s p ≡ false → is_awaiting s p ≡ false
-not_awaiting s p out = flies_if (is_space s p.space) p.eliciting (is_open p.fate) (is_uncovered p.fate) (open_waits p.fate) out
+not_awaiting s p out = flies_if (is_space s p.space) p.eliciting (is_open p.fate) (is_unacknowledged p.fate) (open_waits p.fate) out
 
 bytes_if : (here flies : Bool) (n : ℕ) → (here && flies) ≡ false → (if here then (if flies then n else 0) else 0) ≡ 0
 bytes_if true true n out = cc
@@ -70,10 +70,10 @@ no_bytes s p out = bytes_if (is_space s p.space) (p.in_flight && is_open p.fate)
 
 -- ---- what becomes of all
 
-no_entries : (s : Space) (place : ℕ) (ps : List SentPacket) → uncovered_in s place (map (discarded_in s) ps) ≡ []
+no_entries : (s : Space) (place : ℕ) (ps : List SentPacket) → unacknowledged_in s place (map (discarded_in s) ps) ≡ []
 no_entries s place [] = refl
 no_entries s place (p ∷ ps) =
-    let rest = uncovered_in s (suc place) (map (discarded_in s) ps) in
+    let rest = unacknowledged_in s (suc place) (map (discarded_in s) ps) in
     ap (λ b. if b then ((discarded_in s p).number, place) ∷ rest else rest) (gone s p) ∙ no_entries s (suc place) ps
 
 no_sum : (weight : SentPacket → ℕ) (s : Space) → ((p : SentPacket) → is_waiting s p ≡ false → weight p ≡ 0) → (ps : List SentPacket) → sum_by weight (map (discarded_in s) ps) ≡ 0
@@ -93,7 +93,7 @@ counts_none : (s : Space) (p : SentPacket) → is_waiting s p ≡ false → ◌�
 counts_none s p out = ap (λ b. cond b 1 0) (not_awaiting s p out)
 
 -- a lane of which all was let go is that of the packets of which none waits
-pub lane_cleared : (s : Space) (d : ℕ) (ps : List SentPacket) (lane : Lane) → lane.uncovered.entries ≡ [] → lane.in_flight ≡ 0 → lane.awaiting ≡ 0 → lane.next ≡ d + length ps
+pub lane_cleared : (s : Space) (d : ℕ) (ps : List SentPacket) (lane : Lane) → lane.unacknowledged.entries ≡ [] → lane.in_flight ≡ 0 → lane.awaiting ≡ 0 → lane.next ≡ d + length ps
     → IsLane s d (map (discarded_in s) ps) lane
 lane_cleared s d ps lane entries in_flight awaiting next =
     let f = discarded_in s in

@@ -7,11 +7,11 @@ use Rattle.qa_base.specs.declared.space.Space.TheVariants.{Initial, Handshake, A
 use Rattle.qa_base.specs.values.Events.{is_space}
 use Rattle.qa_sent.specs.Dropping.{is_first_closed}
 use Rattle.qa_sent.specs.Fates.{flight_bytes_in, is_awaiting, is_closed, is_flying, is_open, is_owed}
-use Rattle.qa_sent.specs.Held.{AreLosses, FirstFlies, Held, IsLane, IsSound, NoneFlies, uncovered_in}
+use Rattle.qa_sent.specs.Held.{AreLosses, FirstFlies, Held, IsLane, IsSound, NoneFlies, unacknowledged_in}
 use Rattle.qa_sent.specs.Owing.{NoneOwed}
 use Rattle.qa_sent.specs.Steps.{closed_count, trimmed}
 use Rattle.qa_sent.specs.declared.lane.Lane.{Lane}
-use Rattle.qa_sent.specs.declared.lane.Lanes.{Lanes}
+use Rattle.qa_base.specs.declared.per_space.PerSpace.{PerSpace}
 use Rattle.qa_sent.specs.declared.packet.SentPacket.{SentPacket}
 use Rattle.qa_sent.specs.declared.packets.Losses.{Losses}
 use Rattle.qa_sent.proofs.Sums.{closed_awaiting, closed_bytes, sum_front}
@@ -55,7 +55,7 @@ first_behind s p ps zero out first = first_rest s p ps out first
 first_behind s p ps (suc far) out first = let e : suc far - 1 ≡ far = omega arith in subst (λ (n : ℕ). FirstFlies s (drop n ps)) (sym e) first
 
 pub lane_dropped : (s : Space) (d dropped : ℕ) (p : SentPacket) (ps : List SentPacket) (before after : Lane) → is_closed p ≡ true → dropped ≡ suc d
-    → IsLane s d (p ∷ ps) before → after.uncovered.entries ≡ uncovered_in s (suc d) ps → after.in_flight ≡ before.in_flight → after.awaiting ≡ before.awaiting → after.next ≡ max before.next dropped
+    → IsLane s d (p ∷ ps) before → after.unacknowledged.entries ≡ unacknowledged_in s (suc d) ps → after.in_flight ≡ before.in_flight → after.awaiting ≡ before.awaiting → after.next ≡ max before.next dropped
     → IsLane s dropped ps after
 lane_dropped s d dropped p ps before after closed place lane entries in_flight awaiting next =
     let far : after.next - dropped ≡ (before.next - d) - 1 = omega (arith, place, next) in
@@ -64,7 +64,7 @@ lane_dropped s d dropped p ps before after closed place lane entries in_flight a
     let more : length (p ∷ ps) ≡ suc (length ps) = refl in
     record {
       indexed = record {
-        entries = entries ∙ ap (λ n. uncovered_in s n ps) (sym place);
+        entries = entries ∙ ap (λ n. unacknowledged_in s n ps) (sym place);
         in_flight = in_flight ∙ (lane.indexed.in_flight ∙ sum_front (flight_bytes_in s) p ps (closed_bytes s p (closed_open p closed)));
         awaiting = awaiting ∙ (lane.indexed.awaiting ∙ sum_front (λ q. cond (is_awaiting s q) 1 0) p ps (closed_awaiting s p (closed_open p closed)));
       };
@@ -103,7 +103,7 @@ pub some_first : (ps : List SentPacket) → is_first_closed ps ≡ true → 0 < 
 some_first [] closed = cc
 some_first (p ∷ ps) closed = omega arith
 
-pub sound_dropped : (d dropped : ℕ) (p : SentPacket) (ps : List SentPacket) (losses : Losses) (lanes after : Lanes) → is_closed p ≡ true → dropped ≡ suc d → IsSound d (p ∷ ps) losses lanes
+pub sound_dropped : (d dropped : ℕ) (p : SentPacket) (ps : List SentPacket) (losses : Losses) (lanes after : PerSpace Lane) → is_closed p ≡ true → dropped ≡ suc d → IsSound d (p ∷ ps) losses lanes
     → IsLane Initial dropped ps after.initial → IsLane Handshake dropped ps after.handshake → IsLane App dropped ps after.app → IsSound dropped ps losses after
 sound_dropped d dropped p ps losses lanes after closed place sound initial handshake app =
     let few = sound.few in

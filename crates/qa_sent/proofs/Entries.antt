@@ -13,8 +13,8 @@ use Rattle.std.proofs.lemmas.Bool.Decides.{nat_tests}
 use Rattle.qa_base.specs.declared.space.Space.{Space}
 use Rattle.qa_base.specs.values.Events.{is_space}
 use Rattle.qa_sent.specs.Covering.{first_between, is_between}
-use Rattle.qa_sent.specs.Fates.{is_uncovered, is_waiting}
-use Rattle.qa_sent.specs.Held.{uncovered_in}
+use Rattle.qa_sent.specs.Fates.{is_unacknowledged, is_waiting}
+use Rattle.qa_sent.specs.Held.{unacknowledged_in}
 use Rattle.qa_sent.specs.Steps.{with_fate}
 use Rattle.qa_sent.specs.declared.fate.Fate.{Fate}
 use Rattle.qa_sent.specs.declared.packet.SentPacket.{SentPacket}
@@ -85,10 +85,10 @@ removed_length n (x ∷ es) e is = elim (cases_Bool (is_between n n x.0)) [
 -- ---- the packet that an entry leads to
 
 pub waits_here : (s : Space) (p : SentPacket) → is_waiting s p ≡ true → is_space s p.space ≡ true
-waits_here s p w = (and_parts (is_space s p.space) (is_uncovered p.fate) w).0
+waits_here s p w = (and_parts (is_space s p.space) (is_unacknowledged p.fate) w).0
 
 -- with a fate of which no entry is kept
-pub not_waiting : (s : Space) (f : Fate) (p : SentPacket) → is_uncovered f ≡ false → is_waiting s (with_fate f p) ≡ false
+pub not_waiting : (s : Space) (f : Fate) (p : SentPacket) → is_unacknowledged f ≡ false → is_waiting s (with_fate f p) ≡ false
 not_waiting s f p out = rw out (elim (is_space s p.space) as (λ b. (b && false) ≡ false) [ true ↦ refl | false ↦ refl ])
 
 -- at this index stands a packet of the space with this number, of which an entry is kept
@@ -96,7 +96,7 @@ pub record IsFound (s : Space) (d n at : ℕ) (ps : List SentPacket) : Type 0 wh
   pub within : at < length ps
   pub waits : (p : SentPacket) → p ≡ get_or ps at p → is_waiting s p ≡ true
   pub number : (p : SentPacket) → p ≡ get_or ps at p → p.number ≡ n
-  pub written : (f : Fate) (p : SentPacket) → is_uncovered f ≡ false → p ≡ get_or ps at p → uncovered_in s d (set ps at (with_fate f p)) ≡ remove_entry (is_at (nat_cmp n)) (uncovered_in s d ps)
+  pub written : (f : Fate) (p : SentPacket) → is_unacknowledged f ≡ false → p ≡ get_or ps at p → unacknowledged_in s d (set ps at (with_fate f p)) ≡ remove_entry (is_at (nat_cmp n)) (unacknowledged_in s d ps)
 
 kept_if : (n d : ℕ) (p : SentPacket) (es fs : List (ℕ × ℕ)) (b : Bool) → (b ≡ true → is_between n n p.number ≡ false) → es ≡ remove_entry (is_at (nat_cmp n)) fs
     → (if b then (p.number, d) ∷ es else es) ≡ remove_entry (is_at (nat_cmp n)) (if b then (p.number, d) ∷ fs else fs)
@@ -108,17 +108,17 @@ behind s d n at x ps other found = record {
   within = omega (arith, found.within);
   waits = λ p is. found.waits p is;
   number = λ p is. found.number p is;
-  written = λ f p out is. kept_if n d x (uncovered_in s (suc d) (set ps at (with_fate f p))) (uncovered_in s (suc d) ps) (is_waiting s x) other (found.written f p out is);
+  written = λ f p out is. kept_if n d x (unacknowledged_in s (suc d) (set ps at (with_fate f p))) (unacknowledged_in s (suc d) ps) (is_waiting s x) other (found.written f p out is);
 }
 
-first_written : (s : Space) (d n : ℕ) (f : Fate) (x p : SentPacket) (ps : List SentPacket) → is_uncovered f ≡ false → is_waiting s x ≡ true → is_between n n x.number ≡ true
-    → uncovered_in s d (with_fate f p ∷ ps) ≡ remove_entry (is_at (nat_cmp n)) (uncovered_in s d (x ∷ ps))
+first_written : (s : Space) (d n : ℕ) (f : Fate) (x p : SentPacket) (ps : List SentPacket) → is_unacknowledged f ≡ false → is_waiting s x ≡ true → is_between n n x.number ≡ true
+    → unacknowledged_in s d (with_fate f p ∷ ps) ≡ remove_entry (is_at (nat_cmp n)) (unacknowledged_in s d (x ∷ ps))
 first_written s d n f x p ps out y k =
-    ap (λ b. if b then (p.number, d) ∷ uncovered_in s (suc d) ps else uncovered_in s (suc d) ps) (not_waiting s f p out)
-    ∙ (sym (removes n (x.number, d) (uncovered_in s (suc d) ps) k)
-    ∙ ap (λ b. remove_entry (is_at (nat_cmp n)) (if b then (x.number, d) ∷ uncovered_in s (suc d) ps else uncovered_in s (suc d) ps)) (sym y))
+    ap (λ b. if b then (p.number, d) ∷ unacknowledged_in s (suc d) ps else unacknowledged_in s (suc d) ps) (not_waiting s f p out)
+    ∙ (sym (removes n (x.number, d) (unacknowledged_in s (suc d) ps) k)
+    ∙ ap (λ b. remove_entry (is_at (nat_cmp n)) (if b then (x.number, d) ∷ unacknowledged_in s (suc d) ps else unacknowledged_in s (suc d) ps)) (sym y))
 
-find_entry : (s : Space) (d n place : ℕ) (ps : List SentPacket) → first_between n n (uncovered_in s d ps) ≡ Some (n, place) → (at : ℕ) × (place ≡ d + at) × IsFound s d n at ps
+find_entry : (s : Space) (d n place : ℕ) (ps : List SentPacket) → first_between n n (unacknowledged_in s d ps) ≡ Some (n, place) → (at : ℕ) × (place ≡ d + at) × IsFound s d n at ps
 find_entry s d n place [] e = cc
 find_entry s d n place (x ∷ ps) e = elim (cases_Bool (is_waiting s x)) [
   | inl y ↦ elim (cases_Bool (is_between n n x.number)) [
@@ -144,7 +144,7 @@ find_entry s d n place (x ∷ ps) e = elim (cases_Bool (is_waiting s x)) [
 ]
 
 -- where an entry leads
-pub found_at : (s : Space) (d n place : ℕ) (ps : List SentPacket) (es : List (ℕ × ℕ)) → es ≡ uncovered_in s d ps → first_between n n es ≡ Some (n, place) → (d ≤ place) × IsFound s d n (place - d) ps
+pub found_at : (s : Space) (d n place : ℕ) (ps : List SentPacket) (es : List (ℕ × ℕ)) → es ≡ unacknowledged_in s d ps → first_between n n es ≡ Some (n, place) → (d ≤ place) × IsFound s d n (place - d) ps
 found_at s d n place ps es is first =
     let f = find_entry s d n place ps (ap (first_between n n) (sym is) ∙ first) in
     let at : f.0 ≡ place - d = omega (arith, f.1) in
@@ -155,11 +155,11 @@ found_here s d n at ps p found is = waits_here s p (found.waits p is)
 
 -- a write that leaves the number, and whether an entry is kept, leaves the entries
 pub same_entries : (s : Space) (d : ℕ) (ps : List SentPacket) (at : ℕ) (p x : SentPacket) → p ≡ get_or ps at p → x.number ≡ p.number → is_waiting s x ≡ is_waiting s p
-    → uncovered_in s d (set ps at x) ≡ uncovered_in s d ps
+    → unacknowledged_in s d (set ps at x) ≡ unacknowledged_in s d ps
 same_entries s d [] at p x is number waits = refl
 same_entries s d (y ∷ ps) zero p x is number waits =
     let same : p ≡ y = is in
-    rw (number, waits) (ap (λ (z : SentPacket). if is_waiting s z then (z.number, d) ∷ uncovered_in s (suc d) ps else uncovered_in s (suc d) ps) same)
+    rw (number, waits) (ap (λ (z : SentPacket). if is_waiting s z then (z.number, d) ∷ unacknowledged_in s (suc d) ps else unacknowledged_in s (suc d) ps) same)
 same_entries s d (y ∷ ps) (suc at) p x is number waits =
     ap (λ es. if is_waiting s y then (y.number, d) ∷ es else es) (same_entries s (suc d) ps at p x is number waits)
 
@@ -179,30 +179,30 @@ push_if m d es fs gs true is = ap (λ xs. (m, d) ∷ xs) is
 push_if m d es fs gs false is = is
 
 -- a packet more, of which an entry is kept
-pub uncovered_push : (s : Space) (d : ℕ) (ps : List SentPacket) (p : SentPacket) → is_waiting s p ≡ true → uncovered_in s d (ps ++ p ∷ []) ≡ uncovered_in s d ps ++ (p.number, d + length ps) ∷ []
-uncovered_push s d [] p waits =
+pub unacknowledged_push : (s : Space) (d : ℕ) (ps : List SentPacket) (p : SentPacket) → is_waiting s p ≡ true → unacknowledged_in s d (ps ++ p ∷ []) ≡ unacknowledged_in s d ps ++ (p.number, d + length ps) ∷ []
+unacknowledged_push s d [] p waits =
     let place : d ≡ d + 0 = omega arith in
     ap (λ b. if b then (p.number, d) ∷ [] else []) waits ∙ ap (λ k. (p.number, k) ∷ []) place
-uncovered_push s d (x ∷ ps) p waits =
-    let rest = uncovered_push s (suc d) ps p waits in
+unacknowledged_push s d (x ∷ ps) p waits =
+    let rest = unacknowledged_push s (suc d) ps p waits in
     let place : suc d + length ps ≡ d + length (x ∷ ps) = omega arith in
-    push_if x.number d (uncovered_in s (suc d) (ps ++ p ∷ [])) (uncovered_in s (suc d) ps) ((p.number, d + length (x ∷ ps)) ∷ []) (is_waiting s x)
-    (rest ∙ ap (λ k. uncovered_in s (suc d) ps ++ (p.number, k) ∷ []) place)
+    push_if x.number d (unacknowledged_in s (suc d) (ps ++ p ∷ [])) (unacknowledged_in s (suc d) ps) ((p.number, d + length (x ∷ ps)) ∷ []) (is_waiting s x)
+    (rest ∙ ap (λ k. unacknowledged_in s (suc d) ps ++ (p.number, k) ∷ []) place)
 
 -- a packet more, of which none is kept
-pub uncovered_push_other : (s : Space) (d : ℕ) (ps : List SentPacket) (p : SentPacket) → is_waiting s p ≡ false → uncovered_in s d (ps ++ p ∷ []) ≡ uncovered_in s d ps
-uncovered_push_other s d [] p out = ap (λ b. if b then (p.number, d) ∷ [] else []) out
-uncovered_push_other s d (x ∷ ps) p out = ap (λ es. if is_waiting s x then (x.number, d) ∷ es else es) (uncovered_push_other s (suc d) ps p out)
+pub unacknowledged_push_other : (s : Space) (d : ℕ) (ps : List SentPacket) (p : SentPacket) → is_waiting s p ≡ false → unacknowledged_in s d (ps ++ p ∷ []) ≡ unacknowledged_in s d ps
+unacknowledged_push_other s d [] p out = ap (λ b. if b then (p.number, d) ∷ [] else []) out
+unacknowledged_push_other s d (x ∷ ps) p out = ap (λ es. if is_waiting s x then (x.number, d) ∷ es else es) (unacknowledged_push_other s (suc d) ps p out)
 
 -- ---- the front of the packets
 
-pub uncovered_rest : (s : Space) (d : ℕ) (p : SentPacket) (ps : List SentPacket) → is_waiting s p ≡ false → uncovered_in s d (p ∷ ps) ≡ uncovered_in s (suc d) ps
+pub uncovered_rest : (s : Space) (d : ℕ) (p : SentPacket) (ps : List SentPacket) → is_waiting s p ≡ false → unacknowledged_in s d (p ∷ ps) ≡ unacknowledged_in s (suc d) ps
 uncovered_rest s d p ps out = rw out refl
 
-pub uncovered_front : (s : Space) (d : ℕ) (p : SentPacket) (ps : List SentPacket) → is_waiting s p ≡ true → remove_entry (is_at (nat_cmp p.number)) (uncovered_in s d (p ∷ ps)) ≡ uncovered_in s (suc d) ps
+pub uncovered_front : (s : Space) (d : ℕ) (p : SentPacket) (ps : List SentPacket) → is_waiting s p ≡ true → remove_entry (is_at (nat_cmp p.number)) (unacknowledged_in s d (p ∷ ps)) ≡ unacknowledged_in s (suc d) ps
 uncovered_front s d p ps waits =
-    ap (λ b. remove_entry (is_at (nat_cmp p.number)) (if b then (p.number, d) ∷ uncovered_in s (suc d) ps else uncovered_in s (suc d) ps)) waits
-    ∙ removes p.number (p.number, d) (uncovered_in s (suc d) ps) (alone p.number)
+    ap (λ b. remove_entry (is_at (nat_cmp p.number)) (if b then (p.number, d) ∷ unacknowledged_in s (suc d) ps else unacknowledged_in s (suc d) ps)) waits
+    ∙ removes p.number (p.number, d) (unacknowledged_in s (suc d) ps) (alone p.number)
 
 -- ---- how many they are
 
@@ -210,6 +210,6 @@ fewer_if : (b : Bool) (e : ℕ × ℕ) (es : List (ℕ × ℕ)) (n : ℕ) → le
 fewer_if true e es n is = omega (arith, is)
 fewer_if false e es n is = omega (arith, is)
 
-pub fewer_entries : (s : Space) (d : ℕ) (ps : List SentPacket) → length (uncovered_in s d ps) ≤ length ps
+pub fewer_entries : (s : Space) (d : ℕ) (ps : List SentPacket) → length (unacknowledged_in s d ps) ≤ length ps
 fewer_entries s d [] = omega arith
-fewer_entries s d (p ∷ ps) = fewer_if (is_waiting s p) (p.number, d) (uncovered_in s (suc d) ps) (length ps) (fewer_entries s (suc d) ps)
+fewer_entries s d (p ∷ ps) = fewer_if (is_waiting s p) (p.number, d) (unacknowledged_in s (suc d) ps) (length ps) (fewer_entries s (suc d) ps)

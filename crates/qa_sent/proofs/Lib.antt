@@ -1,5 +1,5 @@
 pub mod Alike
-pub mod Covered
+pub mod Acknowledged
 pub mod Declared
 pub mod Detected
 pub mod Discarded

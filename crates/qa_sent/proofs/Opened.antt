@@ -11,13 +11,13 @@ use Rattle.std.proofs.lemmas.List.Elements.{filter_agree}
 use Rattle.qa_base.specs.declared.space.Space.{Space}
 use Rattle.qa_base.specs.values.Events.{is_space, is_named}
 use Rattle.qa_sent.specs.Covering.{AreApart, is_between, is_new_in}
-use Rattle.qa_sent.specs.Fates.{is_new, is_open, is_uncovered, is_waiting}
-use Rattle.qa_sent.specs.Held.{AreOrdered, IsBefore, uncovered_in}
+use Rattle.qa_sent.specs.Fates.{is_new, is_open, is_unacknowledged, is_waiting}
+use Rattle.qa_sent.specs.Held.{AreOrdered, IsBefore, unacknowledged_in}
 use Rattle.qa_sent.specs.declared.fate.Fate.{Fate}
-use Rattle.qa_sent.specs.declared.fate.Fate.TheVariants.{Open, Owed, DeclaredLost, Covered, Discarded}
+use Rattle.qa_sent.specs.declared.fate.Fate.TheVariants.{Open, Owed, DeclaredLost, Acknowledged, Discarded}
 use Rattle.qa_sent.specs.declared.packet.SentPacket.{SentPacket}
 use Rattle.qa_sent.proofs.Alike.{space_is}
-use Rattle.qa_sent.proofs.Covered.{named_more}
+use Rattle.qa_sent.proofs.Acknowledged.{named_more}
 use Rattle.qa_sent.proofs.Entries.{same_test, waits_here}
 use Rattle.qa_sent.proofs.Parts.{each_weaker}
 use Rattle.qa_sent.proofs.Pushed.{space_same}
@@ -58,12 +58,12 @@ within_if : (b : Bool) (d m : ℕ) (n : ℕ) (es : List (ℕ × ℕ)) → AreWit
 within_if true d m n es rest = ((omega arith, omega arith), rest)
 within_if false d m n es rest = rest
 
-pub all_within : (s : Space) (d : ℕ) (ps : List SentPacket) → AreWithin d (length ps) (uncovered_in s d ps)
+pub all_within : (s : Space) (d : ℕ) (ps : List SentPacket) → AreWithin d (length ps) (unacknowledged_in s d ps)
 all_within s d [] = tt
 all_within s d (p ∷ ps) =
-    within_if (is_waiting s p) d p.number (length ps) (uncovered_in s (suc d) ps)
+    within_if (is_waiting s p) d p.number (length ps) (unacknowledged_in s (suc d) ps)
     (each_weaker (λ e. (suc d ≤ e.1) × (e.1 < suc d + length ps)) (λ e. (d ≤ e.1) × (e.1 < d + suc (length ps))) (λ e w. let low = w.0 in let high = w.1 in (omega (arith, low), omega (arith, high)))
-    (uncovered_in s (suc d) ps) (all_within s (suc d) ps))
+    (unacknowledged_in s (suc d) ps) (all_within s (suc d) ps))
 
 each_if : (P : ℕ × ℕ → Type 0) (b : Bool) (e : ℕ × ℕ) (es : List (ℕ × ℕ)) → P e → AllByRecursion P es → AllByRecursion P (cond b (e ∷ es) es)
 each_if P true e es here rest = (here, rest)
@@ -76,17 +76,17 @@ each_filter P test (e ∷ es) all = each_if P (test e) e (filter test es) all.0 
 part_is : (lo hi : ℕ) (es : List (ℕ × ℕ)) → entries_between nat_cmp (Included lo) (Included hi) es ≡ filter (λ e. is_between lo hi e.0) es
 part_is lo hi es = filter_agree (λ e. range_contains nat_cmp (Included lo) (Included hi) e.0) (λ e. is_between lo hi e.0) (λ e. same_test lo hi e.0) es
 
-pub part_within : (s : Space) (d lo hi : ℕ) (ps : List SentPacket) → AreWithin d (length ps) (entries_between nat_cmp (Included lo) (Included hi) (uncovered_in s d ps))
-part_within s d lo hi ps = each_filter (λ e. (d ≤ e.1) × (e.1 < d + length ps)) (λ e. range_contains nat_cmp (Included lo) (Included hi) e.0) (uncovered_in s d ps) (all_within s d ps)
+pub part_within : (s : Space) (d lo hi : ℕ) (ps : List SentPacket) → AreWithin d (length ps) (entries_between nat_cmp (Included lo) (Included hi) (unacknowledged_in s d ps))
+part_within s d lo hi ps = each_filter (λ e. (d ≤ e.1) × (e.1 < d + length ps)) (λ e. range_contains nat_cmp (Included lo) (Included hi) e.0) (unacknowledged_in s d ps) (all_within s d ps)
 
 -- ---- they lead to the open packets of the range
 
-open_uncovered : (f : Fate) → is_open f ≡ true → is_uncovered f ≡ true
-open_uncovered Open e = refl
-open_uncovered Owed e = cc
-open_uncovered DeclaredLost e = cc
-open_uncovered Covered e = cc
-open_uncovered Discarded e = cc
+open_unacknowledged : (f : Fate) → is_open f ≡ true → is_unacknowledged f ≡ true
+open_unacknowledged Open e = refl
+open_unacknowledged Owed e = cc
+open_unacknowledged DeclaredLost e = cc
+open_unacknowledged Acknowledged e = cc
+open_unacknowledged Discarded e = cc
 
 and_true : (b : Bool) → (b && true) ≡ b
 and_true true = refl
@@ -96,14 +96,14 @@ and_false : (b : Bool) → (b && false) ≡ false
 and_false true = refl
 and_false false = refl
 
-not_by : (here uncovered open_here within : Bool) → (open_here ≡ true → uncovered ≡ true) → (here && uncovered) ≡ false → (here && open_here && within) ≡ false
+not_by : (here unacknowledged open_here within : Bool) → (open_here ≡ true → unacknowledged ≡ true) → (here && unacknowledged) ≡ false → (here && open_here && within) ≡ false
 not_by true true open_here within waits out = cc
 not_by true false true within waits out = let no' : false ≡ true = waits refl in cc
 not_by true false false within waits out = refl
-not_by false uncovered open_here within waits out = refl
+not_by false unacknowledged open_here within waits out = refl
 
 not_waiting_new : (s : Space) (lo hi : ℕ) (p : SentPacket) → is_waiting s p ≡ false → is_new_in s lo hi p ≡ false
-not_waiting_new s lo hi p out = not_by (is_space s p.space) (is_uncovered p.fate) (is_open p.fate) (is_between lo hi p.number) (open_uncovered p.fate) out
+not_waiting_new s lo hi p out = not_by (is_space s p.space) (is_unacknowledged p.fate) (is_open p.fate) (is_between lo hi p.number) (open_unacknowledged p.fate) out
 
 waiting_new : (s : Space) (lo hi : ℕ) (p : SentPacket) → is_waiting s p ≡ true → is_between lo hi p.number ≡ true → is_new_in s lo hi p ≡ is_open p.fate
 waiting_new s lo hi p waits within = rw (waits_here s p waits, within) (and_true (is_open p.fate))
@@ -133,17 +133,17 @@ step s d lo hi x ps qs es true false waits within rest =
     ∙ (rest ∙ ap (λ b. cond b (x ∷ qs) qs) (sym (outside_new s lo hi x within)))
 step s d lo hi x ps qs es false within waits is rest = rest ∙ ap (λ b. cond b (x ∷ qs) qs) (sym (not_waiting_new s lo hi x waits))
 
-opened_are : (s : Space) (d lo hi : ℕ) (ps : List SentPacket) → opened d ps (filter (λ e. is_between lo hi e.0) (uncovered_in s d ps)) ≡ filter (is_new_in s lo hi) ps
+opened_are : (s : Space) (d lo hi : ℕ) (ps : List SentPacket) → opened d ps (filter (λ e. is_between lo hi e.0) (unacknowledged_in s d ps)) ≡ filter (is_new_in s lo hi) ps
 opened_are s d lo hi [] = refl
 opened_are s d lo hi (x ∷ ps) =
-    let es = uncovered_in s (suc d) ps in
+    let es = unacknowledged_in s (suc d) ps in
     let above : AllByRecursion (λ e. suc d ≤ e.1) (filter (λ e. is_between lo hi e.0) es) =
     each_filter (λ e. suc d ≤ e.1) (λ e. is_between lo hi e.0) es (each_weaker (λ e. (suc d ≤ e.1) × (e.1 < suc d + length ps)) (λ e. suc d ≤ e.1) (λ e w. w.0) es (all_within s (suc d) ps)) in
     step s d lo hi x ps (filter (is_new_in s lo hi) ps) es (is_waiting s x) (is_between lo hi x.number) refl refl
     (shifted d x ps (filter (λ e. is_between lo hi e.0) es) above ∙ opened_are s (suc d) lo hi ps)
 
-pub part_opened : (s : Space) (d lo hi : ℕ) (ps : List SentPacket) → opened d ps (entries_between nat_cmp (Included lo) (Included hi) (uncovered_in s d ps)) ≡ filter (is_new_in s lo hi) ps
-part_opened s d lo hi ps = ap (opened d ps) (part_is lo hi (uncovered_in s d ps)) ∙ opened_are s d lo hi ps
+pub part_opened : (s : Space) (d lo hi : ℕ) (ps : List SentPacket) → opened d ps (entries_between nat_cmp (Included lo) (Included hi) (unacknowledged_in s d ps)) ≡ filter (is_new_in s lo hi) ps
+part_opened s d lo hi ps = ap (opened d ps) (part_is lo hi (unacknowledged_in s d ps)) ∙ opened_are s d lo hi ps
 
 -- ---- range by range
 

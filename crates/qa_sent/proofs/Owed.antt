@@ -9,7 +9,7 @@ use Rattle.std.proofs.lemmas.List.{append-nil}
 use Rattle.std.proofs.lemmas.List.Sums.{sum_by-cons}
 use Rattle.qa_base.specs.declared.space.Space.{Space}
 use Rattle.qa_base.specs.values.Events.{is_space}
-use Rattle.qa_sent.specs.Fates.{is_covered, is_owed, is_owed_in}
+use Rattle.qa_sent.specs.Fates.{is_acknowledged, is_owed, is_owed_in}
 use Rattle.qa_sent.specs.Owing.{IsOwedPart, NoneOwed}
 use Rattle.qa_sent.specs.Walks.{are_apart, earliest, is_end, is_far_from, last_owed, owed_numbers, owed_of}
 use Rattle.qa_sent.specs.declared.packet.SentPacket.{SentPacket}
@@ -43,20 +43,20 @@ last_of_part ps from to part =
 -- ---- one packet after another
 
 -- behind an acknowledged packet no end was met
-pub apart_covered : (limit first : ℕ) (p : SentPacket) (began : Option ℕ) (ps : List SentPacket) → is_covered p.fate ≡ true
+pub apart_covered : (limit first : ℕ) (p : SentPacket) (began : Option ℕ) (ps : List SentPacket) → is_acknowledged p.fate ≡ true
     → are_apart limit first began (p ∷ ps) ≡ are_apart limit first None ps
 apart_covered limit first p began ps covered =
     ap (λ b. if b then are_apart limit first None ps else (if is_end first p then is_far_from limit began p.time || are_apart limit first (Some (earliest began p.time)) ps else are_apart limit first began ps)) covered
 
 -- one that is neither acknowledged nor an end changes nothing
-pub apart_other : (limit first : ℕ) (p : SentPacket) (began : Option ℕ) (ps : List SentPacket) → is_covered p.fate ≡ false → is_end first p ≡ false
+pub apart_other : (limit first : ℕ) (p : SentPacket) (began : Option ℕ) (ps : List SentPacket) → is_acknowledged p.fate ≡ false → is_end first p ≡ false
     → are_apart limit first began (p ∷ ps) ≡ are_apart limit first began ps
 apart_other limit first p began ps covered other =
     ap (λ b. if b then are_apart limit first None ps else (if is_end first p then is_far_from limit began p.time || are_apart limit first (Some (earliest began p.time)) ps else are_apart limit first began ps)) covered
     ∙ ap (λ b. if b then is_far_from limit began p.time || are_apart limit first (Some (earliest began p.time)) ps else are_apart limit first began ps) other
 
 -- an end
-pub apart_end : (limit first : ℕ) (p : SentPacket) (began : Option ℕ) (ps : List SentPacket) → is_covered p.fate ≡ false → is_end first p ≡ true
+pub apart_end : (limit first : ℕ) (p : SentPacket) (began : Option ℕ) (ps : List SentPacket) → is_acknowledged p.fate ≡ false → is_end first p ≡ true
     → are_apart limit first began (p ∷ ps) ≡ (is_far_from limit began p.time || are_apart limit first (Some (earliest began p.time)) ps)
 apart_end limit first p began ps covered end =
     ap (λ b. if b then are_apart limit first None ps else (if is_end first p then is_far_from limit began p.time || are_apart limit first (Some (earliest began p.time)) ps else are_apart limit first began ps)) covered
@@ -68,7 +68,7 @@ not_end : (first : ℕ) (p : SentPacket) → is_owed p.fate ≡ false → is_end
 not_end first p none = ap (λ b. b && (p.eliciting && nat_lt first p.time)) none
 
 apart_if : (limit first : ℕ) (p : SentPacket) (rest : List SentPacket) (b : Bool) → is_end first p ≡ false
-    → are_apart limit first None rest ≡ false → (began : Option ℕ) → are_apart limit first began rest ≡ false → is_covered p.fate ≡ b
+    → are_apart limit first None rest ≡ false → (began : Option ℕ) → are_apart limit first began rest ≡ false → is_acknowledged p.fate ≡ b
     → are_apart limit first began (p ∷ rest) ≡ false
 apart_if limit first p rest true out none began some is = ap (λ b. if b then are_apart limit first None rest else (if is_end first p then is_far_from limit began p.time || are_apart limit first (Some (earliest began p.time)) rest else are_apart limit first began rest)) is ∙ none
 apart_if limit first p rest false out none began some is =
@@ -78,7 +78,7 @@ apart_if limit first p rest false out none began some is =
 apart_none : (limit first : ℕ) (began : Option ℕ) (xs : List SentPacket) → NoneOwed xs → are_apart limit first began xs ≡ false
 apart_none limit first began [] none = refl
 apart_none limit first began (x ∷ xs) none =
-    apart_if limit first x xs (is_covered x.fate) (not_end first x none.0) (apart_none limit first None xs none.1) began (apart_none limit first began xs none.1) refl
+    apart_if limit first x xs (is_acknowledged x.fate) (not_end first x none.0) (apart_none limit first None xs none.1) began (apart_none limit first began xs none.1) refl
 
 same_if : (b : Bool) (x y : Bool) → x ≡ y → (if b then x else x) ≡ y
 same_if true x y is = is
@@ -88,17 +88,17 @@ apart_front : (limit first : ℕ) (xs ys : List SentPacket) → NoneOwed xs → 
 apart_front limit first [] ys none = refl
 apart_front limit first (x ∷ xs) ys none =
     let rest = are_apart limit first None (xs ++ ys) in
-    ap (λ b. if is_covered x.fate then rest else (if b then false || are_apart limit first (Some x.time) (xs ++ ys) else rest)) (not_end first x none.0)
-    ∙ same_if (is_covered x.fate) rest (are_apart limit first None ys) (apart_front limit first xs ys none.1)
+    ap (λ b. if is_acknowledged x.fate then rest else (if b then false || are_apart limit first (Some x.time) (xs ++ ys) else rest)) (not_end first x none.0)
+    ∙ same_if (is_acknowledged x.fate) rest (are_apart limit first None ys) (apart_front limit first xs ys none.1)
 
 apart_rest : (limit first : ℕ) (began : Option ℕ) (xs ys : List SentPacket) → NoneOwed ys → are_apart limit first began (xs ++ ys) ≡ are_apart limit first began xs
 apart_rest limit first began [] ys none = apart_none limit first began ys none
 apart_rest limit first began (x ∷ xs) ys none =
-    ap (λ b. if is_covered x.fate then b else (if is_end first x then is_far_from limit began x.time || are_apart limit first (Some (earliest began x.time)) (xs ++ ys) else are_apart limit first began (xs ++ ys)))
+    ap (λ b. if is_acknowledged x.fate then b else (if is_end first x then is_far_from limit began x.time || are_apart limit first (Some (earliest began x.time)) (xs ++ ys) else are_apart limit first began (xs ++ ys)))
     (apart_rest limit first None xs ys none)
-    ∙ (ap (λ b. if is_covered x.fate then are_apart limit first None xs else (if is_end first x then is_far_from limit began x.time || b else are_apart limit first began (xs ++ ys)))
+    ∙ (ap (λ b. if is_acknowledged x.fate then are_apart limit first None xs else (if is_end first x then is_far_from limit began x.time || b else are_apart limit first began (xs ++ ys)))
     (apart_rest limit first (Some (earliest began x.time)) xs ys none)
-    ∙ ap (λ b. if is_covered x.fate then are_apart limit first None xs else (if is_end first x then is_far_from limit began x.time || are_apart limit first (Some (earliest began x.time)) xs else b))
+    ∙ ap (λ b. if is_acknowledged x.fate then are_apart limit first None xs else (if is_end first x then is_far_from limit began x.time || are_apart limit first (Some (earliest began x.time)) xs else b))
     (apart_rest limit first began xs ys none))
 
 pub apart_of_part : (limit first : ℕ) (ps : List SentPacket) (from to : ℕ) → IsOwedPart from to ps

@@ -6,16 +6,17 @@ use Rattle.qa_base.specs.declared.space.Space.{Space}
 use Rattle.qa_base.specs.declared.space.Space.TheVariants.{Initial, Handshake, App}
 use Rattle.qa_base.specs.values.Events.{is_space}
 use Rattle.qa_base.specs.values.Limits.{max_packet_size}
-use Rattle.qa_sent.specs.Fates.{flight_bytes, flight_bytes_in, is_flying, is_open, is_owed, is_uncovered, is_waiting}
-use Rattle.qa_sent.specs.Held.{AreLosses, AreOrdered, FirstFlies, IsBefore, IsBehind, IsIndexed, IsLane, IsSound, uncovered_in}
-use Rattle.qa_sent.specs.Lanes.{awaiting_count, lane_of, with_lane}
+use Rattle.qa_sent.specs.Fates.{flight_bytes, flight_bytes_in, is_flying, is_open, is_owed, is_unacknowledged, is_waiting}
+use Rattle.qa_sent.specs.Held.{AreLosses, AreOrdered, FirstFlies, IsBefore, IsBehind, IsIndexed, IsLane, IsSound, unacknowledged_in}
+use Rattle.qa_sent.specs.Lanes.{awaiting_count}
+use Rattle.qa_base.specs.values.PerSpace.{of_space, with_space}
 use Rattle.qa_sent.specs.declared.fate.Fate.{Fate}
 use Rattle.qa_sent.specs.declared.fate.Fate.TheVariants.{Open}
 use Rattle.qa_sent.specs.declared.lane.Lane.{Lane}
-use Rattle.qa_sent.specs.declared.lane.Lanes.{Lanes}
+use Rattle.qa_base.specs.declared.per_space.PerSpace.{PerSpace}
 use Rattle.qa_sent.specs.declared.packet.SentPacket.{SentPacket}
 use Rattle.qa_sent.specs.declared.packets.Losses.{Losses}
-use Rattle.qa_sent.proofs.Entries.{uncovered_push, uncovered_push_other, waits_here}
+use Rattle.qa_sent.proofs.Entries.{unacknowledged_push, unacknowledged_push_other, waits_here}
 use Rattle.qa_sent.proofs.Sound.{IsSoundBeside, beside, lane_sound, sound_with}
 use Rattle.qa_sent.proofs.Sums.{awaiting_elsewhere, awaiting_here, awaiting_in, bytes_elsewhere, bytes_here, sum_push, sum_push_none}
 
@@ -63,13 +64,13 @@ below_if : (b : Bool) (d : ℕ) (q p : SentPacket) (es : List (ℕ × ℕ)) → 
 below_if true d q p es here rest = (here refl, rest)
 below_if false d q p es here rest = rest
 
-pub entries_below : (d : ℕ) (ps : List SentPacket) (p : SentPacket) → AllByRecursion (λ q. IsBefore p q) ps → AllByRecursion (λ e. e.0 < p.number) (uncovered_in p.space d ps)
+pub entries_below : (d : ℕ) (ps : List SentPacket) (p : SentPacket) → AllByRecursion (λ q. IsBefore p q) ps → AllByRecursion (λ e. e.0 < p.number) (unacknowledged_in p.space d ps)
 entries_below d [] p before = tt
 entries_below d (q ∷ ps) p before =
-    below_if (is_waiting p.space q) d q p (uncovered_in p.space (suc d) ps) (λ waits. before.0.number (waits_here p.space q waits)) (entries_below (suc d) ps p before.1)
+    below_if (is_waiting p.space q) d q p (unacknowledged_in p.space (suc d) ps) (λ waits. before.0.number (waits_here p.space q waits)) (entries_below (suc d) ps p before.1)
 
 pub indexed_push : (s : Space) (d : ℕ) (ps : List SentPacket) (p : SentPacket) (before after : Lane) (key place : ℕ) → is_space s p.space ≡ true → p.fate ≡ Open → IsIndexed s d ps before
-    → key ≡ p.number → place ≡ d + length ps → after.uncovered.entries ≡ before.uncovered.entries ++ (key, place) ∷ []
+    → key ≡ p.number → place ≡ d + length ps → after.unacknowledged.entries ≡ before.unacknowledged.entries ++ (key, place) ∷ []
     → after.in_flight ≡ before.in_flight + flight_bytes p → after.awaiting ≡ before.awaiting + awaiting_count p
     → IsIndexed s d (ps ++ p ∷ []) after
 indexed_push s d ps p before after key place here is indexed key_is place_is entries more_bytes more_awaiting =
@@ -77,9 +78,9 @@ indexed_push s d ps p before after key place here is indexed key_is place_is ent
     let a = sum_push (awaiting_in s) ps p in let a' = awaiting_here s p here in
     record {
       entries = entries
-          ∙ (ap (λ k. before.uncovered.entries ++ (k, place) ∷ []) key_is
-          ∙ (ap (λ k. before.uncovered.entries ++ (p.number, k) ∷ []) place_is
-          ∙ (ap (λ es. es ++ (p.number, d + length ps) ∷ []) indexed.entries ∙ sym (uncovered_push s d ps p (open_waits s p here is)))));
+          ∙ (ap (λ k. before.unacknowledged.entries ++ (k, place) ∷ []) key_is
+          ∙ (ap (λ k. before.unacknowledged.entries ++ (p.number, k) ∷ []) place_is
+          ∙ (ap (λ es. es ++ (p.number, d + length ps) ∷ []) indexed.entries ∙ sym (unacknowledged_push s d ps p (open_waits s p here is)))));
       in_flight = omega (arith, b, b', more_bytes, indexed.in_flight);
       awaiting = omega (arith, a, a', more_awaiting, indexed.awaiting);
     }
@@ -112,7 +113,7 @@ first_push s (suc n) (x ∷ ps) p within out first = first_push s n ps p (omega 
 
 indexed_elsewhere : (s : Space) (d : ℕ) (ps : List SentPacket) (p : SentPacket) (lane : Lane) → is_space s p.space ≡ false → IsIndexed s d ps lane → IsIndexed s d (ps ++ p ∷ []) lane
 indexed_elsewhere s d ps p lane out indexed = record {
-  entries = indexed.entries ∙ sym (uncovered_push_other s d ps p (off (is_space s p.space) (is_uncovered p.fate) out));
+  entries = indexed.entries ∙ sym (unacknowledged_push_other s d ps p (off (is_space s p.space) (is_unacknowledged p.fate) out));
   in_flight = indexed.in_flight ∙ sym (sum_push_none (flight_bytes_in s) ps p (bytes_elsewhere s p out));
   awaiting = indexed.awaiting ∙ sym (sum_push_none (awaiting_in s) ps p (awaiting_elsewhere s p out));
 }
@@ -157,17 +158,17 @@ beside_push d ps p losses is small before few b =
       few = omega (arith, long, few);
     }
 
-pub sound_push : (d : ℕ) (ps : List SentPacket) (p : SentPacket) (losses : Losses) (lanes : Lanes) (lane : Lane) → p.fate ≡ Open → p.size ≤ max_packet_size
+pub sound_push : (d : ℕ) (ps : List SentPacket) (p : SentPacket) (losses : Losses) (lanes : PerSpace Lane) (lane : Lane) → p.fate ≡ Open → p.size ≤ max_packet_size
     → AllByRecursion (λ q. IsBefore p q) ps → d + length ps < 4294967295 → IsSound d ps losses lanes → IsLane p.space d (ps ++ p ∷ []) lane
-    → IsSound d (ps ++ p ∷ []) losses (with_lane p.space lanes lane)
+    → IsSound d (ps ++ p ∷ []) losses (with_space p.space lanes lane)
 sound_push d ps p losses lanes lane is small before few sound own =
     sound_with d (ps ++ p ∷ []) losses lanes p.space lane (beside_push d ps p losses is small before few (beside d ps losses lanes sound)) own
-    (λ t out. lane_elsewhere t d ps p (lane_of t lanes) out (lane_sound d ps losses lanes sound t))
+    (λ t out. lane_elsewhere t d ps p (of_space t lanes) out (lane_sound d ps losses lanes sound t))
 
 -- where it was out of memory, all is as it was
-pub sound_added : {E : Type 0} (result : Result (Unit {0}) E) (d : ℕ) (ps after : List SentPacket) (p : SentPacket) (losses : Losses) (lanes : Lanes) (lane : Lane) → p.fate ≡ Open
+pub sound_added : {E : Type 0} (result : Result (Unit {0}) E) (d : ℕ) (ps after : List SentPacket) (p : SentPacket) (losses : Losses) (lanes : PerSpace Lane) (lane : Lane) → p.fate ≡ Open
     → p.size ≤ max_packet_size → AllByRecursion (λ q. IsBefore p q) ps → d + length ps < 4294967295 → IsSound d ps losses lanes → OnOk result (after ≡ ps ++ p ∷ []) → OnErr result (after ≡ ps)
-    → IsLane p.space d after lane → IsSound d after losses (with_lane p.space lanes lane)
+    → IsLane p.space d after lane → IsSound d after losses (with_space p.space lanes lane)
 sound_added (Ok _) d ps after p losses lanes lane is small before few sound added same own =
     rw added (sound_push d ps p losses lanes lane is small before few sound (rw added at own))
 sound_added (Err _) d ps after p losses lanes lane is small before few sound added same own =

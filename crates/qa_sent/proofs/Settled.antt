@@ -7,10 +7,10 @@ use Rattle.qa_base.specs.values.Events.{is_space}
 use Rattle.qa_base.specs.values.Limits.{max_packet_size}
 use Rattle.qa_sent.specs.Fates.{is_owed}
 use Rattle.qa_sent.specs.Held.{AreLosses, IsLane, IsSound}
-use Rattle.qa_sent.specs.Lanes.{lane_of, with_lane}
+use Rattle.qa_base.specs.values.PerSpace.{of_space, with_space}
 use Rattle.qa_sent.specs.Owing.{NoneOwed}
 use Rattle.qa_sent.specs.declared.lane.Lane.{Lane}
-use Rattle.qa_sent.specs.declared.lane.Lanes.{Lanes}
+use Rattle.qa_base.specs.declared.per_space.PerSpace.{PerSpace}
 use Rattle.qa_sent.specs.declared.packet.SentPacket.{SentPacket}
 use Rattle.qa_sent.specs.declared.packets.Losses.{Losses}
 use Rattle.qa_sent.proofs.Alike.{IsAlike, IsSame, lane_alike, ordered_same, sizes_same}
@@ -49,10 +49,10 @@ beside_settled d ps losses f each closed none b =
       few = omega (arith, long, few);
     }
 
-pub sound_settled : (d : ℕ) (ps : List SentPacket) (losses : Losses) (lanes : Lanes) (s : Space) (lane : Lane) (f : SentPacket → SentPacket)
+pub sound_settled : (d : ℕ) (ps : List SentPacket) (losses : Losses) (lanes : PerSpace Lane) (s : Space) (lane : Lane) (f : SentPacket → SentPacket)
     → ((p : SentPacket) → IsSame p (f p)) → ((p : SentPacket) → is_owed p.fate ≡ false → is_owed (f p).fate ≡ false)
     → ((t : Space) → is_space t s ≡ false → (p : SentPacket) → IsAlike t p (f p))
-    → NoneOwed ps → IsSound d ps losses lanes → IsLane s d (map f ps) lane → IsSound d (map f ps) losses (with_lane s lanes lane)
+    → NoneOwed ps → IsSound d ps losses lanes → IsLane s d (map f ps) lane → IsSound d (map f ps) losses (with_space s lanes lane)
 sound_settled d ps losses lanes s lane f each closed alike none sound own =
     sound_with d (map f ps) losses lanes s lane (beside_settled d ps losses f each closed none (beside d ps losses lanes sound)) own
-    (λ t out. lane_alike t f (alike t out) d ps (lane_of t lanes) (lane_sound d ps losses lanes sound t))
+    (λ t out. lane_alike t f (alike t out) d ps (of_space t lanes) (lane_sound d ps losses lanes sound t))

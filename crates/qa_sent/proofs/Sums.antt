@@ -9,12 +9,12 @@ use Rattle.std.proofs.lemmas.List.Sums.{sum_by-set, sum_by-cons, sum_by-append}
 use Rattle.qa_base.specs.declared.space.Space.{Space}
 use Rattle.qa_base.specs.values.Events.{is_space}
 use Rattle.qa_base.specs.values.Limits.{max_packet_size}
-use Rattle.qa_sent.specs.Fates.{flight_bytes, flight_bytes_in, is_awaiting, is_open, is_uncovered}
+use Rattle.qa_sent.specs.Fates.{flight_bytes, flight_bytes_in, is_awaiting, is_open, is_unacknowledged}
 use Rattle.qa_sent.specs.Held.{IsIndexed}
 use Rattle.qa_sent.specs.Lanes.{awaiting_count}
 use Rattle.qa_sent.specs.Steps.{with_fate}
 use Rattle.qa_sent.specs.declared.fate.Fate.{Fate}
-use Rattle.qa_sent.specs.declared.fate.Fate.TheVariants.{Open, Owed, DeclaredLost, Covered, Discarded}
+use Rattle.qa_sent.specs.declared.fate.Fate.TheVariants.{Open, Owed, DeclaredLost, Acknowledged, Discarded}
 use Rattle.qa_sent.specs.declared.lane.Lane.{Lane}
 use Rattle.qa_sent.specs.declared.packet.SentPacket.{SentPacket}
 use Rattle.qa_sent.proofs.Entries.{IsFound, found_here}
@@ -111,16 +111,16 @@ taken_off s d ps before after at p f closed indexed within is here less_bytes le
       awaiting = leaves_sum (awaiting_in s) ps at p (with_fate f p) before.awaiting after.awaiting within is (closed_awaiting s (with_fate f p) closed) indexed.awaiting (omega (arith, a, less_awaiting));
     }
 
-open_not : (f : Fate) → is_uncovered f ≡ false → is_open f ≡ false
+open_not : (f : Fate) → is_unacknowledged f ≡ false → is_open f ≡ false
 open_not Open e = cc
 open_not Owed e = refl
 open_not DeclaredLost e = refl
-open_not Covered e = refl
+open_not Acknowledged e = refl
 open_not Discarded e = refl
 
 -- the map and the sums without a packet that an entry leads to, which is written with a fate of which no entry is kept
-pub entry_closed : (s : Space) (d : ℕ) (ps : List SentPacket) (before after : Lane) (n at : ℕ) (p : SentPacket) (f : Fate) → is_uncovered f ≡ false → IsIndexed s d ps before → IsFound s d n at ps → p ≡ get_or ps at p
-    → after.uncovered.entries ≡ remove_entry (is_at (nat_cmp n)) before.uncovered.entries
+pub entry_closed : (s : Space) (d : ℕ) (ps : List SentPacket) (before after : Lane) (n at : ℕ) (p : SentPacket) (f : Fate) → is_unacknowledged f ≡ false → IsIndexed s d ps before → IsFound s d n at ps → p ≡ get_or ps at p
+    → after.unacknowledged.entries ≡ remove_entry (is_at (nat_cmp n)) before.unacknowledged.entries
     → after.in_flight + flight_bytes p ≡ before.in_flight → after.awaiting + awaiting_count p ≡ before.awaiting
     → IsIndexed s d (set ps at (with_fate f p)) after
 entry_closed s d ps before after n at p f out indexed found is entries less_bytes less_awaiting =

@@ -8,9 +8,10 @@ use Rattle.qa_base.specs.declared.space.Space.{Space}
 use Rattle.qa_base.specs.declared.space.Space.TheVariants.{Initial, Handshake, App}
 use Rattle.qa_base.specs.values.Events.{is_space}
 use Rattle.qa_base.specs.values.Limits.{max_packet_size}
-use Rattle.qa_sent.specs.Fates.{flight_bytes, flight_bytes_in, is_flying, is_open, is_uncovered}
-use Rattle.qa_sent.specs.Held.{FirstFlies, IsSound, NoneFlies, uncovered_in}
-use Rattle.qa_sent.specs.declared.lane.Lanes.{Lanes}
+use Rattle.qa_sent.specs.Fates.{flight_bytes, flight_bytes_in, is_flying, is_open, is_unacknowledged}
+use Rattle.qa_sent.specs.Held.{FirstFlies, IsSound, NoneFlies, unacknowledged_in}
+use Rattle.qa_base.specs.declared.per_space.PerSpace.{PerSpace}
+use Rattle.qa_sent.specs.declared.lane.Lane.{Lane}
 use Rattle.qa_sent.specs.declared.packet.SentPacket.{SentPacket}
 use Rattle.qa_sent.specs.declared.packets.Losses.{Losses}
 
@@ -45,11 +46,11 @@ bytes_bounded (p ∷ ps) small =
     omega (arith, all, here, rest)
 
 -- what the lanes add up to
-pub record IsTotal (d : ℕ) (ps : List SentPacket) (lanes : Lanes) : Type 0 where
+pub record IsTotal (d : ℕ) (ps : List SentPacket) (lanes : PerSpace Lane) : Type 0 where
   pub sum : (lanes.initial.in_flight + lanes.handshake.in_flight) + lanes.app.in_flight ≡ sum_by flight_bytes ps
   pub bound : sum_by flight_bytes ps ≤ 4294967295 * max_packet_size
 
-pub total : (d : ℕ) (ps : List SentPacket) (losses : Losses) (lanes : Lanes) → IsSound d ps losses lanes → IsTotal d ps lanes
+pub total : (d : ℕ) (ps : List SentPacket) (losses : Losses) (lanes : PerSpace Lane) → IsSound d ps losses lanes → IsTotal d ps lanes
 total d ps losses lanes sound =
     let spaces = bytes_by_space ps in
     let i = sound.initial.indexed.in_flight in
@@ -126,14 +127,14 @@ entry_of Handshake false e i h a n few = omega (arith, few)
 entry_of App false e i h a n few = omega (arith, few)
 
 -- a packet has one entry at most
-entries_fewer : (d : ℕ) (ps : List SentPacket) → (length (uncovered_in Initial d ps) + length (uncovered_in Handshake d ps)) + length (uncovered_in App d ps) ≤ length ps
+entries_fewer : (d : ℕ) (ps : List SentPacket) → (length (unacknowledged_in Initial d ps) + length (unacknowledged_in Handshake d ps)) + length (unacknowledged_in App d ps) ≤ length ps
 entries_fewer d [] = omega arith
 entries_fewer d (p ∷ ps) =
-    entry_of p.space (is_uncovered p.fate) (p.number, d) (uncovered_in Initial (suc d) ps) (uncovered_in Handshake (suc d) ps) (uncovered_in App (suc d) ps) (length ps) (entries_fewer (suc d) ps)
+    entry_of p.space (is_unacknowledged p.fate) (p.number, d) (unacknowledged_in Initial (suc d) ps) (unacknowledged_in Handshake (suc d) ps) (unacknowledged_in App (suc d) ps) (length ps) (entries_fewer (suc d) ps)
 
 -- what the lengths of the maps add up to
-pub entries_kept : (d : ℕ) (ps : List SentPacket) (losses : Losses) (lanes : Lanes) → IsSound d ps losses lanes
-    → (length lanes.initial.uncovered.entries + length lanes.handshake.uncovered.entries) + length lanes.app.uncovered.entries ≤ length ps
+pub entries_kept : (d : ℕ) (ps : List SentPacket) (losses : Losses) (lanes : PerSpace Lane) → IsSound d ps losses lanes
+    → (length lanes.initial.unacknowledged.entries + length lanes.handshake.unacknowledged.entries) + length lanes.app.unacknowledged.entries ≤ length ps
 entries_kept d ps losses lanes sound =
     let fewer = entries_fewer d ps in
     let i = ap length sound.initial.indexed.entries in

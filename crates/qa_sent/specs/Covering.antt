@@ -1,10 +1,10 @@
--- An acknowledgment of the numbers of one range, by which those of all its ranges are covered.
+-- An acknowledgment of the numbers of one range, by which those of all its ranges are acknowledged.
 use Rattle.std.specs.Prelude.{ℕ, ◌&&◌, nat_le, Bool, List, [], ◌∷◌, Option, Some, None, if◌then◌else◌, ◌<◌}
 use Rattle.qa_base.specs.declared.space.Space.{Space}
 use Rattle.qa_base.specs.values.Events.{is_space}
 use Rattle.qa_sent.specs.Fates.{is_open, is_waiting}
 use Rattle.qa_sent.specs.Steps.{with_fate}
-use Rattle.qa_sent.specs.declared.fate.Fate.TheVariants.{Covered}
+use Rattle.qa_sent.specs.declared.fate.Fate.TheVariants.{Acknowledged}
 use Rattle.qa_sent.specs.declared.packet.SentPacket.{SentPacket}
 
 abbrev pub is_between : ℕ → ℕ → ℕ → Bool
@@ -16,7 +16,7 @@ first_between lo hi [] = None
 first_between lo hi (e ∷ es) = if is_between lo hi e.0 then Some e else first_between lo hi es
 
 abbrev pub covered_in : Space → ℕ → ℕ → SentPacket → SentPacket
-covered_in s lo hi p = if is_waiting s p && is_between lo hi p.number then with_fate Covered p else p
+covered_in s lo hi p = if is_waiting s p && is_between lo hi p.number then with_fate Acknowledged p else p
 
 -- open, of the space and from lo to hi
 abbrev pub is_new_in : Space → ℕ → ℕ → SentPacket → Bool

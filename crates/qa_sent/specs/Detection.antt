@@ -2,19 +2,19 @@
 use Rattle.std.specs.Prelude.{◌≡◌, ◌<◌, ℕ, true, false, List, [], ◌∷◌, length, slice_index_or, if◌then◌else◌}
 use Rattle.qa_base.specs.declared.space.Space.{Space}
 use Rattle.qa_sent.specs.Fates.{is_flying}
-use Rattle.qa_sent.specs.Steps.{Lateness, is_late_by, with_fate}
+use Rattle.qa_sent.specs.Steps.{Thresholds, is_past_threshold_by, with_fate}
 use Rattle.qa_sent.specs.declared.fate.Fate.TheVariants.{Owed}
 use Rattle.qa_sent.specs.declared.packet.SentPacket.{SentPacket}
 
--- at this index stands a packet that it passes: it does not fly, or it is late
-pub record IsPassed (s : Space) (l : Lateness) (at : ℕ) (ps : List SentPacket) : Type 0 where
+-- at this index stands a packet that it passes: it does not fly, or it is past a threshold
+pub record IsPassed (s : Space) (l : Thresholds) (at : ℕ) (ps : List SentPacket) : Type 0 where
   pub within : at < length ps
-  pub late : (p : SentPacket) → p ≡ slice_index_or ps at p → is_flying s p ≡ true → is_late_by l p ≡ true
+  pub late : (p : SentPacket) → p ≡ slice_index_or ps at p → is_flying s p ≡ true → is_past_threshold_by l p ≡ true
 
--- it ends before these: the first of them flies and is not late, or there is none
-abbrev pub IsEnd : Space → Lateness → List SentPacket → Type 0
+-- it ends before these: the first of them flies and is past no threshold, or there is none
+abbrev pub IsEnd : Space → Thresholds → List SentPacket → Type 0
 IsEnd s l [] = Unit {0}
-IsEnd s l (p ∷ ps) = (is_flying s p ≡ true) × (is_late_by l p ≡ false)
+IsEnd s l (p ∷ ps) = (is_flying s p ≡ true) × (is_past_threshold_by l p ≡ false)
 
 -- a packet that it passes, if it flies, is found lost
 abbrev pub lost_in : Space → SentPacket → SentPacket

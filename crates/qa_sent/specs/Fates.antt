@@ -3,7 +3,7 @@ use Rattle.std.specs.Prelude.{ℕ, ◌&&◌, not, Bool, true, false, List, if◌
 use Rattle.qa_base.specs.declared.space.Space.{Space}
 use Rattle.qa_base.specs.values.Events.{is_space, is_named}
 use Rattle.qa_sent.specs.declared.fate.Fate.{Fate}
-use Rattle.qa_sent.specs.declared.fate.Fate.TheVariants.{Open, Owed, Covered, Discarded}
+use Rattle.qa_sent.specs.declared.fate.Fate.TheVariants.{Open, Owed, Acknowledged, Discarded}
 use Rattle.qa_sent.specs.declared.packet.SentPacket.{SentPacket}
 
 abbrev pub is_open : Fate → Bool
@@ -14,15 +14,15 @@ abbrev pub is_owed : Fate → Bool
 is_owed Owed = true
 is_owed f = false
 
-abbrev pub is_covered : Fate → Bool
-is_covered Covered = true
-is_covered f = false
+abbrev pub is_acknowledged : Fate → Bool
+is_acknowledged Acknowledged = true
+is_acknowledged f = false
 
 -- neither acknowledged nor of a space that was discarded
-abbrev pub is_uncovered : Fate → Bool
-is_uncovered Covered = false
-is_uncovered Discarded = false
-is_uncovered f = true
+abbrev pub is_unacknowledged : Fate → Bool
+is_unacknowledged Acknowledged = false
+is_unacknowledged Discarded = false
+is_unacknowledged f = true
 
 -- neither open nor owed
 abbrev pub is_closed : SentPacket → Bool
@@ -30,7 +30,7 @@ is_closed p = not (is_open p.fate) && not (is_owed p.fate)
 
 -- of the space, and an acknowledgment would still cover it
 abbrev pub is_waiting : Space → SentPacket → Bool
-is_waiting s p = is_space s p.space && is_uncovered p.fate
+is_waiting s p = is_space s p.space && is_unacknowledged p.fate
 
 -- of the space, open and in flight
 abbrev pub is_flying : Space → SentPacket → Bool

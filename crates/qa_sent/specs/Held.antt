@@ -4,10 +4,10 @@ use Rattle.std.specs.List.{AllByRecursion}
 use Rattle.qa_base.specs.declared.space.Space.{Space}
 use Rattle.qa_base.specs.declared.space.Space.TheVariants.{Initial, Handshake, App}
 use Rattle.qa_base.specs.values.Events.{is_space}
-use Rattle.qa_base.specs.values.Limits.{max_packet_size}
+use Rattle.qa_base.specs.values.Limits.{max_lines, max_packet_size}
 use Rattle.qa_sent.specs.Fates.{flight_bytes_in, is_awaiting, is_flying, is_owed, is_waiting}
 use Rattle.qa_sent.specs.declared.lane.Lane.{Lane}
-use Rattle.qa_sent.specs.declared.lane.Lanes.{Lanes}
+use Rattle.qa_base.specs.declared.per_space.PerSpace.{PerSpace}
 use Rattle.qa_sent.specs.declared.packet.SentPacket.{SentPacket}
 use Rattle.qa_sent.specs.declared.packets.Losses.{Losses}
 
@@ -31,9 +31,9 @@ AreOrdered (q ∷ ps) = AllByRecursion (λ p. IsBefore p q) ps × AreOrdered ps
 -- ---- beside them for a space
 
 -- the numbers of the waiting packets with their places, of which the first is the given one
-abbrev pub uncovered_in : Space → ℕ → List SentPacket → List (ℕ × ℕ)
-uncovered_in s place [] = []
-uncovered_in s place (p ∷ ps) = if is_waiting s p then (p.number, place) ∷ uncovered_in s (suc place) ps else uncovered_in s (suc place) ps
+abbrev pub unacknowledged_in : Space → ℕ → List SentPacket → List (ℕ × ℕ)
+unacknowledged_in s place [] = []
+unacknowledged_in s place (p ∷ ps) = if is_waiting s p then (p.number, place) ∷ unacknowledged_in s (suc place) ps else unacknowledged_in s (suc place) ps
 
 -- none of these is of the space, open and in flight
 abbrev pub NoneFlies : Space → List SentPacket → Type 0
@@ -46,7 +46,7 @@ FirstFlies s (p ∷ ps) = (is_flying s p ≡ true) ⊎ NoneFlies s (p ∷ ps)
 
 -- the map and the sums of a space are those of the packets, of which the first has this place
 pub record IsIndexed (s : Space) (dropped : ℕ) (packets : List SentPacket) (lane : Lane) : Type 0 where
-  pub entries : lane.uncovered.entries ≡ uncovered_in s dropped packets
+  pub entries : lane.unacknowledged.entries ≡ unacknowledged_in s dropped packets
   pub in_flight : lane.in_flight ≡ sum_by (flight_bytes_in s) packets
   pub awaiting : lane.awaiting ≡ count_by (is_awaiting s) packets
 
@@ -73,11 +73,11 @@ pub record AreLosses (dropped : ℕ) (packets : List SentPacket) (losses : Losse
 
 -- ---- all of it
 
-pub record IsSound (dropped : ℕ) (packets : List SentPacket) (losses : Losses) (lanes : Lanes) : Type 0 where
+pub record IsSound (dropped : ℕ) (packets : List SentPacket) (losses : Losses) (lanes : PerSpace Lane) : Type 0 where
   pub initial : IsLane Initial dropped packets lanes.initial
   pub handshake : IsLane Handshake dropped packets lanes.handshake
   pub app : IsLane App dropped packets lanes.app
   pub owed : AreLosses dropped packets losses
   pub ordered : AreOrdered packets
   pub sizes : AllByRecursion (λ (p : SentPacket). p.size ≤ max_packet_size) packets
-  pub few : dropped + length packets ≤ 4294967295
+  pub few : dropped + length packets ≤ max_lines

@@ -8,5 +8,4 @@ pub mod Walks
 pub mod Told
 pub mod Lanes
 pub mod Covering
-pub mod Lending
 pub mod Naming

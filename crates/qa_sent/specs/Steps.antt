@@ -2,14 +2,14 @@
 use Rattle.std.specs.Prelude.{ℕ, ◌+◌, ◌&&◌, Bool, List, drop, length, take_while, Option, if◌then◌else◌}
 use Rattle.qa_base.specs.declared.space.Space.{Space}
 use Rattle.qa_base.specs.declared.space.Leave.TheVariants.{Window}
-use Rattle.qa_base.specs.machine.Detection.{is_late}
+use Rattle.qa_base.specs.machine.Detection.{is_past_threshold}
 use Rattle.qa_base.specs.machine.Packets.{Packet}
 use Rattle.qa_base.specs.machine.Rtt.{Estimate}
 use Rattle.qa_base.specs.values.Events.{is_named}
 use Rattle.qa_sent.specs.Fates.{is_closed, is_flying, is_owed, is_waiting}
 use Rattle.qa_sent.specs.Held.{Held}
 use Rattle.qa_sent.specs.declared.fate.Fate.{Fate}
-use Rattle.qa_sent.specs.declared.fate.Fate.TheVariants.{Covered, DeclaredLost, Discarded, Owed}
+use Rattle.qa_sent.specs.declared.fate.Fate.TheVariants.{Acknowledged, DeclaredLost, Discarded, Owed}
 use Rattle.qa_sent.specs.declared.packet.SentPacket.{SentPacket}
 
 -- the packet with this fate
@@ -26,12 +26,12 @@ with_fate f p = record {
 
 -- an acknowledgment of these ranges in the space (RFC 9002, A.7)
 abbrev pub covered_by : Space → List (ℕ × ℕ) → SentPacket → SentPacket
-covered_by s ranges p = if is_waiting s p && is_named ranges p.number then with_fate Covered p else p
+covered_by s ranges p = if is_waiting s p && is_named ranges p.number then with_fate Acknowledged p else p
 
 -- ---- detection (RFC 9002, A.10)
 
--- by what a detection tells which packets are late: the estimate, its time and the largest acknowledged number of its space
-pub record Lateness : Type 0 where
+-- by what a detection tells which packets are past a threshold: the estimate, its time and the largest acknowledged number of its space
+pub record Thresholds : Type 0 where
   pub rtt : Estimate
   pub now : ℕ
   pub largest : Option ℕ
@@ -49,12 +49,12 @@ packet_at p = record {
   leave = Window;
 }
 
-abbrev pub is_late_by : Lateness → SentPacket → Bool
-is_late_by l p = is_late l.rtt l.now l.largest (packet_at p)
+abbrev pub is_past_threshold_by : Thresholds → SentPacket → Bool
+is_past_threshold_by l p = is_past_threshold l.rtt l.now l.largest (packet_at p)
 
--- a detection in the space finds the late ones of those that are open and in flight
-abbrev pub found_by : Space → Lateness → SentPacket → SentPacket
-found_by s l p = if is_flying s p && is_late_by l p then with_fate Owed p else p
+-- a detection in the space finds those past a threshold of the packets that are open and in flight
+abbrev pub found_by : Space → Thresholds → SentPacket → SentPacket
+found_by s l p = if is_flying s p && is_past_threshold_by l p then with_fate Owed p else p
 
 -- a Lost line declares what is owed
 abbrev pub declared : SentPacket → SentPacket

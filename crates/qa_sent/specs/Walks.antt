@@ -1,6 +1,6 @@
 -- What is asked of all packets that are kept, in the order of sending.
 use Rattle.std.specs.Prelude.{ℕ, ◌-◌, ◌&&◌, ◌||◌, nat_lt, Bool, false, List, [], ◌∷◌, filter, map, Option, Some, None, if◌then◌else◌}
-use Rattle.qa_sent.specs.Fates.{is_covered, is_owed}
+use Rattle.qa_sent.specs.Fates.{is_acknowledged, is_owed}
 use Rattle.qa_sent.specs.declared.packet.SentPacket.{SentPacket}
 
 -- the packets that are owed
@@ -36,6 +36,6 @@ earliest (Some began) t = began
 abbrev pub are_apart : ℕ → ℕ → Option ℕ → List SentPacket → Bool
 are_apart limit first began [] = false
 are_apart limit first began (p ∷ ps) =
-    if is_covered p.fate then are_apart limit first None ps else
+    if is_acknowledged p.fate then are_apart limit first None ps else
     (if is_end first p then is_far_from limit began p.time || are_apart limit first (Some (earliest began p.time)) ps else
     are_apart limit first began ps)

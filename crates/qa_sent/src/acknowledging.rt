@@ -6,31 +6,12 @@ ghost use Rattle.qa_sent.specs.Held.{AreOrdered, IsIndexed};
 
 use crate::lane::Lane;
 use crate::packet::SentPacket;
-use crate::packets::SentPackets;
 use qa_base::{Space, Span};
 use std::alloc::{AllocError, Global};
 use std::collections::VecDeque;
 
-impl SentPackets {
-    /// The packets of a space that are open and that some span names, in the order of sending, which
-    /// is that of their numbers. Each span begins above the end of the one before it. It visits the
-    /// packets alone that stand in a span and are not covered. `AllocError` comes where it is out of
-    /// memory.
-    pub fn newly_acknowledged(
-        &self,
-        space: Space,
-        spans: &[Span],
-    ) -> Result<Vec<SentPacket>, AllocError>
-        requires apart { AreApart spans.now }
-        ensures { IfOk result (λ found. found.items ≡ filter (is_new space spans.now) self.now.packets) }
-    {
-        let lane = self.lanes.of(space);
-        new_in_spans(self.alloc, &self.packets, self.dropped, lane, space, spans)
-    }
-}
-
 /// The open packets of a space that some span names, by the lane of the space.
-fn new_in_spans(
+pub(crate) fn new_in_spans(
     alloc: Global,
     packets: &VecDeque<SentPacket>,
     dropped: u64,
@@ -41,7 +22,8 @@ fn new_in_spans(
     requires apart { AreApart spans.now }
     requires indexed { IsIndexed space dropped packets.now.items lane.now }
     requires ordered { AreOrdered packets.now.items }
-    ensures { IfOk result (λ found. found.items ≡ filter (is_new space spans.now) packets.now.items) }
+    ensures { IfOk result (λ found. found.items
+        ≡ filter (is_new space spans.now) packets.now.items) }
 {
     let mut found = Vec::new(alloc);
     for span in spans {
@@ -51,7 +33,7 @@ fn new_in_spans(
 }
 
 /// Adds the open packets whose numbers are in the span, by the lane of the space.
-fn push_span(
+pub(crate) fn push_span(
     found: &mut Vec<SentPacket>,
     packets: &VecDeque<SentPacket>,
     dropped: u64,
@@ -61,19 +43,21 @@ fn push_span(
 ) -> Result<(), AllocError>
     requires indexed { IsIndexed space dropped packets.now.items lane.now }
     ensures order { span.0 ≤ span.1 }
-    ensures found { OnOk result (found.new.items ≡ found.old.items ++ filter (is_new_in space span.0 span.1) packets.now.items) }
+    ensures found { OnOk result (found.new.items
+        ≡ found.old.items ++ filter (is_new_in space span.0 span.1) packets.now.items) }
 {
     let lo = span.lo().get();
     let hi = span.hi().get();
-    for (_, place) in lane.uncovered.range(lo..=hi) {
+    for (_, place) in lane.unacknowledged.range(lo..=hi) {
         push_open(found, &packets[(*place - dropped) as usize])?;
     }
     Ok(())
 }
 
 /// Adds the packet, if it is open.
-fn push_open(found: &mut Vec<SentPacket>, packet: &SentPacket) -> Result<(), AllocError>
-    ensures { OnOk result (found.new.items ≡ found.old.items ++ filter (λ p. is_open p.fate) (packet.now ∷ [])) }
+pub(crate) fn push_open(found: &mut Vec<SentPacket>, packet: &SentPacket) -> Result<(), AllocError>
+    ensures { OnOk result (found.new.items
+        ≡ found.old.items ++ filter (λ p. is_open p.fate) (packet.now ∷ [])) }
 {
     if packet.is_open() {
         found.push(*packet)?;

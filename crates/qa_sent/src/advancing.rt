@@ -1,6 +1,7 @@
 //! Where the first packet of a space stands that is open and in flight.
 ghost use Rattle.std.specs.Prelude.{◌≡◌, ◌≤◌, ◌<◌, ◌+◌, true, false, drop, length, take};
 ghost use Rattle.qa_sent.specs.Held.{FirstFlies, IsBehind, IsIndexed, IsLane, NoneFlies};
+ghost use Rattle.qa_base.specs.values.Limits.{max_lines};
 
 use crate::lane::Lane;
 use crate::packet::SentPacket;
@@ -12,7 +13,8 @@ use std::collections::VecDeque;
 fn ends_at(packets: &VecDeque<SentPacket>, space: Space, at: usize) -> bool
     ensures ends { result ≡ true → FirstFlies space (drop at packets.now.items) }
     ensures within { result ≡ false → at < length packets.now.items }
-    ensures passes { result ≡ false → NoneFlies space (take at packets.now.items) → NoneFlies space (take (at + 1) packets.now.items) }
+    ensures passes { result ≡ false → NoneFlies space (take at packets.now.items)
+        → NoneFlies space (take (at + 1) packets.now.items) }
 {
     match packets.get(at) {
         None => true,
@@ -23,7 +25,7 @@ fn ends_at(packets: &VecDeque<SentPacket>, space: Space, at: usize) -> bool
 /// Raises the lane's `next` until the packet there flies or there is none. Each place is passed once
 /// in the life of a lane, since `next` never falls.
 pub(crate) fn advance(packets: &VecDeque<SentPacket>, dropped: u64, lane: &mut Lane, space: Space)
-    requires few { dropped + length packets.now.items ≤ 4294967295 }
+    requires few { dropped + length packets.now.items ≤ max_lines }
     requires indexed { IsIndexed space dropped packets.now.items lane.old }
     requires behind { IsBehind space dropped packets.now.items lane.old.next }
     ensures { IsLane space dropped packets.now.items lane.new }

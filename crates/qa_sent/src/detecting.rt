@@ -1,31 +1,31 @@
 //! Detection of losses (RFC 9002, section 6.1, A.10): a walk along the packets of a space.
 ghost use Rattle.std.specs.Prelude.{◌≡◌, ◌≤◌, ◌<◌, ◌+◌, ◌-◌, ℕ, false, true, count_by, drop, length, map, nat_le, slice_index_or, slice_set};
-ghost use Rattle.std.specs.List.{AllByRecursion};
 ghost use Rattle.qa_base.specs.machine.Detection.{is_old};
 ghost use Rattle.qa_base.specs.values.Constants.{packet_threshold};
 ghost use Rattle.qa_sent.specs.Detection.{IsEnd, IsPassed, lost_in};
 ghost use Rattle.qa_sent.specs.Fates.{is_owed};
 ghost use Rattle.qa_sent.specs.Held.{AreLosses, AreOrdered, IsIndexed, IsLane};
 ghost use Rattle.qa_sent.specs.Owing.{NoneOwed};
-ghost use Rattle.qa_sent.specs.Steps.{found_by, is_late_by, packet_at};
+ghost use Rattle.qa_sent.specs.Steps.{found_by, is_past_threshold_by, packet_at};
 ghost use Rattle.qa_sent.specs.declared.packet.SentPacket.{SentPacket};
+ghost use Rattle.qa_base.specs.values.Limits.{max_lines};
 
 use crate::fate::Fate;
 use crate::lane::Lane;
 use crate::packet::SentPacket;
-use crate::packets::{Losses, SentPackets};
+use crate::packets::Losses;
 use qa_base::constants::PACKET_THRESHOLD;
 use qa_base::{Micros, PacketNumber, Space};
 use qa_recovery::Rtt;
 use std::collections::VecDeque;
 use std::marker::Model;
 
-// The clauses below write `.entry.now` for what a reference to a `Lateness` points to, since `.now`
+// The clauses below write `.entry.now` for what a reference to a `Thresholds` points to, since `.now`
 // alone is its field.
 
-/// By what a detection tells which packets are late.
+/// By what a detection tells which packets are past a threshold.
 #[derive(Clone, Copy)]
-pub struct Lateness {
+pub struct Thresholds {
     /// The estimate of the round-trip time.
     pub rtt: Rtt,
     /// The time of the detection.
@@ -34,21 +34,21 @@ pub struct Lateness {
     pub largest: Option<PacketNumber>,
 }
 
-impl Model for Lateness {
+impl Model for Thresholds {
     ghost use Rattle.qa_sent.specs.Steps as steps;
 
-    ghost Value = { steps.Lateness };
+    ghost Value = { steps.Thresholds };
 
     ghost view = { λ l. record { rtt = l.rtt; now = l.now; largest = l.largest } };
 
     ghost inverse = { λ l. record { rtt = l.rtt; now = l.now; largest = l.largest } };
 }
 
-impl Lateness {
+impl Thresholds {
     /// Whether the packet is below the largest acknowledged number, by the packet threshold or for
     /// long enough (RFC 9002, sections 6.1.1 and 6.1.2).
-    fn is_late(&self, packet: &SentPacket) -> bool
-        ensures { result ≡ is_late_by self.entry.now packet.now }
+    fn is_past_threshold(&self, packet: &SentPacket) -> bool
+        ensures { result ≡ is_past_threshold_by self.entry.now packet.now }
     {
         match self.largest {
             None => false,
@@ -70,48 +70,34 @@ impl Lateness {
 }
 
 /// Whether a number lies below the largest acknowledged one by the packet threshold or more.
-fn is_far_below(number: u64, largest: u64) -> bool
+pub(crate) fn is_far_below(number: u64, largest: u64) -> bool
     requires { number ≤ largest }
     ensures { result ≡ nat_le packet_threshold (largest - number) }
 {
     PACKET_THRESHOLD <= largest - number
 }
 
-impl SentPackets {
-    /// Looks for losses in a space: the packets in flight that are late are owed from now on.
-    /// Nothing may be owed before.
-    ///
-    /// It walks from the first packet of the space in flight, and ends at the first that is in
-    /// flight and not late: since a space's numbers and times rise, none behind it is late.
-    pub fn detect(&mut self, space: Space, lateness: &Lateness)
-        requires settled { AllByRecursion (λ p. is_owed p.fate ≡ false) self.old.packets }
-        ensures { self.new ≡ record { dropped = self.old.dropped; packets = map (found_by space lateness.entry.now) self.old.packets } }
-    {
-        let lane = self.lanes.of_mut(space);
-        self.losses = detect_in_lane(&mut self.packets, self.dropped, lane, space, lateness);
-    }
-}
-
 /// Looks for losses in the space of the lane, and raises its `next` to where the walk ends.
-fn detect_in_lane(
+pub(crate) fn detect_in_lane(
     packets: &mut VecDeque<SentPacket>,
     dropped: u64,
     lane: &mut Lane,
     space: Space,
-    lateness: &Lateness,
+    thresholds: &Thresholds,
 ) -> Losses
-    requires few { dropped + length packets.old.items ≤ 4294967295 }
+    requires few { dropped + length packets.old.items ≤ max_lines }
     requires lane { IsLane space dropped packets.old.items lane.old }
     requires settled { NoneOwed packets.old.items }
     requires ordered { AreOrdered packets.old.items }
-    ensures packets { packets.new.items ≡ map (found_by space lateness.entry.now) packets.old.items }
+    ensures packets { packets.new.items
+        ≡ map (found_by space thresholds.entry.now) packets.old.items }
     ensures lane { IsLane space dropped packets.new.items lane.new }
     ensures losses { AreLosses dropped packets.new.items result }
 {
     let from = lane.next;
     let mut count = 0;
     let mut at = (from - dropped) as usize;
-    while goes_on(packets, space, lateness, at) {
+    while goes_on(packets, space, thresholds, at) {
         pass(packets, lane, space, at, &mut count);
         at += 1;
     }
@@ -124,31 +110,39 @@ fn detect_in_lane(
     }
 }
 
-/// Whether a detection goes on behind this index: the packet there does not fly, or it is late.
-fn goes_on(packets: &VecDeque<SentPacket>, space: Space, lateness: &Lateness, at: usize) -> bool
-    ensures passes { result ≡ true → IsPassed space lateness.entry.now at packets.now.items }
-    ensures ends { result ≡ false → IsEnd space lateness.entry.now (drop at packets.now.items) }
+/// Whether a detection goes on behind this index: the packet there does not fly, or it is past
+/// a threshold.
+pub(crate) fn goes_on(
+    packets: &VecDeque<SentPacket>,
+    space: Space,
+    thresholds: &Thresholds,
+    at: usize,
+) -> bool
+    ensures passes { result ≡ true → IsPassed space thresholds.entry.now at packets.now.items }
+    ensures ends { result ≡ false → IsEnd space thresholds.entry.now (drop at packets.now.items) }
 {
     match packets.get(at) {
         None => false,
-        Some(packet) => !packet.flies_in(space) || lateness.is_late(packet),
+        Some(packet) => !packet.flies_in(space) || thresholds.is_past_threshold(packet),
     }
 }
 
 /// Passes the packet at this index: if it flies it is found lost, leaves the sums and is counted.
-fn pass(
+pub(crate) fn pass(
     packets: &mut VecDeque<SentPacket>,
     lane: &mut Lane,
     space: Space,
     at: usize,
     count: &mut u64,
 )
-    requires few { length packets.old.items ≤ 4294967295 }
+    requires few { length packets.old.items ≤ max_lines }
     requires within { at < length packets.old.items }
     requires indexed { (d : ℕ) × IsIndexed space d packets.old.items lane.old }
     requires count { count.old ≡ count_by (λ p. is_owed p.fate) packets.old.items }
-    ensures packets { (p : SentPacket) → p ≡ slice_index_or packets.old.items at p → packets.new.items ≡ slice_set packets.old.items at (lost_in space p) }
-    ensures indexed { (d : ℕ) → IsIndexed space d packets.old.items lane.old → IsIndexed space d packets.new.items lane.new }
+    ensures packets { (p : SentPacket) → p ≡ slice_index_or packets.old.items at p
+        → packets.new.items ≡ slice_set packets.old.items at (lost_in space p) }
+    ensures indexed { (d : ℕ) → IsIndexed space d packets.old.items lane.old
+        → IsIndexed space d packets.new.items lane.new }
     ensures count { count.new ≡ count_by (λ p. is_owed p.fate) packets.new.items }
     ensures next { lane.new.next ≡ lane.old.next }
 {

@@ -1,43 +1,23 @@
 //! The keys of a space are discarded.
-ghost use Rattle.std.specs.Prelude.{◌≡◌, ◌<◌, [], false, length, map, slice_index_or, slice_set};
-ghost use Rattle.std.specs.List.{AllByRecursion};
-ghost use Rattle.qa_sent.specs.Fates.{is_owed};
+ghost use Rattle.std.specs.Prelude.{◌≡◌, ◌<◌, [], length, map, slice_index_or, slice_set};
 ghost use Rattle.qa_sent.specs.Steps.{discarded_in};
 ghost use Rattle.qa_sent.specs.declared.packet.SentPacket.{SentPacket};
 
 use crate::fate::Fate;
 use crate::lane::Lane;
 use crate::packet::SentPacket;
-use crate::packets::SentPackets;
 use qa_base::Space;
 use std::collections::VecDeque;
-
-impl SentPackets {
-    /// The keys of a space are discarded: its packets that were not acknowledged leave the bytes in
-    /// flight, and no acknowledgment covers them any more (RFC 9002, section 6.4). Nothing may be
-    /// owed.
-    ///
-    /// Walks along all packets that are kept.
-    pub fn discard(&mut self, space: Space)
-        requires settled { AllByRecursion (λ p. is_owed p.fate ≡ false) self.old.packets }
-        ensures { self.new ≡ record { dropped = self.old.dropped; packets = map (discarded_in space) self.old.packets } }
-    {
-        discard_all(&mut self.packets, space);
-        let end = self.dropped + self.packets.len() as u64;
-        let lane = self.lanes.of_mut(space);
-        lane.clear(end);
-    }
-}
 
 impl Lane {
     /// Lets go of all packets of the space, which stand before this place.
     pub(crate) fn clear(&mut self, end: u64)
-        ensures entries { self.new.uncovered.entries ≡ [] }
+        ensures entries { self.new.unacknowledged.entries ≡ [] }
         ensures next { self.new.next ≡ end }
         ensures awaiting { self.new.awaiting ≡ 0 }
         ensures in_flight { self.new.in_flight ≡ 0 }
     {
-        self.uncovered.clear();
+        self.unacknowledged.clear();
         self.next = end;
         self.awaiting = 0;
         self.in_flight = 0;
@@ -45,7 +25,7 @@ impl Lane {
 }
 
 /// Discards the packets of the space that were not acknowledged.
-fn discard_all(packets: &mut VecDeque<SentPacket>, space: Space)
+pub(crate) fn discard_all(packets: &mut VecDeque<SentPacket>, space: Space)
     ensures { packets.new.items ≡ map (discarded_in space) packets.old.items }
 {
     for at in 0..packets.len() {
@@ -54,9 +34,10 @@ fn discard_all(packets: &mut VecDeque<SentPacket>, space: Space)
 }
 
 /// Discards the packet at this index, if it is one of them.
-fn discard_at(packets: &mut VecDeque<SentPacket>, space: Space, at: usize)
+pub(crate) fn discard_at(packets: &mut VecDeque<SentPacket>, space: Space, at: usize)
     requires { at < length packets.old.items }
-    ensures { (p : SentPacket) → p ≡ slice_index_or packets.old.items at p → packets.new.items ≡ slice_set packets.old.items at (discarded_in space p) }
+    ensures { (p : SentPacket) → p ≡ slice_index_or packets.old.items at p
+        → packets.new.items ≡ slice_set packets.old.items at (discarded_in space p) }
 {
     let packet = &mut packets[at];
     if packet.waits_in(space) {

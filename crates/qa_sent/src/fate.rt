@@ -10,7 +10,7 @@ pub enum Fate {
     /// It was declared lost.
     DeclaredLost,
     /// It was acknowledged, also where it was declared lost before.
-    Covered,
+    Acknowledged,
     /// The keys of its space were discarded while it was not acknowledged (RFC 9002, section 6.4).
     Discarded,
 }

@@ -17,9 +17,8 @@ mod owing;
 mod packet;
 mod packets;
 mod pushing;
-mod queries;
 
-pub use detecting::Lateness;
+pub use detecting::Thresholds;
 pub use fate::Fate;
 pub use packet::SentPacket;
 pub use packets::SentPackets;

@@ -29,7 +29,8 @@ impl Stretch {
 
     /// The one of two that begins first, and the longer one where they begin together.
     fn first_of(a: Option<Stretch>, b: Option<Stretch>) -> Option<Stretch>
-        ensures { (p q : ℕ → Bool) (from : ℕ) → IsStretch p from a → IsStretch q from b → IsStretch (λ n. p n || q n) from result }
+        ensures { (p q : ℕ → Bool) (from : ℕ) → IsStretch p from a → IsStretch q from b
+            → IsStretch (λ n. p n || q n) from result }
     {
         let Some(x) = a else {
             return b;
@@ -138,9 +139,13 @@ impl NamedNumbers {
     fn first_left(spans: &[Span], falling: bool, passed: usize, from: u64) -> usize
         requires { passed ≤ length spans.now }
         ensures within { result ≤ length spans.now }
-        ensures left { (n : ℕ) → from ≤ n → is_named (drop passed (turned falling spans.now)) n ≡ is_named (drop result (turned falling spans.now)) n }
-        ensures order { AreRisingFrom 0 (drop passed (turned falling spans.now)) → AreRisingFrom 0 (drop result (turned falling spans.now)) }
-        ensures reached { (span : ℕ × ℕ) (rest : List (ℕ × ℕ)) → drop result (turned falling spans.now) ≡ span ∷ rest → from ≤ span.1 }
+        ensures left { (n : ℕ) → from ≤ n
+            → is_named (drop passed (turned falling spans.now)) n
+            ≡ is_named (drop result (turned falling spans.now)) n }
+        ensures order { AreRisingFrom 0 (drop passed (turned falling spans.now))
+            → AreRisingFrom 0 (drop result (turned falling spans.now)) }
+        ensures reached { (span : ℕ × ℕ) (rest : List (ℕ × ℕ))
+            → drop result (turned falling spans.now) ≡ span ∷ rest → from ≤ span.1 }
     {
         let mut at = passed;
         while at < spans.len() && NamedNumbers::nth(spans, falling, at).hi().get() < from {

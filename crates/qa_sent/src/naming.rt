@@ -1,6 +1,5 @@
 //! Whether ranges name the packets that are owed, and no others.
-ghost use Rattle.std.specs.Prelude.{◌≡◌, ◌≤◌, ◌↔◌, ◌∷◌, List, true, length, slice_range, IsTrue};
-ghost use Rattle.qa_base.specs.machine.Numbers.{names_exactly};
+ghost use Rattle.std.specs.Prelude.{◌≤◌, ◌↔◌, ◌∷◌, List, true, length, slice_range, IsTrue};
 ghost use Rattle.qa_base.specs.values.Events.{is_named};
 ghost use Rattle.qa_sent.specs.Naming.{AreNext, IsWalk};
 ghost use Rattle.qa_sent.specs.Walks.{owed_numbers};
@@ -8,28 +7,12 @@ ghost use Rattle.qa_sent.specs.declared.packet.SentPacket.{SentPacket};
 
 use crate::named::NamedNumbers;
 use crate::packet::SentPacket;
-use crate::packets::SentPackets;
 use qa_base::Span;
 use std::collections::VecDeque;
 use std::ops::Range;
 
-impl SentPackets {
-    /// Whether the spans name exactly the packets that are owed. They may overlap, and stand in any
-    /// order.
-    ///
-    /// Takes no memory, and one walk along the packets that were passed by the detection that found
-    /// these losses. Where the spans rise or fall it walks along them once too, however many numbers
-    /// they have; else once for each stretch of numbers that it finds to be owed.
-    pub fn names_owed(&self, spans: &[Span]) -> bool
-        ensures { result ≡ names_exactly spans.now (owed_numbers self.now.packets) }
-    {
-        let named = NamedNumbers::start(spans);
-        are_next(&self.packets, self.owed_part(), spans, named)
-    }
-}
-
 /// Whether the walk comes by the numbers of the packets in this part that are owed, and no others.
-fn are_next(
+pub(crate) fn are_next(
     packets: &VecDeque<SentPacket>,
     part: Range<usize>,
     spans: &[Span],
@@ -38,7 +21,8 @@ fn are_next(
     requires order { part.start ≤ part.end }
     requires within { part.end ≤ length packets.now.items }
     requires walk { IsWalk spans.now named }
-    ensures { IsTrue result ↔ AreNext (is_named spans.now) named.from (owed_numbers (slice_range packets.now.items part.start part.end)) }
+    ensures { IsTrue result
+        ↔ AreNext (is_named spans.now) named.from (owed_numbers (slice_range packets.now.items part.start part.end)) }
 {
     let mut named = named;
     for packet in packets.range(part) {
@@ -50,10 +34,12 @@ fn are_next(
 }
 
 /// Whether the packet, if it is owed, has the next number of the walk, which goes on to it.
-fn is_next(packet: &SentPacket, spans: &[Span], named: &mut NamedNumbers) -> bool
+pub(crate) fn is_next(packet: &SentPacket, spans: &[Span], named: &mut NamedNumbers) -> bool
     requires { IsWalk spans.now named.old }
     ensures walk { IsWalk spans.now named.new }
-    ensures next { (ps : List SentPacket) → AreNext (is_named spans.now) named.old.from (owed_numbers (packet.now ∷ ps)) ↔ (IsTrue result × AreNext (is_named spans.now) named.new.from (owed_numbers ps)) }
+    ensures next { (ps : List SentPacket)
+        → AreNext (is_named spans.now) named.old.from (owed_numbers (packet.now ∷ ps))
+        ↔ (IsTrue result × AreNext (is_named spans.now) named.new.from (owed_numbers ps)) }
 {
     if !packet.is_owed() {
         return true;

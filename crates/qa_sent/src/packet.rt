@@ -51,7 +51,7 @@ impl SentPacket {
     pub(crate) fn waits_in(&self, space: Space) -> bool
         ensures { result ≡ is_waiting space self.now }
     {
-        self.space == space && self.fate != Fate::Covered && self.fate != Fate::Discarded
+        self.space == space && self.fate != Fate::Acknowledged && self.fate != Fate::Discarded
     }
 
     /// Whether it is of the space, open and in flight.

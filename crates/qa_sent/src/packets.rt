@@ -1,12 +1,36 @@
 //! The packets that are kept, and where each can be found.
-ghost use Rattle.std.specs.Prelude.{◌≡◌, []};
+ghost use Rattle.qa_base.specs.declared.space.Space.TheVariants.{Initial, Handshake, App};
+ghost use Rattle.qa_base.specs.machine.Numbers.{names_exactly};
+ghost use Rattle.qa_base.specs.values.Limits.{max_lines, max_packet_size};
+ghost use Rattle.qa_sent.specs.Covering.{AreApart};
+ghost use Rattle.qa_sent.specs.Dropping.{is_first_closed};
+ghost use Rattle.qa_sent.specs.Fates.{is_new, is_owed, is_owed_in, flight_bytes, is_awaiting, is_flying};
+ghost use Rattle.qa_sent.specs.Held.{IsBefore, unacknowledged_in};
+ghost use Rattle.qa_sent.specs.Owing.{IsOwedPart};
+ghost use Rattle.qa_sent.specs.Steps.{covered_by, found_by, declared, discarded_in, trimmed};
+ghost use Rattle.qa_sent.specs.Walks as walks;
+ghost use Rattle.qa_sent.specs.Walks.{owed_numbers};
+ghost use Rattle.qa_sent.specs.declared.fate.Fate.TheVariants.{Open};
+ghost use Rattle.qa_sent.specs.declared.packet.SentPacket.{SentPacket};
+ghost use Rattle.std.specs.List.{AllByRecursion, list_any};
+ghost use Rattle.std.specs.Prelude.{◌≡◌, [], ◌≤◌, ◌<◌, ◌+◌, ◌∷◌, ◌++◌, length, OnErr, OnOk, filter, IfOk, false, Some, map, ◌-◌, true, count_by, drop, None, ◌*◌, ◌^◌, find, sum_by};
 
-use crate::lane::Lanes;
+use crate::acknowledging::new_in_spans;
+use crate::covering::cover_in_lane;
+use crate::declaring::declare_in;
+use crate::detecting::{Thresholds, detect_in_lane};
+use crate::discarding::discard_all;
+use crate::lane::Lane;
+use crate::named::NamedNumbers;
+use crate::naming::are_next;
+use crate::owing::{are_apart_in, last_owed_in};
 use crate::packet::SentPacket;
-use qa_base::Space;
-use std::alloc::Global;
+use crate::pushing::add;
+use qa_base::{Micros, PerSpace, Space, Span};
+use std::alloc::{AllocError, Global};
 use std::collections::VecDeque;
 use std::marker::Model;
+use std::ops::Range;
 
 /// The packets that the last detection found lost, while they are owed.
 #[derive(Clone, Copy)]
@@ -30,7 +54,7 @@ pub struct SentPackets {
     pub(crate) alloc: Global,
     pub(crate) dropped: u64,
     pub(crate) packets: VecDeque<SentPacket>,
-    pub(crate) lanes: Lanes,
+    pub(crate) lanes: PerSpace<Lane>,
     pub(crate) losses: Losses,
 }
 
@@ -53,7 +77,11 @@ impl SentPackets {
             alloc,
             dropped: 0,
             packets: VecDeque::new(alloc),
-            lanes: Lanes::new(alloc),
+            lanes: PerSpace {
+                initial: Lane::new(alloc),
+                handshake: Lane::new(alloc),
+                app: Lane::new(alloc),
+            },
             losses: Losses {
                 space: Space::Initial,
                 count: 0,
@@ -61,5 +89,236 @@ impl SentPackets {
                 to: 0,
             },
         }
+    }
+
+    /// Keeps a packet that was just sent: it is open, its size is at most 65527 bytes, each packet
+    /// kept was sent before it, and fewer than 4,294,967,295 were ever kept. `AllocError` comes
+    /// where it is out of memory, and leaves the packets as they were.
+    pub fn push(&mut self, packet: SentPacket) -> Result<(), AllocError>
+        requires open { packet.fate ≡ Open }
+        requires small { packet.size ≤ max_packet_size }
+        requires ordered { AllByRecursion (λ q. IsBefore packet q) self.old.packets }
+        requires few { self.old.dropped + length self.old.packets < max_lines }
+        ensures ok { OnOk result (self.new
+            ≡ record { dropped = self.old.dropped; packets = self.old.packets ++ packet ∷ [] }) }
+        ensures err { OnErr result (self.new ≡ self.old) }
+    {
+        let lane = self.lanes.of_mut(packet.space);
+        add(&mut self.packets, self.dropped, lane, packet)
+    }
+
+    /// The packets of a space that are open and that some span names, in the order of sending, which
+    /// is that of their numbers. Each span begins above the end of the one before it. It visits the
+    /// packets alone that stand in a span and are not acknowledged. `AllocError` comes where it is out of
+    /// memory.
+    pub fn newly_acknowledged(
+        &self,
+        space: Space,
+        spans: &[Span],
+    ) -> Result<Vec<SentPacket>, AllocError>
+        requires apart { AreApart spans.now }
+        ensures { IfOk result (λ found. found.items
+            ≡ filter (is_new space spans.now) self.now.packets) }
+    {
+        let lane = self.lanes.of(space);
+        new_in_spans(self.alloc, &self.packets, self.dropped, lane, space, spans)
+    }
+
+    /// Covers the packets of a space that some span names: an acknowledgment came for them. Those
+    /// that are acknowledged, or discarded, stay what they are. The spans may stand in any order and
+    /// overlap; numbers that no packet has are passed over. It takes no memory, and visits the
+    /// packets alone that it covers. Nothing may be owed.
+    pub fn cover(&mut self, space: Space, spans: &[Span])
+        requires settled { AllByRecursion (λ p. is_owed p.fate ≡ false) self.old.packets }
+        ensures { self.new ≡ record { dropped = self.old.dropped; packets = map (covered_by space spans.now) self.old.packets } }
+    {
+        let lane = self.lanes.of_mut(space);
+        cover_in_lane(&mut self.packets, self.dropped, lane, space, spans);
+    }
+
+    /// Looks for losses in a space: the packets in flight that are past a threshold are owed
+    /// from now on.
+    /// Nothing may be owed before.
+    ///
+    /// It walks from the first packet of the space in flight, and ends at the first that is in
+    /// flight and past no threshold: since a space's numbers and times rise, none behind it is past one.
+    pub fn detect(&mut self, space: Space, thresholds: &Thresholds)
+        requires settled { AllByRecursion (λ p. is_owed p.fate ≡ false) self.old.packets }
+        ensures { self.new ≡ record { dropped = self.old.dropped; packets = map (found_by space thresholds.entry.now) self.old.packets } }
+    {
+        let lane = self.lanes.of_mut(space);
+        self.losses = detect_in_lane(&mut self.packets, self.dropped, lane, space, thresholds);
+    }
+
+    /// Indexes outside of which no packet is owed. There are as many between them as the detection
+    /// that found these losses passed, so a walk along them costs no more than the detection did.
+    pub(crate) fn owed_part(&self) -> Range<usize>
+        ensures { IsOwedPart result.start result.end self.now.packets }
+    {
+        let count = self.packets.len() as u64;
+        let end = self.losses.to.saturating_sub(self.dropped).min(count);
+        let start = self.losses.from.saturating_sub(self.dropped).min(end);
+        start as usize..end as usize
+    }
+
+    /// How many packets are owed.
+    pub fn owed_count(&self) -> u64
+        ensures { result ≡ count_by (λ p. is_owed p.fate) self.now.packets }
+    {
+        self.losses.count
+    }
+
+    /// Whether a packet of the space is owed.
+    pub fn owes_in(&self, space: Space) -> bool
+        ensures { result ≡ list_any (is_owed_in space) self.now.packets }
+    {
+        0 < self.losses.count && space == self.losses.space
+    }
+
+    /// When the last of the packets was sent that are owed, by which a congestion controller tells
+    /// whether they stand in recovery (RFC 9002, B.8). None where nothing is owed.
+    pub fn last_owed(&self) -> Option<Micros>
+        ensures { result ≡ walks.last_owed None self.now.packets }
+    {
+        if self.losses.count == 0 {
+            return None;
+        }
+        last_owed_in(&self.packets, self.owed_part())
+    }
+
+    /// Whether the losses that are owed establish persistent congestion (RFC 9002, section 7.6):
+    /// two of them are ack-eliciting and were sent after the first RTT sample, at `first`, more
+    /// than `limit` microseconds apart, and nothing that was sent between them was acknowledged.
+    pub fn is_persistent(&self, limit: u64, first: Micros) -> bool
+        ensures { result ≡ walks.are_apart limit first None self.now.packets }
+    {
+        if self.losses.count == 0 {
+            return false;
+        }
+        are_apart_in(&self.packets, self.owed_part(), limit, first)
+    }
+
+    /// Whether the spans name exactly the packets that are owed. They may overlap, and stand in any
+    /// order.
+    ///
+    /// Takes no memory, and one walk along the packets that were passed by the detection that found
+    /// these losses. Where the spans rise or fall it walks along them once too, however many numbers
+    /// they have; else once for each stretch of numbers that it finds to be owed.
+    pub fn names_owed(&self, spans: &[Span]) -> bool
+        ensures { result ≡ names_exactly spans.now (owed_numbers self.now.packets) }
+    {
+        let named = NamedNumbers::start(spans);
+        are_next(&self.packets, self.owed_part(), spans, named)
+    }
+
+    /// The packets that are owed are declared lost: an acknowledgment would still cover them, but
+    /// nothing is owed any more.
+    pub fn declare_lost(&mut self)
+        ensures { self.new ≡ record { dropped = self.old.dropped; packets = map declared self.old.packets } }
+    {
+        let part = self.owed_part();
+        declare_in(&mut self.packets, part);
+        self.losses.count = 0;
+        self.losses.to = self.losses.from;
+    }
+
+    /// The keys of a space are discarded: its packets that were not acknowledged leave the bytes in
+    /// flight, and none of them is acknowledged any more (RFC 9002, section 6.4). Nothing may be
+    /// owed.
+    ///
+    /// Walks along all packets that are kept.
+    pub fn discard(&mut self, space: Space)
+        requires settled { AllByRecursion (λ p. is_owed p.fate ≡ false) self.old.packets }
+        ensures { self.new ≡ record { dropped = self.old.dropped; packets = map (discarded_in space) self.old.packets } }
+    {
+        discard_all(&mut self.packets, space);
+        let end = self.dropped + self.packets.len() as u64;
+        let lane = self.lanes.of_mut(space);
+        lane.clear(end);
+    }
+
+    /// Drops the packets before the oldest that is still open or owed. Each packet is dropped once.
+    pub fn drop_closed(&mut self)
+        ensures { self.new ≡ trimmed self.old }
+    {
+        while self.is_first_closed() {
+            self.drop_first();
+        }
+    }
+
+    /// Whether there is a packet, and the first is neither open nor owed.
+    fn is_first_closed(&self) -> bool
+        ensures { result ≡ is_first_closed self.now.packets }
+    {
+        match self.packets.front() {
+            None => false,
+            Some(packet) => packet.is_closed(),
+        }
+    }
+
+    /// Drops the first packet.
+    fn drop_first(&mut self)
+        requires { is_first_closed self.old.packets ≡ true }
+        ensures { self.new ≡ record { dropped = self.old.dropped + 1; packets = drop 1 self.old.packets } }
+    {
+        let packet = self.packets[0];
+        self.packets.pop_front();
+        self.dropped += 1;
+        self.lanes
+            .initial
+            .drop_first(Space::Initial, &packet, self.dropped);
+        self.lanes
+            .handshake
+            .drop_first(Space::Handshake, &packet, self.dropped);
+        self.lanes.app.drop_first(Space::App, &packet, self.dropped);
+    }
+
+    /// The bytes of the packets of all spaces that are open and in flight (RFC 9002, B.2).
+    pub fn bytes_in_flight(&self) -> u64
+        ensures sum { result ≡ sum_by flight_bytes self.now.packets }
+        ensures bound { result ≤ max_packet_size * 2 ^ 32 }
+    {
+        self.lanes.initial.in_flight + self.lanes.handshake.in_flight + self.lanes.app.in_flight
+    }
+
+    /// Whether a packet of the space is open and ack-eliciting, so that its acknowledgment is
+    /// waited for (RFC 9002, section 6.2.1).
+    pub fn awaits(&self, space: Space) -> bool
+        ensures { result ≡ list_any (is_awaiting space) self.now.packets }
+    {
+        0 < self.lanes.of(space).awaiting
+    }
+
+    /// The first packet of the space that is open and in flight, by which the time is known when
+    /// one is lost by its age (RFC 9002, section 6.1.2). None where there is none.
+    pub fn first_flying(&self, space: Space) -> Option<SentPacket>
+        ensures { result ≡ find (is_flying space) self.now.packets }
+    {
+        let at = (self.lanes.of(space).next - self.dropped) as usize;
+        match self.packets.get(at) {
+            None => None,
+            Some(packet) => {
+                if packet.flies_in(space) {
+                    Some(*packet)
+                } else {
+                    None
+                }
+            }
+        }
+    }
+
+    /// How much is kept: the packets, and the entries by which an acknowledgment finds them. It is
+    /// the sum of the lengths of the collections, and at most twice the number of packets.
+    pub fn kept_count(&self) -> u64
+        ensures count { result ≡ length self.now.packets
+            + (length (unacknowledged_in Initial self.now.dropped self.now.packets)
+            + length (unacknowledged_in Handshake self.now.dropped self.now.packets) + length (unacknowledged_in App self.now.dropped self.now.packets)) }
+        ensures bound { result ≤ 2 * length self.now.packets }
+    {
+        let lanes = &self.lanes;
+        let entries = lanes.initial.unacknowledged.len()
+            + lanes.handshake.unacknowledged.len()
+            + lanes.app.unacknowledged.len();
+        (self.packets.len() + entries) as u64
     }
 }

@@ -1,36 +1,18 @@
 //! A packet that is sent: it is kept behind the others, and found by its number.
 ghost use Rattle.std.specs.Prelude.{◌≡◌, ◌≤◌, ◌<◌, ◌+◌, [], ◌∷◌, ◌++◌, length, OnErr, OnOk};
 ghost use Rattle.std.specs.List.{AllByRecursion};
-ghost use Rattle.qa_base.specs.values.Limits.{max_packet_size};
+ghost use Rattle.qa_base.specs.values.Limits.{max_lines, max_packet_size};
 ghost use Rattle.qa_sent.specs.Held.{IsBefore, IsLane};
 ghost use Rattle.qa_sent.specs.declared.fate.Fate.TheVariants.{Open};
 
 use crate::advancing::advance;
 use crate::lane::Lane;
 use crate::packet::SentPacket;
-use crate::packets::SentPackets;
 use std::alloc::AllocError;
 use std::collections::{BTreeMap, VecDeque};
 
-impl SentPackets {
-    /// Keeps a packet that was just sent: it is open, its size is at most 65527 bytes, each packet
-    /// kept was sent before it, and fewer than 4,294,967,295 were ever kept. `AllocError` comes
-    /// where it is out of memory, and leaves the packets as they were.
-    pub fn push(&mut self, packet: SentPacket) -> Result<(), AllocError>
-        requires open { packet.fate ≡ Open }
-        requires small { packet.size ≤ max_packet_size }
-        requires ordered { AllByRecursion (λ q. IsBefore packet q) self.old.packets }
-        requires few { self.old.dropped + length self.old.packets < 4294967295 }
-        ensures ok { OnOk result (self.new ≡ record { dropped = self.old.dropped; packets = self.old.packets ++ packet ∷ [] }) }
-        ensures err { OnErr result (self.new ≡ self.old) }
-    {
-        let lane = self.lanes.of_mut(packet.space);
-        add(&mut self.packets, self.dropped, lane, packet)
-    }
-}
-
 /// Puts an entry behind all others.
-fn enter(map: &mut BTreeMap<u64, u64>, number: u64, place: u64) -> Result<(), AllocError>
+pub(crate) fn enter(map: &mut BTreeMap<u64, u64>, number: u64, place: u64) -> Result<(), AllocError>
     requires { AllByRecursion (λ e. e.0 < number) map.old.entries }
     ensures ok { OnOk result (map.new.entries ≡ map.old.entries ++ (number, place) ∷ []) }
     ensures err { OnErr result (map.new.entries ≡ map.old.entries) }
@@ -41,7 +23,7 @@ fn enter(map: &mut BTreeMap<u64, u64>, number: u64, place: u64) -> Result<(), Al
 
 /// Adds a packet to the packets and to the lane of its space. Where it is out of memory, both say
 /// what they said.
-fn add(
+pub(crate) fn add(
     packets: &mut VecDeque<SentPacket>,
     dropped: u64,
     lane: &mut Lane,
@@ -50,7 +32,7 @@ fn add(
     requires open { packet.fate ≡ Open }
     requires small { packet.size ≤ max_packet_size }
     requires ordered { AllByRecursion (λ q. IsBefore packet q) packets.old.items }
-    requires few { dropped + length packets.old.items < 4294967295 }
+    requires few { dropped + length packets.old.items < max_lines }
     requires sizes { AllByRecursion (λ p. p.size ≤ max_packet_size) packets.old.items }
     requires lane { IsLane packet.space dropped packets.old.items lane.old }
     ensures ok { OnOk result (packets.new.items ≡ packets.old.items ++ packet ∷ []) }
@@ -59,7 +41,7 @@ fn add(
 {
     let place = dropped + packets.len() as u64;
     packets.reserve(1)?;
-    enter(&mut lane.uncovered, packet.number.get(), place)?;
+    enter(&mut lane.unacknowledged, packet.number.get(), place)?;
     lane.put_on(&packet);
     packets.push_back_reserved(packet);
     advance(packets, dropped, lane, packet.space);

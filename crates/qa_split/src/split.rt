@@ -51,7 +51,8 @@ impl Model for Splitter {
       refused = s.refused;
     } };
 
-    ghost invariant = { λ s. (s.start ≤ length s.bytes.items) × AreSearched (drop s.start s.bytes.items) s.searched };
+    ghost invariant = { λ s. (s.start ≤ length s.bytes.items)
+        × AreSearched (drop s.start s.bytes.items) s.searched };
 }
 
 impl Splitter {
@@ -79,8 +80,10 @@ impl Splitter {
     pub fn feed(&mut self, piece: &[u8]) -> Result<(), AllocError>
         requires open { self.old.closed ≡ false }
         requires whole { self.old.refused ≡ None }
-        ensures ok { OnOk result (self.new ≡ record self.old { bytes = self.old.bytes ++ piece.now }) }
-        ensures err { OnErr result (self.new ≡ record self.old { refused = Some SplitFault.OutOfMemory }) }
+        ensures ok { OnOk result (self.new
+            ≡ record self.old { bytes = self.old.bytes ++ piece.now }) }
+        ensures err { OnErr result (self.new
+            ≡ record self.old { refused = Some SplitFault.OutOfMemory }) }
     {
         self.drop_returned();
         let fed = self.bytes.extend_from_slice(piece);
@@ -114,7 +117,8 @@ impl Splitter {
     /// returns that error from then on.
     pub fn next_line(&mut self) -> Result<Option<&[u8]>, SplitFault>
         ensures* after_borrow { sem 𝓛 (EndsAs self.entry result) }
-        ensures too_long { self.old.refused ≡ None → IsErrOf result SplitFault.TooLong → BeginsTooLong self.old.bytes }
+        ensures too_long { self.old.refused ≡ None → IsErrOf result SplitFault.TooLong
+            → BeginsTooLong self.old.bytes }
         ensures memory { self.old.refused ≡ None → IsErrOf result SplitFault.OutOfMemory → ⊥ }
     {
         if let Some(fault) = self.refused {

@@ -1,5 +1,6 @@
 //! What neither a clause nor a trace shows, and the examples of the README.
 mod arithmetic;
+mod auditor;
 mod lines;
 mod machine;
 mod streams;

@@ -5,8 +5,8 @@
 #![tactic(auto)]
 
 pub use qa_base::{
-    Event, Field, Header, Key, Kind, Leave, LineKind, MetricValues, Micros, PacketNumber,
-    RangeFault, Role, Space, Span, Spans,
+    Event, Field, Header, Key, Leave, LineKind, MetricValues, Micros, PacketNumber, RangeFault,
+    Role, Space, Span, Spans, TimerKind,
 };
 pub use qa_format::{Fault, Line};
 pub use qa_read::{LineFault, read_line};

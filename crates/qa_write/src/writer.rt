@@ -14,8 +14,8 @@ ghost use Rattle.qa_format.specs.format.Written.{written, line_fits, object_of, 
 ghost use Rattle.qa_write.specs.Members.{with, with_settings, with_options, event_members};
 
 use qa_base::{
-    Event, Field, Header, Key, Kind, Leave, LineKind, MetricValues, Micros, PacketNumber, Space,
-    Span, Spans, Version,
+    Event, Field, Header, Key, Leave, LineKind, MetricValues, Micros, PacketNumber, Space, Span,
+    Spans, TimerKind, Version,
 };
 use qa_format::Line;
 use serde_json::{Map, Value, json};
@@ -78,7 +78,8 @@ fn put_settings(
     alloc: Global,
     header: &Header,
 ) -> Result<(), AllocError>
-    ensures { OnOk result (members_view map.new.entries ≡ with_settings header.now (members_view map.old.entries)) }
+    ensures { OnOk result (members_view map.new.entries
+        ≡ with_settings header.now (members_view map.old.entries)) }
 {
     put_integer(map, alloc, Key::InitialRtt, header.initial_rtt())?;
     put_integer(map, alloc, Key::InitialWindow, header.initial_window())?;
@@ -116,7 +117,8 @@ fn put_text(
     key: Key,
     text: &str,
 ) -> Result<(), AllocError>
-    ensures { OnOk result (members_view map.new.entries ≡ with key (string text.now) (members_view map.old.entries)) }
+    ensures { OnOk result (members_view map.new.entries
+        ≡ with key (string text.now) (members_view map.old.entries)) }
 {
     let value = Value::try_from_str(alloc, text)?;
     serde_json::put(map, alloc, key.name(), value)
@@ -129,7 +131,8 @@ fn put_integer(
     key: Key,
     value: u64,
 ) -> Result<(), AllocError>
-    ensures { OnOk result (members_view map.new.entries ≡ with key (integer value) (members_view map.old.entries)) }
+    ensures { OnOk result (members_view map.new.entries
+        ≡ with key (integer value) (members_view map.old.entries)) }
 {
     serde_json::put(map, alloc, key.name(), Value::from(value))
 }
@@ -141,7 +144,8 @@ fn put_flag(
     key: Key,
     value: bool,
 ) -> Result<(), AllocError>
-    ensures { OnOk result (members_view map.new.entries ≡ with key (boolean value) (members_view map.old.entries)) }
+    ensures { OnOk result (members_view map.new.entries
+        ≡ with key (boolean value) (members_view map.old.entries)) }
 {
     serde_json::put(map, alloc, key.name(), Value::from(value))
 }
@@ -176,8 +180,8 @@ fn event_object(alloc: Global, event: &Event) -> Result<Value, AllocError>
             space,
             ranges,
             delay,
-            limited,
-        } => ack_object(alloc, *time, *space, ranges, *delay, *limited),
+            app_limited,
+        } => ack_object(alloc, *time, *space, ranges, *delay, *app_limited),
         Event::Lost {
             time,
             space,
@@ -242,16 +246,16 @@ fn ack_object(
     space: Space,
     ranges: &Spans,
     delay: u64,
-    limited: bool,
+    app_limited: bool,
 ) -> Result<Value, AllocError>
     ensures object { IfOk result (λ v. view v
-        ≡ object_of (event_pairs (Event.Ack time space ranges.now delay limited))) }
+        ≡ object_of (event_pairs (Event.Ack time space ranges.now delay app_limited))) }
     ensures in_time { OnOk result (time ≤ max_time) }
     ensures are_ranges { OnOk result (AllByRecursion IsRange ranges.now) }
 {
     let mut map = event_map(alloc, LineKind::Ack, time)?;
     put_integer(&mut map, alloc, Key::Delay, delay)?;
-    put_flag(&mut map, alloc, Key::Limited, limited)?;
+    put_flag(&mut map, alloc, Key::Limited, app_limited)?;
     put_ranges(&mut map, alloc, ranges)?;
     put_text(&mut map, alloc, Key::Space, space.name())?;
     Ok(Value::Object(map))
@@ -307,7 +311,12 @@ fn pair_of(alloc: Global, range: Span) -> Result<Value, AllocError>
 }
 
 /// The object of a timer that fired.
-fn timer_object(alloc: Global, time: Micros, kind: Kind, space: Space) -> Result<Value, AllocError>
+fn timer_object(
+    alloc: Global,
+    time: Micros,
+    kind: TimerKind,
+    space: Space,
+) -> Result<Value, AllocError>
     ensures object { IfOk result (λ v. view v
         ≡ object_of (event_pairs (Event.Timer time kind space))) }
     ensures in_time { OnOk result (time ≤ max_time) }

@@ -32,7 +32,8 @@ pub enum Subcommand<'a> {
 ///
 /// `Failure::Arguments` comes where one of them is not UTF-8, or they cannot be read.
 pub fn read_arguments(rt: &(impl Env + AllocGlobal)) -> Result<Vec<String>, Failure<'static>>
-    ensures { IfErr result (λ failure. (failure ≡ Failure.OutOfMemory) ⊎ (failure ≡ Failure.Arguments)) }
+    ensures { IfErr result (λ failure. (failure ≡ Failure.OutOfMemory)
+        ⊎ (failure ≡ Failure.Arguments)) }
 {
     match env::args(rt) {
         Ok(arguments) => Ok(arguments.collect(rt.alloc())?),
@@ -47,7 +48,8 @@ pub fn read_arguments(rt: &(impl Env + AllocGlobal)) -> Result<Vec<String>, Fail
 ///
 /// `Failure::Arguments` comes where they ask for nothing.
 pub fn parse<'a>(alloc: Global, arguments: &'a [String]) -> Result<Subcommand<'a>, Failure<'a>>
-    ensures ok { IfOk result (λ subcommand. asked (map string_bytes arguments.now) ≡ Some (request subcommand)) }
+    ensures ok { IfOk result (λ subcommand. asked (map string_bytes arguments.now)
+        ≡ Some (request subcommand)) }
     ensures err { IfErr result (λ failure. (failure ≡ Failure.OutOfMemory)
         ⊎ ((failure ≡ Failure.Arguments) × (asked (map string_bytes arguments.now) ≡ None))) }
 {
@@ -78,9 +80,12 @@ fn matches_of<'a>(alloc: Global, arguments: &'a [String]) -> Result<ArgMatches<'
 /// The subcommand that the parser found, with its files.
 fn subcommand_of<'a>(alloc: Global, matches: &ArgMatches<'a>) -> Result<Subcommand<'a>, Failure<'a>>
     ensures ok { IfOk result (λ subcommand. (name : List ℕ) (rows : List Row) (names : List (List ℕ))
-        → subcommand_rows_of matches.now ≡ Some (name, rows) → HasFiles name names rows → request subcommand ≡ (name, names)) }
-    ensures err { IfErr result (λ failure. (failure ≡ Failure.OutOfMemory) ⊎ ((failure ≡ Failure.Arguments)
-        × ((name : List ℕ) (rows : List Row) → subcommand_rows_of matches.now ≡ Some (name, rows) → IsCommand name → ⊥))) }
+        → subcommand_rows_of matches.now ≡ Some (name, rows) → HasFiles name names rows
+        → request subcommand ≡ (name, names)) }
+    ensures err { IfErr result (λ failure. (failure ≡ Failure.OutOfMemory)
+        ⊎ ((failure ≡ Failure.Arguments)
+        × ((name : List ℕ) (rows : List Row) → subcommand_rows_of matches.now ≡ Some (name, rows)
+        → IsCommand name → ⊥))) }
 {
     let Some((name, found)) = matches.subcommand() else {
         return Err(Failure::Arguments);
@@ -141,7 +146,8 @@ fn files_parser<'a>(
 
 /// The names of files that a subcommand was given.
 fn files<'a>(alloc: Global, found: &ArgMatches<'a>) -> Result<Vec<&'a str>, AllocError>
-    ensures { IfOk result (λ names. map (λ name. name.now) names.items ≡ unwrap_or (all_of (codes "FILE") (rows_of (found_of found.now))) []) }
+    ensures { IfOk result (λ names. map (λ name. name.now) names.items
+        ≡ unwrap_or (all_of (codes "FILE") (rows_of (found_of found.now))) []) }
 {
     match found.get_strs(FILE) {
         Some(names) => Vec::from_slice(alloc, names),

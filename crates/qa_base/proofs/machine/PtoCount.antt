@@ -8,7 +8,7 @@ use Rattle.std.specs.Option.{option_or}
 use Rattle.std.specs.Prelude.{if◌then◌else◌, nat_le, nat_lt}
 use Rattle.qa_base.specs.declared.event.Event.{Event}
 use Rattle.qa_base.specs.declared.event.Event.TheVariants.{Timer}
-use Rattle.qa_base.specs.declared.space.Kind.TheVariants.{Loss, Pto}
+use Rattle.qa_base.specs.declared.space.TimerKind.TheVariants.{Loss, Pto}
 use Rattle.qa_base.specs.declared.space.Space.{Space}
 use Rattle.qa_base.specs.declared.space.Space.TheVariants.{Initial, Handshake, App}
 use Rattle.qa_base.specs.machine.Breaches.{is_other, is_before}
@@ -19,10 +19,10 @@ use Rattle.qa_base.specs.machine.Estimates.{rtt}
 use Rattle.qa_base.specs.machine.Rtt.{Estimate, pto_base}
 use Rattle.qa_base.specs.machine.Rules.{IsRun, first_broken}
 use Rattle.qa_base.specs.values.Settings.{Settings}
-use Rattle.qa_base.specs.machine.Timer.{Due, is_kind, earlier, loss_due, earliest_loss, pto_due, earliest_pto, anti_deadlock, deadline, backoff, is_pto, resets_count, last_eliciting, last_set}
+use Rattle.qa_base.specs.machine.Timer.{Due, is_kind, earlier, loss_due, earliest_loss, pto_due, earliest_pto, anti_deadlock, deadline, pto_count, is_pto, resets_count, last_eliciting, last_set}
 use Rattle.qa_base.proofs.machine.RunLaws.{all_hold}
 use Rattle.qa_base.specs.machine.Widths.{IsTimely}
-use Rattle.qa_base.proofs.machine.Steps.{backoff_after}
+use Rattle.qa_base.proofs.machine.Steps.{pto_count_after}
 
 -- a probe timeout lies that many doublings of the granularity behind
 abbrev IsFar : ℕ → Option Due → Type 0
@@ -60,21 +60,21 @@ base_is_long : (r : Estimate) (delay : ℕ) → 1000 ≤ pto_base r + delay
 base_is_long r delay = omega arith
 
 far_space : (c : Settings) (h : List Event) (delay : ℕ) (s : Space) (b : Bool)
-    → IsFar (backoff c h) (if b then option_map (λ sent. record { kind = Pto; space = s; time = sent + (pto_base (rtt c h) + delay) * 2 ^ backoff c h }) (last_eliciting h s) else None)
-far_space c h delay s true = far_pto (backoff c h) s (pto_base (rtt c h) + delay) (last_eliciting h s) (base_is_long (rtt c h) delay)
+    → IsFar (pto_count c h) (if b then option_map (λ sent. record { kind = Pto; space = s; time = sent + (pto_base (rtt c h) + delay) * 2 ^ pto_count c h }) (last_eliciting h s) else None)
+far_space c h delay s true = far_pto (pto_count c h) s (pto_base (rtt c h) + delay) (last_eliciting h s) (base_is_long (rtt c h) delay)
 far_space c h delay s false = tt
 
-far_pto_due : (c : Settings) (h : List Event) (delay : ℕ) (s : Space) → IsFar (backoff c h) (pto_due c h delay s)
+far_pto_due : (c : Settings) (h : List Event) (delay : ℕ) (s : Space) → IsFar (pto_count c h) (pto_due c h delay s)
 far_pto_due c h delay s = far_space c h delay s _
 
 far_anti : (c : Settings) (h : List Event) (b : Bool) (s : Space)
-    → IsFar (backoff c h) (if b then None else option_map (λ set. record { kind = Pto; space = s; time = set + pto_base (rtt c h) * 2 ^ backoff c h }) (last_set h))
+    → IsFar (pto_count c h) (if b then None else option_map (λ set. record { kind = Pto; space = s; time = set + pto_base (rtt c h) * 2 ^ pto_count c h }) (last_set h))
 far_anti c h true s = tt
-far_anti c h false s = far_pto (backoff c h) s (pto_base (rtt c h)) (last_set h) (omega arith)
+far_anti c h false s = far_pto (pto_count c h) s (pto_base (rtt c h)) (last_set h) (omega arith)
 
-far_deadline : (c : Settings) (h : List Event) → IsFar (backoff c h) (deadline c h)
+far_deadline : (c : Settings) (h : List Event) → IsFar (pto_count c h) (deadline c h)
 far_deadline c h =
-    let n = backoff c h in
+    let n = pto_count c h in
     let loss = far_earlier n (loss_due c h Initial) _ (far_loss n Initial _ _) (far_earlier n (loss_due c h Handshake) (loss_due c h App) (far_loss n Handshake _ _) (far_loss n App _ _)) in
     let app = far_if n (is_confirmed h) (pto_due c h c.max_ack_delay App) None (far_pto_due c h c.max_ack_delay App) tt in
     let pto = far_earlier n (pto_due c h 0 Initial) _ (far_pto_due c h 0 Initial) (far_earlier n (pto_due c h 0 Handshake) _ (far_pto_due c h 0 Handshake) app) in
@@ -105,14 +105,14 @@ counted true pto n bound most = omega arith
 counted false true n bound most = let less = bound refl in omega (arith, less)
 counted false false n bound most = omega arith
 
-pto_in_time : (c : Settings) (e : Event) (h : List Event) → first_broken c h e ≡ None → IsTimely e → is_pto (e ∷ h) ≡ true → backoff c h < 40
+pto_in_time : (c : Settings) (e : Event) (h : List Event) → first_broken c h e ≡ None → IsTimely e → is_pto (e ∷ h) ≡ true → pto_count c h < 40
 pto_in_time c (Timer time Pto space) h allowed timely is =
     let holds = all_hold c h (Timer time Pto space) allowed in
-    by_due (backoff c h) time space (deadline c h) holds.timer_not_set holds.timer_other holds.timer_early (far_deadline c h) timely
+    by_due (pto_count c h) time space (deadline c h) holds.timer_not_set holds.timer_other holds.timer_early (far_deadline c h) timely
 pto_in_time c (Timer time Loss space) h allowed timely is = cc
 pto_in_time c _ h allowed timely is = cc
 
-pub pto_count : (c : Settings) (h : List Event) → IsRun c h → AllByRecursion IsTimely h → backoff c h ≤ 40
-pto_count c [] run timely = omega arith
-pto_count c (e ∷ h) run timely =
-    rw (backoff_after c e h) (counted (resets_count c (e ∷ h)) (is_pto (e ∷ h)) (backoff c h) (pto_in_time c e h run.1 timely.0) (pto_count c h run.0 timely.1))
+pub small_pto_count : (c : Settings) (h : List Event) → IsRun c h → AllByRecursion IsTimely h → pto_count c h ≤ 40
+small_pto_count c [] run timely = omega arith
+small_pto_count c (e ∷ h) run timely =
+    rw (pto_count_after c e h) (counted (resets_count c (e ∷ h)) (is_pto (e ∷ h)) (pto_count c h) (pto_in_time c e h run.1 timely.0) (small_pto_count c h run.0 timely.1))

@@ -14,11 +14,11 @@ use Rattle.qa_base.specs.machine.Detection.{is_found, is_found_at, found_at, det
 use Rattle.qa_base.specs.machine.Estimates.{refreshed_by, rtt, sampled}
 use Rattle.qa_base.specs.machine.Loss.{is_owed, owed, flight_size, bytes_in_flight}
 use Rattle.qa_base.specs.machine.Moments.{since}
-use Rattle.qa_base.specs.machine.Packets.{Packet, packets, newly_acknowledged, is_followed_by, is_gone, is_of, is_covered, is_lost}
+use Rattle.qa_base.specs.machine.Packets.{Packet, packets, newly_acknowledged, is_followed_by, is_discarded, is_of, is_acknowledged, is_declared_lost}
 use Rattle.qa_base.specs.machine.Reno.{moves, moves_of_last}
 use Rattle.qa_base.specs.machine.Rtt.{Estimate}
 use Rattle.qa_base.specs.values.Settings.{Settings}
-use Rattle.qa_base.specs.machine.Timer.{is_pto, resets_count, backoff}
+use Rattle.qa_base.specs.machine.Timer.{is_pto, resets_count, pto_count}
 
 -- ---- quiet events
 
@@ -28,13 +28,13 @@ none_passes (p ∷ ps) = none_passes ps
 
 -- only an acknowledgment newly acknowledges
 pub newly-quiet : (e : Event) (h : List Event) → is_quiet e ≡ true → newly_acknowledged (e ∷ h) ≡ []
-newly-quiet (Ack time space ranges delay limited) h quiet = cc
+newly-quiet (Ack time space ranges delay app_limited) h quiet = cc
 newly-quiet (Timer time kind space) h quiet = cc
 newly-quiet (Discard time space) h quiet = cc
 newly-quiet _ h quiet = none_passes (packets h)
 
 pub owed-quiet : (c : Settings) (e : Event) (h : List Event) → is_quiet e ≡ true → owed c (e ∷ h) ≡ []
-owed-quiet c (Ack time space ranges delay limited) h quiet = cc
+owed-quiet c (Ack time space ranges delay app_limited) h quiet = cc
 owed-quiet c (Timer time kind space) h quiet = cc
 owed-quiet c (Discard time space) h quiet = cc
 owed-quiet c _ h quiet = refl
@@ -45,19 +45,19 @@ not_refreshed true c h r none = rw none refl
 not_refreshed false c h r none = refl
 
 pub sampled-quiet : (c : Settings) (e : Event) (h : List Event) → is_quiet e ≡ true → sampled c (e ∷ h) ≡ rtt c h
-sampled-quiet c (Ack time space ranges delay limited) h quiet = cc
+sampled-quiet c (Ack time space ranges delay app_limited) h quiet = cc
 sampled-quiet c (Timer time kind space) h quiet = cc
 sampled-quiet c (Discard time space) h quiet = cc
 sampled-quiet c _ h quiet = refl
 
 pub rtt-quiet : (c : Settings) (e : Event) (h : List Event) → is_quiet e ≡ true → rtt c (e ∷ h) ≡ rtt c h
-rtt-quiet c (Ack time space ranges delay limited) h quiet = cc
+rtt-quiet c (Ack time space ranges delay app_limited) h quiet = cc
 rtt-quiet c (Timer time kind space) h quiet = cc
 rtt-quiet c (Discard time space) h quiet = cc
 rtt-quiet c e h quiet = not_refreshed c.options.refresh_min_rtt c (e ∷ h) (rtt c h) refl
 
 pub moves_of_last-quiet : (c : Settings) (e : Event) (h : List Event) → is_quiet e ≡ true → moves_of_last c (e ∷ h) ≡ []
-moves_of_last-quiet c (Ack time space ranges delay limited) h quiet = cc
+moves_of_last-quiet c (Ack time space ranges delay app_limited) h quiet = cc
 moves_of_last-quiet c (Timer time kind space) h quiet = cc
 moves_of_last-quiet c (Discard time space) h quiet = cc
 moves_of_last-quiet c (Sent time space number size eliciting in_flight leave) h quiet = rw none_passes refl
@@ -70,13 +70,13 @@ pub moves-quiet : (c : Settings) (e : Event) (h : List Event) → is_quiet e ≡
 moves-quiet c e h quiet = ap (λ ms. moves c h ++ ms) (moves_of_last-quiet c e h quiet) ∙ append-nil (moves c h)
 
 pub is_pto-quiet : (e : Event) (h : List Event) → is_quiet e ≡ true → is_pto (e ∷ h) ≡ false
-is_pto-quiet (Ack time space ranges delay limited) h quiet = cc
+is_pto-quiet (Ack time space ranges delay app_limited) h quiet = cc
 is_pto-quiet (Timer time kind space) h quiet = cc
 is_pto-quiet (Discard time space) h quiet = cc
 is_pto-quiet _ h quiet = refl
 
 pub resets_count-quiet : (c : Settings) (e : Event) (h : List Event) → is_quiet e ≡ true → resets_count c (e ∷ h) ≡ false
-resets_count-quiet c (Ack time space ranges delay limited) h quiet = cc
+resets_count-quiet c (Ack time space ranges delay app_limited) h quiet = cc
 resets_count-quiet c (Timer time kind space) h quiet = cc
 resets_count-quiet c (Discard time space) h quiet = cc
 resets_count-quiet c (Sent time space number size eliciting in_flight leave) h quiet = rw none_passes refl
@@ -94,8 +94,8 @@ not_counted e h rest none =
     let counted = sum_by-cons (λ m. cond (is_pto m) 1 0) (e ∷ h) rest in
     counted ∙ rw none (omega arith)
 
-pub backoff-quiet : (c : Settings) (e : Event) (h : List Event) → is_quiet e ≡ true → backoff c (e ∷ h) ≡ backoff c h
-backoff-quiet c e h quiet =
+pub pto_count-quiet : (c : Settings) (e : Event) (h : List Event) → is_quiet e ≡ true → pto_count c (e ∷ h) ≡ pto_count c h
+pto_count-quiet c e h quiet =
     let more : since (resets_count c) (e ∷ h) ≡ (e ∷ h) ∷ since (resets_count c) h = since-more (resets_count c) e h (resets_count-quiet c e h quiet) in
     ap (count_by is_pto) more ∙ not_counted e h (since (resets_count c) h) (is_pto-quiet e h quiet)
 
@@ -159,17 +159,17 @@ sent_leaves c h time space number size eliciting in_flight leave p free = rw fre
 -- the packet that was just sent is open, unless its space was discarded
 just_sent : (c : Settings) (h : List Event) (time : ℕ) (space : Space) (number size : ℕ) (eliciting in_flight : Bool) (leave : Leave) (p : Packet)
     → p.place ≡ length h → p.space ≡ space → p.size ≡ size → p.in_flight ≡ in_flight
-    → flight_size c (Sent time space number size eliciting in_flight leave ∷ h) p ≡ (if in_flight && not (is_gone h space) then size else 0)
+    → flight_size c (Sent time space number size eliciting in_flight leave ∷ h) p ≡ (if in_flight && not (is_discarded h space) then size else 0)
 just_sent c h time space number size eliciting in_flight leave p place in_space of_size flies =
-    let not_covered : is_covered h p ≡ false = not_followed _ h p (omega (arith, place)) in
-    let not_lost : is_lost h p ≡ false = not_followed _ h p (omega (arith, place)) in
+    let not_covered : is_acknowledged h p ≡ false = not_followed _ h p (omega (arith, place)) in
+    let not_lost : is_declared_lost h p ≡ false = not_followed _ h p (omega (arith, place)) in
     rw (not_covered, not_lost, flies)
-    (ap (λ s. if in_flight && not (is_gone h s) then p.size else 0) in_space
-    ∙ ap (λ n. if in_flight && not (is_gone h space) then n else 0) of_size)
+    (ap (λ s. if in_flight && not (is_discarded h s) then p.size else 0) in_space
+    ∙ ap (λ n. if in_flight && not (is_discarded h space) then n else 0) of_size)
 
 -- a packet that is sent while nothing is owed adds its size to the bytes in flight, or nothing
 pub bytes_in_flight-sent : (c : Settings) (h : List Event) (time : ℕ) (space : Space) (number size : ℕ) (eliciting in_flight : Bool) (leave : Leave) → owed c h ≡ []
-    → bytes_in_flight c (Sent time space number size eliciting in_flight leave ∷ h) ≡ bytes_in_flight c h + (if in_flight && not (is_gone h space) then size else 0)
+    → bytes_in_flight c (Sent time space number size eliciting in_flight leave ∷ h) ≡ bytes_in_flight c h + (if in_flight && not (is_discarded h space) then size else 0)
 bytes_in_flight-sent c h time space number size eliciting in_flight leave none =
     let e = Sent time space number size eliciting in_flight leave in
     let p : Packet = record {
@@ -185,4 +185,4 @@ bytes_in_flight-sent c h time space number size eliciting in_flight leave none =
     let all = sum_by-cons (flight_size c (e ∷ h)) p (packets h) in
     let rest = same_sum (flight_size c (e ∷ h)) (flight_size c h) (packets h) (still_open c h e (packets h) (not_owed c h none) (sent_leaves c h time space number size eliciting in_flight leave)) in
     let new = just_sent c h time space number size eliciting in_flight leave p refl refl refl refl in
-    all ∙ (ap (λ n. n + sum_by (flight_size c (e ∷ h)) (packets h)) new ∙ (ap (λ n. (if in_flight && not (is_gone h space) then size else 0) + n) rest ∙ add_comm _ _))
+    all ∙ (ap (λ n. n + sum_by (flight_size c (e ∷ h)) (packets h)) new ∙ (ap (λ n. (if in_flight && not (is_discarded h space) then size else 0) + n) rest ∙ add_comm _ _))

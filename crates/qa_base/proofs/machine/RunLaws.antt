@@ -11,8 +11,7 @@ use Rattle.qa_base.specs.machine.Packets.{Packet, packets, is_of, newly_acknowle
 use Rattle.qa_base.specs.machine.Rules.{broken, first_of, first_broken, IsRun}
 use Rattle.qa_base.specs.machine.Breaches.{is_time_back, is_loss_owed, is_loss_not_owed, is_other_loss_set, is_space_gone, is_number_not_higher, is_past_window, is_past_probe, is_past_recovery, is_ack_unsent, is_timer_not_set, is_timer_other, is_timer_early, is_probe_owed, is_not_confirmed}
 use Rattle.qa_base.specs.machine.Detection.{is_old}
-use Rattle.qa_base.specs.machine.Rtt.{Estimate}
-use Rattle.qa_base.specs.machine.Timer.{loss_delay}
+use Rattle.qa_base.specs.machine.Rtt.{Estimate, loss_delay}
 use Rattle.qa_base.specs.values.Settings.{Settings}
 
 -- a prefix of a run is a run
@@ -140,16 +139,20 @@ newly_acknowledged_fall c e h run = falls_in_part (is_newly_acknowledged e h) (p
 
 -- ---- when a packet is old
 
-old_after : (m age : ℕ) → max ((9 * m + 7) / 8) 1000 ≤ age → (nat_le (9 * m) (8 * age) && nat_le 1000 age) ≡ true
-old_after m age waited = and_from (nat_le (9 * m) (8 * age)) (nat_le 1000 age) (le-leb (9 * m) (8 * age) (omega arith)) (le-leb 1000 age (omega arith))
+after_delay : (m age : ℕ) → max ((9 * m + 7) / 8) 1000 ≤ age → (9 * m ≤ 8 * age) × (1000 ≤ age)
+after_delay m age waited = (omega arith, omega arith)
 
-after_old : (m age : ℕ) → (nat_le (9 * m) (8 * age) && nat_le 1000 age) ≡ true → max ((9 * m + 7) / 8) 1000 ≤ age
-after_old m age old =
-    let both = and_parts (nat_le (9 * m) (8 * age)) (nat_le 1000 age) old in
-    let fraction = leb-true (9 * m) (8 * age) both.0 in
-    let granularity = leb-true 1000 age both.1 in
-    omega arith
+delay_after : (m age : ℕ) → (9 * m ≤ 8 * age) × (1000 ≤ age) → max ((9 * m + 7) / 8) 1000 ≤ age
+delay_after m age (fraction, granularity) = omega (arith, fraction, granularity)
 
 -- a packet is old exactly when the loss delay has passed since it was sent
 pub old_is_after_loss_delay : (r : Estimate) (now : ℕ) (p : Packet) → (is_old r now p ≡ true) ↔ (loss_delay r ≤ now - p.time)
-old_is_after_loss_delay r now p = (after_old (max r.latest_rtt r.smoothed_rtt) (now - p.time), old_after (max r.latest_rtt r.smoothed_rtt) (now - p.time))
+old_is_after_loss_delay r now p = (leb-true (loss_delay r) (now - p.time), le-leb (loss_delay r) (now - p.time))
+
+-- rounding up changes nothing: so many parts of the RTT have passed, and the granularity
+pub old_is_exact : (r : Estimate) (now : ℕ) (p : Packet)
+    → (is_old r now p ≡ true) ↔ ((9 * max r.latest_rtt r.smoothed_rtt ≤ 8 * (now - p.time)) × (1000 ≤ now - p.time))
+old_is_exact r now p =
+    let delay = old_is_after_loss_delay r now p in
+    let m = max r.latest_rtt r.smoothed_rtt in
+    (λ old. after_delay m (now - p.time) (delay.0 old), λ exact. delay.1 (delay_after m (now - p.time) exact))

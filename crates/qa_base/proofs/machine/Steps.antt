@@ -5,7 +5,7 @@ use Rattle.std.specs.List.{list_any}
 use Rattle.std.specs.Prelude.{if◌then◌else◌}
 use Rattle.qa_base.specs.declared.event.Event.{Event}
 use Rattle.qa_base.specs.declared.event.Event.TheVariants.{Sent, Ack, Lost, Timer, Discard, Confirmed, Keys, Metrics}
-use Rattle.qa_base.specs.declared.space.Kind.TheVariants.{Loss, Pto}
+use Rattle.qa_base.specs.declared.space.TimerKind.TheVariants.{Loss, Pto}
 use Rattle.qa_base.specs.declared.space.Leave.{Leave}
 use Rattle.qa_base.specs.declared.space.Space.{Space}
 use Rattle.qa_base.specs.values.Events.{time_of, is_space}
@@ -15,7 +15,7 @@ use Rattle.qa_base.specs.machine.Packets.{Packet, packets_of}
 use Rattle.qa_base.specs.machine.Reno.{moves, moves_of_last, moved, reno, is_entry, start}
 use Rattle.qa_base.specs.values.Settings.{Settings}
 use Rattle.qa_base.specs.machine.Probes.{probe_due, unanswered_by}
-use Rattle.qa_base.specs.machine.Timer.{is_pto, resets_count, backoff, sets_timer, time_of_moment, last_set, last_eliciting}
+use Rattle.qa_base.specs.machine.Timer.{is_pto, resets_count, pto_count, sets_timer, time_of_moment, last_set, last_eliciting}
 
 -- ---- sums since the last moment that passes a test
 
@@ -34,8 +34,8 @@ spent_if false true more rest = refl
 spent_if false false more rest = refl
 
 -- the PTO count
-pub backoff_after : (c : Settings) (e : Event) (h : List Event) → backoff c (e ∷ h) ≡ (if resets_count c (e ∷ h) then 0 else (if is_pto (e ∷ h) then 1 else 0) + backoff c h)
-backoff_after c e h = sum_since (resets_count c) (λ m. cond (is_pto m) 1 0) e h
+pub pto_count_after : (c : Settings) (e : Event) (h : List Event) → pto_count c (e ∷ h) ≡ (if resets_count c (e ∷ h) then 0 else (if is_pto (e ∷ h) then 1 else 0) + pto_count c h)
+pto_count_after c e h = sum_since (resets_count c) (λ m. cond (is_pto m) 1 0) e h
 
 -- the bytes of probes since the last probe timeout
 pub probe_spent_after : (e : Event) (h : List Event) → probe_spent (e ∷ h) ≡ (if is_pto (e ∷ h) then Some 0 else option_map (λ n. probe_size (e ∷ h) + n) (probe_spent h))
@@ -102,7 +102,7 @@ pub probe_due_after : (e : Event) (h : List Event) → probe_due (e ∷ h) ≡ (
 probe_due_after (Timer time Pto space) h = refl
 probe_due_after (Timer time Loss space) h = due_if (Timer time Loss space) h (last_pto_space h) refl
 probe_due_after (Sent time space number size eliciting in_flight leave) h = due_if (Sent time space number size eliciting in_flight leave) h (last_pto_space h) refl
-probe_due_after (Ack time space ranges delay limited) h = due_if (Ack time space ranges delay limited) h (last_pto_space h) refl
+probe_due_after (Ack time space ranges delay app_limited) h = due_if (Ack time space ranges delay app_limited) h (last_pto_space h) refl
 probe_due_after (Lost time space ranges) h = due_if (Lost time space ranges) h (last_pto_space h) refl
 probe_due_after (Discard time space) h = due_if (Discard time space) h (last_pto_space h) refl
 probe_due_after (Confirmed time) h = due_if (Confirmed time) h (last_pto_space h) refl

@@ -9,12 +9,12 @@ use Rattle.std.specs.List.{AllByRecursion, All}
 use Rattle.std.specs.Prelude.{if◌then◌else◌, nat_lt, nat_le}
 use Rattle.qa_base.specs.declared.event.Event.{Event}
 use Rattle.qa_base.specs.declared.event.Event.TheVariants.{Sent}
-use Rattle.qa_base.specs.machine.Packets.{Packet, packets, packet_of, is_covered, is_lost, is_newly_acknowledged, newly_acknowledged, history_of}
+use Rattle.qa_base.specs.machine.Packets.{Packet, packets, packet_of, is_acknowledged, is_declared_lost, is_newly_acknowledged, newly_acknowledged, history_of}
 use Rattle.qa_base.specs.values.Events.{acknowledges, time_of}
 use Rattle.qa_base.specs.machine.Loss.{owed, is_persistent, bytes_in_flight, flight_size, is_open}
-use Rattle.qa_base.specs.machine.Reno.{Move, Hit, Collapse, Grow, Control, start, moved, moves, moves_of_last, reno, hits, collapses, grows, is_limited, is_slow_start, is_outside_recovery, growth}
+use Rattle.qa_base.specs.machine.Reno.{Move, Hit, Collapse, Grow, Control, start, moved, moves, moves_of_last, reno, hits, collapses, grows, is_app_limited, is_slow_start, is_outside_recovery, growth}
 use Rattle.qa_base.specs.values.Settings.{Settings, AreInRange}
-use Rattle.qa_base.specs.machine.Widths.{Fits, covered_count}
+use Rattle.qa_base.specs.machine.Widths.{Fits, acknowledged_count}
 use Rattle.qa_base.proofs.machine.Histories.{length-history_of}
 use Rattle.qa_base.proofs.machine.Steps.{reno_after}
 
@@ -149,8 +149,8 @@ small_collapses : (b : Bool) → AllByRecursion IsSmall (collapses b) × (sum_by
 small_collapses true = ((tt, tt), refl)
 small_collapses false = (tt, refl)
 
-small_grows : (limited : Bool) (ps : List Packet) → AllByRecursion IsSized ps
-    → AllByRecursion IsSmall (if limited then [] else grows ps) × (sum_by weight (if limited then [] else grows ps) ≤ 65527 * length ps)
+small_grows : (app_limited : Bool) (ps : List Packet) → AllByRecursion IsSized ps
+    → AllByRecursion IsSmall (if app_limited then [] else grows ps) × (sum_by weight (if app_limited then [] else grows ps) ≤ 65527 * length ps)
 small_grows true ps all = (tt, (omega arith))
 small_grows false ps all =
     let kept = filter (λ (p : Packet). p.in_flight) ps in
@@ -164,10 +164,10 @@ small_moves c e h sized =
     let xs = hits (time_of e) (owed c (e ∷ h)) in
     let ys = collapses (is_persistent c (e ∷ h)) in
     let new = newly_acknowledged (e ∷ h) in
-    let zs : List Move = if is_limited e then [] else grows new in
+    let zs : List Move = if is_app_limited e then [] else grows new in
     let a = small_hits (time_of e) (owed c (e ∷ h)) in
     let b = small_collapses (is_persistent c (e ∷ h)) in
-    let g = small_grows (is_limited e) new (each_of_part IsSized (is_newly_acknowledged e h) (packets h) sized) in
+    let g = small_grows (is_app_limited e) new (each_of_part IsSized (is_newly_acknowledged e h) (packets h) sized) in
     let sum : sum_by weight (moves_of_last c (e ∷ h)) ≡ sum_by weight (xs ++ ys) + sum_by weight zs = sum_by-append weight (xs ++ ys) zs in
     let sums : sum_by weight (xs ++ ys) ≡ sum_by weight xs + sum_by weight ys = sum_by-append weight xs ys in
     let x = a.1 in let y = b.1 in let z = g.1 in
@@ -188,14 +188,14 @@ abbrev IsBehind : ℕ → Packet → Type 0
 IsBehind n p = nat_lt p.place n ≡ true
 
 covered_more : (e : Event) (h : List Event) (ps : List Packet) → AllByRecursion (IsBehind (length h)) ps
-    → count_by (is_covered h) ps + count_by (is_newly_acknowledged e h) ps ≤ count_by (is_covered (e ∷ h)) ps
+    → count_by (is_acknowledged h) ps + count_by (is_newly_acknowledged e h) ps ≤ count_by (is_acknowledged (e ∷ h)) ps
 covered_more e h [] behind = omega arith
 covered_more e h (p ∷ ps) behind =
     let rest = covered_more e h ps behind.1 in
-    let here = once (acknowledges p.space p.number e) (nat_lt p.place (length h)) (is_covered h p) (is_lost h p) behind.0 in
-    let a : count_by (is_covered h) (p ∷ ps) ≡ cond (is_covered h p) 1 0 + count_by (is_covered h) ps = sum_by-cons (λ q. cond (is_covered h q) 1 0) p ps in
+    let here = once (acknowledges p.space p.number e) (nat_lt p.place (length h)) (is_acknowledged h p) (is_declared_lost h p) behind.0 in
+    let a : count_by (is_acknowledged h) (p ∷ ps) ≡ cond (is_acknowledged h p) 1 0 + count_by (is_acknowledged h) ps = sum_by-cons (λ q. cond (is_acknowledged h q) 1 0) p ps in
     let b : count_by (is_newly_acknowledged e h) (p ∷ ps) ≡ cond (is_newly_acknowledged e h p) 1 0 + count_by (is_newly_acknowledged e h) ps = sum_by-cons (λ q. cond (is_newly_acknowledged e h q) 1 0) p ps in
-    let d : count_by (is_covered (e ∷ h)) (p ∷ ps) ≡ cond (is_covered (e ∷ h) p) 1 0 + count_by (is_covered (e ∷ h)) ps = sum_by-cons (λ q. cond (is_covered (e ∷ h) q) 1 0) p ps in
+    let d : count_by (is_acknowledged (e ∷ h)) (p ∷ ps) ≡ cond (is_acknowledged (e ∷ h) p) 1 0 + count_by (is_acknowledged (e ∷ h)) ps = sum_by-cons (λ q. cond (is_acknowledged (e ∷ h) q) 1 0) p ps in
     omega (arith, rest, here, a, b, d)
 
 behind_more : (n : ℕ) (ps : List Packet) → AllByRecursion (λ (p : Packet). p.place < n) ps → AllByRecursion (λ (p : Packet). p.place < suc n) ps
@@ -227,12 +227,12 @@ sized : (h : List Event) → AllByRecursion Fits h → AllByRecursion IsSized (p
 sized [] fit = tt
 sized (e ∷ h) fit = each_append IsSized (packet_of (length h) e) (packets h) (sized_one e (length h) fit.0) (sized h fit.1)
 
-between : (c : Settings) (h : List Event) → AreInRange c → AllByRecursion Fits h → IsBetween c.max_datagram_size (c.initial_window + 65527 * covered_count h) (reno c h)
+between : (c : Settings) (h : List Event) → AreInRange c → AllByRecursion Fits h → IsBetween c.max_datagram_size (c.initial_window + 65527 * acknowledged_count h) (reno c h)
 between c [] range fit = record { low = range.window_low; high = omega arith }
 between c (e ∷ h) range fit =
     let d = c.max_datagram_size in
     let before = between c h range fit.1 in
-    let most = c.initial_window + 65527 * covered_count h in
+    let most = c.initial_window + 65527 * acknowledged_count h in
     let window_low = range.window_low in
     let datagram_low = range.datagram_low in
     let small = small_moves c e h (sized h fit.1) in
@@ -241,13 +241,13 @@ between c (e ∷ h) range fit =
     let heavy = small.1 in
     let new : length (newly_acknowledged (e ∷ h)) ≡ count_by (is_newly_acknowledged e h) (packets h) = length-filter (is_newly_acknowledged e h) (packets h) in
     let more = covered_more e h (packets h) (behind_tests (length h) (packets h) (placed h)) in
-    let onto : count_by (is_covered (e ∷ h)) (packets (e ∷ h)) ≡ count_by (is_covered (e ∷ h)) (packet_of (length h) e) + count_by (is_covered (e ∷ h)) (packets h) =
-    sum_by-append (λ q. cond (is_covered (e ∷ h) q) 1 0) (packet_of (length h) e) (packets h) in
+    let onto : count_by (is_acknowledged (e ∷ h)) (packets (e ∷ h)) ≡ count_by (is_acknowledged (e ∷ h)) (packet_of (length h) e) + count_by (is_acknowledged (e ∷ h)) (packets h) =
+    sum_by-append (λ q. cond (is_acknowledged (e ∷ h) q) 1 0) (packet_of (length h) e) (packets h) in
     let high = here.high in
     record { low = here.low; high = omega (arith, high, heavy, new, more, onto) }
 
 -- it is at most where it began and a packet's greatest size for each that was acknowledged
-pub window_high : (c : Settings) (h : List Event) → AreInRange c → AllByRecursion Fits h → (reno c h).window ≤ c.initial_window + 65527 * covered_count h
+pub window_high : (c : Settings) (h : List Event) → AreInRange c → AllByRecursion Fits h → (reno c h).window ≤ c.initial_window + 65527 * acknowledged_count h
 window_high c h range fit = (between c h range fit).high
 
 packets_few : (h : List Event) → length (packets h) ≤ length h
@@ -261,7 +261,7 @@ window_bound c h range fit few =
     let is = between c h range fit in
     let low = is.low in let high = is.high in
     let window_high = range.window_high in
-    let counted : covered_count h ≤ length (packets h) = count_by-le-length (is_covered h) (packets h) in
+    let counted : acknowledged_count h ≤ length (packets h) = count_by-le-length (is_acknowledged h) (packets h) in
     let fewer = packets_few h in
     (low, (omega (arith, high, counted, fewer, few, window_high)))
 

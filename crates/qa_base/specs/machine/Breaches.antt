@@ -1,10 +1,12 @@
 -- What each rule forbids: whether an event breaks it after a history.
+--
+-- `c` are the settings of the header, `h` is the history.
 use Rattle.std.specs.Prelude.{ℕ, ◌+◌, ◌*◌, ◌&&◌, not, nat_lt, nat_le, max, Bool, true, false, List, [], ◌∷◌, map, Option, Some, None, is_none}
 use Rattle.std.specs.List.{list_any}
 use Rattle.qa_base.specs.declared.event.Event.{Event}
 use Rattle.qa_base.specs.declared.event.Event.TheVariants.{Sent, Ack, Lost, Timer, Discard}
-use Rattle.qa_base.specs.declared.space.Kind.{Kind}
-use Rattle.qa_base.specs.declared.space.Kind.TheVariants.{Pto}
+use Rattle.qa_base.specs.declared.space.TimerKind.{TimerKind}
+use Rattle.qa_base.specs.declared.space.TimerKind.TheVariants.{Pto}
 use Rattle.qa_base.specs.declared.space.Leave.TheVariants.{Window, Probe, Recovery}
 use Rattle.qa_base.specs.declared.space.Space.{Space}
 use Rattle.qa_base.specs.declared.space.Space.TheVariants.{Handshake}
@@ -13,7 +15,7 @@ use Rattle.qa_base.specs.machine.Handshake.{is_confirmed}
 use Rattle.qa_base.specs.machine.Leave.{probe_spent, recovery_spent, is_probe_due}
 use Rattle.qa_base.specs.machine.Loss.{owed, bytes_in_flight}
 use Rattle.qa_base.specs.machine.Numbers.{has_all, names_exactly}
-use Rattle.qa_base.specs.machine.Packets.{Packet, packets_of, is_of, is_gone, is_some_packet}
+use Rattle.qa_base.specs.machine.Packets.{Packet, packets_of, is_of, is_discarded, is_some_packet}
 use Rattle.qa_base.specs.machine.Reno.{reno}
 use Rattle.qa_base.specs.values.Constants.{probe_datagrams}
 use Rattle.qa_base.specs.values.Settings.{Settings}
@@ -50,17 +52,17 @@ is_other_loss_set c h _ = false
 
 abbrev pub space_of : Event → Option Space
 space_of (Sent time space number size eliciting in_flight leave) = Some space
-space_of (Ack time space ranges delay limited) = Some space
+space_of (Ack time space ranges delay app_limited) = Some space
 space_of (Discard time space) = Some space
 space_of _ = None
 
-abbrev pub is_some_gone : List Event → Option Space → Bool
-is_some_gone h None = false
-is_some_gone h (Some s) = is_gone h s
+abbrev pub is_some_discarded : List Event → Option Space → Bool
+is_some_discarded h None = false
+is_some_discarded h (Some s) = is_discarded h s
 
 -- V5: its space was discarded (RFC 9002, section 6.4)
 abbrev pub is_space_gone : List Event → Event → Bool
-is_space_gone h e = is_some_gone h (space_of e)
+is_space_gone h e = is_some_discarded h (space_of e)
 
 -- ---- a packet
 
@@ -97,7 +99,7 @@ is_past_recovery c h _ = false
 
 -- V10: it covers a number that was never sent in its space
 abbrev pub is_ack_unsent : List Event → Event → Bool
-is_ack_unsent h (Ack time space ranges delay limited) = not (has_all (numbers (packets_of h space)) ranges)
+is_ack_unsent h (Ack time space ranges delay app_limited) = not (has_all (numbers (packets_of h space)) ranges)
 is_ack_unsent h _ = false
 
 -- ---- the timer
@@ -107,7 +109,7 @@ abbrev pub is_timer_not_set : Settings → List Event → Event → Bool
 is_timer_not_set c h (Timer time kind space) = is_none (deadline c h)
 is_timer_not_set c h _ = false
 
-abbrev pub is_other : Kind → Space → Option Due → Bool
+abbrev pub is_other : TimerKind → Space → Option Due → Bool
 is_other kind space None = false
 is_other kind space (Some due) = not (is_kind kind due.kind && is_space space due.space)
 

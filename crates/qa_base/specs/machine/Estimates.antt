@@ -1,4 +1,6 @@
 -- The estimate of the round-trip time after a history (RFC 9002, section 5).
+--
+-- `c` are the settings of the header, `h` is the history.
 use Rattle.std.specs.Prelude.{Bool, true, false, List, [], ◌∷◌, if◌then◌else◌}
 use Rattle.qa_base.specs.declared.event.Event.{Event}
 use Rattle.qa_base.specs.machine.Detection.{is_persistent_by}

@@ -1,4 +1,6 @@
 -- How far the handshake is.
+--
+-- `c` are the settings of the header, `h` is the history.
 use Rattle.std.specs.Prelude.{◌||◌, Bool, true, false, List}
 use Rattle.std.specs.List.{list_any}
 use Rattle.qa_base.specs.declared.event.Event.{Event}
@@ -18,7 +20,7 @@ abbrev pub is_confirmed : List Event → Bool
 is_confirmed h = list_any confirms h
 
 abbrev pub acknowledges_handshake : Event → Bool
-acknowledges_handshake (Ack time space ranges delay limited) = is_space Handshake space
+acknowledges_handshake (Ack time space ranges delay app_limited) = is_space Handshake space
 acknowledges_handshake _ = false
 
 abbrev pub is_server : Role → Bool

@@ -1,4 +1,6 @@
 -- How much of a history is still of use: the packets since the oldest that is open or owed, and the runs of numbers.
+--
+-- `c` are the settings of the header, `h` is the history.
 use Rattle.std.specs.Prelude.{ℕ, ◌+◌, ◌||◌, not, nat_le, count_by, filter, map, Bool, List, Option, Some, None}
 use Rattle.qa_base.specs.declared.event.Event.{Event}
 use Rattle.qa_base.specs.declared.space.Space.{Space}

@@ -1,4 +1,6 @@
 -- By what leave packets go out, and how much of it is left.
+--
+-- `c` are the settings of the header, `h` is the history.
 use Rattle.std.specs.Prelude.{ℕ, ◌&&◌, ◌||◌, not, find, Bool, true, false, List, ◌∷◌, count_by, sum_by, option_and_then, Option, Some, None, if◌then◌else◌}
 use Rattle.std.specs.List.{list_any}
 use Rattle.qa_base.specs.declared.event.Event.{Event}

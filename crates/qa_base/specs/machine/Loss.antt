@@ -1,9 +1,11 @@
 -- Which packets are owed as lost, which are open, the bytes in flight, and persistent congestion.
+--
+-- `c` are the settings of the header, `h` is the history.
 use Rattle.std.specs.Prelude.{ℕ, ◌&&◌, not, Bool, List, sum_by, if◌then◌else◌}
 use Rattle.qa_base.specs.declared.event.Event.{Event}
 use Rattle.qa_base.specs.machine.Detection.{owed_by, is_owed_by, is_unsettled, is_persistent_by}
 use Rattle.qa_base.specs.machine.Estimates.{sampled}
-use Rattle.qa_base.specs.machine.Packets.{Packet, packets, is_gone}
+use Rattle.qa_base.specs.machine.Packets.{Packet, packets, is_discarded}
 use Rattle.qa_base.specs.values.Settings.{Settings}
 
 -- ---- losses (RFC 9002, section 6.1, A.10)
@@ -19,7 +21,7 @@ is_owed c h p = is_owed_by (sampled c h) h p
 
 -- neither acknowledged nor lost, and its space not discarded
 abbrev pub is_open : Settings → List Event → Packet → Bool
-is_open c h p = is_unsettled h p && not (is_owed c h p) && not (is_gone h p.space)
+is_open c h p = is_unsettled h p && not (is_owed c h p) && not (is_discarded h p.space)
 
 -- what a packet adds to the bytes in flight
 abbrev pub flight_size : Settings → List Event → Packet → ℕ

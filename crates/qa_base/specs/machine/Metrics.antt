@@ -1,4 +1,6 @@
 -- What a sender reports of its own state, compared with the machine's.
+--
+-- `c` are the settings of the header, `h` is the history.
 use Rattle.std.specs.Prelude.{ℕ, nat_lt, Bool, true, false, List, [], ◌∷◌, map, Option, Some, None}
 use Rattle.qa_base.specs.declared.event.Event.{Event}
 use Rattle.qa_base.specs.declared.event.Event.TheVariants.{Metrics}

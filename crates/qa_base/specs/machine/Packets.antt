@@ -61,22 +61,22 @@ is_followed_by test [] p = false
 is_followed_by test (e ∷ before) p = (test e && nat_lt p.place (length before)) || is_followed_by test before p
 
 -- an acknowledgment of its space covers its number, also where it was lost before
-abbrev pub is_covered : List Event → Packet → Bool
-is_covered h p = is_followed_by (acknowledges p.space p.number) h p
+abbrev pub is_acknowledged : List Event → Packet → Bool
+is_acknowledged h p = is_followed_by (acknowledges p.space p.number) h p
 
 -- a Lost line of its space names it
-abbrev pub is_lost : List Event → Packet → Bool
-is_lost h p = is_followed_by (declares_lost p.space p.number) h p
+abbrev pub is_declared_lost : List Event → Packet → Bool
+is_declared_lost h p = is_followed_by (declares_lost p.space p.number) h p
 
 -- the keys of the space were discarded
-abbrev pub is_gone : List Event → Space → Bool
-is_gone h s = list_any (discards s) h
+abbrev pub is_discarded : List Event → Space → Bool
+is_discarded h s = list_any (discards s) h
 
 -- ---- acknowledgments (RFC 9002, A.7)
 
 -- the event acknowledges the packet, which was neither acknowledged nor declared lost before
 abbrev pub is_newly_acknowledged : Event → List Event → Packet → Bool
-is_newly_acknowledged e before p = acknowledges p.space p.number e && not (is_covered before p) && not (is_lost before p)
+is_newly_acknowledged e before p = acknowledges p.space p.number e && not (is_acknowledged before p) && not (is_declared_lost before p)
 
 -- the packets that the last event newly acknowledges, the latest first
 abbrev pub newly_acknowledged : List Event → List Packet
@@ -98,7 +98,7 @@ greatest (range ∷ ranges) = max range.1 (greatest ranges)
 
 -- the greatest number that the event acknowledges in the space
 abbrev pub greatest_in : Space → Event → List ℕ
-greatest_in s (Ack time space ranges delay limited) = if is_space s space then greatest ranges ∷ [] else []
+greatest_in s (Ack time space ranges delay app_limited) = if is_space s space then greatest ranges ∷ [] else []
 greatest_in s _ = []
 
 -- the greatest of some numbers

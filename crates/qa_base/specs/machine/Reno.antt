@@ -1,4 +1,6 @@
 -- The congestion window, by the moves that a history makes (RFC 9002, section 7, appendix B).
+--
+-- `c` are the settings of the header, `h` is the history.
 use Rattle.std.specs.Prelude.{ℕ, ◌+◌, ◌*◌, ◌/◌, nat_lt, max, Bool, true, false, List, [], ◌∷◌, ◌++◌, filter, fold, map, reverse, Option, Some, None, if◌then◌else◌}
 use Rattle.qa_base.specs.declared.event.Event.{Event}
 use Rattle.qa_base.specs.declared.event.Event.TheVariants.{Ack}
@@ -79,9 +81,9 @@ abbrev pub grows : List Packet → List Move
 grows new = map (λ p. Grow p.size p.time) (reverse (filter (λ p. p.in_flight) new))
 
 -- the sender did not use the window that it had (section 7.8)
-abbrev pub is_limited : Event → Bool
-is_limited (Ack time space ranges delay limited) = limited
-is_limited _ = false
+abbrev pub is_app_limited : Event → Bool
+is_app_limited (Ack time space ranges delay app_limited) = app_limited
+is_app_limited _ = false
 
 -- the moves of the last event: losses first, then growth (A.7)
 abbrev pub moves_of_last : Settings → List Event → List Move
@@ -89,7 +91,7 @@ moves_of_last c [] = []
 moves_of_last c (e ∷ before) =
     hits (time_of e) (owed c (e ∷ before))
     ++ collapses (is_persistent c (e ∷ before))
-    ++ (if is_limited e then [] else grows (newly_acknowledged (e ∷ before)))
+    ++ (if is_app_limited e then [] else grows (newly_acknowledged (e ∷ before)))
 
 abbrev pub moves : Settings → List Event → List Move
 moves c [] = []

@@ -1,11 +1,13 @@
 -- Samples of the round-trip time, and the estimate that they make (RFC 9002, section 5).
+--
+-- `c` are the settings of the header, `h` is the history.
 use Rattle.std.specs.Prelude.{ℕ, ◌+◌, ◌-◌, ◌*◌, ◌/◌, ◌==◌, nat_le, min, max, List, ◌∷◌, find, Option, Some, None, if◌then◌else◌}
 use Rattle.std.specs.List.{list_any}
 use Rattle.qa_base.specs.declared.event.Event.{Event}
 use Rattle.qa_base.specs.declared.event.Event.TheVariants.{Ack}
 use Rattle.qa_base.specs.machine.Packets.{Packet, newly_acknowledged, greatest}
 use Rattle.qa_base.specs.machine.Handshake.{is_confirmed}
-use Rattle.qa_base.specs.values.Constants.{granularity, persistent_congestion_threshold}
+use Rattle.qa_base.specs.values.Constants.{granularity, persistent_congestion_threshold, time_threshold_parts, time_threshold_divisor}
 use Rattle.qa_base.specs.values.Settings.{Settings}
 
 -- ---- samples (RFC 9002, section 5.1)
@@ -26,8 +28,8 @@ sample_by time delay (Some p) = Some (record { latest_rtt = time - p.time; ack_d
 
 -- the sample of the last event: it acknowledges, and newly both the packet with its largest number and an ack-eliciting one
 abbrev pub sample_of : Settings → List Event → Option Sample
-sample_of c (Ack time space ranges delay limited ∷ before) =
-    let new = newly_acknowledged (Ack time space ranges delay limited ∷ before) in
+sample_of c (Ack time space ranges delay app_limited ∷ before) =
+    let new = newly_acknowledged (Ack time space ranges delay app_limited ∷ before) in
     if list_any (λ p. p.eliciting) new
     then sample_by time (limited_delay c before delay) (find (λ p. p.number == greatest ranges) new)
     else None
@@ -99,6 +101,15 @@ refreshed r = record {
 }
 
 -- ---- what is computed from it
+
+-- n / d, rounded up
+abbrev pub divided_up : ℕ → ℕ → ℕ
+divided_up n d = (n + (d - 1)) / d
+
+-- how long after it was sent a packet is old: the time threshold of the RTT, rounded up, and the granularity at least
+-- (RFC 9002, section 6.1.2)
+abbrev pub loss_delay : Estimate → ℕ
+loss_delay r = max (divided_up (time_threshold_parts * max r.latest_rtt r.smoothed_rtt) time_threshold_divisor) granularity
 
 -- the probe timeout before the peer's delay and the backoff (RFC 9002, section 6.2.1)
 abbrev pub pto_base : Estimate → ℕ

@@ -1,4 +1,6 @@
 -- The rules, the first that an event breaks, and runs.
+--
+-- `c` are the settings of the header, `h` is the history.
 use Rattle.std.specs.Prelude.{◌≡◌, Bool, List, [], ◌∷◌, ◌++◌, Option, Some, None, if◌then◌else◌}
 use Rattle.qa_base.specs.declared.event.Event.{Event}
 use Rattle.qa_base.specs.declared.rule.Rule.{Rule}

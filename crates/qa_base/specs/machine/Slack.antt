@@ -1,4 +1,6 @@
 -- Headers that differ by the slack of reported values alone.
+--
+-- `c` are the settings of the header.
 use Rattle.std.specs.Prelude.{ℕ}
 use Rattle.qa_base.specs.values.Settings.{Settings}
 

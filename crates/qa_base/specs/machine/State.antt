@@ -1,4 +1,6 @@
 -- What the machine holds after a history.
+--
+-- `c` are the settings of the header, `h` is the history.
 use Rattle.std.specs.Prelude.{List, length}
 use Rattle.qa_base.specs.declared.event.Event.{Event}
 use Rattle.qa_base.specs.declared.totals.Totals.{Totals}
@@ -6,7 +8,7 @@ use Rattle.qa_base.specs.machine.Estimates.{rtt}
 use Rattle.qa_base.specs.machine.Loss.{bytes_in_flight, owed}
 use Rattle.qa_base.specs.machine.Reno.{reno}
 use Rattle.qa_base.specs.values.Settings.{Settings}
-use Rattle.qa_base.specs.machine.Timer.{backoff}
+use Rattle.qa_base.specs.machine.Timer.{pto_count}
 
 abbrev pub totals : Settings → List Event → Totals
 totals c h = record {
@@ -18,6 +20,6 @@ totals c h = record {
   min_rtt = (rtt c h).min_rtt;
   smoothed_rtt = (rtt c h).smoothed_rtt;
   rttvar = (rtt c h).rttvar;
-  pto_count = backoff c h;
+  pto_count = pto_count c h;
   owed = length (owed c h);
 }

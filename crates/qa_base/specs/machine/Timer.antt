@@ -1,11 +1,13 @@
 -- The loss detection timer (RFC 9002, section 6.2, A.8).
-use Rattle.std.specs.Prelude.{ℕ, ◌+◌, ◌-◌, ◌*◌, ◌/◌, ◌^◌, ◌==◌, ◌&&◌, nat_le, nat_lt, min, max, count_by, Bool, true, false, List, [], ◌∷◌, filter, find, map, unwrap_or, Option, Some, None, option_map, option_and_then, if◌then◌else◌}
+--
+-- `c` are the settings of the header, `h` is the history.
+use Rattle.std.specs.Prelude.{ℕ, ◌+◌, ◌*◌, ◌^◌, ◌==◌, ◌&&◌, nat_le, nat_lt, min, count_by, Bool, true, false, List, [], ◌∷◌, filter, find, map, unwrap_or, Option, Some, None, option_map, option_and_then, if◌then◌else◌}
 use Rattle.std.specs.List.{list_any}
 use Rattle.std.specs.Option.{option_or}
 use Rattle.qa_base.specs.declared.event.Event.{Event}
 use Rattle.qa_base.specs.declared.event.Event.TheVariants.{Sent, Timer, Discard}
-use Rattle.qa_base.specs.declared.space.Kind.{Kind}
-use Rattle.qa_base.specs.declared.space.Kind.TheVariants.{Loss, Pto}
+use Rattle.qa_base.specs.declared.space.TimerKind.{TimerKind}
+use Rattle.qa_base.specs.declared.space.TimerKind.TheVariants.{Loss, Pto}
 use Rattle.qa_base.specs.declared.space.Space.{Space}
 use Rattle.qa_base.specs.declared.space.Space.TheVariants.{Initial, Handshake, App}
 use Rattle.qa_base.specs.values.Events.{time_of, is_space}
@@ -14,8 +16,7 @@ use Rattle.qa_base.specs.machine.Estimates.{rtt}
 use Rattle.qa_base.specs.machine.Loss.{is_open}
 use Rattle.qa_base.specs.machine.Moments.{moments, since}
 use Rattle.qa_base.specs.machine.Packets.{Packet, packets_of, acknowledges_new, largest_acknowledged}
-use Rattle.qa_base.specs.machine.Rtt.{Estimate, pto_base}
-use Rattle.qa_base.specs.values.Constants.{time_threshold_parts, time_threshold_divisor, granularity}
+use Rattle.qa_base.specs.machine.Rtt.{loss_delay, pto_base}
 use Rattle.qa_base.specs.values.Settings.{Settings}
 
 -- ---- the PTO count (section 6.2.1)
@@ -31,14 +32,14 @@ resets_count c (Discard time space ∷ before) = true
 resets_count c h = acknowledges_new h && is_validated c h
 
 -- the probe timeouts since then
-abbrev pub backoff : Settings → List Event → ℕ
-backoff c h = count_by is_pto (since (resets_count c) h)
+abbrev pub pto_count : Settings → List Event → ℕ
+pto_count c h = count_by is_pto (since (resets_count c) h)
 
 -- ---- deadlines
 
 -- what the timer is set for, in which space and when
 pub record Due : Type 0 where
-  pub kind : Kind
+  pub kind : TimerKind
   pub space : Space
   pub time : ℕ
 
@@ -51,14 +52,6 @@ earlier (Some due) (Some later) = if nat_le due.time later.time then Some due el
 abbrev pub least_of : List ℕ → Option ℕ
 least_of [] = None
 least_of (n ∷ ns) = Some (min n (unwrap_or (least_of ns) n))
-
--- n / d, rounded up
-abbrev pub divided_up : ℕ → ℕ → ℕ
-divided_up n d = (n + (d - 1)) / d
-
--- the time threshold of the RTT, rounded up, and the granularity at least (section 6.1.2)
-abbrev pub loss_delay : Estimate → ℕ
-loss_delay r = max (divided_up (time_threshold_parts * max r.latest_rtt r.smoothed_rtt) time_threshold_divisor) granularity
 
 abbrev pub is_below_largest : ℕ → Option ℕ → Bool
 is_below_largest number None = false
@@ -89,7 +82,7 @@ last_eliciting h s = option_map (λ p. p.time) (find (λ p. p.eliciting) (packet
 abbrev pub pto_due : Settings → List Event → ℕ → Space → Option Due
 pto_due c h peer_delay s =
     if list_any (awaits_acknowledgment c h) (packets_of h s)
-    then option_map (λ sent. record { kind = Pto; space = s; time = sent + (pto_base (rtt c h) + peer_delay) * 2 ^ backoff c h }) (last_eliciting h s)
+    then option_map (λ sent. record { kind = Pto; space = s; time = sent + (pto_base (rtt c h) + peer_delay) * 2 ^ pto_count c h }) (last_eliciting h s)
     else None
 
 -- application data counts once the handshake is confirmed
@@ -121,7 +114,7 @@ anti_deadlock c h =
     else option_map (λ set. record {
       kind = Pto;
       space = if has_keys h then Handshake else Initial;
-      time = set + pto_base (rtt c h) * 2 ^ backoff c h;
+      time = set + pto_base (rtt c h) * 2 ^ pto_count c h;
     }) (last_set h)
 
 -- what the timer is set for: the first of these that there is
@@ -134,7 +127,7 @@ packet_deadline c h = option_or (earliest_loss c h) (earliest_pto c h)
 
 -- ---- since when
 
-abbrev pub is_kind : Kind → Kind → Bool
+abbrev pub is_kind : TimerKind → TimerKind → Bool
 is_kind Loss Loss = true
 is_kind Pto Pto = true
 is_kind _ _ = false

@@ -1,7 +1,7 @@
 -- Words for the ranges of the events of a history, and for what grows with them.
 use Rattle.std.specs.Prelude.{◌≡◌, ◌≤◌, ℕ, true, count_by, List}
 use Rattle.qa_base.specs.declared.event.Event.{Event}
-use Rattle.qa_base.specs.machine.Packets.{packets, is_covered}
+use Rattle.qa_base.specs.machine.Packets.{packets, is_acknowledged}
 use Rattle.qa_base.specs.values.Events.{fits, time_of}
 use Rattle.qa_base.specs.values.Limits.{max_time}
 
@@ -14,5 +14,5 @@ abbrev pub IsTimely : Event → Type 0
 IsTimely e = time_of e ≤ max_time
 
 -- how many packets were acknowledged
-abbrev pub covered_count : List Event → ℕ
-covered_count h = count_by (is_covered h) (packets h)
+abbrev pub acknowledged_count : List Event → ℕ
+acknowledged_count h = count_by (is_acknowledged h) (packets h)

@@ -15,7 +15,7 @@ is_space _ _ = false
 
 abbrev pub time_of : Event → ℕ
 time_of (Sent time space number size eliciting in_flight leave) = time
-time_of (Ack time space ranges delay limited) = time
+time_of (Ack time space ranges delay app_limited) = time
 time_of (Lost time space ranges) = time
 time_of (Timer time kind space) = time
 time_of (Discard time space) = time
@@ -40,7 +40,7 @@ is_named ranges n = list_any (λ range. nat_le range.0 n && nat_le n range.1) ra
 
 -- the event is an acknowledgment of this number in this space
 abbrev pub acknowledges : Space → ℕ → Event → Bool
-acknowledges s n (Ack time space ranges delay limited) = is_space s space && is_named ranges n
+acknowledges s n (Ack time space ranges delay app_limited) = is_space s space && is_named ranges n
 acknowledges s n _ = false
 
 -- the event declares this number of this space lost
@@ -59,7 +59,7 @@ discards s _ = false
 -- ranges are not empty, and a discarded space is not the application's
 abbrev pub fits : Event → Bool
 fits (Sent time space number size eliciting in_flight leave) = nat_le 1 size && nat_le size max_packet_size && (not eliciting || in_flight)
-fits (Ack time space ranges delay limited) = has_ranges ranges
+fits (Ack time space ranges delay app_limited) = has_ranges ranges
 fits (Lost time space ranges) = has_ranges ranges
 fits (Discard time space) = not (is_space App space)
 fits _ = true
@@ -68,7 +68,7 @@ fits _ = true
 
 -- the event can change neither the RTT, the window nor the PTO count: no acknowledgment, timer or discard
 abbrev pub is_quiet : Event → Bool
-is_quiet (Ack time space ranges delay limited) = false
+is_quiet (Ack time space ranges delay app_limited) = false
 is_quiet (Timer time kind space) = false
 is_quiet (Discard time space) = false
 is_quiet _ = true

@@ -14,32 +14,32 @@ abbrev pub max_packet_size : ℕ
 max_packet_size = 65527
 
 -- the least maximum datagram size, in bytes (RFC 9000, section 14)
-abbrev pub least_datagram_size : ℕ
-least_datagram_size = 1200
+abbrev pub min_datagram_size : ℕ
+min_datagram_size = 1200
 
 -- the greatest max_ack_delay, 2^14 - 1 milliseconds (RFC 9000, section 18.2)
-abbrev pub greatest_max_ack_delay : ℕ
-greatest_max_ack_delay = 16383000
+abbrev pub max_max_ack_delay : ℕ
+max_max_ack_delay = 16383000
 
 -- the greatest initial RTT, 1,000 seconds
-abbrev pub greatest_initial_rtt : ℕ
-greatest_initial_rtt = 1000000000
+abbrev pub max_initial_rtt : ℕ
+max_initial_rtt = 1000000000
 
 -- the greatest initial window, 2^32 - 1 bytes
-abbrev pub greatest_initial_window : ℕ
-greatest_initial_window = 4294967295
+abbrev pub max_initial_window : ℕ
+max_initial_window = 4294967295
 
 -- the greatest limit for how late a timer is, 10^15 microseconds
-abbrev pub greatest_timer_late : ℕ
-greatest_timer_late = 1000000000000000
+abbrev pub max_timer_late : ℕ
+max_timer_late = 1000000000000000
 
 -- the greatest slack of reported times, 1,000 seconds
-abbrev pub greatest_report_slack_us : ℕ
-greatest_report_slack_us = 1000000000
+abbrev pub max_report_slack_us : ℕ
+max_report_slack_us = 1000000000
 
 -- the greatest slack of reported bytes, 2^32 - 1
-abbrev pub greatest_report_slack_bytes : ℕ
-greatest_report_slack_bytes = 4294967295
+abbrev pub max_report_slack_bytes : ℕ
+max_report_slack_bytes = 4294967295
 
 -- the most lines of a trace, 2^32 - 1
 abbrev pub max_lines : ℕ

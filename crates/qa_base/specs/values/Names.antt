@@ -14,8 +14,8 @@ use Rattle.qa_base.specs.declared.space.Role.{Role}
 use Rattle.qa_base.specs.declared.space.Role.TheVariants.{Client, Server}
 use Rattle.qa_base.specs.declared.space.Space.{Space}
 use Rattle.qa_base.specs.declared.space.Space.TheVariants.{Initial, Handshake, App}
-use Rattle.qa_base.specs.declared.space.Kind.{Kind}
-use Rattle.qa_base.specs.declared.space.Kind.TheVariants.{Loss, Pto}
+use Rattle.qa_base.specs.declared.space.TimerKind.{TimerKind}
+use Rattle.qa_base.specs.declared.space.TimerKind.TheVariants.{Loss, Pto}
 use Rattle.qa_base.specs.declared.space.Leave.{Leave}
 use Rattle.qa_base.specs.declared.space.Leave.TheVariants.{Window, Probe, Recovery}
 
@@ -88,7 +88,7 @@ leave_name Window = codes "window"
 leave_name Probe = codes "probe"
 leave_name Recovery = codes "recovery"
 
-abbrev pub kind_name : Kind → List ℕ
+abbrev pub kind_name : TimerKind → List ℕ
 kind_name Loss = codes "loss"
 kind_name Pto = codes "pto"
 
@@ -122,7 +122,7 @@ discarded_named = named (with_names space_name (Initial ∷ Handshake ∷ []))
 abbrev pub leave_named : List ℕ → Option Leave
 leave_named = named (with_names leave_name (Window ∷ Probe ∷ Recovery ∷ []))
 
-abbrev pub kind_named : List ℕ → Option Kind
+abbrev pub kind_named : List ℕ → Option TimerKind
 kind_named = named (with_names kind_name (Loss ∷ Pto ∷ []))
 
 -- ---- rules

@@ -15,7 +15,7 @@ use Rattle.qa_base.specs.declared.key.Key.TheVariants as key
 use Rattle.qa_base.specs.declared.header.Options.{Options}
 use Rattle.qa_format.specs.declared.line.Line.TheVariants as line
 use Rattle.qa_base.specs.declared.rule.Field.TheVariants as field
-use Rattle.qa_base.specs.declared.space.Kind.{Kind as TimerKind}
+use Rattle.qa_base.specs.declared.space.TimerKind.{TimerKind}
 use Rattle.qa_base.specs.declared.space.Leave.{Leave}
 use Rattle.qa_base.specs.declared.space.Leave.TheVariants as leaves
 use Rattle.qa_base.specs.declared.space.Role.{Role}
@@ -154,25 +154,25 @@ sent_found ms t s number size eliciting in_flight leave named at_time at_space a
     (flags_pass eliciting in_flight e parts.1) in
     then_reads (required string key.Event d) _ (codes "sent") (line.Event e) (named_found d (codes "sent") named) (event_of e _ says)
 
-pub ack_found : (ms : Members) (t : ℕ) (s : Space) (rs : List (ℕ × ℕ)) (delay : Option ℕ) (limited : Option Bool)
+pub ack_found : (ms : Members) (t : ℕ) (s : Space) (rs : List (ℕ × ℕ)) (delay : Option ℕ) (app_limited : Option Bool)
     → get_member (codes "event") ms ≡ Some (written.string (codes "ack"))
     → get_member (codes "time") ms ≡ Some (written.integer t)
     → get_member (codes "space") ms ≡ Some (written.string (space_name s))
     → get_member (codes "ranges") ms ≡ Some (json.array (written.integer_pairs rs))
     → get_member (codes "delay") ms ≡ option_map written.integer delay
-    → get_member (codes "limited") ms ≡ option_map written.boolean limited
-    → IsProperEvent (Ack t s rs (unwrap_or delay 0) (unwrap_or limited false))
-    → object_says reader_named (object ms) ≡ Ok (line.Event (Ack t s rs (unwrap_or delay 0) (unwrap_or limited false)))
+    → get_member (codes "limited") ms ≡ option_map written.boolean app_limited
+    → IsProperEvent (Ack t s rs (unwrap_or delay 0) (unwrap_or app_limited false))
+    → object_says reader_named (object ms) ≡ Ok (line.Event (Ack t s rs (unwrap_or delay 0) (unwrap_or app_limited false)))
 unfolding object_says ack_of
-ack_found ms t s rs delay limited named at_time at_space at_ranges at_delay at_limited proper =
+ack_found ms t s rs delay app_limited named at_time at_space at_ranges at_delay at_limited proper =
     let d = object ms in
-    let e = Ack t s rs (unwrap_or delay 0) (unwrap_or limited false) in
+    let e = Ack t s rs (unwrap_or delay 0) (unwrap_or app_limited false) in
     let listed = ranges_stand d rs at_ranges (ranges_read key.Ranges rs proper.fitting proper.numbers.0) in
-    let rest = both_reads _ _ (unwrap_or delay 0) (unwrap_or limited false)
+    let rest = both_reads _ _ (unwrap_or delay 0) (unwrap_or app_limited false)
     (optional_found integer 0 key.Delay d written.integer delay at_delay (λ n. refl) (λ n. refl))
-    (optional_found boolean false key.Limited d written.boolean limited at_limited (λ b. refl) (λ b. refl)) in
+    (optional_found boolean false key.Limited d written.boolean app_limited at_limited (λ b. refl) (λ b. refl)) in
     let fields = both_reads _ _ t _ (time_reads d t at_time proper.in_time) (both_reads _ _ s _ (space_stands d s at_space) (both_reads _ _ rs _ listed rest)) in
-    let says : ack_of d ≡ Ok e = then_reads (ack_fields d) _ (t, (s, (rs, (unwrap_or delay 0, unwrap_or limited false)))) _ fields refl in
+    let says : ack_of d ≡ Ok e = then_reads (ack_fields d) _ (t, (s, (rs, (unwrap_or delay 0, unwrap_or app_limited false)))) _ fields refl in
     then_reads (required string key.Event d) _ (codes "ack") (line.Event e) (named_found d (codes "ack") named) (event_of e _ says)
 
 pub lost_found : (ms : Members) (t : ℕ) (s : Space) (rs : List (ℕ × ℕ))

@@ -13,8 +13,8 @@ use Rattle.qa_format.specs.declared.fault.Fault.{Fault}
 use Rattle.qa_base.specs.declared.key.Key.{Key}
 use Rattle.qa_base.specs.declared.key.Key.TheVariants as key
 use Rattle.qa_base.specs.declared.rule.Field.{Field}
-use Rattle.qa_base.specs.declared.space.Kind.{Kind as TimerKind}
-use Rattle.qa_base.specs.declared.space.Kind.TheVariants.{Loss, Pto}
+use Rattle.qa_base.specs.declared.space.TimerKind.{TimerKind}
+use Rattle.qa_base.specs.declared.space.TimerKind.TheVariants.{Loss, Pto}
 use Rattle.qa_base.specs.declared.space.Leave.{Leave}
 use Rattle.qa_base.specs.declared.space.Leave.TheVariants.{Window, Probe, Recovery}
 use Rattle.qa_base.specs.declared.space.Role.{Role}

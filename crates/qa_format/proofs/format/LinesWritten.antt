@@ -19,12 +19,12 @@ use Rattle.qa_format.specs.declared.line.Line.{Line}
 use Rattle.qa_format.specs.declared.line.Line.TheVariants as line
 use Rattle.qa_base.specs.declared.line_kind.LineKind.TheVariants as kinds
 use Rattle.qa_base.specs.declared.rule.Field.TheVariants.{Window, Ssthresh, BytesInFlight, LatestRtt, MinRtt, SmoothedRtt, Rttvar}
-use Rattle.qa_base.specs.declared.space.Kind.{Kind as TimerKind}
+use Rattle.qa_base.specs.declared.space.TimerKind.{TimerKind}
 use Rattle.qa_base.specs.declared.space.Leave.{Leave}
 use Rattle.qa_base.specs.declared.space.Space.{Space}
 use Rattle.qa_format.specs.format.Keys.{◌>>=◌}
 use Rattle.qa_format.specs.format.Lines.{has_lf}
-use Rattle.qa_base.specs.values.Limits.{max_time, max_packet_size, greatest_timer_late, greatest_report_slack_us, greatest_report_slack_bytes}
+use Rattle.qa_base.specs.values.Limits.{max_time, max_packet_size, max_timer_late, max_report_slack_us, max_report_slack_bytes}
 use Rattle.qa_base.specs.values.Names.{line_kind_name, space_name}
 use Rattle.qa_format.specs.format.Proper.{IsProperEvent, IsProperLine}
 use Rattle.qa_format.specs.format.Reading.{reader_named, object_says, json_of, reading_by, reading}
@@ -205,9 +205,9 @@ limit_is (Some n) hi high = high n refl
 -- options in their ranges pass the test of ranges
 pub options_pass : (s : Settings) → AreInRange s → of_version 2 s.options (first s) ≡ Ok (second s s.options.timer_late s.options.refresh_min_rtt s.options.report_slack_us s.options.report_slack_bytes)
 options_pass s are = rw (
-  inside 0 greatest_timer_late (unwrap_or s.options.timer_late 0) (omega arith) (limit_is s.options.timer_late greatest_timer_late are.late_high),
-  inside 0 greatest_report_slack_us s.options.report_slack_us (omega arith) are.slack_us_high,
-  inside 0 greatest_report_slack_bytes s.options.report_slack_bytes (omega arith) are.slack_bytes_high,
+  inside 0 max_timer_late (unwrap_or s.options.timer_late 0) (omega arith) (limit_is s.options.timer_late max_timer_late are.late_high),
+  inside 0 max_report_slack_us s.options.report_slack_us (omega arith) are.slack_us_high,
+  inside 0 max_report_slack_bytes s.options.report_slack_bytes (omega arith) are.slack_bytes_high,
 ) refl
 
 -- the limit is there or not, and the version stands behind it
@@ -276,11 +276,11 @@ sent_follows t s number size eliciting in_flight leave proper =
     (follow _ key.Size _ _ refl refl (integer_is_kept size (omega (arith, high)))
     (space_follows _ s t refl proper.in_time))))))
 
-ack_follows : (t : ℕ) (s : Space) (rs : List (ℕ × ℕ)) (delay : ℕ) (limited : Bool) → IsProperEvent (Ack t s rs delay limited) → Follow [] (event_pairs (Ack t s rs delay limited))
-ack_follows t s rs delay limited proper =
+ack_follows : (t : ℕ) (s : Space) (rs : List (ℕ × ℕ)) (delay : ℕ) (app_limited : Bool) → IsProperEvent (Ack t s rs delay app_limited) → Follow [] (event_pairs (Ack t s rs delay app_limited))
+ack_follows t s rs delay app_limited proper =
     follow _ key.Delay _ _ refl refl (integer_is_kept delay proper.numbers.1)
     (follow _ key.Event _ _ refl refl (string_is_kept _ refl)
-    (follow _ key.Limited _ _ refl refl (boolean_is_kept limited)
+    (follow _ key.Limited _ _ refl refl (boolean_is_kept app_limited)
     (follow _ key.Ranges _ _ refl refl (ranges_are_kept rs proper.numbers.0)
     (space_follows _ s t refl proper.in_time))))
 
@@ -326,7 +326,7 @@ version_follows j n less small = follow j key.Version (written.integer n) [] les
 pub first_follows : (s : Settings) → AreInRange s → Follow [] (header_pairs (first s))
 first_follows s are = header_begins s _ are (follow _ key.Role _ _ refl refl (role_is_kept s.role) (version_follows _ 1 refl (omega arith)))
 
-limit_follows : (limit : Option ℕ) → ForSome limit (λ n. n ≤ greatest_timer_late) → Follow (codes "role") (limit_pairs limit ++ (key.Version, written.integer 2) ∷ [])
+limit_follows : (limit : Option ℕ) → ForSome limit (λ n. n ≤ max_timer_late) → Follow (codes "role") (limit_pairs limit ++ (key.Version, written.integer 2) ∷ [])
 limit_follows None high = version_follows _ 2 refl (omega arith)
 limit_follows (Some n) high = follow _ key.TimerLateUs _ _ refl refl (integer_is_kept n (let small = high n refl in omega (arith, small))) (version_follows _ 2 refl (omega arith))
 
@@ -356,7 +356,7 @@ object_reads ps x kept says = ap (λ r. r >>= object_says reader_named) (json_re
 -- the keys of an event rise
 pub event_follows : (e : Event) → IsProperEvent e → Follow [] (event_pairs e)
 event_follows (Sent t s number size eliciting in_flight leave) proper = sent_follows t s number size eliciting in_flight leave proper
-event_follows (Ack t s rs delay limited) proper = ack_follows t s rs delay limited proper
+event_follows (Ack t s rs delay app_limited) proper = ack_follows t s rs delay app_limited proper
 event_follows (Lost t s rs) proper = lost_follows t s rs proper
 event_follows (Timer t k s) proper = timer_follows t k s proper
 event_follows (Discard t s) proper = follow _ key.Event _ _ refl refl (string_is_kept _ refl) (space_follows _ s t refl proper.in_time)
@@ -373,7 +373,7 @@ metrics_are_said t v proper =
 -- the object of an event says the event
 event_is_said : (e : Event) → IsProperEvent e → object_says reader_named (object_of (event_pairs e)) ≡ Ok (line.Event e)
 event_is_said (Sent t s number size eliciting in_flight leave) proper = sent_found _ t s number size eliciting in_flight (Some leave) refl refl refl refl refl refl refl refl proper
-event_is_said (Ack t s rs delay limited) proper = ack_found _ t s rs (Some delay) (Some limited) refl refl refl refl refl refl proper
+event_is_said (Ack t s rs delay app_limited) proper = ack_found _ t s rs (Some delay) (Some app_limited) refl refl refl refl refl refl proper
 event_is_said (Lost t s rs) proper = lost_found _ t s rs refl refl refl refl proper
 event_is_said (Timer t k s) proper = timer_found _ t k s refl refl refl refl proper
 event_is_said (Discard t s) proper = discard_found _ t s refl refl refl proper

@@ -355,11 +355,11 @@ order_reads (Sent t s number size eliciting in_flight leave) ps proper are =
     (at (codes "eliciting") _ refl refl)
     (at (codes "in_flight") _ refl refl)
     left.1)
-order_reads (Ack t s rs delay limited) ps proper are =
-    let e = Ack t s rs delay limited in
+order_reads (Ack t s rs delay app_limited) ps proper are =
+    let e = Ack t s rs delay app_limited in
     let at = event_at e ps proper are in
     let delayed = event_optional e ps proper are written.integer 0 (codes "delay") delay same_integer refl refl in
-    let bounded = event_optional e ps proper are written.boolean false (codes "limited") limited same_boolean refl refl in
+    let bounded = event_optional e ps proper are written.boolean false (codes "limited") app_limited same_boolean refl refl in
     event_reads e ps proper are (Ack t s rs (unwrap_or delayed.0 0) (unwrap_or bounded.0 false)) (ap₂ (Ack t s rs) delayed.2 bounded.2)
     (ack_found _ t s rs delayed.0 bounded.0
     (at (codes "event") _ refl refl)

@@ -6,8 +6,8 @@ use Rattle.serde_json.specs.Written.{compact_text, members_text}
 use Rattle.qa_base.specs.declared.key.Key.{Key}
 use Rattle.qa_base.specs.declared.key.Key.TheVariants as key
 use Rattle.qa_base.specs.declared.rule.Field.TheVariants as field
-use Rattle.qa_base.specs.declared.space.Kind.{Kind}
-use Rattle.qa_base.specs.declared.space.Kind.TheVariants.{Loss, Pto}
+use Rattle.qa_base.specs.declared.space.TimerKind.{TimerKind}
+use Rattle.qa_base.specs.declared.space.TimerKind.TheVariants.{Loss, Pto}
 use Rattle.qa_base.specs.declared.space.Leave.{Leave}
 use Rattle.qa_base.specs.declared.space.Leave.TheVariants.{Window, Probe, Recovery}
 use Rattle.qa_base.specs.declared.space.Space.{Space}
@@ -95,7 +95,7 @@ leave_is_plain Window = refl
 leave_is_plain Probe = refl
 leave_is_plain Recovery = refl
 
-pub kind_is_plain : (x : Kind) → IsPlain (kind_name x)
+pub kind_is_plain : (x : TimerKind) → IsPlain (kind_name x)
 unfolding escape_byte
 kind_is_plain Loss = refl
 kind_is_plain Pto = refl

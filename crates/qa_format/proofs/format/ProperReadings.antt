@@ -28,7 +28,7 @@ use Rattle.qa_base.specs.declared.line_kind.LineKind.{LineKind}
 use Rattle.qa_base.specs.declared.line_kind.LineKind.TheVariants as kinds
 use Rattle.qa_base.specs.values.Events.{is_space}
 use Rattle.qa_format.specs.format.Keys.{◌>>=◌, both, ranged, string, string_among, required}
-use Rattle.qa_base.specs.values.Limits.{max_time, max_packet_number, max_packet_size, greatest_timer_late, greatest_report_slack_us, greatest_report_slack_bytes}
+use Rattle.qa_base.specs.values.Limits.{max_time, max_packet_number, max_packet_size, max_timer_late, max_report_slack_us, max_report_slack_bytes}
 use Rattle.qa_base.specs.values.Names.{line_kind_named, discarded_named}
 use Rattle.qa_format.specs.format.Proper.{AreWords, IsProperEvent, IsProperLine}
 use Rattle.qa_format.specs.format.Reading.{Reader, header_line, event_line, reader_of, reader_named, object_says, json_of, is_blank, reading_by, reading}
@@ -194,7 +194,7 @@ checked_is_in_range s t none h =
       rtt_high = rtt_in.1;
       window_low = window_in.0;
       window_high = window_in.1;
-      late_high = rw none (none_is_high greatest_timer_late);
+      late_high = rw none (none_is_high max_timer_late);
       slack_us_high = rw none (omega arith);
       slack_bytes_high = rw none (omega arith);
       first_version = λ first. none;
@@ -210,12 +210,12 @@ two_is_not_one A h = cc
 -- and so are options
 with_options_in_range : (s t : Settings) (o : Options) → AreInRange s → with_options s o ≡ Ok t → AreInRange t
 with_options_in_range s t o are h =
-    let late = past (is_outside 0 greatest_timer_late (unwrap_or o.timer_late 0)) _ _ t h in
-    let slack_us = past (is_outside 0 greatest_report_slack_us o.report_slack_us) _ _ t late.1 in
-    let slack_bytes = past (is_outside 0 greatest_report_slack_bytes o.report_slack_bytes) _ _ t slack_us.1 in
-    let late_in = inside 0 greatest_timer_late (unwrap_or o.timer_late 0) late.0 in
-    let slack_us_in = inside 0 greatest_report_slack_us o.report_slack_us slack_us.0 in
-    let slack_bytes_in = inside 0 greatest_report_slack_bytes o.report_slack_bytes slack_bytes.0 in
+    let late = past (is_outside 0 max_timer_late (unwrap_or o.timer_late 0)) _ _ t h in
+    let slack_us = past (is_outside 0 max_report_slack_us o.report_slack_us) _ _ t late.1 in
+    let slack_bytes = past (is_outside 0 max_report_slack_bytes o.report_slack_bytes) _ _ t slack_us.1 in
+    let late_in = inside 0 max_timer_late (unwrap_or o.timer_late 0) late.0 in
+    let slack_us_in = inside 0 max_report_slack_us o.report_slack_us slack_us.0 in
+    let slack_bytes_in = inside 0 max_report_slack_bytes o.report_slack_bytes slack_bytes.0 in
     let set : Settings = record {
       role = s.role;
       max_datagram_size = s.max_datagram_size;
@@ -234,7 +234,7 @@ with_options_in_range s t o are h =
       rtt_high = are.rtt_high;
       window_low = are.window_low;
       window_high = are.window_high;
-      late_high = limit_high o.timer_late greatest_timer_late late_in.1;
+      late_high = limit_high o.timer_late max_timer_late late_in.1;
       slack_us_high = slack_us_in.1;
       slack_bytes_high = slack_bytes_in.1;
       first_version = two_is_not_one (o ≡ no_options);

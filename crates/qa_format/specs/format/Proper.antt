@@ -9,7 +9,7 @@ use Rattle.qa_format.specs.declared.line.Line.{Line}
 use Rattle.qa_format.specs.declared.line.Line.TheVariants as line
 use Rattle.qa_base.specs.values.Events.{time_of, fits}
 use Rattle.qa_base.specs.values.Limits.{max_time, max_packet_number}
-use Rattle.qa_base.specs.values.Settings.{Settings, AreInRange}
+use Rattle.qa_base.specs.values.Settings.{AreInRange}
 
 -- a range of packet numbers
 abbrev pub IsRange : ℕ × ℕ → Type 0
@@ -27,7 +27,7 @@ AreWords values =
 -- the numbers of an event are in their ranges
 abbrev pub HasProperNumbers : Event → Type 0
 HasProperNumbers (Sent time space number size eliciting in_flight leave) = number ≤ max_packet_number
-HasProperNumbers (Ack time space ranges delay limited) = AllByRecursion IsRange ranges × (delay < 2 ^ 64)
+HasProperNumbers (Ack time space ranges delay app_limited) = AllByRecursion IsRange ranges × (delay < 2 ^ 64)
 HasProperNumbers (Lost time space ranges) = AllByRecursion IsRange ranges
 HasProperNumbers (Metrics time values) = AreWords values
 HasProperNumbers _ = Unit {0}
@@ -43,8 +43,3 @@ abbrev pub IsProperLine : Line → Type 0
 IsProperLine line.Blank = Unit {0}
 IsProperLine (line.Header s) = AreInRange s
 IsProperLine (line.Event e) = IsProperEvent e
-
--- the header and the events are such as there are
-pub record IsProper (c : Settings) (h : List Event) : Type 0 where
-  pub header : AreInRange c
-  pub events : AllByRecursion IsProperEvent h

@@ -14,7 +14,7 @@ use Rattle.qa_base.specs.declared.header.Options.{Options}
 use Rattle.qa_base.specs.declared.header.Version.TheVariants.{One, Two}
 use Rattle.qa_base.specs.declared.rule.Field.{Field}
 use Rattle.qa_base.specs.declared.rule.Field.TheVariants.{Window, Ssthresh, BytesInFlight, LatestRtt, MinRtt, SmoothedRtt, Rttvar}
-use Rattle.qa_base.specs.declared.space.Kind.{Kind}
+use Rattle.qa_base.specs.declared.space.TimerKind.{TimerKind}
 use Rattle.qa_base.specs.declared.space.Leave.{Leave}
 use Rattle.qa_base.specs.declared.space.Leave.TheVariants as leaves
 use Rattle.qa_base.specs.declared.space.Space.{Space}
@@ -112,7 +112,7 @@ ack_fields d =
     (optional boolean false key.Limited d))))
 
 unfoldable pub ack_of : Data → Result Event Fault
-ack_of d = ack_fields d >>= λ (time, (space, (ranges, (delay, limited)))). Ok (Ack time space ranges delay limited)
+ack_of d = ack_fields d >>= λ (time, (space, (ranges, (delay, app_limited)))). Ok (Ack time space ranges delay app_limited)
 
 -- time, space and ranges
 abbrev pub lost_fields : Data → Result (ℕ × (Space × List (ℕ × ℕ))) Fault
@@ -124,7 +124,7 @@ lost_of d = lost_fields d >>= λ (time, (space, ranges)). Ok (Lost time space ra
 -- ---- the timer and the handshake
 
 -- time, kind and space
-abbrev pub timer_fields : Data → Result (ℕ × (Kind × Space)) Fault
+abbrev pub timer_fields : Data → Result (ℕ × (TimerKind × Space)) Fault
 timer_fields d = both (time d) (both (required (string_among kind_named) key.Kind d) (space d))
 
 unfoldable pub timer_of : Data → Result Event Fault

@@ -87,10 +87,10 @@ event_pairs (Sent time space number size eliciting in_flight leave) =
     ∷ (key.Space, string (space_name space))
     ∷ (key.Time, integer time)
     ∷ []
-event_pairs (Ack time space ranges delay limited) =
+event_pairs (Ack time space ranges delay app_limited) =
     (key.Delay, integer delay)
     ∷ (key.Event, string (line_kind_name kinds.Ack))
-    ∷ (key.Limited, boolean limited)
+    ∷ (key.Limited, boolean app_limited)
     ∷ (key.Ranges, json.array (integer_pairs ranges))
     ∷ (key.Space, string (space_name space))
     ∷ (key.Time, integer time)

@@ -1,6 +1,6 @@
 -- Short forms of what the timer is set for.
 use Rattle.std.specs.Prelude.{ℕ, Option, Some}
-use Rattle.qa_base.specs.declared.space.Kind.TheVariants as kind
+use Rattle.qa_base.specs.declared.space.TimerKind.TheVariants as kind
 use Rattle.qa_base.specs.declared.space.Space.{Space}
 use Rattle.qa_base.specs.machine.Timer.{Due}
 

@@ -14,8 +14,8 @@ use Rattle.qa_laws.proofs.edges.Deadlines.{pto_at}
 
 -- ---- late timers
 
-abbrev limited : Settings
-limited = second_version (client 1200 12000) (Some 1000) false 0 0
+abbrev app_limited : Settings
+app_limited = second_version (client 1200 12000) (Some 1000) false 0 0
 
 abbrev reported : List Event
 reported =
@@ -24,10 +24,10 @@ reported =
 
 -- The probe timeout is at 999000 and was set at 0. A report at 999500 does not put it off: any event after 1000000 is late.
 pub report_does_not_put_off_a_timer :
-    IsRun limited reported × (deadline limited reported ≡ pto_at Initial 999000) × (set_since limited reported ≡ 0)
-    × (first_broken limited reported (pto_fires Initial 1000000) ≡ None)
-    × (first_broken limited reported (metrics 1000001 None None None None None None None) ≡ Some rule.TimerLate)
-    × (first_broken limited reported (bare Initial 1 1000001 100) ≡ Some rule.TimerLate)
+    IsRun app_limited reported × (deadline app_limited reported ≡ pto_at Initial 999000) × (set_since app_limited reported ≡ 0)
+    × (first_broken app_limited reported (pto_fires Initial 1000000) ≡ None)
+    × (first_broken app_limited reported (metrics 1000001 None None None None None None None) ≡ Some rule.TimerLate)
+    × (first_broken app_limited reported (bare Initial 1 1000001 100) ≡ Some rule.TimerLate)
 unfolding first_broken
 report_does_not_put_off_a_timer = (((tt, refl), refl), refl, refl, refl, refl, refl)
 
@@ -38,24 +38,24 @@ unanswered =
 
 -- A client that is not validated keeps a timer with nothing open: 100000 + 100000 + 4 * 50000. It is never late.
 pub timer_with_nothing_open_is_never_late :
-    IsRun limited unanswered × (deadline limited unanswered ≡ pto_at Initial 400000)
-    × (first_broken limited unanswered (pto_fires Initial 900000000) ≡ None)
+    IsRun app_limited unanswered × (deadline app_limited unanswered ≡ pto_at Initial 400000)
+    × (first_broken app_limited unanswered (pto_fires Initial 900000000) ≡ None)
 unfolding first_broken
 timer_with_nothing_open_is_never_late = (((tt, refl), refl), refl, refl)
 
 -- Each packet that is sent sets the probe timeout anew: the deadline is then another, and counts from that packet's time.
 pub packet_sets_the_timer_anew :
-    (set_since limited (sent Initial 1 500000 1200 ∷ sent Initial 0 0 1200 ∷ []) ≡ 500000)
-    × (first_broken limited (sent Initial 1 500000 1200 ∷ sent Initial 0 0 1200 ∷ []) (pto_fires Initial 1500000) ≡ None)
-    × (first_broken limited (sent Initial 1 500000 1200 ∷ sent Initial 0 0 1200 ∷ []) (pto_fires Initial 1500001) ≡ Some rule.TimerLate)
+    (set_since app_limited (sent Initial 1 500000 1200 ∷ sent Initial 0 0 1200 ∷ []) ≡ 500000)
+    × (first_broken app_limited (sent Initial 1 500000 1200 ∷ sent Initial 0 0 1200 ∷ []) (pto_fires Initial 1500000) ≡ None)
+    × (first_broken app_limited (sent Initial 1 500000 1200 ∷ sent Initial 0 0 1200 ∷ []) (pto_fires Initial 1500001) ≡ Some rule.TimerLate)
 unfolding first_broken
 packet_sets_the_timer_anew = (refl, refl, refl)
 
 -- The rule comes last: an event that is late as well is refused by the rule that it breaks besides.
 pub late_timer_is_judged_last :
-    (first_broken limited reported (metrics 1000001 (Some 12001) None None None None None None) ≡ Some (rule.Metric field.Window))
-    × (first_broken limited reported (sent Initial 0 1000001 1200) ≡ Some rule.NumberNotHigher)
-    × (first_broken limited reported (pto_fires App 1000001) ≡ Some rule.TimerOther)
+    (first_broken app_limited reported (metrics 1000001 (Some 12001) None None None None None None) ≡ Some (rule.Metric field.Window))
+    × (first_broken app_limited reported (sent Initial 0 1000001 1200) ≡ Some rule.NumberNotHigher)
+    × (first_broken app_limited reported (pto_fires App 1000001) ≡ Some rule.TimerOther)
 unfolding first_broken
 late_timer_is_judged_last = (refl, refl, refl)
 
@@ -85,9 +85,9 @@ discarded =
 -- Both spaces have a probe timeout at 999000. Once Initial is discarded it is that of Handshake: the time is the same, and it counts
 -- from the discard.
 pub timer_of_another_space_is_another :
-    (set_since limited discarded ≡ 999500)
-    × (first_broken limited discarded (metrics 1000500 None None None None None None None) ≡ None)
-    × (first_broken limited discarded (metrics 1000501 None None None None None None None) ≡ Some rule.TimerLate)
+    (set_since app_limited discarded ≡ 999500)
+    × (first_broken app_limited discarded (metrics 1000500 None None None None None None None) ≡ None)
+    × (first_broken app_limited discarded (metrics 1000501 None None None None None None None) ≡ Some rule.TimerLate)
 unfolding first_broken
 timer_of_another_space_is_another = (refl, refl, refl)
 

@@ -9,7 +9,7 @@ use Rattle.qa_base.specs.declared.space.Space.TheVariants.{Initial, Handshake, A
 use Rattle.qa_base.specs.machine.Handshake.{is_validated}
 use Rattle.qa_base.specs.machine.Rules.{first_broken, IsRun}
 use Rattle.qa_base.specs.values.Settings.{Settings}
-use Rattle.qa_base.specs.machine.Timer.{backoff, deadline}
+use Rattle.qa_base.specs.machine.Timer.{pto_count, deadline}
 use Rattle.qa_laws.proofs.Shorthand.{client, server, sent, bare, probe, ack, lost, loss_fires, pto_fires, metrics}
 use Rattle.qa_laws.proofs.edges.Deadlines.{loss_at, pto_at}
 
@@ -31,9 +31,9 @@ handshake_probe =
 
 -- The acknowledgment of a Handshake packet validates the client's address, and itself sets the count from 1 to 0.
 pub handshake_acknowledgment_validates_by_itself :
-    IsRun c handshake_probe × (backoff c handshake_probe ≡ 0)
+    IsRun c handshake_probe × (pto_count c handshake_probe ≡ 0)
     × (is_validated c (probe Handshake 1 999000 1200 ∷ pto_fires Handshake 999000 ∷ sent Handshake 0 0 1200 ∷ []) ≡ false)
-    × (backoff c (probe Handshake 1 999000 1200 ∷ pto_fires Handshake 999000 ∷ sent Handshake 0 0 1200 ∷ []) ≡ 1)
+    × (pto_count c (probe Handshake 1 999000 1200 ∷ pto_fires Handshake 999000 ∷ sent Handshake 0 0 1200 ∷ []) ≡ 1)
 unfolding first_broken
 handshake_acknowledgment_validates_by_itself = ((((((tt, refl), refl), refl), refl), refl), refl, refl, refl)
 
@@ -45,19 +45,19 @@ one_timeout =
 
 -- A discard sets the count to 0; neither Confirmed nor Keys does, nor an acknowledgment of Initial by itself.
 pub discard_resets_the_count :
-    IsRun c (Discard 1000000 Initial ∷ one_timeout) × (backoff c (Discard 1000000 Initial ∷ one_timeout) ≡ 0)
-    × IsRun c (Confirmed 1000000 ∷ one_timeout) × (backoff c (Confirmed 1000000 ∷ one_timeout) ≡ 1)
-    × IsRun c (Keys 1000000 ∷ one_timeout) × (backoff c (Keys 1000000 ∷ one_timeout) ≡ 1)
-    × IsRun c (ack Initial ((0, 0) ∷ []) 1000000 ∷ one_timeout) × (backoff c (ack Initial ((0, 0) ∷ []) 1000000 ∷ one_timeout) ≡ 1)
+    IsRun c (Discard 1000000 Initial ∷ one_timeout) × (pto_count c (Discard 1000000 Initial ∷ one_timeout) ≡ 0)
+    × IsRun c (Confirmed 1000000 ∷ one_timeout) × (pto_count c (Confirmed 1000000 ∷ one_timeout) ≡ 1)
+    × IsRun c (Keys 1000000 ∷ one_timeout) × (pto_count c (Keys 1000000 ∷ one_timeout) ≡ 1)
+    × IsRun c (ack Initial ((0, 0) ∷ []) 1000000 ∷ one_timeout) × (pto_count c (ack Initial ((0, 0) ∷ []) 1000000 ∷ one_timeout) ≡ 1)
 unfolding first_broken
 discard_resets_the_count = (((((tt, refl), refl), refl), refl), refl, ((((tt, refl), refl), refl), refl), refl, ((((tt, refl), refl), refl), refl), refl, ((((tt, refl), refl), refl), refl), refl)
 
 -- Once Confirmed stands before it, the acknowledgment of Initial sets the count to 0; one of nothing new does not.
 pub acknowledgment_after_confirmed_resets_the_count :
     IsRun c (ack Initial ((0, 0) ∷ []) 1000000 ∷ Confirmed 1000000 ∷ one_timeout)
-    × (backoff c (ack Initial ((0, 0) ∷ []) 1000000 ∷ Confirmed 1000000 ∷ one_timeout) ≡ 0)
+    × (pto_count c (ack Initial ((0, 0) ∷ []) 1000000 ∷ Confirmed 1000000 ∷ one_timeout) ≡ 0)
     × IsRun c (ack Initial ((0, 0) ∷ []) 1000001 ∷ Confirmed 1000001 ∷ ack Initial ((0, 0) ∷ []) 1000000 ∷ one_timeout)
-    × (backoff c (ack Initial ((0, 0) ∷ []) 1000001 ∷ Confirmed 1000001 ∷ ack Initial ((0, 0) ∷ []) 1000000 ∷ one_timeout) ≡ 1)
+    × (pto_count c (ack Initial ((0, 0) ∷ []) 1000001 ∷ Confirmed 1000001 ∷ ack Initial ((0, 0) ∷ []) 1000000 ∷ one_timeout) ≡ 1)
 unfolding first_broken
 acknowledgment_after_confirmed_resets_the_count = ((((((tt, refl), refl), refl), refl), refl), refl, ((((((tt, refl), refl), refl), refl), refl), refl), refl)
 
@@ -73,8 +73,8 @@ both_lost =
 -- Nor does a packet, a report, a Lost line or a loss timer, of a client that is not validated. The sample of packet 2 is 1000: packet
 -- 0 is lost at once, and packet 1 at 999000 + 1125.
 pub other_events_leave_the_count :
-    IsRun c both_lost × (backoff c both_lost ≡ 1) × (backoff c one_timeout ≡ 1)
-    × (backoff c (metrics 1000000 (Some 12000) None None None None None None ∷ one_timeout) ≡ 1)
+    IsRun c both_lost × (pto_count c both_lost ≡ 1) × (pto_count c one_timeout ≡ 1)
+    × (pto_count c (metrics 1000000 (Some 12000) None None None None None None ∷ one_timeout) ≡ 1)
 unfolding first_broken
 other_events_leave_the_count = (((((((((tt, refl), refl), refl), refl), refl), refl), refl), refl), refl, refl, refl)
 
@@ -87,7 +87,7 @@ after_a_loss_timer =
     sent App 0 0 1200 ∷ []
 
 -- A loss timer adds nothing to the count.
-pub loss_timer_is_not_counted : IsRun s after_a_loss_timer × (backoff s after_a_loss_timer ≡ 0)
+pub loss_timer_is_not_counted : IsRun s after_a_loss_timer × (pto_count s after_a_loss_timer ≡ 0)
 unfolding first_broken
 loss_timer_is_not_counted = ((((((tt, refl), refl), refl), refl), refl), refl)
 
@@ -201,8 +201,8 @@ timeout_with_a_bare_packet =
 -- The acknowledgment of a packet that was not in flight gives no sample, but sets the count to 0: packet 1 is due at 0 + 999000 again.
 pub acknowledgment_of_a_bare_packet_resets_the_count :
     IsRun s (ack Initial ((0, 0) ∷ []) 1000000 ∷ timeout_with_a_bare_packet)
-    × (backoff s timeout_with_a_bare_packet ≡ 1)
-    × (backoff s (ack Initial ((0, 0) ∷ []) 1000000 ∷ timeout_with_a_bare_packet) ≡ 0)
+    × (pto_count s timeout_with_a_bare_packet ≡ 1)
+    × (pto_count s (ack Initial ((0, 0) ∷ []) 1000000 ∷ timeout_with_a_bare_packet) ≡ 0)
     × (deadline s (ack Initial ((0, 0) ∷ []) 1000000 ∷ timeout_with_a_bare_packet) ≡ pto_at Initial 999000)
 unfolding first_broken
 acknowledgment_of_a_bare_packet_resets_the_count = (((((tt, refl), refl), refl), refl), refl, refl, refl)

@@ -10,9 +10,9 @@ use Rattle.qa_base.specs.declared.space.Space.{Space}
 use Rattle.qa_base.specs.declared.space.Space.TheVariants.{Initial, Handshake, App}
 use Rattle.qa_base.specs.values.Events.{is_space, is_named, acknowledges}
 use Rattle.qa_base.specs.machine.Estimates.{sampled}
-use Rattle.qa_base.specs.machine.Detection.{detection, found_at, is_found, is_found_at, is_late, is_unsettled}
+use Rattle.qa_base.specs.machine.Detection.{detection, found_at, is_found, is_found_at, is_past_threshold, is_unsettled}
 use Rattle.qa_base.specs.machine.Loss.{is_open, bytes_in_flight, owed}
-use Rattle.qa_base.specs.machine.Packets.{Packet, packets, packets_of, is_of, is_gone, is_covered, is_lost, is_newly_acknowledged, newly_acknowledged, largest_acknowledged}
+use Rattle.qa_base.specs.machine.Packets.{Packet, packets, packets_of, is_of, is_discarded, is_acknowledged, is_declared_lost, is_newly_acknowledged, newly_acknowledged, largest_acknowledged}
 use Rattle.qa_base.specs.values.Settings.{Settings}
 use Rattle.qa_laws.specs.machine.Sums.{counted, open_sum, bytes, bytes_of, asks_of}
 use Rattle.qa_base.specs.machine.Timer.{awaits_acknowledgment}
@@ -89,15 +89,15 @@ sum_of_none f [] none = refl
 sum_of_none f (p ∷ ps) none = let rest = sum_of_none f ps none.1 in let here = none.0 in let all = sum_by-cons f p ps in omega (arith, rest, here, all)
 
 gone_if : (s : Space) (weight : Packet → ℕ) (c : Settings) (h : List Event) (p : Packet) (opened of_space : Bool) → is_open c h p ≡ opened → is_of s p ≡ of_space
-    → is_gone h s ≡ true → (if opened then (if of_space then weight p else 0) else 0) ≡ 0
+    → is_discarded h s ≡ true → (if opened then (if of_space then weight p else 0) else 0) ≡ 0
 gone_if s weight c h p true true is_opened of_s gone =
     let o = opens_is c h p is_opened in
-    let there : is_gone h s ≡ false = rw (is_space_is s p.space of_s) o.there in absurd (both_ways (is_gone h s) there gone)
+    let there : is_discarded h s ≡ false = rw (is_space_is s p.space of_s) o.there in absurd (both_ways (is_discarded h s) there gone)
 gone_if s weight c h p true false is_opened of_s gone = refl
 gone_if s weight c h p false of_space is_opened of_s gone = refl
 
 -- nothing of it is open
-pub gone_is_empty : (s : Space) (weight : Packet → ℕ) (c : Settings) (h : List Event) → is_gone h s ≡ true → open_sum (within_space s weight) c h ≡ 0
+pub gone_is_empty : (s : Space) (weight : Packet → ℕ) (c : Settings) (h : List Event) → is_discarded h s ≡ true → open_sum (within_space s weight) c h ≡ 0
 gone_is_empty s weight c h gone =
     sum_of_none (counted (is_open c h) (within_space s weight)) (packets h)
     (of_each (λ p. counted (is_open c h) (within_space s weight) p ≡ 0) (packets h) (λ p has. gone_if s weight c h p (is_open c h p) (is_of s p) refl refl gone))
@@ -119,12 +119,12 @@ space_back : (s t : Space) → is_space s t ≡ true → is_space t s ≡ true
 space_back s t same = rw (is_space_is s t same) (is_space_same t)
 
 -- what an acknowledgment newly acknowledges is of its space
-pub newly_are_of : (h : List Event) (time : ℕ) (space : Space) (ranges : List (ℕ × ℕ)) (delay : ℕ) (limited : Bool) → AreOf space (newly_acknowledged (Ack time space ranges delay limited ∷ h))
-newly_are_of h time space ranges delay limited =
-    let e = Ack time space ranges delay limited in
+pub newly_are_of : (h : List Event) (time : ℕ) (space : Space) (ranges : List (ℕ × ℕ)) (delay : ℕ) (app_limited : Bool) → AreOf space (newly_acknowledged (Ack time space ranges delay app_limited ∷ h))
+newly_are_of h time space ranges delay app_limited =
+    let e = Ack time space ranges delay app_limited in
     part_are_of space (is_newly_acknowledged e h) (packets h) (λ p is.
-    let parts = and_parts (acknowledges p.space p.number e && not (is_covered h p)) (not (is_lost h p)) is in
-    let named = (and_parts (acknowledges p.space p.number e) (not (is_covered h p)) parts.0).0 in
+    let parts = and_parts (acknowledges p.space p.number e && not (is_acknowledged h p)) (not (is_declared_lost h p)) is in
+    let named = (and_parts (acknowledges p.space p.number e) (not (is_acknowledged h p)) parts.0).0 in
     space_back p.space space (and_parts (is_space p.space space) (is_named ranges p.number) named).0)
 
 -- of packets of one space the bytes are those of that space
@@ -143,7 +143,7 @@ found_in_flight : (c : Settings) (h : List Event) (p : Packet) (d : Option (Spac
 found_in_flight c h p None is = cc
 found_in_flight c h p (Some (s, now)) is =
     let parts = and_parts (is_of s p) (is_found (sampled c h) h now s p) is in
-    let more = and_parts (p.in_flight && is_unsettled h p) (is_late (sampled c h) now (largest_acknowledged h s) p) parts.1 in
+    let more = and_parts (p.in_flight && is_unsettled h p) (is_past_threshold (sampled c h) now (largest_acknowledged h s) p) parts.1 in
     (and_parts p.in_flight (is_unsettled h p) more.0).0
 
 -- what is found lost is in flight

@@ -2,7 +2,7 @@
 use Rattle.std.proofs.Common.{◌≡◌, ◌+◌, ℕ, List, [], ◌∷◌, length, Bool, true, false, ap, arith, sum_by, filter}
 use Rattle.qa_base.specs.declared.event.Event.{Event}
 use Rattle.qa_base.specs.declared.event.Event.TheVariants.{Ack, Timer, Discard}
-use Rattle.qa_base.specs.declared.space.Kind.{Kind}
+use Rattle.qa_base.specs.declared.space.TimerKind.{TimerKind}
 use Rattle.qa_base.specs.declared.space.Space.{Space}
 use Rattle.qa_base.specs.values.Events.{is_quiet}
 use Rattle.qa_base.specs.machine.Loss.{owed, bytes_in_flight}
@@ -17,11 +17,11 @@ pub none_weigh : (weight : Packet → ℕ) (ps : List Packet) → sum_by weight 
 none_weigh weight ps = ap (sum_by weight) (none_passes ps)
 
 -- an acknowledgment takes off what it newly acknowledges and what it finds lost
-pub bytes-ack : (c : Settings) (h : List Event) (time : ℕ) (space : Space) (ranges : List (ℕ × ℕ)) (delay : ℕ) (limited : Bool) → IsRun c (Ack time space ranges delay limited ∷ h)
-    → bytes_in_flight c (Ack time space ranges delay limited ∷ h)
-    + (sum_by bytes (newly_acknowledged (Ack time space ranges delay limited ∷ h)) + sum_by bytes (owed c (Ack time space ranges delay limited ∷ h))) ≡ bytes_in_flight c h
-bytes-ack c h time space ranges delay limited run =
-    let e = Ack time space ranges delay limited in
+pub bytes-ack : (c : Settings) (h : List Event) (time : ℕ) (space : Space) (ranges : List (ℕ × ℕ)) (delay : ℕ) (app_limited : Bool) → IsRun c (Ack time space ranges delay app_limited ∷ h)
+    → bytes_in_flight c (Ack time space ranges delay app_limited ∷ h)
+    + (sum_by bytes (newly_acknowledged (Ack time space ranges delay app_limited ∷ h)) + sum_by bytes (owed c (Ack time space ranges delay app_limited ∷ h))) ≡ bytes_in_flight c h
+bytes-ack c h time space ranges delay app_limited run =
+    let e = Ack time space ranges delay app_limited in
     let all = open_sum_after bytes c e h run in
     let none : sum_by bytes (discarded c e h) ≡ 0 = none_weigh bytes (packets h) in
     let before = bytes_in_flight_is c h in
@@ -29,7 +29,7 @@ bytes-ack c h time space ranges delay limited run =
     omega (arith, all, none, before, after)
 
 -- a timer what it finds lost
-pub bytes-timer : (c : Settings) (h : List Event) (time : ℕ) (kind : Kind) (space : Space) → IsRun c (Timer time kind space ∷ h)
+pub bytes-timer : (c : Settings) (h : List Event) (time : ℕ) (kind : TimerKind) (space : Space) → IsRun c (Timer time kind space ∷ h)
     → bytes_in_flight c (Timer time kind space ∷ h) + sum_by bytes (owed c (Timer time kind space ∷ h)) ≡ bytes_in_flight c h
 bytes-timer c h time kind space run =
     let e = Timer time kind space in
@@ -52,7 +52,7 @@ bytes-discard c h time space run =
     omega (arith, all, nothing, before, after)
 
 discarded-quiet : (c : Settings) (e : Event) (h : List Event) → is_quiet e ≡ true → discarded c e h ≡ []
-discarded-quiet c (Ack time space ranges delay limited) h quiet = cc
+discarded-quiet c (Ack time space ranges delay app_limited) h quiet = cc
 discarded-quiet c (Timer time kind space) h quiet = cc
 discarded-quiet c (Discard time space) h quiet = cc
 discarded-quiet c _ h quiet = none_passes (packets h)

@@ -13,8 +13,8 @@ use Rattle.qa_base.specs.machine.Detection.{is_found, is_found_at, detection, is
 use Rattle.qa_base.specs.machine.Loss.{owed, is_owed, is_open}
 use Rattle.qa_base.specs.machine.Numbers.{is_in, has_all}
 use Rattle.qa_laws.specs.machine.Oldest.{is_flying}
-use Rattle.qa_base.specs.machine.Packets.{Packet, packets, is_of, is_some_packet, is_followed_by, is_covered, is_lost, is_newly_acknowledged, largest_acknowledged}
-use Rattle.qa_base.specs.machine.Detection.{is_late}
+use Rattle.qa_base.specs.machine.Packets.{Packet, packets, is_of, is_some_packet, is_followed_by, is_acknowledged, is_declared_lost, is_newly_acknowledged, largest_acknowledged}
+use Rattle.qa_base.specs.machine.Detection.{is_past_threshold}
 use Rattle.qa_base.specs.machine.Rules.{IsRun}
 use Rattle.qa_base.specs.values.Settings.{Settings}
 use Rattle.qa_laws.proofs.machine.Courses.{is_space_same, is_space_is, same_number}
@@ -36,11 +36,11 @@ within : (h : List Event) (p : Packet) → Contains (packets h) p → nat_lt p.p
 within h p has = lt-ltb p.place (length h) (at_one (λ q. q.place < length h) (packets h) p (placed h) has)
 
 -- it is covered where the event acknowledges its number, or it was before
-pub covered_after : (e : Event) (h : List Event) (p : Packet) → Contains (packets h) p → is_covered (e ∷ h) p ≡ (acknowledges p.space p.number e || is_covered h p)
+pub covered_after : (e : Event) (h : List Event) (p : Packet) → Contains (packets h) p → is_acknowledged (e ∷ h) p ≡ (acknowledges p.space p.number e || is_acknowledged h p)
 covered_after e h p has = followed (acknowledges p.space p.number) e h p (acknowledges p.space p.number e) refl (within h p has)
 
 -- it is declared lost where the event declares its number so, or it was before
-pub lost_after : (e : Event) (h : List Event) (p : Packet) → Contains (packets h) p → is_lost (e ∷ h) p ≡ (declares_lost p.space p.number e || is_lost h p)
+pub lost_after : (e : Event) (h : List Event) (p : Packet) → Contains (packets h) p → is_declared_lost (e ∷ h) p ≡ (declares_lost p.space p.number e || is_declared_lost h p)
 lost_after e h p has = followed (declares_lost p.space p.number) e h p (declares_lost p.space p.number e) refl (within h p has)
 
 -- ---- a Lost line
@@ -96,18 +96,18 @@ or_same : (a b l : Bool) → a ≡ b → (a || l) ≡ (b || l)
 or_same a b l is = ap (λ x. x || l) is
 
 -- in a run the packets that are declared lost are those that were, and those that were owed before the last event
-pub lost_is_owed : (c : Settings) (e : Event) (h : List Event) → IsRun c (e ∷ h) → (p : Packet) → Contains (packets h) p → is_lost (e ∷ h) p ≡ (is_owed c h p || is_lost h p)
+pub lost_is_owed : (c : Settings) (e : Event) (h : List Event) → IsRun c (e ∷ h) → (p : Packet) → Contains (packets h) p → is_declared_lost (e ∷ h) p ≡ (is_owed c h p || is_declared_lost h p)
 lost_is_owed c (Lost time space ranges) h run p has =
-    lost_after (Lost time space ranges) h p has ∙ or_same (declares_lost p.space p.number (Lost time space ranges)) (is_owed c h p) (is_lost h p) (names_owed c h time space ranges run p has)
+    lost_after (Lost time space ranges) h p has ∙ or_same (declares_lost p.space p.number (Lost time space ranges)) (is_owed c h p) (is_declared_lost h p) (names_owed c h time space ranges run p has)
 lost_is_owed c e h run p has =
-    lost_after e h p has ∙ or_same (declares_lost p.space p.number e) (is_owed c h p) (is_lost h p) (sym (not_owed_now c e h p has (all_hold c h e run.1).loss_owed))
+    lost_after e h p has ∙ or_same (declares_lost p.space p.number e) (is_owed c h p) (is_declared_lost h p) (sym (not_owed_now c e h p has (all_hold c h e run.1).loss_owed))
 
 found_was_flying : (c : Settings) (e : Event) (h : List Event) → IsRun c (e ∷ h) → (p : Packet) → Contains (packets h) p
     → (d : Option (Space × ℕ)) → detection (e ∷ h) ≡ d → is_found_at (sampled c (e ∷ h)) (e ∷ h) p d ≡ true → is_flying c h p ≡ true
 found_was_flying c e h run p has None at is = cc
 found_was_flying c e h run p has (Some (s, now)) at is =
     let parts = and_parts (is_of s p) (is_found (sampled c (e ∷ h)) (e ∷ h) now s p) is in
-    let more = and_parts (p.in_flight && is_unsettled (e ∷ h) p) (is_late (sampled c (e ∷ h)) now (largest_acknowledged (e ∷ h) s) p) parts.1 in
+    let more = and_parts (p.in_flight && is_unsettled (e ∷ h) p) (is_past_threshold (sampled c (e ∷ h)) now (largest_acknowledged (e ∷ h) s) p) parts.1 in
     asked_was_flying c e h run s now at p has (and_from (is_of s p) (p.in_flight && is_unsettled (e ∷ h) p) parts.0 more.0)
 
 -- in a run whatever an event finds lost was open and in flight
@@ -116,13 +116,13 @@ owed_was_flying c e h run p has is = found_was_flying c e h run p has (detection
 
 -- in a run whatever an event newly acknowledges was open
 pub newly_was_open : (c : Settings) (e : Event) (h : List Event) → IsRun c (e ∷ h) → (p : Packet) → Contains (packets h) p → is_newly_acknowledged e h p ≡ true → is_open c h p ≡ true
-newly_was_open c (Ack time space ranges delay limited) h run p has is =
-    let holds = all_hold c h (Ack time space ranges delay limited) run.1 in
-    let parts = and_parts (acknowledges p.space p.number (Ack time space ranges delay limited) && not (is_covered h p)) (not (is_lost h p)) is in
-    let more = and_parts (acknowledges p.space p.number (Ack time space ranges delay limited)) (not (is_covered h p)) parts.0 in
+newly_was_open c (Ack time space ranges delay app_limited) h run p has is =
+    let holds = all_hold c h (Ack time space ranges delay app_limited) run.1 in
+    let parts = and_parts (acknowledges p.space p.number (Ack time space ranges delay app_limited) && not (is_acknowledged h p)) (not (is_declared_lost h p)) is in
+    let more = and_parts (acknowledges p.space p.number (Ack time space ranges delay app_limited)) (not (is_acknowledged h p)) parts.0 in
     let of_space = (and_parts (is_space p.space space) (is_named ranges p.number) more.0).0 in
     opens_from c h p (record {
-      unsettled = and_from (not (is_covered h p)) (not (is_lost h p)) more.1 parts.1;
+      unsettled = and_from (not (is_acknowledged h p)) (not (is_declared_lost h p)) more.1 parts.1;
       free = false_from_ne_true (is_owed c h p) (λ owed_then. both_ways (is_some_packet (owed c h)) holds.loss_owed (has_some (owed c h) p (owed_has c h p has owed_then)));
       there = rw (is_space_is p.space space of_space) holds.space_gone;
     })
@@ -134,5 +134,5 @@ pub found_unsettled : (c : Settings) (h : List Event) (p : Packet) (d : Option (
 found_unsettled c h p None is = cc
 found_unsettled c h p (Some (s, now)) is =
     let parts = and_parts (is_of s p) (is_found (sampled c h) h now s p) is in
-    let more = and_parts (p.in_flight && is_unsettled h p) (is_late (sampled c h) now (largest_acknowledged h s) p) parts.1 in
+    let more = and_parts (p.in_flight && is_unsettled h p) (is_past_threshold (sampled c h) now (largest_acknowledged h s) p) parts.1 in
     (and_parts p.in_flight (is_unsettled h p) more.0).1

@@ -12,7 +12,7 @@ use Rattle.qa_base.specs.values.Events.{acknowledges, declares_lost, discards}
 use Rattle.qa_base.specs.machine.Estimates.{sampled}
 use Rattle.qa_base.specs.machine.Detection.{is_found, is_found_at, found_at, detection, is_unsettled}
 use Rattle.qa_base.specs.machine.Loss.{owed, is_owed, is_open, flight_size, bytes_in_flight}
-use Rattle.qa_base.specs.machine.Packets.{Packet, packets, packet_of, is_of, is_covered, is_lost, is_gone, is_newly_acknowledged, newly_acknowledged}
+use Rattle.qa_base.specs.machine.Packets.{Packet, packets, packet_of, is_of, is_acknowledged, is_declared_lost, is_discarded, is_newly_acknowledged, newly_acknowledged}
 use Rattle.qa_base.specs.machine.Rules.{IsRun}
 use Rattle.qa_base.specs.values.Settings.{Settings}
 use Rattle.qa_laws.specs.machine.Sums.{counted, open_sum, is_discarded_by, discarded, bytes}
@@ -42,10 +42,10 @@ closes_if : (c : Settings) (e : Event) (h : List Event) → IsRun c (e ∷ h) �
     → (was && not (is_open c (e ∷ h) p)) ≡ (is_newly_acknowledged e h p || is_owed c (e ∷ h) p || (discards p.space e && was))
 closes_if c e h run p has true is =
     let o = opens_is c h p is in
-    let covered_not = not-true (is_covered h p) (and_parts (not (is_covered h p)) (not (is_lost h p)) o.unsettled).0 in
-    let lost_not = not-true (is_lost h p) (and_parts (not (is_covered h p)) (not (is_lost h p)) o.unsettled).1 in
+    let covered_not = not-true (is_acknowledged h p) (and_parts (not (is_acknowledged h p)) (not (is_declared_lost h p)) o.unsettled).0 in
+    let lost_not = not-true (is_declared_lost h p) (and_parts (not (is_acknowledged h p)) (not (is_declared_lost h p)) o.unsettled).1 in
     by_tests (acknowledges p.space p.number e) (declares_lost p.space p.number e) (is_owed c (e ∷ h) p) (discards p.space e)
-    (is_covered h p) (is_lost h p) (is_gone h p.space) (is_covered (e ∷ h) p) (is_lost (e ∷ h) p)
+    (is_acknowledged h p) (is_declared_lost h p) (is_discarded h p.space) (is_acknowledged (e ∷ h) p) (is_declared_lost (e ∷ h) p)
     (covered_after e h p has) (lost_after e h p has) covered_not lost_not o.there (open_not_named c e h run p has o.free)
 closes_if c e h run p has false is =
     let not_newly = false_from_ne_true (is_newly_acknowledged e h p) (λ newly. both_ways (is_open c h p) is (newly_was_open c e h run p has newly)) in
@@ -109,7 +109,7 @@ found_part c h (Some (s, now)) = part_of_part (is_of s) (is_found (sampled c h) 
 -- what an event finds lost stands among the packets sent before it
 pub owed_among : (c : Settings) (e : Event) (h : List Event) → filter (is_owed c (e ∷ h)) (packets h) ≡ owed c (e ∷ h)
 owed_among c (Sent time space number size eliciting in_flight leave) h = none_left (λ p. false) (packets h) (of_each (λ p. false ≡ false) (packets h) (λ p has. refl))
-owed_among c (Ack time space ranges delay limited) h = found_part c (Ack time space ranges delay limited ∷ h) (detection (Ack time space ranges delay limited ∷ h))
+owed_among c (Ack time space ranges delay app_limited) h = found_part c (Ack time space ranges delay app_limited ∷ h) (detection (Ack time space ranges delay app_limited ∷ h))
 owed_among c (Lost time space ranges) h = found_part c (Lost time space ranges ∷ h) None
 owed_among c (Timer time kind space) h = found_part c (Timer time kind space ∷ h) (detection (Timer time kind space ∷ h))
 owed_among c (Discard time space) h = found_part c (Discard time space ∷ h) None
@@ -119,9 +119,9 @@ owed_among c (Metrics time values) h = found_part c (Metrics time values ∷ h) 
 
 newly_not_owed : (c : Settings) (e : Event) (h : List Event) (p : Packet) → Contains (packets h) p → is_newly_acknowledged e h p ≡ true → is_owed c (e ∷ h) p ≡ false
 newly_not_owed c e h p has newly =
-    let parts = and_parts (acknowledges p.space p.number e && not (is_covered h p)) (not (is_lost h p)) newly in
-    let named = (and_parts (acknowledges p.space p.number e) (not (is_covered h p)) parts.0).0 in
-    let covered : is_covered (e ∷ h) p ≡ true = covered_after e h p has ∙ or_left (acknowledges p.space p.number e) (is_covered h p) named in
+    let parts = and_parts (acknowledges p.space p.number e && not (is_acknowledged h p)) (not (is_declared_lost h p)) newly in
+    let named = (and_parts (acknowledges p.space p.number e) (not (is_acknowledged h p)) parts.0).0 in
+    let covered : is_acknowledged (e ∷ h) p ≡ true = covered_after e h p has ∙ or_left (acknowledges p.space p.number e) (is_acknowledged h p) named in
     false_from_ne_true (is_owed c (e ∷ h) p) (λ found. both_ways (is_unsettled (e ∷ h) p) (covered_settles (e ∷ h) p covered) (found_unsettled c (e ∷ h) p (detection (e ∷ h)) found))
 
 not_both_discarded : (c : Settings) (e : Event) (h : List Event) (p : Packet) → (is_newly_acknowledged e h p || is_owed c (e ∷ h) p) ≡ true → is_discarded_by c e h p ≡ false
@@ -144,11 +144,11 @@ closed_sum weight c e h run =
 
 -- a packet is open that was just sent, unless its space is gone
 pub sent_is_open : (c : Settings) (h : List Event) (time : ℕ) (space : Space) (number size : ℕ) (eliciting in_flight : Bool) (leave : Leave) (p : Packet)
-    → p.place ≡ length h → p.space ≡ space → is_gone h space ≡ false → is_open c (Sent time space number size eliciting in_flight leave ∷ h) p ≡ true
+    → p.place ≡ length h → p.space ≡ space → is_discarded h space ≡ false → is_open c (Sent time space number size eliciting in_flight leave ∷ h) p ≡ true
 sent_is_open c h time space number size eliciting in_flight leave p place in_space there =
-    let not_covered : is_covered h p ≡ false = not_followed _ h p (omega (arith, place)) in
-    let not_lost : is_lost h p ≡ false = not_followed _ h p (omega (arith, place)) in
-    let still : is_gone h p.space ≡ false = rw in_space there in
+    let not_covered : is_acknowledged h p ≡ false = not_followed _ h p (omega (arith, place)) in
+    let not_lost : is_declared_lost h p ≡ false = not_followed _ h p (omega (arith, place)) in
+    let still : is_discarded h p.space ≡ false = rw in_space there in
     rw (not_covered, not_lost, still) refl
 
 -- the packet that an event sends is open after it

@@ -10,14 +10,14 @@ use Rattle.qa_base.specs.machine.Breaches.{numbers}
 use Rattle.qa_laws.specs.machine.Conduct.{IsLostRightly}
 use Rattle.qa_base.specs.values.Events.{is_space, is_named, acknowledges, has_ranges}
 use Rattle.qa_base.specs.machine.Estimates.{sampled}
-use Rattle.qa_base.specs.machine.Detection.{is_found, is_found_at, detection, is_late, is_old, is_unsettled}
+use Rattle.qa_base.specs.machine.Detection.{is_found, is_found_at, detection, is_past_threshold, is_old, is_unsettled}
 use Rattle.qa_base.specs.machine.Loss.{owed}
 use Rattle.qa_base.specs.machine.Numbers.{has_all}
-use Rattle.qa_base.specs.machine.Packets.{Packet, packet_of, packets, packets_of, is_of, is_covered, greatest, greatest_in, largest_acknowledged}
+use Rattle.qa_base.specs.machine.Packets.{Packet, packet_of, packets, packets_of, is_of, is_acknowledged, greatest, greatest_in, largest_acknowledged}
 use Rattle.qa_format.specs.format.Proper.{IsRange, IsProperEvent}
 use Rattle.qa_base.specs.machine.Rules.{IsRun}
 use Rattle.qa_base.specs.values.Settings.{Settings}
-use Rattle.qa_base.specs.machine.Timer.{loss_delay}
+use Rattle.qa_base.specs.machine.Rtt.{loss_delay}
 use Rattle.qa_laws.proofs.machine.Changes.{one_of_numbers}
 use Rattle.qa_laws.proofs.machine.Courses.{in_order, is_space_same, is_space_is}
 use Rattle.qa_base.proofs.machine.WindowBound.{placed}
@@ -55,7 +55,7 @@ greatest_is_named (range ∷ other ∷ ranges) some order =
 
 -- a packet of the space with this number that is acknowledged
 abbrev Acknowledged : List Event → Space → ℕ → Type 0
-Acknowledged h s n = (q : Packet) × Contains (packets h) q × (q.space ≡ s) × (q.number ≡ n) × (is_covered h q ≡ true)
+Acknowledged h s n = (q : Packet) × Contains (packets h) q × (q.space ≡ s) × (q.number ≡ n) × (is_acknowledged h q ≡ true)
 
 has_behind : (first ps : List Packet) (q : Packet) → Contains ps q → Contains (first ++ ps) q
 has_behind [] ps q has = has
@@ -65,10 +65,10 @@ acknowledged_stays : (e : Event) (h : List Event) (s : Space) (n : ℕ) → Ackn
 acknowledged_stays e h s n (q, has, of_space, number, covered) =
     (q, has_behind (packet_of (length h) e) (packets h) q has, of_space, number, covered_stays e h q covered)
 
-acknowledged_now : (c : Settings) (h : List Event) (time : ℕ) (space : Space) (ranges : List (ℕ × ℕ)) (delay : ℕ) (limited : Bool)
-    → IsRun c (Ack time space ranges delay limited ∷ h) → IsProperEvent (Ack time space ranges delay limited) → Acknowledged (Ack time space ranges delay limited ∷ h) space (greatest ranges)
-acknowledged_now c h time space ranges delay limited run proper =
-    let e = Ack time space ranges delay limited in
+acknowledged_now : (c : Settings) (h : List Event) (time : ℕ) (space : Space) (ranges : List (ℕ × ℕ)) (delay : ℕ) (app_limited : Bool)
+    → IsRun c (Ack time space ranges delay app_limited ∷ h) → IsProperEvent (Ack time space ranges delay app_limited) → Acknowledged (Ack time space ranges delay app_limited ∷ h) space (greatest ranges)
+acknowledged_now c h time space ranges delay app_limited run proper =
+    let e = Ack time space ranges delay app_limited in
     let holds = all_hold c h e run.1 in
     let all = not-false (has_all (numbers (packets_of h space)) ranges) holds.ack_unsent in
     let named = greatest_is_named ranges proper.fitting proper.numbers.0 in
@@ -82,7 +82,7 @@ acknowledged_now c h time space ranges delay limited run proper =
       found.0,
       of_space,
       one.2,
-      or_left (acknowledges q.space q.number e && nat_lt q.place (length h)) (is_covered h q)
+      or_left (acknowledges q.space q.number e && nat_lt q.place (length h)) (is_acknowledged h q)
           (and_from (acknowledges q.space q.number e) (nat_lt q.place (length h)) acks (lt-ltb q.place (length h) below)),
     )
 
@@ -99,21 +99,21 @@ raised_is n m (Some k) is =
     first_or true le = inl (leb-true n k le)
     first_or false gt = inr (leb-false n k gt)
 
-ack_if : (c : Settings) (h : List Event) (time : ℕ) (space : Space) (ranges : List (ℕ × ℕ)) (delay : ℕ) (limited : Bool)
-    → IsRun c (Ack time space ranges delay limited ∷ h) → IsProperEvent (Ack time space ranges delay limited) → (s : Space) (m : ℕ) (here : Bool) → is_space s space ≡ here
+ack_if : (c : Settings) (h : List Event) (time : ℕ) (space : Space) (ranges : List (ℕ × ℕ)) (delay : ℕ) (app_limited : Bool)
+    → IsRun c (Ack time space ranges delay app_limited ∷ h) → IsProperEvent (Ack time space ranges delay app_limited) → (s : Space) (m : ℕ) (here : Bool) → is_space s space ≡ here
     → raised (if here then greatest ranges ∷ [] else []) (largest_acknowledged h s) ≡ Some m
-    → ((k : ℕ) → largest_acknowledged h s ≡ Some k → Acknowledged h s k) → Acknowledged (Ack time space ranges delay limited ∷ h) s m
-ack_if c h time space ranges delay limited run proper s m true here is before = elim (raised_is (greatest ranges) m (largest_acknowledged h s) is) [
-  | inl now ↦ rw (now, is_space_is s space here) (acknowledged_now c h time space ranges delay limited run proper)
-  | inr was ↦ acknowledged_stays (Ack time space ranges delay limited) h s m (before m was)
+    → ((k : ℕ) → largest_acknowledged h s ≡ Some k → Acknowledged h s k) → Acknowledged (Ack time space ranges delay app_limited ∷ h) s m
+ack_if c h time space ranges delay app_limited run proper s m true here is before = elim (raised_is (greatest ranges) m (largest_acknowledged h s) is) [
+  | inl now ↦ rw (now, is_space_is s space here) (acknowledged_now c h time space ranges delay app_limited run proper)
+  | inr was ↦ acknowledged_stays (Ack time space ranges delay app_limited) h s m (before m was)
 ]
-ack_if c h time space ranges delay limited run proper s m false here is before = acknowledged_stays (Ack time space ranges delay limited) h s m (before m is)
+ack_if c h time space ranges delay app_limited run proper s m false here is before = acknowledged_stays (Ack time space ranges delay app_limited) h s m (before m is)
 
 largest_step : (c : Settings) (e : Event) (h : List Event) → IsRun c (e ∷ h) → IsProperEvent e → (s : Space) (m : ℕ)
     → raised (greatest_in s e) (largest_acknowledged h s) ≡ Some m
     → ((k : ℕ) → largest_acknowledged h s ≡ Some k → Acknowledged h s k) → Acknowledged (e ∷ h) s m
-largest_step c (Ack time space ranges delay limited) h run proper s m is before =
-    ack_if c h time space ranges delay limited run proper s m (is_space s space) refl is before
+largest_step c (Ack time space ranges delay app_limited) h run proper s m is before =
+    ack_if c h time space ranges delay app_limited run proper s m (is_space s space) refl is before
 largest_step c e h run proper s m is before = acknowledged_stays e h s m (before m is)
 
 -- in a run the largest acknowledged number is that of a packet that is acknowledged
@@ -139,7 +139,7 @@ late_by c h now m p below is = elim (or_cases (nat_le 3 (m - p.number)) (is_old 
 ]
 
 lost_by : (c : Settings) (h : List Event) → IsRun c h → AllByRecursion IsProperEvent h → (p : Packet) → Contains (packets h) p → (s : Space) (now : ℕ)
-    → detection h ≡ Some (s, now) → p.space ≡ s → p.in_flight ≡ true → (most : Option ℕ) → largest_acknowledged h s ≡ most → is_late (sampled c h) now most p ≡ true
+    → detection h ≡ Some (s, now) → p.space ≡ s → p.in_flight ≡ true → (most : Option ℕ) → largest_acknowledged h s ≡ most → is_past_threshold (sampled c h) now most p ≡ true
     → IsLostRightly c h s p.number
 lost_by c h run proper p has s now at of_space flying None largest late = cc
 lost_by c h run proper p has s now at of_space flying (Some m) largest late =
@@ -169,7 +169,7 @@ found_rightly : (c : Settings) (h : List Event) → IsRun c h → AllByRecursion
 found_rightly c h run proper p has space of_space None at is = cc
 found_rightly c h run proper p has space of_space (Some (s, now)) at is =
     let parts = and_parts (is_of s p) (is_found (sampled c h) h now s p) is in
-    let more = and_parts (p.in_flight && is_unsettled h p) (is_late (sampled c h) now (largest_acknowledged h s) p) parts.1 in
+    let more = and_parts (p.in_flight && is_unsettled h p) (is_past_threshold (sampled c h) now (largest_acknowledged h s) p) parts.1 in
     let flying = (and_parts p.in_flight (is_unsettled h p) more.0).0 in
     let of_s : p.space ≡ s = sym (is_space_is s p.space parts.0) in
     subst (λ (t : Space). IsLostRightly c h t p.number) (sym of_s ∙ of_space)

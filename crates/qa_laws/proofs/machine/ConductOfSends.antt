@@ -6,7 +6,7 @@ use Rattle.std.specs.List.{list_any}
 use Rattle.std.specs.Prelude.{if◌then◌else◌}
 use Rattle.qa_base.specs.declared.event.Event.{Event}
 use Rattle.qa_base.specs.declared.event.Event.TheVariants.{Sent, Timer}
-use Rattle.qa_base.specs.declared.space.Kind.TheVariants.{Loss, Pto}
+use Rattle.qa_base.specs.declared.space.TimerKind.TheVariants.{Loss, Pto}
 use Rattle.qa_base.specs.declared.space.Leave.{Leave}
 use Rattle.qa_base.specs.declared.space.Leave.TheVariants.{Window, Probe, Recovery}
 use Rattle.qa_base.specs.declared.space.Space.{Space}
@@ -15,7 +15,7 @@ use Rattle.qa_laws.specs.machine.Conduct.{is_pto_event, is_probe, probe_bytes, i
 use Rattle.qa_base.specs.machine.Leave.{probe_size, is_recovery_packet}
 use Rattle.qa_base.specs.machine.Loss.{owed, bytes_in_flight}
 use Rattle.qa_base.specs.machine.Moments.{moments, since}
-use Rattle.qa_base.specs.machine.Packets.{is_gone}
+use Rattle.qa_base.specs.machine.Packets.{is_discarded}
 use Rattle.qa_base.specs.machine.Reno.{reno, is_entry}
 use Rattle.qa_base.specs.machine.Rules.{IsRun}
 use Rattle.qa_base.specs.values.Settings.{Settings}
@@ -41,7 +41,7 @@ within_window c h time space number size eliciting run =
     let le = ltb-false (reno c h).window (bytes_in_flight c h + size) holds.past_window in
     let bytes = bytes_in_flight-sent c h time space number size eliciting true Window none in
     let same : (reno c (e ∷ h)).window ≡ (reno c h).window = rw (moves-quiet c e h refl) refl in
-    let within = fits_window (is_gone h space) (bytes_in_flight c h) size (reno c h).window le in
+    let within = fits_window (is_discarded h space) (bytes_in_flight c h) size (reno c h).window le in
     rw (bytes, same) within
 
 -- ---- since the last moment that passes a test

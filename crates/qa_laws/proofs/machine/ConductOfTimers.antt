@@ -5,19 +5,19 @@ use Rattle.std.specs.Option.{option_or}
 use Rattle.std.specs.Prelude.{nat_lt, nat_le}
 use Rattle.qa_base.specs.declared.event.Event.{Event}
 use Rattle.qa_base.specs.declared.event.Event.TheVariants.{Timer}
-use Rattle.qa_base.specs.declared.space.Kind.TheVariants.{Loss}
+use Rattle.qa_base.specs.declared.space.TimerKind.TheVariants.{Loss}
 use Rattle.qa_base.specs.declared.space.Space.{Space}
 use Rattle.qa_base.specs.declared.space.Space.TheVariants.{Initial, Handshake, App}
 use Rattle.qa_base.specs.machine.Breaches.{is_before}
 use Rattle.qa_base.specs.machine.Estimates.{rtt, sampled}
-use Rattle.qa_base.specs.machine.Rtt.{Estimate}
-use Rattle.qa_base.specs.machine.Detection.{is_found, is_late, is_old, is_unsettled}
+use Rattle.qa_base.specs.machine.Rtt.{Estimate, loss_delay}
+use Rattle.qa_base.specs.machine.Detection.{is_found, is_past_threshold, is_old, is_unsettled}
 use Rattle.qa_base.specs.machine.Loss.{owed, is_open}
 use Rattle.qa_laws.specs.machine.Oldest.{is_flying, due_of}
 use Rattle.qa_base.specs.machine.Packets.{Packet, packets_of, largest_acknowledged}
 use Rattle.qa_base.specs.machine.Rules.{IsRun}
 use Rattle.qa_base.specs.values.Settings.{Settings}
-use Rattle.qa_base.specs.machine.Timer.{Due, deadline, earlier, earliest_loss, earliest_pto, anti_deadlock, loss_due, loss_delay, is_below_largest}
+use Rattle.qa_base.specs.machine.Timer.{Due, deadline, earlier, earliest_loss, earliest_pto, anti_deadlock, loss_due, is_below_largest}
 use Rattle.qa_laws.proofs.machine.Courses.{is_space_is}
 use Rattle.qa_laws.proofs.machine.Deadline.{first_passes, loss_due_is}
 use Rattle.qa_laws.proofs.machine.Detection.{probes, loss_of, earlier_is, timer_is}
@@ -60,7 +60,7 @@ earliest_awaits c h run due is = elim (earlier_is (loss_due c h Initial) (earlie
   ]
 ]
 
-late_from : (r : Estimate) (now : ℕ) (p : Packet) (most : Option ℕ) → is_below_largest p.number most ≡ true → is_old r now p ≡ true → is_late r now most p ≡ true
+late_from : (r : Estimate) (now : ℕ) (p : Packet) (most : Option ℕ) → is_below_largest p.number most ≡ true → is_old r now p ≡ true → is_past_threshold r now most p ≡ true
 late_from r now p None below old = cc
 late_from r now p (Some m) below old =
     and_from (nat_lt p.number m) (nat_le 3 (m - p.number) || is_old r now p) below (or_right (nat_le 3 (m - p.number)) (is_old r now p) old)
@@ -89,6 +89,6 @@ timer_owes c h time space run none =
     let late = late_from (rtt c h) time p (largest_acknowledged h space) below old in
     let unsettled = (opens_is c h p flying.1).unsettled in
     let e = Timer time Loss space in
-    let found : is_found (sampled c (e ∷ h)) (e ∷ h) time space p ≡ true = and_from (p.in_flight && is_unsettled (e ∷ h) p) (is_late (sampled c (e ∷ h)) time (largest_acknowledged (e ∷ h) space) p)
+    let found : is_found (sampled c (e ∷ h)) (e ∷ h) time space p ≡ true = and_from (p.in_flight && is_unsettled (e ∷ h) p) (is_past_threshold (sampled c (e ∷ h)) time (largest_acknowledged (e ∷ h) space) p)
     (and_from p.in_flight (is_unsettled (e ∷ h) p) flying.0 unsettled) late in
     none_has (owed c (e ∷ h)) p (part_has (is_found (sampled c (e ∷ h)) (e ∷ h) time space) (packets_of (e ∷ h) space) p has found) none

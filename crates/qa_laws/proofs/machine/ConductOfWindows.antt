@@ -7,7 +7,7 @@ use Rattle.qa_laws.specs.machine.Conduct.{NoCollapse, IsSentAfter, is_entered_by
 use Rattle.qa_base.specs.values.Events.{time_of}
 use Rattle.qa_base.specs.machine.Loss.{owed, is_persistent}
 use Rattle.qa_base.specs.machine.Packets.{Packet, newly_acknowledged}
-use Rattle.qa_base.specs.machine.Reno.{Control, is_outside_recovery, hit, growth, Move, Grow, latest_sent, hits, collapses, grows, is_limited, moves_of_last, moved, reno, enters, is_entry}
+use Rattle.qa_base.specs.machine.Reno.{Control, is_outside_recovery, hit, growth, Move, Grow, latest_sent, hits, collapses, grows, is_app_limited, moves_of_last, moved, reno, enters, is_entry}
 use Rattle.qa_base.specs.machine.Rules.{IsRun}
 use Rattle.qa_base.specs.values.Settings.{Settings}
 use Rattle.qa_laws.proofs.machine.Pairs.{has_first, has_later}
@@ -30,21 +30,21 @@ grown d r (p ∷ ps) =
 not_persistent : (c : Settings) (h : List Event) → owed c h ≡ [] → is_persistent c h ≡ false
 not_persistent c h none = rw none refl
 
-grown_if : (d : ℕ) (r : Control) (limited : Bool) (new : List Packet) → r.window ≤ (fold (moved d) r (if limited then [] else grows new)).window
+grown_if : (d : ℕ) (r : Control) (app_limited : Bool) (new : List Packet) → r.window ≤ (fold (moved d) r (if app_limited then [] else grows new)).window
 grown_if d r true new = omega arith
 grown_if d r false new = grown d r (reverse (filter (λ p. p.in_flight) new))
 
-unless_lost : (d now : ℕ) (r : Control) (ps : List Packet) (persistent limited : Bool) (new : List Packet) → ps ≡ [] → persistent ≡ false
-    → r.window ≤ (fold (moved d) r (hits now ps ++ collapses persistent ++ (if limited then [] else grows new))).window
-unless_lost d now r [] false limited new none calm = grown_if d r limited new
-unless_lost d now r [] true limited new none calm = cc
-unless_lost d now r (p ∷ ps) persistent limited new none calm = cc
+unless_lost : (d now : ℕ) (r : Control) (ps : List Packet) (persistent app_limited : Bool) (new : List Packet) → ps ≡ [] → persistent ≡ false
+    → r.window ≤ (fold (moved d) r (hits now ps ++ collapses persistent ++ (if app_limited then [] else grows new))).window
+unless_lost d now r [] false app_limited new none calm = grown_if d r app_limited new
+unless_lost d now r [] true app_limited new none calm = cc
+unless_lost d now r (p ∷ ps) persistent app_limited new none calm = cc
 
 -- where an event leaves a lower window, it found a loss
 pub lower_by_loss : (c : Settings) (e : Event) (h : List Event) → (reno c (e ∷ h)).window < (reno c h).window → owed c (e ∷ h) ≡ [] → ⊥
 lower_by_loss c e h lower none =
     let least : (reno c h).window ≤ (fold (moved c.max_datagram_size) (reno c h) (moves_of_last c (e ∷ h))).window =
-    unless_lost c.max_datagram_size (time_of e) (reno c h) (owed c (e ∷ h)) (is_persistent c (e ∷ h)) (is_limited e) (newly_acknowledged (e ∷ h)) none (not_persistent c (e ∷ h) none) in
+    unless_lost c.max_datagram_size (time_of e) (reno c h) (owed c (e ∷ h)) (is_persistent c (e ∷ h)) (is_app_limited e) (newly_acknowledged (e ∷ h)) none (not_persistent c (e ∷ h) none) in
     let same : (reno c (e ∷ h)).window ≡ (fold (moved c.max_datagram_size) (reno c h) (moves_of_last c (e ∷ h))).window = ap (λ (r : Control). r.window) (reno_after c e h) in
     omega (arith, lower, least, same)
 
@@ -59,7 +59,7 @@ growths_keep : (d : ℕ) (r : Control) (ps : List Packet) → (fold (moved d) r 
 growths_keep d r [] = refl
 growths_keep d r (p ∷ ps) = growths_keep d (moved d r (Grow p.size p.time)) ps ∙ grow_keeps d p.size r (is_outside_recovery r.recovery_start_time p.time)
 
-growths_if : (d : ℕ) (r : Control) (limited : Bool) (new : List Packet) → (fold (moved d) r (if limited then [] else grows new)).recovery_start_time ≡ r.recovery_start_time
+growths_if : (d : ℕ) (r : Control) (app_limited : Bool) (new : List Packet) → (fold (moved d) r (if app_limited then [] else grows new)).recovery_start_time ≡ r.recovery_start_time
 growths_if d r true new = refl
 growths_if d r false new = growths_keep d r (reverse (filter (λ p. p.in_flight) new))
 
@@ -73,17 +73,17 @@ abbrev begun : Option ℕ → ℕ → List Packet → Option ℕ
 begun recovery now [] = recovery
 begun recovery now (p ∷ ps) = if is_outside_recovery recovery (latest_sent (p ∷ ps)) then Some now else recovery
 
-begun_by : (d now : ℕ) (r : Control) (ps : List Packet) (persistent limited : Bool) (new : List Packet) → persistent ≡ false
-    → (fold (moved d) r (hits now ps ++ collapses persistent ++ (if limited then [] else grows new))).recovery_start_time ≡ begun r.recovery_start_time now ps
-begun_by d now r ps true limited new calm = cc
-begun_by d now r [] false limited new calm = growths_if d r limited new
-begun_by d now r (p ∷ ps) false limited new calm =
-    growths_if d (hit d (latest_sent (p ∷ ps)) now r) limited new ∙ hit_by d (latest_sent (p ∷ ps)) now r (is_outside_recovery r.recovery_start_time (latest_sent (p ∷ ps))) refl
+begun_by : (d now : ℕ) (r : Control) (ps : List Packet) (persistent app_limited : Bool) (new : List Packet) → persistent ≡ false
+    → (fold (moved d) r (hits now ps ++ collapses persistent ++ (if app_limited then [] else grows new))).recovery_start_time ≡ begun r.recovery_start_time now ps
+begun_by d now r ps true app_limited new calm = cc
+begun_by d now r [] false app_limited new calm = growths_if d r app_limited new
+begun_by d now r (p ∷ ps) false app_limited new calm =
+    growths_if d (hit d (latest_sent (p ∷ ps)) now r) app_limited new ∙ hit_by d (latest_sent (p ∷ ps)) now r (is_outside_recovery r.recovery_start_time (latest_sent (p ∷ ps))) refl
 
 recovery_after : (c : Settings) (e : Event) (h : List Event) → is_persistent c (e ∷ h) ≡ false → (reno c (e ∷ h)).recovery_start_time ≡ begun (reno c h).recovery_start_time (time_of e) (owed c (e ∷ h))
 recovery_after c e h calm =
     ap (λ (r : Control). r.recovery_start_time) (reno_after c e h)
-    ∙ begun_by c.max_datagram_size (time_of e) (reno c h) (owed c (e ∷ h)) (is_persistent c (e ∷ h)) (is_limited e) (newly_acknowledged (e ∷ h)) calm
+    ∙ begun_by c.max_datagram_size (time_of e) (reno c h) (owed c (e ∷ h)) (is_persistent c (e ∷ h)) (is_app_limited e) (newly_acknowledged (e ∷ h)) calm
 
 -- ---- entries
 
@@ -91,7 +91,7 @@ never_by_growth : (recovery : Option ℕ) (ps : List Packet) → enters recovery
 never_by_growth recovery [] = refl
 never_by_growth recovery (p ∷ ps) = refl
 
-never_by_growths : (recovery : Option ℕ) (limited : Bool) (new : List Packet) → enters recovery (if limited then [] else grows new) ≡ false
+never_by_growths : (recovery : Option ℕ) (app_limited : Bool) (new : List Packet) → enters recovery (if app_limited then [] else grows new) ≡ false
 never_by_growths recovery true new = refl
 never_by_growths recovery false new = never_by_growth recovery (reverse (filter (λ p. p.in_flight) new))
 
@@ -99,15 +99,15 @@ never_by_growths recovery false new = never_by_growth recovery (reverse (filter 
 abbrev Enters : Option ℕ → List Packet → Type 0
 Enters recovery ps = (p : Packet) × (rest : List Packet) × (ps ≡ p ∷ rest) × (is_outside_recovery recovery (latest_sent ps) ≡ true)
 
-enters_by : (recovery : Option ℕ) (now : ℕ) (ps : List Packet) (persistent limited : Bool) (new : List Packet) → (ps ≡ [] → persistent ≡ false)
-    → enters recovery (hits now ps ++ collapses persistent ++ (if limited then [] else grows new)) ≡ true → Enters recovery ps
-enters_by recovery now [] false limited new calm is = absurd (both_ways (enters recovery (if limited then [] else grows new)) (never_by_growths recovery limited new) is)
-enters_by recovery now [] true limited new calm is = let never = calm refl in cc
-enters_by recovery now (p ∷ ps) persistent limited new calm is = (p, ps, refl, is)
+enters_by : (recovery : Option ℕ) (now : ℕ) (ps : List Packet) (persistent app_limited : Bool) (new : List Packet) → (ps ≡ [] → persistent ≡ false)
+    → enters recovery (hits now ps ++ collapses persistent ++ (if app_limited then [] else grows new)) ≡ true → Enters recovery ps
+enters_by recovery now [] false app_limited new calm is = absurd (both_ways (enters recovery (if app_limited then [] else grows new)) (never_by_growths recovery app_limited new) is)
+enters_by recovery now [] true app_limited new calm is = let never = calm refl in cc
+enters_by recovery now (p ∷ ps) persistent app_limited new calm is = (p, ps, refl, is)
 
 entry_is : (c : Settings) (e : Event) (h : List Event) → is_entry c (e ∷ h) ≡ true → Enters (reno c h).recovery_start_time (owed c (e ∷ h))
 entry_is c e h is =
-    enters_by (reno c h).recovery_start_time (time_of e) (owed c (e ∷ h)) (is_persistent c (e ∷ h)) (is_limited e) (newly_acknowledged (e ∷ h)) (not_persistent c (e ∷ h)) is
+    enters_by (reno c h).recovery_start_time (time_of e) (owed c (e ∷ h)) (is_persistent c (e ∷ h)) (is_app_limited e) (newly_acknowledged (e ∷ h)) (not_persistent c (e ∷ h)) is
 
 begun_now : (recovery : Option ℕ) (now : ℕ) (ps : List Packet) → Enters recovery ps → begun recovery now ps ≡ Some now
 begun_now recovery now [] (p, rest, some, outside) = cc
@@ -167,19 +167,19 @@ halved_once c e f between h run first second calm =
 
 -- ---- an event enters recovery by what it found lost
 
-no_entry : (recovery : Option ℕ) (is_collapse is_limited : Bool) (ps : List Packet)
-    → enters recovery ([] ++ collapses is_collapse ++ (if is_limited then [] else growths ps)) ≡ false
-no_entry recovery true is_limited ps = refl
+no_entry : (recovery : Option ℕ) (is_collapse is_app_limited : Bool) (ps : List Packet)
+    → enters recovery ([] ++ collapses is_collapse ++ (if is_app_limited then [] else growths ps)) ≡ false
+no_entry recovery true is_app_limited ps = refl
 no_entry recovery false true ps = refl
 no_entry recovery false false [] = refl
 no_entry recovery false false (p ∷ ps) = refl
 
-entered_by : (recovery : Option ℕ) (now : ℕ) (lost : List Packet) (is_collapse is_limited : Bool) (ps : List Packet)
-    → enters recovery (hits now lost ++ collapses is_collapse ++ (if is_limited then [] else growths ps)) ≡ is_entered_by recovery lost
-entered_by recovery now [] is_collapse is_limited ps = no_entry recovery is_collapse is_limited ps
-entered_by recovery now (p ∷ lost) is_collapse is_limited ps = refl
+entered_by : (recovery : Option ℕ) (now : ℕ) (lost : List Packet) (is_collapse is_app_limited : Bool) (ps : List Packet)
+    → enters recovery (hits now lost ++ collapses is_collapse ++ (if is_app_limited then [] else growths ps)) ≡ is_entered_by recovery lost
+entered_by recovery now [] is_collapse is_app_limited ps = no_entry recovery is_collapse is_app_limited ps
+entered_by recovery now (p ∷ lost) is_collapse is_app_limited ps = refl
 
 pub entry_by_losses : (c : Settings) (e : Event) (h : List Event) → is_entry c (e ∷ h) ≡ is_entered_by (reno c h).recovery_start_time (owed c (e ∷ h))
 entry_by_losses c e h =
-    entered_by (reno c h).recovery_start_time (time_of e) (owed c (e ∷ h)) (is_persistent c (e ∷ h)) (is_limited e)
+    entered_by (reno c h).recovery_start_time (time_of e) (owed c (e ∷ h)) (is_persistent c (e ∷ h)) (is_app_limited e)
     (reverse (filter (λ p. p.in_flight) (newly_acknowledged (e ∷ h))))

@@ -8,14 +8,15 @@ use Rattle.std.specs.Option.{option_or}
 use Rattle.std.specs.Prelude.{if◌then◌else◌}
 use Rattle.qa_base.specs.machine.Estimates.{rtt}
 use Rattle.qa_base.specs.declared.event.Event.{Event}
-use Rattle.qa_base.specs.declared.space.Kind.TheVariants.{Loss}
+use Rattle.qa_base.specs.declared.space.TimerKind.TheVariants.{Loss}
 use Rattle.qa_base.specs.declared.space.Space.{Space}
 use Rattle.qa_laws.specs.machine.Oldest.{is_flying, due_of, NoneFlies}
 use Rattle.qa_laws.specs.machine.Sequence.{EachTwo}
 use Rattle.qa_base.specs.machine.Packets.{Packet, packets, packets_of, is_of, largest_acknowledged}
 use Rattle.qa_base.specs.machine.Rules.{IsRun}
 use Rattle.qa_base.specs.values.Settings.{Settings}
-use Rattle.qa_base.specs.machine.Timer.{Due, loss_due, loss_delay, least_of, awaits_loss, is_below_largest}
+use Rattle.qa_base.specs.machine.Rtt.{loss_delay}
+use Rattle.qa_base.specs.machine.Timer.{Due, loss_due, least_of, awaits_loss, is_below_largest}
 use Rattle.qa_laws.proofs.machine.Courses.{IsEarlier, are_of, in_order_of, is_space_is}
 use Rattle.qa_laws.proofs.machine.Pairs.{at_one, same_part, part_turned, has_first, has_later}
 use Rattle.qa_laws.specs.machine.Parts.{AreOf}

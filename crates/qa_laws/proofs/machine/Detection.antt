@@ -6,26 +6,26 @@ use Rattle.std.specs.Option.{option_or}
 use Rattle.std.specs.Prelude.{nat_le, if◌then◌else◌}
 use Rattle.qa_base.specs.declared.event.Event.{Event}
 use Rattle.qa_base.specs.declared.event.Event.TheVariants.{Ack, Timer}
-use Rattle.qa_base.specs.declared.space.Kind.{Kind}
-use Rattle.qa_base.specs.declared.space.Kind.TheVariants.{Loss, Pto}
+use Rattle.qa_base.specs.declared.space.TimerKind.{TimerKind}
+use Rattle.qa_base.specs.declared.space.TimerKind.TheVariants.{Loss, Pto}
 use Rattle.qa_base.specs.declared.space.Space.{Space}
 use Rattle.qa_base.specs.declared.space.Space.TheVariants.{Initial, Handshake, App}
 use Rattle.qa_base.specs.machine.Breaches.{is_other}
 use Rattle.qa_base.specs.values.Events.{is_space}
 use Rattle.qa_base.specs.machine.Estimates.{rtt, sampled}
-use Rattle.qa_base.specs.machine.Detection.{is_found, found_at, detection, is_late, is_unsettled}
+use Rattle.qa_base.specs.machine.Detection.{is_found, found_at, detection, is_past_threshold, is_unsettled}
 use Rattle.qa_base.specs.machine.Loss.{owed, is_owed, is_open}
 use Rattle.qa_laws.specs.machine.Oldest.{is_flying, due_of, is_asked}
 use Rattle.qa_laws.specs.machine.Sequence.{EachTwo}
-use Rattle.qa_base.specs.machine.Packets.{Packet, packets, packets_of, is_of, is_some_packet, is_gone, acknowledges_new, largest_acknowledged}
+use Rattle.qa_base.specs.machine.Packets.{Packet, packets, packets_of, is_of, is_some_packet, is_discarded, acknowledges_new, largest_acknowledged}
 use Rattle.qa_base.specs.machine.Rtt.{Estimate, pto_base}
 use Rattle.qa_base.specs.machine.Rules.{IsRun}
 use Rattle.qa_base.specs.values.Settings.{Settings}
 use Rattle.qa_base.specs.machine.Handshake.{is_confirmed, is_validated, has_keys}
-use Rattle.qa_base.specs.machine.Timer.{Due, is_kind, deadline, awaits_acknowledgment, last_eliciting, last_set, backoff, earlier, earliest_loss, earliest_pto, anti_deadlock, loss_due, pto_due, is_below_largest}
+use Rattle.qa_base.specs.machine.Timer.{Due, is_kind, deadline, awaits_acknowledgment, last_eliciting, last_set, pto_count, earlier, earliest_loss, earliest_pto, anti_deadlock, loss_due, pto_due, is_below_largest}
 use Rattle.qa_laws.proofs.machine.Courses.{IsEarlier, in_order_of, is_space_is}
 use Rattle.qa_laws.proofs.machine.Deadline.{first_passes, loss_due_is}
-use Rattle.qa_laws.proofs.machine.Lateness.{earlier_is_late}
+use Rattle.qa_laws.proofs.machine.Thresholds.{earlier_is_past_threshold}
 use Rattle.qa_laws.proofs.machine.Pairs.{two_weaker, two_of_part, two_turned, part_turned, part_of_part, part_is, front}
 use Rattle.qa_base.proofs.machine.RunLaws.{all_hold}
 use Rattle.qa_laws.proofs.machine.Settled.{opens_is, opens_from, unsettled_before, owed_has, has_some}
@@ -38,9 +38,9 @@ abbrev pub asked : List Event → Space → List Packet
 asked h s = filter (is_asked h s) (reverse (packets h))
 
 found_of_asked : (c : Settings) (h : List Event) (now : ℕ) (s : Space)
-    → filter (is_found (sampled c h) h now s) (packets_of h s) ≡ filter (is_late (sampled c h) now (largest_acknowledged h s)) (filter (is_asked h s) (packets h))
+    → filter (is_found (sampled c h) h now s) (packets_of h s) ≡ filter (is_past_threshold (sampled c h) now (largest_acknowledged h s)) (filter (is_asked h s) (packets h))
 found_of_asked c h now s =
-    let late = is_late (sampled c h) now (largest_acknowledged h s) in
+    let late = is_past_threshold (sampled c h) now (largest_acknowledged h s) in
     let open_here : Packet → Bool = λ p. p.in_flight && is_unsettled h p in
     part_of_part open_here late (packets_of h s) ∙ ap (filter late) (sym (part_of_part (is_of s) open_here (packets h)))
 
@@ -48,22 +48,22 @@ asked_is : (h : List Event) (s : Space) → asked h s ≡ reverse (filter (λ p.
 asked_is h s = part_turned (is_asked h s) (packets h) ∙ ap reverse (part_of_part (is_of s) (λ p. p.in_flight && is_unsettled h p) (packets h))
 
 late_first : (c : Settings) (h : List Event) (r : Estimate) (now : ℕ) (largest : Option ℕ) (s : Space) → IsRun c h
-    → EachTwo (λ p q. is_late r now largest q ≡ true → is_late r now largest p ≡ true) (asked h s)
+    → EachTwo (λ p q. is_past_threshold r now largest q ≡ true → is_past_threshold r now largest p ≡ true) (asked h s)
 late_first c h r now largest s run =
     let open_here : Packet → Bool = λ p. p.in_flight && is_unsettled h p in
-    let R : Packet → Packet → Type 0 = λ p q. is_late r now largest q ≡ true → is_late r now largest p ≡ true in
+    let R : Packet → Packet → Type 0 = λ p q. is_past_threshold r now largest q ≡ true → is_past_threshold r now largest p ≡ true in
     let two : EachTwo (λ p q. IsEarlier q p) (reverse (filter open_here (packets_of h s))) =
     two_turned IsEarlier (filter open_here (packets_of h s)) (two_of_part IsEarlier open_here (packets_of h s) (in_order_of c h s run)) in
     let all : EachTwo R (reverse (filter open_here (packets_of h s))) =
-    two_weaker (λ p q. IsEarlier q p) R (λ p q before late. earlier_is_late r now largest q p (omega (arith, before.number)) before.time late) (reverse (filter open_here (packets_of h s))) two in
+    two_weaker (λ p q. IsEarlier q p) R (λ p q before late. earlier_is_past_threshold r now largest q p (omega (arith, before.number)) before.time late) (reverse (filter open_here (packets_of h s))) two in
     subst (λ (ps : List Packet). EachTwo R ps) (sym (asked_is h s)) all
 
 -- in a run, where the last event looks for losses in a space at a time, what it finds is, in the order of sending,
 -- the packets asked of up to the first that is not late
 pub owed_is_front : (c : Settings) (h : List Event) → IsRun c h → (s : Space) (now : ℕ) → detection h ≡ Some (s, now)
-    → reverse (owed c h) ≡ take_while (is_late (sampled c h) now (largest_acknowledged h s)) (asked h s)
+    → reverse (owed c h) ≡ take_while (is_past_threshold (sampled c h) now (largest_acknowledged h s)) (asked h s)
 owed_is_front c h run s now at =
-    let late = is_late (sampled c h) now (largest_acknowledged h s) in
+    let late = is_past_threshold (sampled c h) now (largest_acknowledged h s) in
     ap (λ d. reverse (found_at (sampled c h) h d)) at
     ∙ (ap reverse (found_of_asked c h now s)
     ∙ (sym (part_turned late (filter (is_asked h s) (packets h)))
@@ -97,7 +97,7 @@ probe_or (Some d) p is_o is_p = is_o
 probe_of : (c : Settings) (h : List Event) (peer_delay : ℕ) (s : Space) → IsProbe (pto_due c h peer_delay s)
 probe_of c h peer_delay s =
     probe_if (list_any (awaits_acknowledgment c h) (packets_of h s)) _ None
-    (probe_map s (λ sent. sent + (pto_base (rtt c h) + peer_delay) * 2 ^ backoff c h) (last_eliciting h s)) tt
+    (probe_map s (λ sent. sent + (pto_base (rtt c h) + peer_delay) * 2 ^ pto_count c h) (last_eliciting h s)) tt
 
 pub probes : (c : Settings) (h : List Event) → IsProbe (option_or (earliest_pto c h) (anti_deadlock c h))
 probes c h =
@@ -106,7 +106,7 @@ probes c h =
     (probe_earlier (pto_due c h 0 Handshake) (if is_confirmed h then pto_due c h c.max_ack_delay App else None) (probe_of c h 0 Handshake)
     (probe_if (is_confirmed h) (pto_due c h c.max_ack_delay App) None (probe_of c h c.max_ack_delay App) tt)))
     (probe_if (is_validated c h) None _ tt
-    (probe_map (if has_keys h then Handshake else Initial) (λ sent. sent + pto_base (rtt c h) * 2 ^ backoff c h) (last_set h)))
+    (probe_map (if has_keys h then Handshake else Initial) (λ sent. sent + pto_base (rtt c h) * 2 ^ pto_count c h) (last_set h)))
 
 pub loss_of : (o p : Option Due) (due : Due) → IsProbe p → option_or o p ≡ Some due → is_kind Loss due.kind ≡ true → o ≡ Some due
 loss_of None None due probe is loss = cc
@@ -132,7 +132,7 @@ due_has : (c : Settings) (h : List Event) (s : Space) (o : Option Packet) (due :
 due_has c h s None due is = cc
 due_has c h s (Some p) due is = ((λ none. cc), due_if c h s p due (is_below_largest p.number (largest_acknowledged h s)) refl is)
 
-space_there : (c : Settings) (h : List Event) (s : Space) (o : Option Packet) → oldest_flying c h s ≡ o → (o ≡ None → ⊥) → is_gone h s ≡ false
+space_there : (c : Settings) (h : List Event) (s : Space) (o : Option Packet) → oldest_flying c h s ≡ o → (o ≡ None → ⊥) → is_discarded h s ≡ false
 space_there c h s None is some = absurd (some refl)
 space_there c h s (Some p) is some =
     let found = first_passes (is_flying c h) (packets_of h s) p is in
@@ -140,12 +140,12 @@ space_there c h s (Some p) is some =
     let opens = opens_is c h p (and_parts p.in_flight (is_open c h p) found.1).1 in
     rw (is_space_is s p.space of_space) opens.there
 
-loss_space_there : (c : Settings) (h : List Event) → IsRun c h → (s : Space) (due : Due) → loss_due c h s ≡ Some due → (is_gone h due.space ≡ false)
+loss_space_there : (c : Settings) (h : List Event) → IsRun c h → (s : Space) (due : Due) → loss_due c h s ≡ Some due → (is_discarded h due.space ≡ false)
 loss_space_there c h run s due is =
     let has = due_has c h s (oldest_flying c h s) due (sym (loss_due_is c h run s) ∙ is) in
     rw has.1 (space_there c h s (oldest_flying c h s) refl has.0)
 
-earliest_there : (c : Settings) (h : List Event) → IsRun c h → (due : Due) → earliest_loss c h ≡ Some due → is_gone h due.space ≡ false
+earliest_there : (c : Settings) (h : List Event) → IsRun c h → (due : Due) → earliest_loss c h ≡ Some due → is_discarded h due.space ≡ false
 earliest_there c h run due is = elim (earlier_is (loss_due c h Initial) (earlier (loss_due c h Handshake) (loss_due c h App)) due is) [
   | inl first ↦ loss_space_there c h run Initial due first
   | inr later ↦ elim (earlier_is (loss_due c h Handshake) (loss_due c h App) due later) [
@@ -154,14 +154,14 @@ earliest_there c h run due is = elim (earlier_is (loss_due c h Initial) (earlier
   ]
 ]
 
-pub timer_is : (kind : Kind) (space : Space) (d : Option Due) → is_none d ≡ false → is_other kind space d ≡ false
+pub timer_is : (kind : TimerKind) (space : Space) (d : Option Due) → is_none d ≡ false → is_other kind space d ≡ false
     → (due : Due) × (d ≡ Some due) × (is_kind kind due.kind ≡ true) × (is_space space due.space ≡ true)
 timer_is kind space None some same = cc
 timer_is kind space (Some due) some same =
     let both = and_parts (is_kind kind due.kind) (is_space space due.space) (not-false (is_kind kind due.kind && is_space space due.space) same) in
     (due, refl, both.0, both.1)
 
-pub timer_there : (c : Settings) (h : List Event) (time : ℕ) (s : Space) → IsRun c (Timer time Loss s ∷ h) → is_gone h s ≡ false
+pub timer_there : (c : Settings) (h : List Event) (time : ℕ) (s : Space) → IsRun c (Timer time Loss s ∷ h) → is_discarded h s ≡ false
 timer_there c h time s run =
     let holds = all_hold c h (Timer time Loss s) run.1 in
     let set = timer_is Loss s (deadline c h) holds.timer_not_set holds.timer_other in
@@ -173,14 +173,14 @@ timer_there c h time s run =
 same_space : (space s : Space) (time now : ℕ) → ◌≡◌ {A = Option (Space × ℕ)} (Some (space, time)) (Some (s, now)) → space ≡ s
 same_space space s time now is = let both : ◌≡◌ {A = Space × ℕ} (space, time) (s, now) = cc in ap (λ (d : Space × ℕ). d.0) both
 
-acknowledged_space : (new : Bool) (h : List Event) (space s : Space) (time now : ℕ) → if◌then◌else◌ {A = Option (Space × ℕ)} new (Some (space, time)) None ≡ Some (s, now) → is_gone h space ≡ false → is_gone h s ≡ false
+acknowledged_space : (new : Bool) (h : List Event) (space s : Space) (time now : ℕ) → if◌then◌else◌ {A = Option (Space × ℕ)} new (Some (space, time)) None ≡ Some (s, now) → is_discarded h space ≡ false → is_discarded h s ≡ false
 acknowledged_space true h space s time now at there = rw (same_space space s time now at) at there
 acknowledged_space false h space s time now at there = cc
 
-pub space_of_detection : (c : Settings) (e : Event) (h : List Event) → IsRun c (e ∷ h) → (s : Space) (now : ℕ) → detection (e ∷ h) ≡ Some (s, now) → is_gone h s ≡ false
-space_of_detection c (Ack time space ranges delay limited) h run s now at =
-    let holds = all_hold c h (Ack time space ranges delay limited) run.1 in
-    acknowledged_space (acknowledges_new (Ack time space ranges delay limited ∷ h)) h space s time now at holds.space_gone
+pub space_of_detection : (c : Settings) (e : Event) (h : List Event) → IsRun c (e ∷ h) → (s : Space) (now : ℕ) → detection (e ∷ h) ≡ Some (s, now) → is_discarded h s ≡ false
+space_of_detection c (Ack time space ranges delay app_limited) h run s now at =
+    let holds = all_hold c h (Ack time space ranges delay app_limited) run.1 in
+    acknowledged_space (acknowledges_new (Ack time space ranges delay app_limited ∷ h)) h space s time now at holds.space_gone
 space_of_detection c (Timer time Loss space) h run s now at =
     let there = timer_there c h time space run in
     rw (same_space space s time now at) at there
@@ -188,7 +188,7 @@ space_of_detection c (Timer time Pto space) h run s now at = cc
 space_of_detection c _ h run s now at = cc
 
 nothing_owed : (c : Settings) (e : Event) (h : List Event) → IsRun c (e ∷ h) → (s : Space) (now : ℕ) → detection (e ∷ h) ≡ Some (s, now) → is_some_packet (owed c h) ≡ false
-nothing_owed c (Ack time space ranges delay limited) h run s now at = (all_hold c h (Ack time space ranges delay limited) run.1).loss_owed
+nothing_owed c (Ack time space ranges delay app_limited) h run s now at = (all_hold c h (Ack time space ranges delay app_limited) run.1).loss_owed
 nothing_owed c (Timer time kind space) h run s now at = (all_hold c h (Timer time kind space) run.1).loss_owed
 nothing_owed c _ h run s now at = cc
 

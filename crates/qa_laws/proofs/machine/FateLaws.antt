@@ -5,11 +5,11 @@ use Rattle.std.proofs.lemmas.Bool.{and_parts, and_from, both_ways, false_from_ne
 use Rattle.qa_base.specs.declared.event.Event.{Event}
 use Rattle.qa_base.specs.declared.space.Space.{Space}
 use Rattle.qa_base.specs.values.Events.{acknowledges}
-use Rattle.qa_laws.specs.machine.Fates.{fate, fate_by, fate_next, is_uncovered}
+use Rattle.qa_laws.specs.machine.Fates.{fate, fate_by, fate_next, is_unacknowledged}
 use Rattle.qa_base.specs.machine.Detection.{detection}
 use Rattle.qa_base.specs.machine.Loss.{is_owed, is_open}
 use Rattle.qa_laws.specs.machine.Oldest.{is_flying, NoneFlies}
-use Rattle.qa_base.specs.machine.Packets.{Packet, packets, is_of, is_covered, is_lost, is_gone}
+use Rattle.qa_base.specs.machine.Packets.{Packet, packets, is_of, is_acknowledged, is_declared_lost, is_discarded}
 use Rattle.qa_base.specs.machine.Rules.{IsRun}
 use Rattle.qa_base.specs.values.Settings.{Settings}
 use Rattle.qa_laws.proofs.machine.Changes.{covered_after, lost_is_owed, found_unsettled}
@@ -35,18 +35,18 @@ next_by false false false false covered_now lost_now false covered_is lost_is fr
 pub fate_after : (c : Settings) (e : Event) (h : List Event) → IsRun c (e ∷ h) → (p : Packet) → Contains (packets h) p
     → fate c (e ∷ h) p ≡ fate_next (acknowledges p.space p.number e) (is_owed c (e ∷ h) p) (fate c h p)
 fate_after c e h run p has =
-    next_by (acknowledges p.space p.number e) (is_covered h p) (is_lost h p) (is_owed c h p) (is_covered (e ∷ h) p) (is_lost (e ∷ h) p) (is_owed c (e ∷ h) p)
+    next_by (acknowledges p.space p.number e) (is_acknowledged h p) (is_declared_lost h p) (is_owed c h p) (is_acknowledged (e ∷ h) p) (is_declared_lost (e ∷ h) p) (is_owed c (e ∷ h) p)
     (covered_after e h p has) (lost_is_owed c e h run p has) (λ found. found_unsettled c (e ∷ h) p (detection (e ∷ h)) found)
 
-open_by : (covered lost is_due gone : Bool) → (not covered && not lost && not is_due && not gone) ≡ (is_uncovered (fate_by covered lost is_due) && not gone)
+open_by : (covered lost is_due gone : Bool) → (not covered && not lost && not is_due && not gone) ≡ (is_unacknowledged (fate_by covered lost is_due) && not gone)
 open_by true lost is_due gone = refl
 open_by false true is_due gone = refl
 open_by false false true gone = refl
 open_by false false false gone = refl
 
 -- a packet is open that is uncovered, unless its space is gone
-pub open_is_uncovered : (c : Settings) (h : List Event) (p : Packet) → is_open c h p ≡ (is_uncovered (fate c h p) && not (is_gone h p.space))
-open_is_uncovered c h p = open_by (is_covered h p) (is_lost h p) (is_owed c h p) (is_gone h p.space)
+pub open_is_uncovered : (c : Settings) (h : List Event) (p : Packet) → is_open c h p ≡ (is_unacknowledged (fate c h p) && not (is_discarded h p.space))
+open_is_uncovered c h p = open_by (is_acknowledged h p) (is_declared_lost h p) (is_owed c h p) (is_discarded h p.space)
 
 -- ---- a front without a packet that is open and in flight
 

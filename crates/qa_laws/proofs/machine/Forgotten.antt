@@ -14,7 +14,7 @@ use Rattle.qa_base.specs.machine.Estimates.{sampled}
 use Rattle.qa_base.specs.machine.Detection.{is_end, are_ends}
 use Rattle.qa_base.specs.machine.Loss.{owed, is_owed, is_open, is_persistent}
 use Rattle.qa_laws.specs.machine.Sequence.{EachTwo, WasSentBefore}
-use Rattle.qa_base.specs.machine.Packets.{Packet, packets, is_covered, is_newly_acknowledged, newly_acknowledged}
+use Rattle.qa_base.specs.machine.Packets.{Packet, packets, is_acknowledged, is_newly_acknowledged, newly_acknowledged}
 use Rattle.qa_base.specs.machine.Rtt.{persistent_after}
 use Rattle.qa_base.specs.machine.Rules.{IsRun}
 use Rattle.qa_base.specs.values.Settings.{Settings}
@@ -61,13 +61,13 @@ all_behind R (x ∷ ps) qs two p has = elim (first_or_rest x p ps has) [
 -- ---- persistent congestion
 
 -- a packet that stands no further on than the first is not between the two
-not_between : (h : List Event) (p q m : Packet) → m.place < p.place → (nat_lt p.place m.place && nat_lt m.place q.place && is_covered h m) ≡ false
+not_between : (h : List Event) (p q m : Packet) → m.place < p.place → (nat_lt p.place m.place && nat_lt m.place q.place && is_acknowledged h m) ≡ false
 not_between h p q m before = rw (le-ltb p.place m.place (omega (arith, before))) refl
 
 ends_of_kept : (c : Settings) (g : List Event) (kept gone : List Packet) (p q : Packet) → packets g ≡ kept ++ gone → AllByRecursion (WasSentBefore p) gone
     → are_ends (sampled c g) c g p q ≡ are_ends_among c g kept p q
 ends_of_kept c g kept gone p q parts behind =
-    let between : Packet → Bool = λ m. nat_lt p.place m.place && nat_lt m.place q.place && is_covered g m in
+    let between : Packet → Bool = λ m. nat_lt p.place m.place && nat_lt m.place q.place && is_acknowledged g m in
     let none : AllByRecursion (λ m. between m ≡ false) gone = each_weaker (WasSentBefore p) (λ m. between m ≡ false) (λ m before. not_between g p q m before.place) gone behind in
     let same : list_any between (packets g) ≡ list_any between kept = ap (list_any between) parts ∙ any_of_first between kept gone none in
     ap (λ b. is_end (sampled c g) p && is_end (sampled c g) q && nat_lt (persistent_after (sampled c g) c.max_ack_delay) (q.time - p.time) && not b) same

@@ -9,7 +9,7 @@ use Rattle.qa_laws.specs.machine.Among.{finds_apart, is_far_from, earliest, coun
 use Rattle.qa_base.specs.machine.Estimates.{sampled}
 use Rattle.qa_base.specs.machine.Loss.{is_persistent}
 use Rattle.qa_laws.specs.machine.Sequence.{EachTwo, WasSentBefore}
-use Rattle.qa_base.specs.machine.Packets.{Packet, packets, is_covered}
+use Rattle.qa_base.specs.machine.Packets.{Packet, packets, is_acknowledged}
 use Rattle.qa_base.specs.machine.Rtt.{persistent_after}
 use Rattle.qa_base.specs.machine.Rules.{IsRun}
 use Rattle.qa_base.specs.values.Settings.{Settings}
@@ -244,18 +244,18 @@ apart_back covered counts limit ps p q apart = record {
 }
 
 walk_gives : (c : Settings) (h : List Event)
-    → Found (is_covered h) (counts_as_end c h) (persistent_after (sampled c h) c.max_ack_delay) None (reverse (packets h)) → is_persistent c h ≡ true
-walk_gives c h (inl (p, q, apart)) = of_apart c h p q (apart_back (is_covered h) (counts_as_end c h) (persistent_after (sampled c h) c.max_ack_delay) (packets h) p q apart)
+    → Found (is_acknowledged h) (counts_as_end c h) (persistent_after (sampled c h) c.max_ack_delay) None (reverse (packets h)) → is_persistent c h ≡ true
+walk_gives c h (inl (p, q, apart)) = of_apart c h p q (apart_back (is_acknowledged h) (counts_as_end c h) (persistent_after (sampled c h) c.max_ack_delay) (packets h) p q apart)
 walk_gives c h (inr (s, q, is, on)) = cc
 
 -- in a run the last event establishes persistent congestion exactly where a walk in the order of sending finds it
 pub persistent_is_forward : (c : Settings) (h : List Event) → IsRun c h
-    → is_persistent c h ≡ finds_apart (is_covered h) (counts_as_end c h) (persistent_after (sampled c h) c.max_ack_delay) None (reverse (packets h))
+    → is_persistent c h ≡ finds_apart (is_acknowledged h) (counts_as_end c h) (persistent_after (sampled c h) c.max_ack_delay) None (reverse (packets h))
 persistent_is_forward c h run =
     let limit = persistent_after (sampled c h) c.max_ack_delay in
     let two : EachTwo Before (reverse (packets h)) = two_turned WasSentBefore (packets h) (in_order c h run) in
-    same_tests (is_persistent c h) (finds_apart (is_covered h) (counts_as_end c h) limit None (reverse (packets h)))
+    same_tests (is_persistent c h) (finds_apart (is_acknowledged h) (counts_as_end c h) limit None (reverse (packets h)))
     (λ is. let a = apart_of c h is in
-    finds_from (is_covered h) (counts_as_end c h) limit None (reverse (packets h)) a.0 a.1 two tt (owed_not_covered c h a.0 a.2.counts_p) (owed_not_covered c h a.1 a.2.counts_q)
-    (apart_turned (is_covered h) (counts_as_end c h) limit (packets h) a.0 a.1 a.2))
-    (λ is. walk_gives c h (finds_gives (is_covered h) (counts_as_end c h) limit None (reverse (packets h)) two is))
+    finds_from (is_acknowledged h) (counts_as_end c h) limit None (reverse (packets h)) a.0 a.1 two tt (owed_not_covered c h a.0 a.2.counts_p) (owed_not_covered c h a.1 a.2.counts_q)
+    (apart_turned (is_acknowledged h) (counts_as_end c h) limit (packets h) a.0 a.1 a.2))
+    (λ is. walk_gives c h (finds_gives (is_acknowledged h) (counts_as_end c h) limit None (reverse (packets h)) two is))

@@ -8,7 +8,7 @@ use Rattle.qa_laws.specs.machine.Among.{counts_as_end}
 use Rattle.qa_base.specs.machine.Estimates.{sampled}
 use Rattle.qa_base.specs.machine.Detection.{detection, is_end, are_ends, is_acknowledged_between}
 use Rattle.qa_base.specs.machine.Loss.{owed, is_owed, is_persistent}
-use Rattle.qa_base.specs.machine.Packets.{Packet, packets, is_covered, is_lost}
+use Rattle.qa_base.specs.machine.Packets.{Packet, packets, is_acknowledged, is_declared_lost}
 use Rattle.qa_base.specs.machine.Rtt.{persistent_after}
 use Rattle.qa_base.specs.values.Settings.{Settings}
 use Rattle.qa_laws.proofs.machine.Changes.{found_unsettled}
@@ -44,7 +44,7 @@ pub record AreApart (covered counts : Packet → Bool) (limit : ℕ) (ps : List 
 -- ---- the last event's two packets
 
 pub apart_of : (c : Settings) (h : List Event) → is_persistent c h ≡ true
-    → (p : Packet) × (q : Packet) × AreApart (is_covered h) (counts_as_end c h) (persistent_after (sampled c h) c.max_ack_delay) (packets h) p q
+    → (p : Packet) × (q : Packet) × AreApart (is_acknowledged h) (counts_as_end c h) (persistent_after (sampled c h) c.max_ack_delay) (packets h) p q
 apart_of c h is =
     let limit = persistent_after (sampled c h) c.max_ack_delay in
     let one = some_one (λ p. list_any (are_ends (sampled c h) c h p) (owed c h)) (owed c h) is in
@@ -65,25 +65,25 @@ apart_of c h is =
         counts_p = and_from (is_owed c h p) (is_end (sampled c h) p) of_p.1 ends.0;
         counts_q = and_from (is_owed c h q) (is_end (sampled c h) q) of_q.1 ends.1;
         far = ltb-true limit (q.time - p.time) more.1;
-        clear = λ m inside after before. false_from_ne_true (is_covered h m) (λ covered.
-            both_ways (nat_lt p.place m.place && nat_lt m.place q.place && is_covered h m)
-            (none_at (λ k. nat_lt p.place k.place && nat_lt k.place q.place && is_covered h k) (packets h) m none inside)
-            (and_from (nat_lt p.place m.place && nat_lt m.place q.place) (is_covered h m)
+        clear = λ m inside after before. false_from_ne_true (is_acknowledged h m) (λ covered.
+            both_ways (nat_lt p.place m.place && nat_lt m.place q.place && is_acknowledged h m)
+            (none_at (λ k. nat_lt p.place k.place && nat_lt k.place q.place && is_acknowledged h k) (packets h) m none inside)
+            (and_from (nat_lt p.place m.place && nat_lt m.place q.place) (is_acknowledged h m)
             (and_from (nat_lt p.place m.place) (nat_lt m.place q.place) (lt-ltb p.place m.place after) (lt-ltb m.place q.place before)) covered));
       },
     )
 
-pub of_apart : (c : Settings) (h : List Event) (p q : Packet) → AreApart (is_covered h) (counts_as_end c h) (persistent_after (sampled c h) c.max_ack_delay) (packets h) p q
+pub of_apart : (c : Settings) (h : List Event) (p q : Packet) → AreApart (is_acknowledged h) (counts_as_end c h) (persistent_after (sampled c h) c.max_ack_delay) (packets h) p q
     → is_persistent c h ≡ true
 of_apart c h p q apart =
     let limit = persistent_after (sampled c h) c.max_ack_delay in
     let of_p = and_parts (is_owed c h p) (is_end (sampled c h) p) apart.counts_p in
     let of_q = and_parts (is_owed c h q) (is_end (sampled c h) q) apart.counts_q in
-    let none : is_acknowledged_between h p q ≡ false = none_from (λ k. nat_lt p.place k.place && nat_lt k.place q.place && is_covered h k) (packets h) (λ m inside.
-    false_from_ne_true (nat_lt p.place m.place && nat_lt m.place q.place && is_covered h m) (λ is.
-    let parts = and_parts (nat_lt p.place m.place && nat_lt m.place q.place) (is_covered h m) is in
+    let none : is_acknowledged_between h p q ≡ false = none_from (λ k. nat_lt p.place k.place && nat_lt k.place q.place && is_acknowledged h k) (packets h) (λ m inside.
+    false_from_ne_true (nat_lt p.place m.place && nat_lt m.place q.place && is_acknowledged h m) (λ is.
+    let parts = and_parts (nat_lt p.place m.place && nat_lt m.place q.place) (is_acknowledged h m) is in
     let places = and_parts (nat_lt p.place m.place) (nat_lt m.place q.place) parts.0 in
-    both_ways (is_covered h m) (apart.clear m inside (ltb-true p.place m.place places.0) (ltb-true m.place q.place places.1)) parts.1)) in
+    both_ways (is_acknowledged h m) (apart.clear m inside (ltb-true p.place m.place places.0) (ltb-true m.place q.place places.1)) parts.1)) in
     some_from (λ p. list_any (are_ends (sampled c h) c h p) (owed c h)) (owed c h) p (owed_has c h p apart.has_p of_p.0)
     (some_from (are_ends (sampled c h) c h p) (owed c h) q (owed_has c h q apart.has_q of_q.0)
     (and_from (is_end (sampled c h) p && is_end (sampled c h) q && nat_lt limit (q.time - p.time)) (not (is_acknowledged_between h p q))
@@ -92,7 +92,7 @@ of_apart c h p q apart =
     (not_from_false (is_acknowledged_between h p q) none)))
 
 -- a packet found lost is not covered
-pub owed_not_covered : (c : Settings) (h : List Event) (p : Packet) → counts_as_end c h p ≡ true → is_covered h p ≡ false
+pub owed_not_covered : (c : Settings) (h : List Event) (p : Packet) → counts_as_end c h p ≡ true → is_acknowledged h p ≡ false
 owed_not_covered c h p is =
     let open_here = found_unsettled c h p (detection h) (and_parts (is_owed c h p) (is_end (sampled c h) p) is).0 in
-    not-true (is_covered h p) (and_parts (not (is_covered h p)) (not (is_lost h p)) open_here).0
+    not-true (is_acknowledged h p) (and_parts (not (is_acknowledged h p)) (not (is_declared_lost h p)) open_here).0

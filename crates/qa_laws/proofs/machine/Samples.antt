@@ -13,7 +13,7 @@ use Rattle.qa_base.specs.machine.Estimates.{sampled}
 use Rattle.qa_base.specs.machine.Detection.{detection, found_at, is_found}
 use Rattle.qa_base.specs.machine.Loss.{owed}
 use Rattle.qa_laws.specs.machine.Sequence.{EachTwo, WasSentBefore}
-use Rattle.qa_base.specs.machine.Packets.{Packet, packets, packets_of, is_of, is_covered, is_lost, is_newly_acknowledged, newly_acknowledged, greatest}
+use Rattle.qa_base.specs.machine.Packets.{Packet, packets, packets_of, is_of, is_acknowledged, is_declared_lost, is_newly_acknowledged, newly_acknowledged, greatest}
 use Rattle.qa_base.specs.machine.Reno.{latest_sent}
 use Rattle.qa_base.specs.machine.Rules.{IsRun}
 use Rattle.qa_base.specs.values.Settings.{Settings}
@@ -47,17 +47,17 @@ highest_first n [] two most = refl
 highest_first n (p ∷ ps) two most = first_step n p ps (p.number == n) refl two.0 most.0
 
 -- in a run the packet with the largest number of an acknowledgment, where it is newly acknowledged, is the first of those
-pub sampled_is_first : (c : Settings) (h : List Event) → IsRun c h → (time : ℕ) (space : Space) (ranges : List (ℕ × ℕ)) (delay : ℕ) (limited : Bool)
-    → find (λ p. p.number == greatest ranges) (newly_acknowledged (Ack time space ranges delay limited ∷ h)) ≡ first_if_numbered (greatest ranges) (newly_acknowledged (Ack time space ranges delay limited ∷ h))
-sampled_is_first c h run time space ranges delay limited =
-    let e = Ack time space ranges delay limited in
+pub sampled_is_first : (c : Settings) (h : List Event) → IsRun c h → (time : ℕ) (space : Space) (ranges : List (ℕ × ℕ)) (delay : ℕ) (app_limited : Bool)
+    → find (λ p. p.number == greatest ranges) (newly_acknowledged (Ack time space ranges delay app_limited ∷ h)) ≡ first_if_numbered (greatest ranges) (newly_acknowledged (Ack time space ranges delay app_limited ∷ h))
+sampled_is_first c h run time space ranges delay app_limited =
+    let e = Ack time space ranges delay app_limited in
     let new = newly_acknowledged (e ∷ h) in
     highest_first (greatest ranges) new
-    (each_earlier space new (newly_are_of h time space ranges delay limited) (two_of_part WasSentBefore (is_newly_acknowledged e h) (packets h) (in_order c h run)))
+    (each_earlier space new (newly_are_of h time space ranges delay app_limited) (two_of_part WasSentBefore (is_newly_acknowledged e h) (packets h) (in_order c h run)))
     (of_each (λ p. p.number ≤ greatest ranges) new (λ p has.
     let is = (part_is (is_newly_acknowledged e h) (packets h) p has).1 in
-    let parts = and_parts (acknowledges p.space p.number e && not (is_covered h p)) (not (is_lost h p)) is in
-    let named = (and_parts (acknowledges p.space p.number e) (not (is_covered h p)) parts.0).0 in
+    let parts = and_parts (acknowledges p.space p.number e && not (is_acknowledged h p)) (not (is_declared_lost h p)) is in
+    let named = (and_parts (acknowledges p.space p.number e) (not (is_acknowledged h p)) parts.0).0 in
     named_at_most ranges p.number (and_parts (is_space p.space space) (is_named ranges p.number) named).1))
 
 -- ---- the greatest number that was sent

@@ -12,7 +12,7 @@ use Rattle.qa_base.specs.machine.Estimates.{sampled}
 use Rattle.qa_base.specs.machine.Detection.{is_found, is_found_at, found_at, detection, is_unsettled}
 use Rattle.qa_base.specs.machine.Loss.{owed, is_owed, is_open}
 use Rattle.qa_base.specs.machine.Numbers.{has_all, names_exactly}
-use Rattle.qa_base.specs.machine.Packets.{Packet, packets, packets_of, is_of, is_some_packet, is_covered, is_lost, is_gone, greatest, greatest_in, greatest_of, largest_acknowledged}
+use Rattle.qa_base.specs.machine.Packets.{Packet, packets, packets_of, is_of, is_some_packet, is_acknowledged, is_declared_lost, is_discarded, greatest, greatest_in, greatest_of, largest_acknowledged}
 use Rattle.qa_base.specs.machine.Rules.{IsRun}
 use Rattle.qa_base.specs.values.Settings.{Settings}
 use Rattle.qa_base.specs.machine.Timer.{is_below_largest}
@@ -23,14 +23,14 @@ use Rattle.qa_base.proofs.machine.RunLaws.{all_hold}
 
 -- ---- covered, lost, gone
 
-pub covered_stays : (e : Event) (h : List Event) (p : Packet) → is_covered h p ≡ true → is_covered (e ∷ h) p ≡ true
-covered_stays e h p is = or_right (acknowledges p.space p.number e && nat_lt p.place (length h)) (is_covered h p) is
+pub covered_stays : (e : Event) (h : List Event) (p : Packet) → is_acknowledged h p ≡ true → is_acknowledged (e ∷ h) p ≡ true
+covered_stays e h p is = or_right (acknowledges p.space p.number e && nat_lt p.place (length h)) (is_acknowledged h p) is
 
-pub lost_stays : (e : Event) (h : List Event) (p : Packet) → is_lost h p ≡ true → is_lost (e ∷ h) p ≡ true
-lost_stays e h p is = or_right (declares_lost p.space p.number e && nat_lt p.place (length h)) (is_lost h p) is
+pub lost_stays : (e : Event) (h : List Event) (p : Packet) → is_declared_lost h p ≡ true → is_declared_lost (e ∷ h) p ≡ true
+lost_stays e h p is = or_right (declares_lost p.space p.number e && nat_lt p.place (length h)) (is_declared_lost h p) is
 
-pub gone_stays : (e : Event) (h : List Event) (s : Space) → is_gone h s ≡ true → is_gone (e ∷ h) s ≡ true
-gone_stays e h s is = or_right (discards s e) (is_gone h s) is
+pub gone_stays : (e : Event) (h : List Event) (s : Space) → is_discarded h s ≡ true → is_discarded (e ∷ h) s ≡ true
+gone_stays e h s is = or_right (discards s e) (is_discarded h s) is
 
 -- ---- the largest acknowledged number
 
@@ -45,7 +45,7 @@ largest_if false n rest = refl
 
 -- an acknowledgment of the space raises it
 pub largest_after : (e : Event) (h : List Event) (s : Space) → largest_acknowledged (e ∷ h) s ≡ raised (greatest_in s e) (largest_acknowledged h s)
-largest_after (Ack time space ranges delay limited) h s = largest_if (is_space s space) (greatest ranges) (flat_map (greatest_in s) h)
+largest_after (Ack time space ranges delay app_limited) h s = largest_if (is_space s space) (greatest ranges) (flat_map (greatest_in s) h)
 largest_after _ h s = refl
 
 below_raised : (here : List ℕ) (most : Option ℕ) (n : ℕ) → is_below_largest n most ≡ true → is_below_largest n (raised here most) ≡ true
@@ -128,27 +128,27 @@ owed_is_named c h time space ranges run p has is =
     and_from (is_space p.space space) (is_named ranges p.number) (rw (owed_space c h time space ranges run p is) (is_space_same space)) named
 
 -- in a run, what is owed is declared lost by the event that comes next
-pub owed_then_lost : (c : Settings) (e : Event) (h : List Event) → IsRun c (e ∷ h) → (p : Packet) → Contains (packets h) p → is_owed c h p ≡ true → is_lost (e ∷ h) p ≡ true
+pub owed_then_lost : (c : Settings) (e : Event) (h : List Event) → IsRun c (e ∷ h) → (p : Packet) → Contains (packets h) p → is_owed c h p ≡ true → is_declared_lost (e ∷ h) p ≡ true
 owed_then_lost c (Lost time space ranges) h run p has is =
     let below : p.place < length h = at_one (λ q. q.place < length h) (packets h) p (placed h) has in
-    or_left (declares_lost p.space p.number (Lost time space ranges) && nat_lt p.place (length h)) (is_lost h p)
+    or_left (declares_lost p.space p.number (Lost time space ranges) && nat_lt p.place (length h)) (is_declared_lost h p)
     (and_from (declares_lost p.space p.number (Lost time space ranges)) (nat_lt p.place (length h))
     (owed_is_named c h time space ranges run p has is) (lt-ltb p.place (length h) below))
-owed_then_lost c e h run p has is = not_while_owed c h p (is_lost (e ∷ h) p ≡ true) has is (all_hold c h e run.1).loss_owed
+owed_then_lost c e h run p has is = not_while_owed c h p (is_declared_lost (e ∷ h) p ≡ true) has is (all_hold c h e run.1).loss_owed
 
 -- ---- open
 
-settled_parts : (h : List Event) (p : Packet) → is_unsettled h p ≡ false → (is_covered h p ≡ true) ⊎ (is_lost h p ≡ true)
-settled_parts h p is = elim (and_cases (not (is_covered h p)) (not (is_lost h p)) is) [
-  | inl covered ↦ inl (not-false (is_covered h p) covered)
-  | inr lost ↦ inr (not-false (is_lost h p) lost)
+settled_parts : (h : List Event) (p : Packet) → is_unsettled h p ≡ false → (is_acknowledged h p ≡ true) ⊎ (is_declared_lost h p ≡ true)
+settled_parts h p is = elim (and_cases (not (is_acknowledged h p)) (not (is_declared_lost h p)) is) [
+  | inl covered ↦ inl (not-false (is_acknowledged h p) covered)
+  | inr lost ↦ inr (not-false (is_declared_lost h p) lost)
 ]
 
-pub covered_settles : (h : List Event) (p : Packet) → is_covered h p ≡ true → is_unsettled h p ≡ false
-covered_settles h p is = and_left (not (is_covered h p)) (not (is_lost h p)) (not_from_true (is_covered h p) is)
+pub covered_settles : (h : List Event) (p : Packet) → is_acknowledged h p ≡ true → is_unsettled h p ≡ false
+covered_settles h p is = and_left (not (is_acknowledged h p)) (not (is_declared_lost h p)) (not_from_true (is_acknowledged h p) is)
 
-pub lost_settles : (h : List Event) (p : Packet) → is_lost h p ≡ true → is_unsettled h p ≡ false
-lost_settles h p is = and_right (not (is_covered h p)) (not (is_lost h p)) (not_from_true (is_lost h p) is)
+pub lost_settles : (h : List Event) (p : Packet) → is_declared_lost h p ≡ true → is_unsettled h p ≡ false
+lost_settles h p is = and_right (not (is_acknowledged h p)) (not (is_declared_lost h p)) (not_from_true (is_declared_lost h p) is)
 
 pub settled_stays : (e : Event) (h : List Event) (p : Packet) → is_unsettled h p ≡ false → is_unsettled (e ∷ h) p ≡ false
 settled_stays e h p is = elim (settled_parts h p is) [
@@ -163,13 +163,13 @@ unsettled_before e h p is = true_from_ne_false (is_unsettled h p) (λ settled. b
 pub record Opens (c : Settings) (h : List Event) (p : Packet) : Type 0 where
   pub unsettled : is_unsettled h p ≡ true
   pub free : is_owed c h p ≡ false
-  pub there : is_gone h p.space ≡ false
+  pub there : is_discarded h p.space ≡ false
 
 pub opens_is : (c : Settings) (h : List Event) (p : Packet) → is_open c h p ≡ true → Opens c h p
 opens_is c h p is =
-    let parts = and_parts (is_unsettled h p && not (is_owed c h p)) (not (is_gone h p.space)) is in
+    let parts = and_parts (is_unsettled h p && not (is_owed c h p)) (not (is_discarded h p.space)) is in
     let more = and_parts (is_unsettled h p) (not (is_owed c h p)) parts.0 in
-    record { unsettled = more.0; free = not-true (is_owed c h p) more.1; there = not-true (is_gone h p.space) parts.1 }
+    record { unsettled = more.0; free = not-true (is_owed c h p) more.1; there = not-true (is_discarded h p.space) parts.1 }
 
 pub opens_from : (c : Settings) (h : List Event) (p : Packet) → Opens c h p → is_open c h p ≡ true
 opens_from c h p o = rw (o.unsettled, o.free, o.there) refl
@@ -181,7 +181,7 @@ open_before c e h run p has is =
     opens_from c h p (record {
       unsettled = unsettled_before e h p now.unsettled;
       free = false_from_ne_true (is_owed c h p) (λ owed_then. both_ways (is_unsettled (e ∷ h) p) (lost_settles (e ∷ h) p (owed_then_lost c e h run p has owed_then)) now.unsettled);
-      there = false_from_ne_true (is_gone h p.space) (λ gone. both_ways (is_gone (e ∷ h) p.space) now.there (gone_stays e h p.space gone));
+      there = false_from_ne_true (is_discarded h p.space) (λ gone. both_ways (is_discarded (e ∷ h) p.space) now.there (gone_stays e h p.space gone));
     })
 
 -- in a run a packet that is not open is not open after one more event

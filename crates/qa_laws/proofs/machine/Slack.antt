@@ -9,7 +9,7 @@ use Rattle.qa_base.specs.declared.event.Event.{Event}
 use Rattle.qa_base.specs.declared.event.Event.TheVariants.{Sent, Lost, Timer, Metrics}
 use Rattle.qa_base.specs.declared.rule.Rule.{Rule}
 use Rattle.qa_base.specs.declared.rule.Rule.TheVariants.{TimerLate}
-use Rattle.qa_base.specs.declared.space.Kind.TheVariants.{Loss, Pto}
+use Rattle.qa_base.specs.declared.space.TimerKind.TheVariants.{Loss, Pto}
 use Rattle.qa_base.specs.declared.space.Leave.TheVariants.{Window, Recovery}
 use Rattle.qa_base.specs.declared.space.Space.{Space}
 use Rattle.qa_base.specs.declared.space.Space.TheVariants.{Initial, Handshake, App}
@@ -22,13 +22,13 @@ use Rattle.qa_base.specs.machine.Loss.{owed, is_open, bytes_in_flight}
 use Rattle.qa_base.specs.machine.Metrics.{differs, tests, metric_tests}
 use Rattle.qa_base.specs.machine.Moments.{moments, since}
 use Rattle.qa_base.specs.machine.Numbers.{names_exactly}
-use Rattle.qa_base.specs.machine.Packets.{Packet, packets_of, is_of, is_gone, is_some_packet, newly_acknowledged, largest_acknowledged}
-use Rattle.qa_base.specs.machine.Reno.{Control, hits, collapses, grows, is_limited, moves_of_last, moves, moved, start, reno, enters, is_entry}
-use Rattle.qa_base.specs.machine.Rtt.{Estimate, sample_of, updated, distance, pto_base}
+use Rattle.qa_base.specs.machine.Packets.{Packet, packets_of, is_of, is_discarded, is_some_packet, newly_acknowledged, largest_acknowledged}
+use Rattle.qa_base.specs.machine.Reno.{Control, hits, collapses, grows, is_app_limited, moves_of_last, moves, moved, start, reno, enters, is_entry}
+use Rattle.qa_base.specs.machine.Rtt.{Estimate, sample_of, updated, distance, pto_base, loss_delay}
 use Rattle.qa_base.specs.machine.Rules.{broken, first_of, first_broken, IsRun}
 use Rattle.qa_base.specs.machine.Slack.{with_slacks}
 use Rattle.qa_base.specs.machine.State.{totals}
-use Rattle.qa_base.specs.machine.Timer.{backoff, earlier, least_of, loss_delay, is_below_largest, awaits_loss, loss_due, earliest_loss, awaits_acknowledgment, last_eliciting, pto_due, earliest_pto, last_set, anti_deadlock, deadline, packet_deadline, is_same_due, set_since}
+use Rattle.qa_base.specs.machine.Timer.{pto_count, earlier, least_of, is_below_largest, awaits_loss, loss_due, earliest_loss, awaits_acknowledgment, last_eliciting, pto_due, earliest_pto, last_set, anti_deadlock, deadline, packet_deadline, is_same_due, set_since}
 use Rattle.qa_base.specs.values.Events.{time_of}
 use Rattle.qa_base.specs.values.Settings.{Settings}
 use Rattle.qa_base.proofs.machine.RunLaws.{rules_hold}
@@ -58,7 +58,7 @@ same_bytes c us bytes h = rw (same_sampled c us bytes h) refl
 same_moves_of_last : (c : Settings) (us bytes : ℕ) (h : List Event) → moves_of_last (with_slacks c us bytes) h ≡ moves_of_last c h
 same_moves_of_last c us bytes [] = refl
 same_moves_of_last c us bytes (e ∷ h) = ap (λ r.
-    hits (time_of e) (owed_by r (e ∷ h)) ++ collapses (is_persistent_by r c (e ∷ h)) ++ (if is_limited e then [] else grows (newly_acknowledged (e ∷ h)))
+    hits (time_of e) (owed_by r (e ∷ h)) ++ collapses (is_persistent_by r c (e ∷ h)) ++ (if is_app_limited e then [] else grows (newly_acknowledged (e ∷ h)))
     ) (same_sampled c us bytes (e ∷ h))
 
 same_moves : (c : Settings) (us bytes : ℕ) (h : List Event) → moves (with_slacks c us bytes) h ≡ moves c h
@@ -77,7 +77,7 @@ same_recovery c us bytes h =
     ap (λ entry. if list_any entry (moments h) then Some (count_by is_recovery_packet (since entry h)) else None) (fun_ext (same_entry c us bytes))
 
 same_open : (c : Settings) (us bytes : ℕ) (h : List Event) (p : Packet) → is_open (with_slacks c us bytes) h p ≡ is_open c h p
-same_open c us bytes h p = ap (λ r. is_unsettled h p && not (is_owed_by r h p) && not (is_gone h p.space)) (same_sampled c us bytes h)
+same_open c us bytes h p = ap (λ r. is_unsettled h p && not (is_owed_by r h p) && not (is_discarded h p.space)) (same_sampled c us bytes h)
 
 same_awaits_loss : (c : Settings) (us bytes : ℕ) (h : List Event) (p : Packet) → awaits_loss (with_slacks c us bytes) h p ≡ awaits_loss c h p
 same_awaits_loss c us bytes h p = ap (λ here. p.in_flight && here && is_below_largest p.number (largest_acknowledged h p.space)) (same_open c us bytes h p)
@@ -97,7 +97,7 @@ same_awaits c us bytes h p = ap (λ here. p.eliciting && here) (same_open c us b
 same_pto_due : (c : Settings) (us bytes : ℕ) (h : List Event) (delay : ℕ) (s : Space) → pto_due (with_slacks c us bytes) h delay s ≡ pto_due c h delay s
 same_pto_due c us bytes h delay s =
     ap₂ (λ r awaits. if list_any awaits (packets_of h s)
-    then option_map (λ sent. record { kind = Pto; space = s; time = sent + (pto_base r + delay) * 2 ^ backoff c h }) (last_eliciting h s)
+    then option_map (λ sent. record { kind = Pto; space = s; time = sent + (pto_base r + delay) * 2 ^ pto_count c h }) (last_eliciting h s)
     else None)
     (same_rtt c us bytes h) (fun_ext (same_awaits c us bytes h))
 
@@ -109,7 +109,7 @@ same_earliest_pto c us bytes h =
 
 same_anti_deadlock : (c : Settings) (us bytes : ℕ) (h : List Event) → anti_deadlock (with_slacks c us bytes) h ≡ anti_deadlock c h
 same_anti_deadlock c us bytes h = ap (λ r. if is_validated c h then None
-    else option_map (λ set. record { kind = Pto; space = if has_keys h then Handshake else Initial; time = set + pto_base r * 2 ^ backoff c h }) (last_set h)
+    else option_map (λ set. record { kind = Pto; space = if has_keys h then Handshake else Initial; time = set + pto_base r * 2 ^ pto_count c h }) (last_set h)
     ) (same_rtt c us bytes h)
 
 same_packet_deadline : (c : Settings) (us bytes : ℕ) (h : List Event) → packet_deadline (with_slacks c us bytes) h ≡ packet_deadline c h

@@ -120,7 +120,7 @@ abbrev LeavesIt : Settings → Event → List Event → Packet → Type 0
 LeavesIt c e h p = (is_newly_acknowledged e h p ≡ false) × (is_owed c (e ∷ h) p ≡ false) × (is_discarded_by c e h p ≡ false)
 
 quiet_leaves : (c : Settings) (e : Event) (h : List Event) (p : Packet) → is_quiet e ≡ true → LeavesIt c e h p
-quiet_leaves c (Ack time space ranges delay limited) h p quiet = cc
+quiet_leaves c (Ack time space ranges delay app_limited) h p quiet = cc
 quiet_leaves c (Timer time kind space) h p quiet = cc
 quiet_leaves c (Discard time space) h p quiet = cc
 quiet_leaves c _ h p quiet = (refl, refl, refl)

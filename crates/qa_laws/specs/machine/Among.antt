@@ -5,13 +5,13 @@ use Rattle.qa_base.specs.declared.event.Event.{Event}
 use Rattle.qa_base.specs.machine.Estimates.{sampled}
 use Rattle.qa_base.specs.machine.Detection.{is_end}
 use Rattle.qa_base.specs.machine.Loss.{is_owed}
-use Rattle.qa_base.specs.machine.Packets.{Packet, is_covered}
+use Rattle.qa_base.specs.machine.Packets.{Packet, is_acknowledged}
 use Rattle.qa_base.specs.machine.Rtt.{persistent_after}
 use Rattle.qa_base.specs.values.Settings.{Settings}
 
 -- one of these packets, sent between the two, is acknowledged
 abbrev pub is_acknowledged_among : List Event → List Packet → Packet → Packet → Bool
-is_acknowledged_among h ps p q = list_any (λ m. nat_lt p.place m.place && nat_lt m.place q.place && is_covered h m) ps
+is_acknowledged_among h ps p q = list_any (λ m. nat_lt p.place m.place && nat_lt m.place q.place && is_acknowledged h m) ps
 
 -- the two lie too far apart (section 7.6.1), and none of these packets between them was acknowledged
 abbrev pub are_ends_among : Settings → List Event → List Packet → Packet → Packet → Bool
@@ -40,8 +40,8 @@ abbrev pub earliest : Option ℕ → ℕ → ℕ
 earliest None t = t
 earliest (Some began) t = began
 
--- two packets that count lie more than the limit apart with no covered packet between; at hand is when the first was sent that
--- counts since the last covered packet
+-- two packets that count lie more than the limit apart with no acknowledged packet between; at hand is when the first was sent that
+-- counts since the last acknowledged packet
 abbrev pub finds_apart : (Packet → Bool) → (Packet → Bool) → ℕ → Option ℕ → List Packet → Bool
 finds_apart covered counts limit began [] = false
 finds_apart covered counts limit began (p ∷ ps) =

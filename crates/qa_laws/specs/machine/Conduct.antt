@@ -3,7 +3,7 @@ use Rattle.std.specs.Prelude.{◌≡◌, ℕ, ◌+◌, ◌-◌, ◌*◌, ◌⊎�
 use Rattle.std.specs.List.{list_any}
 use Rattle.qa_base.specs.declared.event.Event.{Event}
 use Rattle.qa_base.specs.declared.event.Event.TheVariants.{Sent, Lost, Timer}
-use Rattle.qa_base.specs.declared.space.Kind.TheVariants.{Pto}
+use Rattle.qa_base.specs.declared.space.TimerKind.TheVariants.{Pto}
 use Rattle.qa_base.specs.declared.space.Leave.{Leave}
 use Rattle.qa_base.specs.declared.space.Leave.TheVariants.{Window, Probe, Recovery}
 use Rattle.qa_base.specs.declared.space.Space.{Space}
@@ -12,10 +12,10 @@ use Rattle.qa_base.specs.values.Events.{is_named, time_of}
 use Rattle.qa_base.specs.machine.Estimates.{sampled}
 use Rattle.qa_base.specs.machine.Detection.{detection}
 use Rattle.qa_base.specs.machine.Loss.{owed, bytes_in_flight, is_persistent}
-use Rattle.qa_base.specs.machine.Packets.{Packet, packets, is_covered}
+use Rattle.qa_base.specs.machine.Packets.{Packet, packets, is_acknowledged}
 use Rattle.qa_base.specs.machine.Reno.{reno, is_entry, is_outside_recovery, latest_sent}
 use Rattle.qa_base.specs.values.Settings.{Settings}
-use Rattle.qa_base.specs.machine.Timer.{loss_delay}
+use Rattle.qa_base.specs.machine.Rtt.{loss_delay}
 
 -- ---- losses (RFC 9002, section 6.1)
 
@@ -31,7 +31,7 @@ pub record IsLostRightly (c : Settings) (h : List Event) (s : Space) (n : ℕ) :
   pub other : Packet
   pub other_sent : Contains (packets h) other
   pub other_of_space : other.space ≡ s
-  pub acknowledged : is_covered h other ≡ true
+  pub acknowledged : is_acknowledged h other ≡ true
   pub earlier : packet.place < other.place
   pub lower : packet.number < other.number
   pub now : ℕ

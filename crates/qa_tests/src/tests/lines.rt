@@ -23,7 +23,7 @@ fn a_line_is_written_and_read(rt: HostRuntime) -> Result<(), Fail> {
         space: Space::App,
         ranges,
         delay: 25_000,
-        limited: false,
+        app_limited: false,
     };
     assert!(rt; event.fits());
     let line = Line::Event(event);

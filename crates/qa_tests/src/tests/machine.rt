@@ -1,6 +1,7 @@
 //! Events that are judged one by one, worked out by hand from RFC 9002, and how much the ledger keeps
 //! that passes once over them.
 ghost use Rattle.std.specs.Prelude.{◌<◌, ◌≤◌, ◌+◌};
+ghost use Rattle.qa_base.specs.values.Limits.{max_lines};
 
 use qa_base::{Event, Header, Leave, Micros, PacketNumber, Role, Rule, Space, Span, Spans};
 use qa_ledger::{Ledger, LedgerFault};
@@ -31,13 +32,13 @@ fn ack(alloc: Global, number: u64) -> Option<Event> {
         space: Space::App,
         ranges,
         delay: 0,
-        limited: false,
+        app_limited: false,
     })
 }
 
 /// Hands an event to the ledger; None where there is none, or it does not fit.
 fn judged(ledger: &mut Running, event: Option<Event>) -> Option<Result<(), LedgerFault>>
-    requires few { ledger.old.connection.events < 4294967295 }
+    requires few { ledger.old.connection.events < max_lines }
     ensures { ledger.new.connection.events ≤ ledger.old.connection.events + 1 }
 {
     let event = event?;
@@ -65,7 +66,7 @@ fn a_loss(rt: HostRuntime) -> Result<(), Fail> {
 
 /// Hands an event to the ledger, and returns how much it keeps then.
 fn kept_after(ledger: &mut Running, event: Option<Event>) -> u128
-    requires few { ledger.old.connection.events < 4294967295 }
+    requires few { ledger.old.connection.events < max_lines }
     ensures { ledger.new.connection.events ≤ ledger.old.connection.events + 1 }
 {
     judged(ledger, event);

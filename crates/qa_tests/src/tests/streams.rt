@@ -3,7 +3,8 @@ ghost use Rattle.std.specs.Prelude.{◌≤◌, IfOk};
 
 use qa_base::{Event, Header, Totals};
 use qa_check::{AuditFault, Metered, audit, explain};
-use qa_ledger::{Ledger, LedgerFault, Whole};
+use qa_ledger::{Ledger, LedgerFault};
+use qa_plain::Whole;
 use std::alloc::Global;
 use std::io;
 use std::io::{ErrorKind, Read, Write};
@@ -100,7 +101,7 @@ struct Exhausted {
 
 impl Ledger for Exhausted {
     ghost use Rattle.std.specs.Prelude.{length};
-    ghost use Rattle.qa_ledger.specs.Holding.{StandsFor};
+    ghost use Rattle.qa_plain.specs.Holding.{StandsFor};
 
     ghost stands = { λ l. StandsFor l.whole };
 

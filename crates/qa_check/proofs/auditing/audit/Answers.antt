@@ -20,6 +20,6 @@ returns g c =
           rw same (written.begun is);
       beginning = λ is. (judged.0, judged.1, rw (← judged.2) (written.begun is));
       unwritten = written.unwritten;
-      read_failures = rw written.read c.in_ok-verdict.ensures.failures;
+      read_failures = rw written.read c.in_ok-verdict.ensures.read_failures;
       write_failures = written.failures;
     }

@@ -1,15 +1,13 @@
-use Rattle.std.proofs.Common.{refl}
-use Rattle.std.proofs.lemmas.Result.{IfOk-weaker}
-use Rattle.qa_format.specs.declared.verdict.Verdict.{Verdict}
-use Rattle.qa_check.specs.declared.auditing.AuditFault.TheVariants.{Read, Write, OutOfMemory}
-use Rattle.qa_check.specs.declared.auditing.Outcome.{Outcome}
-use Rattle.qa_check.proofs.Faults.{same_read_fault, same_write_fault, same_fault, not_read, no_read, memory_not_write}
+use Rattle.std.proofs.Common.{◌≡◌, refl}
+use Rattle.std.proofs.lemmas.Result.{IfOk-weaker, err_from_is_err_and}
+use Rattle.qa_check.specs.declared.auditing.AuditFault.TheVariants.{Write}
+use Rattle.qa_check.proofs.Faults.{not_read, memory_not_write}
 use Rattle.qa_check.proofs.Writing.{explained, told_explained, report_begun, rows_written, rows_explain, told_begins}
 use Rattle.qa_check.proofs.explaining.explain.Goals as goal
 
-pub returns-in-Ok : goal.returns-in-Ok
-returns-in-Ok g c =
-    let shown = c.in-Ok.ensures in
+pub returns : goal.returns
+returns g c =
+    let shown = c.in_ok-verdict.ensures in
     let written = c.write_report.ensures in
     record {
       told = λ bytes tells.
@@ -21,21 +19,21 @@ returns-in-Ok g c =
       told_beginning = λ bytes tells is. told_begins _ _ _ _ bytes tells (report_begun _ _ _ _ _ _ shown.verdict (written.begun is));
       beginning = λ is. report_begun _ _ _ _ _ _ shown.verdict (written.begun is);
       read_failures = rw written.read shown.read_failures;
-      write_failures = rw shown.write_failures at written.failures;
+      write_failures = rw shown.failures at written.failures;
     }
 
-pub returns-in-Err : goal.returns-in-Err
-returns-in-Err g c =
-    let fault = c.in-Err.fault in
-    let shown = c.in-Err.ensures in
-    record {
-      told = λ bytes tells. tt;
-      ok = tt;
-      reads = shown.reads;
-      rows = λ is. shown.rows (same_fault Outcome Verdict fault Read is);
-      out_of_memory = λ is. shown.begun (no_read Outcome Verdict fault OutOfMemory is refl);
-      told_beginning = λ bytes tells is. told_begins _ _ _ _ bytes tells (rows_explain _ _ _ _ (shown.begun (no_read Outcome Verdict fault Write is refl)));
-      beginning = λ is. rows_explain _ _ _ _ (shown.begun (no_read Outcome Verdict fault Write is refl));
-      read_failures = rw (same_read_fault Outcome Verdict fault) shown.read_failures;
-      write_failures = rw (same_write_fault Outcome Verdict fault) shown.write_failures;
-    }
+pub returns-in_err-verdict-clause-beginning : goal.returns-in_err-verdict-clause-beginning
+returns-in_err-verdict-clause-beginning g c = λ is.
+    let passed = err_from_is_err_and c.from_residual.result c.from_residual.ensures.1 in
+    let left = passed.1 in
+    let from = passed.2 in
+    let fault : c.in_err-verdict.field-0.0 ≡ Write = cc in
+    rows_explain _ _ _ _ (c.in_err-verdict.ensures.begun (rw fault refl))
+
+pub returns-in_err-verdict-clause-told_beginning : goal.returns-in_err-verdict-clause-told_beginning
+returns-in_err-verdict-clause-told_beginning g c = λ bytes tells is.
+    let passed = err_from_is_err_and c.from_residual.result c.from_residual.ensures.1 in
+    let left = passed.1 in
+    let from = passed.2 in
+    let fault : c.in_err-verdict.field-0.0 ≡ Write = cc in
+    told_begins _ _ _ _ bytes tells (rows_explain _ _ _ _ (c.in_err-verdict.ensures.begun (rw fault refl)))

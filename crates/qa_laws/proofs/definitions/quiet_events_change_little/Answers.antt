@@ -2,4 +2,4 @@ use Rattle.qa_base.proofs.machine.Quiet as lemmas
 use Rattle.qa_laws.proofs.definitions.quiet_events_change_little.Goals as goal
 
 pub returns : goal.returns
-returns c = record { rtt = lemmas.rtt-quiet; moves = lemmas.moves-quiet; backoff = lemmas.backoff-quiet }
+returns c = record { rtt = lemmas.rtt-quiet; moves = lemmas.moves-quiet; pto_count = lemmas.pto_count-quiet }

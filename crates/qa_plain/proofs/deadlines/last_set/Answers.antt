@@ -15,7 +15,7 @@ loop-place-preserved c =
     let next = ap last_set (one_more c.args.events.now c.loop-place.place e c.loop-place-test.true c.index-events-place.is) ∙ last_set_after e before in
     let by = λ (sets : Bool). if sets then Some (time_of e) else last_set before in
     elim c.if-sets_timer.branch [
-      | then-sets_timer w ↦ w.last-is ∙ (ap Some w.time_of.ensures ∙ sym (next ∙ ap by (sym c.sets_timer.ensures ∙ w.if-sets_timer.true)))
+      | then-sets_timer w ↦ w.last-is ∙ (ap Some w.time.ensures.value ∙ sym (next ∙ ap by (sym c.sets_timer.ensures ∙ w.if-sets_timer.true)))
       | else-sets_timer w ↦ w.last-is ∙ (c.loop-place.invariant ∙ sym (next ∙ ap by (sym c.sets_timer.ensures ∙ w.if-sets_timer.false)))
     ]
 

@@ -17,7 +17,7 @@ loop-place-preserved c =
     let by = λ (same : Bool). if same then set_since c.args.header.now before else time_of e in
     let kept = ap (λ (h : List Event). is_same_due (deadline c.args.header.now before) (deadline c.args.header.now h)) (sym one) ∙ sym c.keeps_deadline.ensures in
     elim c.if-not-keeps_deadline.branch [
-      | then-not-keeps_deadline w ↦ w.since-is ∙ (w.time_of-since.ensures ∙ sym (next ∙ ap by (kept ∙ w.if-not-keeps_deadline.true)))
+      | then-not-keeps_deadline w ↦ w.since-is ∙ (w.time-since.ensures.value ∙ sym (next ∙ ap by (kept ∙ w.if-not-keeps_deadline.true)))
       | else-not-keeps_deadline w ↦ w.since-is ∙ (c.loop-place.invariant ∙ sym (next ∙ ap by (kept ∙ w.if-not-keeps_deadline.false)))
     ]
 

@@ -1,6 +1,6 @@
 use Rattle.std.proofs.Common.{◌≡◌, ◌∙◌, ◌&&◌, Bool, true, false, not, refl, sym, ap}
 use Rattle.std.proofs.lemmas.Bool.{false≢true}
-use Rattle.qa_base.specs.machine.Packets.{Packet, history_of, is_gone}
+use Rattle.qa_base.specs.machine.Packets.{Packet, history_of, is_discarded}
 use Rattle.qa_plain.proofs.Owed.{found_by_is}
 use Rattle.qa_plain.proofs.losses.is_open.Goals.{then-is_unsettled, else-is_unsettled}
 use Rattle.qa_plain.proofs.losses.is_open.Goals as goal
@@ -22,7 +22,7 @@ no_by_first a value unsettled owed gone first is none = rw (none, ← first, is)
 pub returns-then-not-is_found : goal.returns-then-not-is_found
 returns-then-not-is_found c =
     let owed = found_by_is c.args.header.now (history_of c.args.events.now) c.args.look c.args.packet c.requires.seen in
-    let gone = c.is_gone.ensures ∙ ap (λ (p : Packet). is_gone (history_of c.args.events.now) p.space) c.packet.view_is in
+    let gone = c.is_discarded.ensures ∙ ap (λ (p : Packet). is_discarded (history_of c.args.events.now) p.space) c.packet.view_is in
     elim c.if-is_unsettled.branch [
       | then-is_unsettled w ↦ asked_third _ _ _ _ _ _ c.is_unsettled.ensures (w.is_found.ensures ∙ owed) gone w.if-is_unsettled.true (sym w.value-is ∙ c.if-not-is_found.true)
       | else-is_unsettled w ↦ absurd (false≢true (sym w.if-is_unsettled.false ∙ sym w.value-is ∙ c.if-not-is_found.true))

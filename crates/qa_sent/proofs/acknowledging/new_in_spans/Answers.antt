@@ -1,7 +1,7 @@
 use Rattle.std.proofs.Common.{◌≡◌, ◌≤◌, ◌∙◌, ◌+◌, ℕ, [], ◌∷◌, ◌++◌, filter, take, sym, ap}
 use Rattle.qa_sent.specs.Covering.{is_new_in}
 use Rattle.qa_sent.specs.Fates.{is_new}
-use Rattle.qa_sent.proofs.Covered.{take_more}
+use Rattle.qa_sent.proofs.Acknowledged.{take_more}
 use Rattle.qa_sent.proofs.Opened.{ends_below, new_more, new_none}
 use Rattle.qa_sent.proofs.Parts.{each_more}
 use Rattle.qa_sent.proofs.acknowledging.new_in_spans.Goals as goal

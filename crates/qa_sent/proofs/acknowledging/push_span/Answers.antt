@@ -12,7 +12,7 @@ loop-place-init c =
     let s = c.args.space in
     let d = c.args.dropped in
     let ps = c.args.packets.now.items in
-    let es = c.args.lane.now.uncovered.entries in
+    let es = c.args.lane.now.unacknowledged.entries in
     let between : c.into_iter-place-iterator.result ≡ entries_between nat_cmp (Included c.get-lo.result) (Included c.get-hi.result) es = search rules in
     let is = between
     ∙ (ap (λ lo. entries_between nat_cmp (Included lo) (Included c.get-hi.result) es) (c.get-lo.ensures.value ∙ c.lo.ensures.value)

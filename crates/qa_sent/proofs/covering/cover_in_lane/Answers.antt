@@ -1,7 +1,7 @@
 use Rattle.std.proofs.Common.{length, ap, arith}
 use Rattle.std.proofs.lemmas.List.{length-map}
 use Rattle.qa_sent.specs.Steps.{covered_by}
-use Rattle.qa_sent.proofs.Covered.{covered_behind}
+use Rattle.qa_sent.proofs.Acknowledged.{covered_behind}
 use Rattle.qa_sent.proofs.covering.cover_in_lane.Goals as goal
 
 pub advance-requires-clause-few : goal.advance-requires-clause-few

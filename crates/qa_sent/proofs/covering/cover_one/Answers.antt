@@ -4,18 +4,18 @@ use Rattle.std.specs.BTreeMap.{is_at}
 use Rattle.std.specs.Ordering.{nat_cmp}
 use Rattle.std.specs.VecDeque.{deque_len}
 use Rattle.qa_sent.specs.Covering.{is_between}
-use Rattle.qa_sent.specs.declared.fate.Fate.TheVariants.{Covered}
-use Rattle.qa_sent.proofs.Covered.{cover_written}
+use Rattle.qa_sent.specs.declared.fate.Fate.TheVariants.{Acknowledged}
+use Rattle.qa_sent.proofs.Acknowledged.{cover_written}
 use Rattle.qa_sent.proofs.Entries.{found_at, found_here, in_range, removed_length}
 use Rattle.qa_sent.proofs.Sums.{entry_closed, weighed}
 use Rattle.qa_sent.proofs.covering.cover_one.Goals as goal
 
 pub overflow_sub-at : goal.overflow_sub-at
-overflow_sub-at c = (found_at c.args.space c.args.dropped c.args.number c.args.place c.args.packets.now.items c.args.lane.now.uncovered.entries c.requires.indexed.entries c.requires.found).0
+overflow_sub-at c = (found_at c.args.space c.args.dropped c.args.number c.args.place c.args.packets.now.items c.args.lane.now.unacknowledged.entries c.requires.indexed.entries c.requires.found).0
 
 pub index_mut-packet-requires : goal.index_mut-packet-requires
 index_mut-packet-requires c =
-    let f = (found_at c.args.space c.args.dropped c.args.number c.args.place c.args.packets.now.items c.args.lane.now.uncovered.entries c.requires.indexed.entries c.requires.found).1 in
+    let f = (found_at c.args.space c.args.dropped c.args.number c.args.place c.args.packets.now.items c.args.lane.now.unacknowledged.entries c.requires.indexed.entries c.requires.found).1 in
     let len : deque_len c.args.packets.now ≡ length c.args.packets.now.items = c.args.packets.now.ok.0 in
     omega (arith, f.within, len)
 
@@ -23,7 +23,7 @@ pub take_off-requires-clause-in_flight : goal.take_off-requires-clause-in_flight
 take_off-requires-clause-in_flight c =
     let at = c.args.place - c.args.dropped in
     let ps = c.args.packets.now.items in
-    let f = (found_at c.args.space c.args.dropped c.args.number c.args.place ps c.args.lane.now.uncovered.entries c.requires.indexed.entries c.requires.found).1 in
+    let f = (found_at c.args.space c.args.dropped c.args.number c.args.place ps c.args.lane.now.unacknowledged.entries c.requires.indexed.entries c.requires.found).1 in
     (weighed c.args.space c.args.dropped ps c.args.lane.now at c.index_mut-packet.result.now c.requires.indexed f.within c.index_mut-packet.ensures.value
     (found_here c.args.space c.args.dropped c.args.number at ps c.index_mut-packet.result.now f c.index_mut-packet.ensures.value)).bytes
 
@@ -31,7 +31,7 @@ pub take_off-requires-clause-awaiting : goal.take_off-requires-clause-awaiting
 take_off-requires-clause-awaiting c =
     let at = c.args.place - c.args.dropped in
     let ps = c.args.packets.now.items in
-    let f = (found_at c.args.space c.args.dropped c.args.number c.args.place ps c.args.lane.now.uncovered.entries c.requires.indexed.entries c.requires.found).1 in
+    let f = (found_at c.args.space c.args.dropped c.args.number c.args.place ps c.args.lane.now.unacknowledged.entries c.requires.indexed.entries c.requires.found).1 in
     (weighed c.args.space c.args.dropped ps c.args.lane.now at c.index_mut-packet.result.now c.requires.indexed f.within c.index_mut-packet.ensures.value
     (found_here c.args.space c.args.dropped c.args.number at ps c.index_mut-packet.result.now f c.index_mut-packet.ensures.value)).awaiting
 
@@ -40,14 +40,14 @@ returns-clause-packets c = λ lo hi low high.
     let at = c.args.place - c.args.dropped in
     let ps = c.args.packets.now.items in
     let p = c.index_mut-packet.result.now in
-    let f = (found_at c.args.space c.args.dropped c.args.number c.args.place ps c.args.lane.now.uncovered.entries c.requires.indexed.entries c.requires.found).1 in
+    let f = (found_at c.args.space c.args.dropped c.args.number c.args.place ps c.args.lane.now.unacknowledged.entries c.requires.indexed.entries c.requires.found).1 in
     cover_written c.args.space lo hi ps at p c.index_mut-packet.ensures.value (f.waits p c.index_mut-packet.ensures.value)
     (ap (is_between lo hi) (f.number p c.index_mut-packet.ensures.value) ∙ in_range lo hi c.args.number low high)
 
 pub returns-clause-fewer : goal.returns-clause-fewer
 returns-clause-fewer c =
-    let less = removed_length c.args.number c.args.lane.now.uncovered.entries (c.args.number, c.args.place) c.requires.found in
-    let is : length c.remove.new.self.entries ≡ length (remove_entry (is_at (nat_cmp c.args.number)) c.args.lane.now.uncovered.entries) =
+    let less = removed_length c.args.number c.args.lane.now.unacknowledged.entries (c.args.number, c.args.place) c.requires.found in
+    let is : length c.remove.new.self.entries ≡ length (remove_entry (is_at (nat_cmp c.args.number)) c.args.lane.now.unacknowledged.entries) =
     ap length (c.remove.ensures.entries ∙ ap (remove_entry (is_at (nat_cmp c.args.number))) c.take_off.ensures.entries) in
     omega (arith, less, is)
 
@@ -56,7 +56,7 @@ returns-clause-indexed c =
     let at = c.args.place - c.args.dropped in
     let ps = c.args.packets.now.items in
     let p = c.index_mut-packet.result.now in
-    let f = (found_at c.args.space c.args.dropped c.args.number c.args.place ps c.args.lane.now.uncovered.entries c.requires.indexed.entries c.requires.found).1 in
-    entry_closed c.args.space c.args.dropped ps c.args.lane.now _ c.args.number at p Covered refl c.requires.indexed f c.index_mut-packet.ensures.value
+    let f = (found_at c.args.space c.args.dropped c.args.number c.args.place ps c.args.lane.now.unacknowledged.entries c.requires.indexed.entries c.requires.found).1 in
+    entry_closed c.args.space c.args.dropped ps c.args.lane.now _ c.args.number at p Acknowledged refl c.requires.indexed f c.index_mut-packet.ensures.value
     (c.remove.ensures.entries ∙ ap (remove_entry (is_at (nat_cmp c.args.number))) c.take_off.ensures.entries)
     c.take_off.ensures.in_flight c.take_off.ensures.awaiting

@@ -1,16 +1,16 @@
 use Rattle.std.proofs.Common.{◌≡◌, ◌∙◌, None, sym, ap}
 use Rattle.qa_sent.specs.Covering.{first_between}
-use Rattle.qa_sent.proofs.Covered.{nothing_left}
+use Rattle.qa_sent.proofs.Acknowledged.{nothing_left}
 use Rattle.qa_sent.proofs.Entries.{first_alone}
 use Rattle.qa_sent.proofs.covering.cover_span.Goals as goal
 
 pub cover_one-requires-clause-found : goal.cover_one-requires-clause-found
 cover_one-requires-clause-found c =
-    (first_alone c.args.lo c.args.hi c.loop-number.lane.uncovered.entries c.in-Some.number c.in-Some.place (sym c.first_in.ensures ∙ c.in-Some.is)).0
+    (first_alone c.args.lo c.args.hi c.loop-number.lane.unacknowledged.entries c.in-Some.number c.in-Some.place (sym c.first_in.ensures ∙ c.in-Some.is)).0
 
 pub loop-number-preserved : goal.loop-number-preserved
 loop-number-preserved c =
-    let at = first_alone c.args.lo c.args.hi c.loop-number.lane.uncovered.entries c.in-Some.number c.in-Some.place (sym c.first_in.ensures ∙ c.in-Some.is) in
+    let at = first_alone c.args.lo c.args.hi c.loop-number.lane.unacknowledged.entries c.in-Some.number c.in-Some.place (sym c.first_in.ensures ∙ c.in-Some.is) in
     record {
       indexed = c.cover_one.ensures.indexed;
       packets = c.cover_one.ensures.packets c.args.lo c.args.hi at.1 at.2 ∙ c.loop-number.invariant.packets;
@@ -19,7 +19,7 @@ loop-number-preserved c =
 
 pub returns-clause-packets : goal.returns-clause-packets
 returns-clause-packets c =
-    let none : first_between c.args.lo c.args.hi c.loop-number.lane.uncovered.entries ≡ None = sym c.first_in.ensures ∙ c.in_default.is in
+    let none : first_between c.args.lo c.args.hi c.loop-number.lane.unacknowledged.entries ≡ None = sym c.first_in.ensures ∙ c.in_default.is in
     sym (nothing_left c.args.space c.args.dropped c.args.lo c.args.hi c.loop-number.packets.items
     (ap (first_between c.args.lo c.args.hi) (sym c.loop-number.invariant.indexed.entries) ∙ none))
     ∙ c.loop-number.invariant.packets

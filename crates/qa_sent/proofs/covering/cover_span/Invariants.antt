@@ -11,4 +11,4 @@ invariant-loop-number l = record {
 }
 
 abbrev pub decreases-loop-number : goal.decreases-loop-number
-decreases-loop-number l = length l.lane.uncovered.entries
+decreases-loop-number l = length l.lane.unacknowledged.entries

@@ -1,5 +1,5 @@
 use Rattle.std.proofs.Common.{◌≡◌, ◌∙◌, sym, refl, rules}
-use Rattle.qa_sent.proofs.Covered.{cover_next, cover_none}
+use Rattle.qa_sent.proofs.Acknowledged.{cover_next, cover_none}
 use Rattle.qa_sent.proofs.covering.cover_spans.Goals as goal
 
 pub loop-span-init : goal.loop-span-init

@@ -13,7 +13,7 @@ pub loop-packets-init : goal.loop-packets-init
 loop-packets-init c =
     let high = c.requires.lane.behind.high in
     record {
-      packets = detected_start c.args.space c.args.lateness.now c.args.packets.now.items (c.args.lane.now.next - c.args.dropped) c.requires.lane.behind.none;
+      packets = detected_start c.args.space c.args.thresholds.now c.args.packets.now.items (c.args.lane.now.next - c.args.dropped) c.requires.lane.behind.none;
       within = omega (arith, high);
       indexed = c.requires.lane.indexed;
       none = c.requires.lane.behind.none;
@@ -24,7 +24,7 @@ loop-packets-init c =
 pub loop-packets-preserved : goal.loop-packets-preserved
 loop-packets-preserved c =
     let s = c.args.space in
-    let l = c.args.lateness.now in
+    let l = c.args.thresholds.now in
     let xs = c.args.packets.now.items in
     let ys = c.loop-packets.packets.items in
     let zs = c.pass.new.packets.items in
@@ -46,11 +46,11 @@ loop-packets-preserved c =
 
 pub returns-clause-packets : goal.returns-clause-packets
 returns-clause-packets c =
-    detected_all c.args.space c.args.lateness.now c.args.packets.now.items c.loop-packets.packets.items c.loop-packets.at c.requires.ordered
+    detected_all c.args.space c.args.thresholds.now c.args.packets.now.items c.loop-packets.packets.items c.loop-packets.at c.requires.ordered
     c.loop-packets.invariant.within c.loop-packets.invariant.packets (c.goes_on.ensures.ends c.loop-packets-test.false)
 
 pub returns-clause-losses : goal.returns-clause-losses
 returns-clause-losses c =
-    detected_losses c.args.space c.args.lateness.now c.args.dropped c.args.packets.now.items c.loop-packets.packets.items c.loop-packets.at c.loop-packets.count c.args.lane.now.next
+    detected_losses c.args.space c.args.thresholds.now c.args.dropped c.args.packets.now.items c.loop-packets.packets.items c.loop-packets.at c.loop-packets.count c.args.lane.now.next
     c.requires.ordered c.loop-packets.invariant.within c.loop-packets.invariant.packets (c.goes_on.ensures.ends c.loop-packets-test.false)
     c.requires.settled c.requires.lane.behind.none c.loop-packets.invariant.count

@@ -6,7 +6,7 @@ use Rattle.qa_sent.proofs.detecting.detect_in_lane.Given as goal
 
 abbrev pub invariant-loop-packets : goal.invariant-loop-packets
 invariant-loop-packets l = record {
-  packets : l.packets.items ≡ map (found_by l.space l.lateness) (take l.at l.fn.packets.items) ++ drop l.at l.fn.packets.items;
+  packets : l.packets.items ≡ map (found_by l.space l.thresholds) (take l.at l.fn.packets.items) ++ drop l.at l.fn.packets.items;
   within : l.at ≤ length l.fn.packets.items;
   indexed : IsIndexed l.space l.dropped l.packets.items l.lane;
   none : NoneFlies l.space (take l.at l.packets.items);

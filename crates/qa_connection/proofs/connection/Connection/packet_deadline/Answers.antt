@@ -1,12 +1,12 @@
 use Rattle.std.proofs.Common.{◌≡◌, ◌∙◌, refl}
 use Rattle.qa_connection.specs.Deadlines as deadlines
 use Rattle.qa_connection.proofs.Due.{packet_deadline_is}
-use Rattle.qa_connection.proofs.connection.Connection.packet_deadline.Goals.{After-or_else}
+use Rattle.qa_connection.proofs.connection.Connection.packet_deadline.Goals.{After-or}
 use Rattle.qa_connection.proofs.connection.Connection.packet_deadline.Goals as goal
 
 -- what is returned, by what is kept
-kept : (c : After-or_else) → c.or_else.result ≡ deadlines.packet_deadline c.args.self.now c.args.packets.now
-kept c = rw (c.or_else.ensures, c.earliest_loss.ensures, c.earliest_pto.ensures) refl
+kept : (c : After-or) → c.or.result ≡ deadlines.packet_deadline c.args.self.now c.args.packets.now
+kept c = rw (c.or.ensures, c.earliest_loss.ensures, c.earliest_pto.ensures) refl
 
 pub returns-clause-value : goal.returns-clause-value
 returns-clause-value c = kept c

@@ -10,7 +10,7 @@ returns-clause-count c = search rules
 pub returns-clause-bound : goal.returns-clause-bound
 returns-clause-bound c = rw (← c.self.view_is) (λ settings h is.
     let run = is.after.run.run in
-    let held = c.self.inside.packets in
+    let held = c.self.inside.machine.packets in
     let entries : c.kept_count.result ≤ 2 * length held.packets = c.kept_count.ensures.bound in
     let many : kept_count settings h ≡ length held.packets = kept_is_held settings h run held is.after.packets c.self.invariant.trimmed in
     let numbers : c.runs.result ≡ runs h = c.runs.ensures.sent settings h run (is.after.numbers is.works) in

@@ -4,4 +4,4 @@ use Rattle.qa_running.proofs.running.Running.owes_now.Goals as goal
 
 pub returns : goal.returns
 returns c = rw (← c.self.view_is) (λ settings h is.
-    ap (nat_lt 0) c.owed_count.ensures ∙ sym (some_owed_is_counted settings h is.run.run c.self.inside.packets is.packets))
+    ap (nat_lt 0) c.owed_count.ensures ∙ sym (some_owed_is_counted settings h is.run.run c.self.inside.machine.packets is.packets))

@@ -3,7 +3,7 @@ use Rattle.std.proofs.lemmas.List.{take_all}
 use Rattle.qa_base.specs.values.Events.{is_named}
 use Rattle.qa_sent.specs.Covering.{is_between}
 use Rattle.qa_sent.specs.Naming.{IsStretch}
-use Rattle.qa_sent.proofs.Covered.{take_more}
+use Rattle.qa_sent.proofs.Acknowledged.{take_more}
 use Rattle.qa_sent.proofs.Stretches.{one_more, stretch_alike}
 use Rattle.qa_sent.proofs.named.NamedNumbers.first_of_all.Goals as goal
 

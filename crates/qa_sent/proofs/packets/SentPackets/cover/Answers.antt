@@ -1,5 +1,5 @@
 use Rattle.qa_sent.specs.Steps.{covered_by}
-use Rattle.qa_sent.proofs.Covered.{covered_alike, covered_not_owed, covered_same}
+use Rattle.qa_sent.proofs.Acknowledged.{covered_alike, covered_not_owed, covered_same}
 use Rattle.qa_sent.proofs.Settled.{sound_settled}
 use Rattle.qa_sent.proofs.Sound.{lane_sound}
 use Rattle.qa_sent.proofs.packets.SentPackets.cover.Goals as goal

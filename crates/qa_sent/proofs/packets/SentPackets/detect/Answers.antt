@@ -1,7 +1,7 @@
 use Rattle.std.proofs.Common.{◌≡◌, length, map, arith}
 use Rattle.std.proofs.lemmas.List.{length-map}
 use Rattle.qa_base.specs.values.Limits.{max_packet_size}
-use Rattle.qa_sent.specs.Lanes.{lane_of}
+use Rattle.qa_base.specs.values.PerSpace.{of_space}
 use Rattle.qa_sent.specs.Steps.{found_by}
 use Rattle.qa_sent.proofs.Alike.{lane_alike, ordered_same, sizes_same}
 use Rattle.qa_sent.proofs.Detected.{found_alike, found_same}
@@ -19,7 +19,7 @@ invariant_of-self c =
     let d = before.dropped in
     let ps = before.packets.items in
     let s = c.args.space in
-    let l = c.args.lateness.now in
+    let l = c.args.thresholds.now in
     let f = found_by s l in
     let found = c.detect_in_lane-self-inside in
     let long : length (map f ps) ≡ length ps = length-map ps f in
@@ -31,4 +31,4 @@ invariant_of-self c =
       sizes = sizes_same max_packet_size f (found_same s l) ps c.self.invariant.sizes;
       few = omega (arith, few, long);
     }) (rw found.ensures.packets at found.ensures.lane)
-    (λ t out. lane_alike t f (found_alike s l t out) d ps (lane_of t before.lanes) (lane_sound d ps before.losses before.lanes c.self.invariant t)))
+    (λ t out. lane_alike t f (found_alike s l t out) d ps (of_space t before.lanes) (lane_sound d ps before.losses before.lanes c.self.invariant t)))

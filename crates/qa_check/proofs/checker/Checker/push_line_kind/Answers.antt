@@ -1,0 +1,46 @@
+use Rattle.std.proofs.Common.{◌≤◌, ◌∙◌, Err, false, length, sym, ap, arith}
+use Rattle.std.proofs.lemmas.Bool.{false≢true}
+use Rattle.std.proofs.lemmas.Result.{IfOk-weaker, on_ok_weaker}
+use Rattle.qa_format.specs.format.Lines.{line_limit}
+use Rattle.qa_check.proofs.Faults.{error_of, stops_differ}
+use Rattle.qa_check.proofs.Growing.{whole_of, unread_adds, too_long}
+use Rattle.qa_check.proofs.checker.Checker.push_line_kind.Goals as goal
+
+pub returns-in-Err : goal.returns-in-Err
+returns-in-Err g c =
+    let expected = c.expect_line.ensures in
+    record {
+      kind = tt;
+      failed = λ is. ap Err (error_of (sym c.in-Err.is ∙ expected.failed is));
+      fails = λ is. (expected.fails (c.in-Err.is ∙ ap Err (error_of is))).1;
+      good = tt;
+      decided = λ is. expected.decided (c.in-Err.is ∙ ap Err (error_of is)) c.args.bytes.now;
+    }
+
+pub returns-then-bytes-gt-LINE_LIMIT : goal.returns-then-bytes-gt-LINE_LIMIT
+returns-then-bytes-gt-LINE_LIMIT g c =
+    let open_yet = c.in_default.ensures.ok in
+    let stop = c.stop.ensures in
+    record {
+      kind = tt;
+      failed = λ is. absurd (false≢true (sym (whole_of _ _ open_yet.0 false open_yet.1) ∙ is));
+      fails = λ is. absurd (stops_differ (sym stop.result ∙ error_of is));
+      good = tt;
+      decided = λ is.
+          rw (← open_yet.0)
+          (unread_adds _ c.expect_line.new.self c.stop.new.self _ _ stop.whole stop.decided stop.verdict open_yet.2 (too_long _ _ open_yet.3 (omega (arith, c.if-bytes-gt-LINE_LIMIT.true))));
+    }
+
+pub returns : goal.returns
+returns g c =
+    let open_yet = c.in_default.ensures.ok in
+    let gives = c.read_line-read.ensures.read in
+    let short : length c.args.bytes.now ≤ line_limit = omega (arith, c.if-bytes-gt-LINE_LIMIT.false) in
+    let taken = c.take_read.ensures in
+    record {
+      kind = IfOk-weaker c.take_read.result _ _ (λ kind is. is c.args.bytes.now gives) taken.kind;
+      failed = λ is. absurd (false≢true (sym (whole_of _ _ open_yet.0 false open_yet.1) ∙ is));
+      fails = taken.fails;
+      good = rw open_yet.0 at (on_ok_weaker c.take_read.result (λ adds. adds c.args.bytes.now short gives) taken.good);
+      decided = λ is. rw open_yet.0 at (taken.decided is c.args.bytes.now short gives);
+    }

@@ -1,0 +1,229 @@
+//! An audit of bytes that are handed in, piece by piece.
+ghost use Rattle.std.specs.Prelude.{◌≡◌, ◌++◌, ℕ, List, Option, false, Ok, OnErr, IfOk, IfErr};
+ghost use Rattle.std.specs.Io.KnownBytes.{Appends};
+ghost use Rattle.qa_format.specs.format.Reading.{reading};
+ghost use Rattle.qa_format.specs.verdicts.Explain as explanation;
+ghost use Rattle.qa_format.specs.verdicts.Verdict.{verdict};
+ghost use Rattle.qa_split.specs.Stream.{HasNoLine};
+ghost use Rattle.qa_check.specs.Audit.{CountsFailure};
+ghost use Rattle.qa_check.specs.Auditor.{BringsTo, TakesMore};
+ghost use Rattle.qa_check.specs.Following.{Answers, IsReady};
+ghost use Rattle.qa_check.specs.Writing.{Begins, Shown};
+
+use crate::auditing::AuditFault;
+use crate::checker::Checker;
+use crate::observer::{Observer, Unobserved};
+use crate::taking::{Lines, take_last, take_lines};
+use qa_format::Verdict;
+use qa_ledger::Ledger;
+use qa_split::Splitter;
+use std::alloc::Global;
+use std::marker::Model;
+
+/// How far an audit is.
+#[derive(Clone, Copy, Debug, PartialEq, Eq)]
+pub enum Progress {
+    /// Bytes that follow can change the verdict.
+    Open,
+    /// This is the verdict, whatever follows.
+    Fixed(Verdict),
+}
+
+/// An audit of bytes that are handed in, piece by piece, over any ledger.
+///
+/// It serves callers with a loop of their own, where `audit` and `explain` read from a `Source`.
+/// However the bytes are cut, the verdict is that of all of them. An observer may be shown the lines
+/// as they are taken: the same one at each call.
+#[derive(Drop)]
+pub struct Auditor<L: Ledger> {
+    alloc: Global,
+    splitter: Splitter,
+    checker: Checker<L>,
+    progress: Result<Progress, AuditFault>,
+}
+
+impl<L: Ledger> Model for Auditor<L> {
+    ghost use Rattle.std.specs.Prelude.{◌≡◌, Ok};
+    ghost use Rattle.qa_check.specs.Auditor.{Audit, TakesMore};
+    ghost use Rattle.qa_check.specs.declared.auditor.Progress.TheVariants.{Open};
+
+    ghost Value = { Audit L };
+
+    ghost view = { λ a. record { stream = a.splitter; held = a.checker; progress = a.progress } };
+
+    ghost invariant = { λ a. a.progress ≡ Ok Open → TakesMore a.splitter a.checker };
+}
+
+impl<L: Ledger + Drop> Auditor<L> {
+    ghost use Rattle.std.specs.Prelude.{◌≢◌, [], IfErr};
+    ghost use Rattle.qa_check.specs.Auditor.{Audits, Observes, progress_of};
+
+    /// An auditor that was fed no bytes. Takes no memory.
+    pub fn new(alloc: Global) -> Auditor<L>
+        ensures open { result.progress ≡ Ok Progress.Open }
+        ensures fed { (text : Option (List ℕ)) → Observes L.stands result text text [] }
+    {
+        Auditor {
+            alloc,
+            splitter: Splitter::new(alloc),
+            checker: Checker::new(alloc),
+            progress: Ok(Progress::Open),
+        }
+    }
+
+    /// Takes the next bytes, which may be any part of a trace, and returns how far the audit is then.
+    ///
+    /// Once the verdict is fixed, and after `finish`, it changes nothing and returns the verdict.
+    /// `AuditFault::OutOfMemory` comes where it is out of memory, and from then on.
+    pub fn feed(&mut self, piece: &[u8]) -> Result<Progress, AuditFault>
+        ensures progress { result ≡ self.new.progress }
+        ensures fed { (bytes : List ℕ) → Audits L.stands self.old bytes
+            → Audits L.stands self.new (bytes ++ piece.now) }
+        ensures kept { self.old.progress ≢ Ok Progress.Open → self.new ≡ self.old }
+        ensures memory { self.old.progress ≡ Ok Progress.Open
+            → IfErr result (λ fault. fault ≡ AuditFault.OutOfMemory) }
+    {
+        self.feed_to(piece, &mut Unobserved)
+    }
+
+    /// Takes the next bytes as `feed` does, and shows the observer each line that they end.
+    ///
+    /// A fault of the observer comes where it failed, and from then on.
+    pub fn feed_to<O: Observer>(
+        &mut self,
+        piece: &[u8],
+        observer: &mut O,
+    ) -> Result<Progress, AuditFault>
+        ensures progress { result ≡ self.new.progress }
+        ensures fed { (start : Option (List ℕ)) (bytes : List ℕ)
+            → Observes L.stands self.old start (O.shown observer.old) bytes
+            → Observes L.stands self.new start (O.shown observer.new) (bytes ++ piece.now) }
+        ensures kept { self.old.progress ≢ Ok Progress.Open
+            → (self.new ≡ self.old) × (observer.new ≡ observer.old) }
+        ensures failures { self.old.progress ≡ Ok Progress.Open
+            → CountsFailure (O.failures observer.old) (O.failures observer.new) result }
+    {
+        match self.progress {
+            Ok(Progress::Open) => {
+                let progress = take_piece(
+                    self.alloc,
+                    &mut self.splitter,
+                    &mut self.checker,
+                    observer,
+                    piece,
+                );
+                self.progress = progress;
+                progress
+            }
+            Ok(Progress::Fixed(verdict)) => Ok(Progress::Fixed(verdict)),
+            Err(fault) => Err(fault),
+        }
+    }
+
+    /// The verdict of all bytes that were fed, where nothing follows. Asked again, it is the same.
+    ///
+    /// `AuditFault::OutOfMemory` comes where it is out of memory, here or before.
+    pub fn finish(&mut self) -> Result<Verdict, AuditFault>
+        ensures finished { self.new.progress ≡ progress_of result }
+        ensures verdict { IfOk result (λ v. (bytes : List ℕ) → Audits L.stands self.old bytes
+            → v ≡ verdict reading bytes) }
+        ensures kept { self.old.progress ≢ Ok Progress.Open → self.new ≡ self.old }
+        ensures memory { self.old.progress ≡ Ok Progress.Open
+            → IfErr result (λ fault. fault ≡ AuditFault.OutOfMemory) }
+    {
+        self.finish_to(&mut Unobserved)
+    }
+
+    /// The verdict of all bytes that were fed, as `finish` returns it, once the observer was shown the
+    /// line that no LF ends.
+    ///
+    /// A fault of the observer comes where it failed, here or before.
+    pub fn finish_to<O: Observer>(&mut self, observer: &mut O) -> Result<Verdict, AuditFault>
+        ensures finished { self.new.progress ≡ progress_of result }
+        ensures verdict { IfOk result (λ v. (start : Option (List ℕ)) (bytes : List ℕ)
+            → Observes L.stands self.old start (O.shown observer.old) bytes
+            → (v ≡ verdict reading bytes)
+            × Appends start (O.shown observer.new) (explanation.rows reading bytes)) }
+        ensures begun { OnErr result ((start : Option (List ℕ)) (bytes : List ℕ)
+            → Observes L.stands self.old start (O.shown observer.old) bytes
+            → Begins start (O.shown observer.new) (explanation.rows reading bytes)) }
+        ensures kept { self.old.progress ≢ Ok Progress.Open
+            → (self.new ≡ self.old) × (observer.new ≡ observer.old) }
+        ensures failures { self.old.progress ≡ Ok Progress.Open
+            → CountsFailure (O.failures observer.old) (O.failures observer.new) result }
+    {
+        match self.progress {
+            Ok(Progress::Open) => {
+                let ended = conclude(self.alloc, &mut self.splitter, &mut self.checker, observer);
+                self.progress = ended.map(Progress::Fixed);
+                ended
+            }
+            Ok(Progress::Fixed(verdict)) => Ok(verdict),
+            Err(fault) => Err(fault),
+        }
+    }
+}
+
+/// Takes the next piece, and returns how far the audit is then.
+fn take_piece<L: Ledger + Drop, O: Observer>(
+    alloc: Global,
+    splitter: &mut Splitter,
+    checker: &mut Checker<L>,
+    observer: &mut O,
+    piece: &[u8],
+) -> Result<Progress, AuditFault>
+    requires ready { IsReady splitter.old }
+    requires whole { checker.old.failed ≡ false }
+    ensures more { result ≡ Ok Progress.Open → TakesMore splitter.new checker.new }
+    ensures fed { (start : Option (List ℕ)) (bytes : List ℕ)
+        → Shown L.stands splitter.old.bytes checker.old start (O.shown observer.old) bytes
+        → BringsTo L.stands result splitter.new checker.new start (O.shown observer.new) (bytes
+        ++ piece.now) }
+    ensures failures { CountsFailure (O.failures observer.old) (O.failures observer.new) result }
+{
+    let Ok(()) = splitter.feed(piece) else {
+        return Err(AuditFault::OutOfMemory);
+    };
+    match take_lines(alloc, splitter, checker, observer) {
+        Ok(Lines::Good) => Ok(Progress::Open),
+        Ok(Lines::Bad) => match verdict_of(checker) {
+            Ok(verdict) => Ok(Progress::Fixed(verdict)),
+            Err(fault) => Err(fault),
+        },
+        Err(fault) => Err(fault),
+    }
+}
+
+/// The verdict where nothing more comes.
+fn conclude<L: Ledger + Drop, O: Observer>(
+    alloc: Global,
+    splitter: &mut Splitter,
+    checker: &mut Checker<L>,
+    observer: &mut O,
+) -> Result<Verdict, AuditFault>
+    requires ready { IsReady splitter.old }
+    requires empty { HasNoLine splitter.old }
+    requires whole { checker.old.failed ≡ false }
+    ensures ok { IfOk result (λ v. (start : Option (List ℕ)) (bytes : List ℕ)
+        → Shown L.stands splitter.old.bytes checker.old start (O.shown observer.old) bytes
+        → (v ≡ verdict reading bytes)
+        × Appends start (O.shown observer.new) (explanation.rows reading bytes)) }
+    ensures begun { OnErr result ((start : Option (List ℕ)) (bytes : List ℕ)
+        → Shown L.stands splitter.old.bytes checker.old start (O.shown observer.old) bytes
+        → Begins start (O.shown observer.new) (explanation.rows reading bytes)) }
+    ensures failures { CountsFailure (O.failures observer.old) (O.failures observer.new) result }
+{
+    match take_last(alloc, splitter, checker, observer) {
+        Ok(_) => verdict_of(checker),
+        Err(fault) => Err(fault),
+    }
+}
+
+/// The verdict that a checker has come to.
+fn verdict_of<L: Ledger + Drop>(checker: &Checker<L>) -> Result<Verdict, AuditFault>
+    ensures ok { IfOk result (λ v. (bytes : List ℕ) → Answers L.stands checker.now bytes
+        → v ≡ verdict reading bytes) }
+    ensures err { IfErr result (λ fault. fault ≡ AuditFault.OutOfMemory) }
+{
+    checker.verdict().ok_or(AuditFault::OutOfMemory)
+}

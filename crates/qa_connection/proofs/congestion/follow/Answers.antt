@@ -1,6 +1,0 @@
-use Rattle.std.proofs.Common.{rules}
-use Rattle.qa_connection.proofs.congestion.follow.Goals as goal
-
--- Written out, so that a wrong body is refused at this line.
-pub returns-clause-value : goal.returns-clause-value
-returns-clause-value c = search rules

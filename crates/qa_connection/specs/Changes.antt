@@ -1,0 +1,90 @@
+-- What changes of a connection, step by step.
+use Rattle.std.specs.Prelude.{ℕ, ◌+◌, fold, Bool, true, List, [], Option, Some, if◌then◌else◌}
+use Rattle.qa_base.specs.declared.space.Leave.{Leave}
+use Rattle.qa_base.specs.declared.space.Space.{Space}
+use Rattle.qa_base.specs.machine.Reno.{collapses, moved}
+use Rattle.qa_base.specs.machine.Rtt.{updated}
+use Rattle.qa_connection.specs.Handshaking.{acknowledged_in, discarded_in, is_validated, sent_in}
+use Rattle.qa_connection.specs.Spaces.{changed_in, with_discarded, with_eliciting, with_largest}
+use Rattle.qa_connection.specs.Spending.{hit, spent}
+use Rattle.qa_connection.specs.Steps.{capped, enters_at, grown_by, hits_at, limited_delay, refreshed_if, sample_by}
+use Rattle.qa_connection.specs.Timing.{answered_in}
+use Rattle.qa_connection.specs.Timing as timers
+use Rattle.qa_connection.specs.declared.connection.Connection.{Connection}
+use Rattle.qa_sent.specs.declared.packet.SentPacket.{SentPacket}
+
+-- ---- an acknowledgment
+
+-- numbers of the space were acknowledged, of which this is the largest
+abbrev pub acknowledged : Space → ℕ → Connection → Connection
+acknowledged space largest k = record k {
+  handshake = acknowledged_in space k.handshake;
+  spaces = changed_in space (with_largest largest) k.spaces;
+}
+
+-- an acknowledgment came of these packets, the largest number that it acknowledges, and the delay that it reports
+abbrev pub with_sample : ℕ → ℕ → ℕ → List SentPacket → Connection → Connection
+with_sample now delay largest ps k = record k {
+  rtt = updated k.rtt (sample_by now (limited_delay k.header.max_ack_delay k.handshake.confirmed delay) largest ps);
+}
+
+-- packets were found lost now, the last of which was sent at a time, where there are any
+abbrev pub with_hit : ℕ → Option ℕ → Connection → Connection
+with_hit now last k = record k {
+  reno = fold (moved k.header.max_datagram_size) k.reno (hits_at now last);
+  allowances = hit (enters_at k.reno.recovery_start_time last) k.allowances;
+}
+
+-- they establish persistent congestion, or not
+abbrev pub with_collapse : Bool → Connection → Connection
+with_collapse persistent k = record k {
+  rtt = refreshed_if k.header.options.refresh_min_rtt persistent k.rtt;
+  reno = fold (moved k.header.max_datagram_size) k.reno (collapses persistent);
+}
+
+-- these packets were acknowledged, by a sender that was limited or not
+abbrev pub grown : Bool → List SentPacket → Connection → Connection
+grown app_limited ps k = record k { reno = fold (grown_by k.header.max_datagram_size) k.reno (if app_limited then [] else ps) }
+
+-- something new was acknowledged now
+abbrev pub restarted : ℕ → Connection → Connection
+restarted now k = record k { timer = timers.restarted now (is_validated k.header.role k.handshake) k.timer }
+
+-- ---- the others
+
+-- the packet was sent, which is ack-eliciting or not
+abbrev pub elicited : SentPacket → Connection → Connection
+elicited p k = record k {
+  timer = record k.timer { probe_due = if p.eliciting then answered_in p.space k.timer.probe_due else k.timer.probe_due };
+  spaces = if p.eliciting then changed_in p.space (with_eliciting p.time) k.spaces else k.spaces;
+}
+
+-- .. and in flight or not
+abbrev pub launched : SentPacket → Leave → Connection → Connection
+launched p leave k = record k {
+  timer = record k.timer { last_set = if p.in_flight then Some p.time else k.timer.last_set };
+  allowances = if p.in_flight then spent leave p.size k.allowances else k.allowances;
+}
+
+-- it was sent
+abbrev pub sent : SentPacket → Leave → Connection → Connection
+sent p leave k = record (launched p leave (elicited p k)) { handshake = sent_in p.space k.handshake }
+
+-- a probe timeout of the space, now
+abbrev pub probing : Space → ℕ → Connection → Connection
+probing space now k = record k {
+  timer = timers.probing space now k.timer;
+  allowances = record k.allowances { probe_spent = Some 0 };
+}
+
+-- the keys of the space were discarded now
+abbrev pub discarded : Space → ℕ → Connection → Connection
+discarded space now k = record k {
+  handshake = discarded_in space k.handshake;
+  timer = timers.restarted now true k.timer;
+  spaces = changed_in space with_discarded k.spaces;
+}
+
+-- one event more, at a time
+abbrev pub counted : ℕ → Connection → Connection
+counted time k = record k { events = capped (k.events + 1); last_time = Some time }

@@ -1,9 +1,0 @@
-use Rattle.std.proofs.Common.{◌∙◌}
-use Rattle.qa_running.proofs.Losses.{last_owed_is_held}
-use Rattle.qa_running.proofs.following.outcome.Goals as goal
-
-pub returns : goal.returns
-returns c = λ k h stands run measured header. record {
-  last_owed = c.last_owed.ensures ∙ last_owed_is_held k h run c.args.packets.now stands;
-  is_persistent = c.is_persistent.ensures k h stands run measured header;
-}

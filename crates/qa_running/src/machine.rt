@@ -1,0 +1,351 @@
+//! What each kind of event does to the state of a sender.
+ghost use Rattle.std.specs.Prelude.{◌≡◌, ◌≤◌, ◌<◌, ◌+◌, [], ◌∷◌, ℕ, List, length, filter, true, IfOk, OnOk, OnErr};
+ghost use Rattle.std.specs.List.{AllByRecursion};
+ghost use Rattle.qa_base.specs.declared.event.Event.{Event as AnEvent};
+ghost use Rattle.qa_base.specs.declared.event.Event.TheVariants as events;
+ghost use Rattle.qa_base.specs.declared.event.MetricValues.{MetricValues};
+ghost use Rattle.qa_base.specs.declared.space.TimerKind.TheVariants.{Loss, Pto};
+ghost use Rattle.qa_base.specs.declared.space.Space.{Space as ASpace};
+ghost use Rattle.qa_base.specs.machine.Loss as loss;
+ghost use Rattle.qa_base.specs.machine.Rules.{IsRun};
+ghost use Rattle.qa_base.specs.values.Events.{fits, time_of};
+ghost use Rattle.qa_base.specs.values.Limits.{max_lines, max_packet_size};
+ghost use Rattle.qa_base.specs.values.Settings.{AreInRange, Settings};
+ghost use Rattle.qa_connection.specs.Changes.{with_collapse, with_hit};
+ghost use Rattle.qa_connection.specs.Known.{HasParts, IsMeasured, AreLosses, IsProperRun};
+ghost use Rattle.qa_connection.specs.Steps.{last_sent};
+ghost use Rattle.qa_ranges.specs.Sent.{AreSent};
+ghost use Rattle.qa_running.specs.Following.{IsNext, takes_memory};
+ghost use Rattle.qa_running.specs.Thresholds.{AreThresholdsAt};
+ghost use Rattle.qa_running.specs.Machine.{Follows, StandsFor as Stands, StandsOnceFound};
+ghost use Rattle.qa_running.specs.Standing.{StandsFor};
+ghost use Rattle.qa_running.specs.Trimmed.{IsTrimmed};
+ghost use Rattle.qa_running.specs.Watch.{IsWatched};
+ghost use Rattle.qa_sent.specs.Fates.{is_new};
+ghost use Rattle.qa_sent.specs.Held.{IsBefore};
+ghost use Rattle.qa_sent.specs.Owing.{NoneOwed};
+ghost use Rattle.qa_sent.specs.declared.fate.Fate.TheVariants.{Open};
+
+use crate::watch::TimerWatch;
+use qa_base::{Event, Header, Leave, Micros, Space, Span, Spans, TimerKind};
+use qa_connection::{Connection, Losses};
+use qa_ranges::{Ranges, SentNumbers};
+use qa_sent::{Fate, SentPacket, SentPackets, Thresholds};
+use std::alloc::{AllocError, Global};
+
+/// The state of a sender after some events: what RFC 9002 keeps in A.3 and B.2, and what the rules
+/// ask beside it.
+#[derive(Drop)]
+pub(crate) struct Machine {
+    /// The connection.
+    pub(crate) connection: Connection,
+    /// The packets since the oldest that is still open or owed.
+    pub(crate) packets: SentPackets,
+    /// The numbers that were sent.
+    pub(crate) numbers: SentNumbers,
+    /// What the timer is set for, and since when.
+    pub(crate) watch: TimerWatch,
+}
+
+impl Machine {
+    /// Before any event. Takes no memory.
+    pub(crate) fn start(alloc: Global, header: Header) -> Machine
+        ensures { Stands result header [] }
+    {
+        Machine {
+            connection: Connection::start(header),
+            packets: SentPackets::new(alloc),
+            numbers: SentNumbers::new(alloc),
+            watch: TimerWatch::start(),
+        }
+    }
+
+    /// An acknowledgment came (RFC 9002, A.7). Nothing may be owed. `AllocError` comes where it is
+    /// out of memory, and leaves the machine as it was.
+    pub(crate) fn on_ack(
+        &mut self,
+        alloc: Global,
+        time: Micros,
+        space: Space,
+        ranges: &Spans,
+        delay: u64,
+        app_limited: bool,
+    ) -> Result<(), AllocError>
+        requires { NoneOwed self.old.packets.packets }
+        ensures ok { OnOk result (Follows self.old self.new (events.Ack time space ranges.now delay app_limited)) }
+        ensures err { OnErr result (self.new ≡ self.old) }
+    {
+        let largest = ranges.greatest();
+        let ranges = ranges.as_slice();
+        let acknowledged = named(alloc, &self.packets, space, ranges)?;
+        self.connection.acknowledge(space, largest);
+        self.packets.cover(space, ranges);
+        if acknowledged.is_empty() {
+            self.finish(time);
+            return Ok(());
+        }
+        self.connection.sample(&acknowledged, largest, delay, time);
+        self.find_losses(space, time);
+        self.connection.grow(&acknowledged, app_limited);
+        self.connection.restart(time);
+        self.finish(time);
+        Ok(())
+    }
+
+    /// A packet was sent (A.5 and B.4). It is open, was sent after those that are kept, and fewer than
+    /// 4,294,967,295 were ever sent. `AllocError` comes where it is out of memory; its number may be
+    /// among those that were sent then, and nothing else has changed.
+    pub(crate) fn on_sent(&mut self, packet: SentPacket, leave: Leave) -> Result<(), AllocError>
+        requires open { packet.fate ≡ Open }
+        requires small { packet.size ≤ max_packet_size }
+        requires ordered { AllByRecursion (λ q. IsBefore packet q) self.old.packets.packets }
+        requires few { self.old.packets.dropped + length self.old.packets.packets < max_lines }
+        ensures ok { OnOk result (Follows self.old self.new (events.Sent packet.time packet.space packet.number packet.size packet.eliciting packet.in_flight leave)) }
+        ensures err { OnErr result (self.new ≡ record self.old { numbers = self.new.numbers }) }
+    {
+        self.numbers.insert(packet.space, packet.number)?;
+        self.packets.push(packet)?;
+        self.connection.send(&packet, leave);
+        self.finish(packet.time);
+        Ok(())
+    }
+
+    /// The loss timer of a space fired (A.9). Nothing may be owed.
+    pub(crate) fn on_loss_timer(&mut self, time: Micros, space: Space)
+        requires { NoneOwed self.old.packets.packets }
+        ensures { Follows self.old self.new (events.Timer time Loss space) }
+    {
+        self.connection.timer.last_set = Some(time);
+        self.find_losses(space, time);
+        self.finish(time);
+    }
+
+    /// A probe timeout of a space (A.9).
+    pub(crate) fn on_probe_timeout(&mut self, time: Micros, space: Space)
+        ensures { Follows self.old self.new (events.Timer time Pto space) }
+    {
+        self.connection.probe(space, time);
+        self.finish(time);
+    }
+
+    /// What is owed was declared lost (A.10).
+    pub(crate) fn on_lost(&mut self, time: Micros)
+        ensures { (space : ASpace) (ranges : List (ℕ × ℕ))
+            → Follows self.old self.new (events.Lost time space ranges) }
+    {
+        self.packets.declare_lost();
+        self.finish(time);
+    }
+
+    /// The keys of a space were discarded (A.11 and B.9). Nothing may be owed.
+    pub(crate) fn on_discard(&mut self, time: Micros, space: Space)
+        requires { NoneOwed self.old.packets.packets }
+        ensures { Follows self.old self.new (events.Discard time space) }
+    {
+        self.connection.discard(space, time);
+        self.packets.discard(space);
+        self.finish(time);
+    }
+
+    /// The handshake was confirmed (RFC 9001, section 4.1.2).
+    pub(crate) fn on_confirmed(&mut self, time: Micros)
+        ensures { Follows self.old self.new (events.Confirmed time) }
+    {
+        self.connection.handshake.confirmed = true;
+        self.finish(time);
+    }
+
+    /// The keys of the Handshake space are there.
+    pub(crate) fn on_keys(&mut self, time: Micros)
+        ensures { Follows self.old self.new (events.Keys time) }
+    {
+        self.connection.handshake.has_keys = true;
+        self.finish(time);
+    }
+
+    /// The sender reported its own state.
+    pub(crate) fn on_metrics(&mut self, time: Micros)
+        ensures { (values : MetricValues) → Follows self.old self.new (events.Metrics time values) }
+    {
+        self.finish(time);
+    }
+
+    /// Any event that breaks no rule. `AllocError` comes where it is out of memory, which only a
+    /// packet that is sent and an acknowledgment can be; numbers that were sent may have changed
+    /// then, and nothing else.
+    pub(crate) fn on_event(&mut self, alloc: Global, event: &Event) -> Result<(), AllocError>
+        requires next { IsNext self.old.packets event.now }
+        requires fitting { fits event.now ≡ true }
+        ensures ok { OnOk result (Follows self.old self.new event.now) }
+        ensures err { OnErr result (self.new ≡ record self.old { numbers = self.new.numbers }) }
+        ensures memory { OnErr result (takes_memory event.now ≡ true) }
+    {
+        match event {
+            Event::Sent {
+                time,
+                space,
+                number,
+                size,
+                eliciting,
+                in_flight,
+                leave,
+            } => {
+                let packet = SentPacket {
+                    time: *time,
+                    space: *space,
+                    number: *number,
+                    size: *size,
+                    eliciting: *eliciting,
+                    in_flight: *in_flight,
+                    fate: Fate::Open,
+                };
+                self.on_sent(packet, *leave)
+            }
+            Event::Ack {
+                time,
+                space,
+                ranges,
+                delay,
+                app_limited,
+            } => self.on_ack(alloc, *time, *space, ranges, *delay, *app_limited),
+            Event::Timer {
+                time,
+                kind: TimerKind::Loss,
+                space,
+            } => {
+                self.on_loss_timer(*time, *space);
+                Ok(())
+            }
+            Event::Timer {
+                time,
+                kind: TimerKind::Pto,
+                space,
+            } => {
+                self.on_probe_timeout(*time, *space);
+                Ok(())
+            }
+            Event::Lost { time, .. } => {
+                self.on_lost(*time);
+                Ok(())
+            }
+            Event::Discard { time, space } => {
+                self.on_discard(*time, *space);
+                Ok(())
+            }
+            Event::Confirmed { time } => {
+                self.on_confirmed(*time);
+                Ok(())
+            }
+            Event::Keys { time } => {
+                self.on_keys(*time);
+                Ok(())
+            }
+            Event::Metrics { time, .. } => {
+                self.on_metrics(*time);
+                Ok(())
+            }
+        }
+    }
+
+    /// Looks for losses in a space, and takes in what they mean for the window (A.10 and B.8).
+    /// Nothing may be owed before.
+    fn find_losses(&mut self, space: Space, now: Micros)
+        requires { NoneOwed self.old.packets.packets }
+        ensures packets { (c : Settings) (h : List AnEvent) → IsMeasured self.old.connection c h
+            → StandsOnceFound self.old.packets c h space now
+            → StandsFor self.new.packets c h }
+        ensures connection { (c : Settings) (h : List AnEvent) → IsRun c h
+            → IsMeasured self.old.connection c h → StandsOnceFound self.old.packets c h space now
+            → self.new.connection
+            ≡ with_collapse (loss.is_persistent c h) (with_hit now (last_sent (loss.owed c h)) self.old.connection) }
+        ensures range { AreInRange self.old.connection.header }
+        ensures numbers { self.new.numbers ≡ self.old.numbers }
+        ensures watch { self.new.watch ≡ self.old.watch }
+    {
+        let thresholds = thresholds(&self.connection, space, now);
+        self.packets.detect(space, &thresholds);
+        let losses = losses(&self.packets, &self.connection);
+        self.connection.lose(losses, now);
+    }
+
+    /// Ends an event that happened now: it is counted, packets that are of no more use are dropped,
+    /// and the timer is set (A.8).
+    fn finish(&mut self, now: Micros)
+        ensures { (c : Settings) (e : AnEvent) (h : List AnEvent) → now ≡ time_of e
+            → IsProperRun c (e ∷ h) → self.old.connection.events ≡ length h
+            → HasParts self.old.connection c (e ∷ h) → StandsFor self.old.packets c (e ∷ h)
+            → AreSent self.old.numbers (e ∷ h) → IsWatched self.old.watch c h
+            → Stands self.new c (e ∷ h) }
+    {
+        self.connection.count(now);
+        trim(&mut self.packets);
+        self.watch.follow(&self.connection, &self.packets, now);
+    }
+}
+
+/// Drops the packets that are of no more use. The first that is left is open or owed.
+#[tactic(auto, using(crate::proofs::Dropping::stands_trimmed, crate::proofs::Dropping::front_dropped))]
+fn trim(packets: &mut SentPackets)
+    ensures stands { (c : Settings) (h : List AnEvent) → IsRun c h → StandsFor packets.old c h
+        → StandsFor packets.new c h }
+    ensures trimmed { IsTrimmed packets.new.packets }
+{
+    packets.drop_closed();
+}
+
+/// The open packets of the space that some span names, in the order of sending.
+fn named(
+    alloc: Global,
+    packets: &SentPackets,
+    space: Space,
+    spans: &[Span],
+) -> Result<Vec<SentPacket>, AllocError>
+    ensures { IfOk result (λ found. found.items
+        ≡ filter (is_new space spans.now) packets.now.packets) }
+{
+    if spans.len() == 1 {
+        // It is in order by itself, which takes no memory.
+        return packets.newly_acknowledged(space, spans);
+    }
+    let in_order = Ranges::of_spans(alloc, spans)?;
+    packets.newly_acknowledged(space, in_order.as_slice())
+}
+
+/// By what the event tells which packets of the space are past a threshold.
+fn thresholds(connection: &Connection, space: Space, now: Micros) -> Thresholds
+    ensures { (c : Settings) (h : List AnEvent) → IsMeasured connection.now c h
+        → AreThresholdsAt c h space now result }
+{
+    Thresholds {
+        rtt: connection.rtt,
+        now,
+        largest: connection.spaces.of(space).largest,
+    }
+}
+
+/// What the last event found lost.
+fn losses(packets: &SentPackets, connection: &Connection) -> Losses
+    ensures { (c : Settings) (h : List AnEvent) → StandsFor packets.now c h → IsRun c h
+        → IsMeasured connection.now c h → AreLosses result c h }
+{
+    Losses {
+        last_owed: packets.last_owed(),
+        is_persistent: is_persistent(packets, connection),
+    }
+}
+
+/// Whether what the last event found lost establishes persistent congestion (RFC 9002, section 7.6).
+fn is_persistent(packets: &SentPackets, connection: &Connection) -> bool
+    ensures { (c : Settings) (h : List AnEvent) → StandsFor packets.now c h → IsRun c h
+        → IsMeasured connection.now c h → result ≡ loss.is_persistent c h }
+{
+    match connection.rtt.first_rtt_sample {
+        None => false,
+        Some(first) => {
+            let limit = connection
+                .rtt
+                .persistent_after(Micros::of(connection.header.max_ack_delay()));
+            packets.is_persistent(limit, first)
+        }
+    }
+}
