@@ -22,6 +22,9 @@ pub const MAX_TIMER_LATE: u64 = 1_000_000_000_000_000;
 /// The greatest slack of reported times, 1,000 seconds, in microseconds.
 pub const MAX_REPORT_SLACK_US: u64 = 1_000_000_000;
 
+/// The most bytes of a line, its LF not counted.
+pub const MAX_LINE_LENGTH: usize = 65536;
+
 /// The most lines of a trace, 2^32 - 1.
 pub const MAX_LINES: u64 = 4_294_967_295;
 

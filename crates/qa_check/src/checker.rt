@@ -5,6 +5,7 @@ ghost use Rattle.qa_format.specs.format.Lines.{line_limit};
 ghost use Rattle.qa_format.specs.format.Reading.{reading};
 ghost use Rattle.qa_format.specs.format.Written.{line_fits};
 ghost use Rattle.qa_base.specs.values.Events.{fits};
+ghost use Rattle.qa_base.specs.values.Limits.{max_lines};
 ghost use Rattle.qa_base.specs.values.Settings.{Settings};
 ghost use Rattle.qa_base.specs.machine.State as state;
 ghost use Rattle.qa_format.specs.verdicts.Explain.{kind_said};
@@ -12,11 +13,11 @@ ghost use Rattle.qa_format.specs.verdicts.Verdict as verdicts;
 ghost use Rattle.qa_read.specs.Gives.{Gives};
 ghost use Rattle.qa_check.specs.Standing.{StandsFor, HoldsRun, AddsGood, AddsBad, TakesIn, StopsAt};
 
+use qa_base::limits::{MAX_LINE_LENGTH, MAX_LINES};
 use qa_base::{Event, Header, LineKind, Rule, Totals};
 use qa_format::{Fault, Line, Verdict};
 use qa_ledger::{Ledger, LedgerFault};
 use qa_read::{LineFault, read_line};
-use qa_split::LINE_LIMIT;
 use std::alloc::Global;
 use std::marker::Model;
 use thiserror::Error;
@@ -31,9 +32,6 @@ pub enum Stop {
     #[error("out of memory")]
     OutOfMemory,
 }
-
-/// The most lines of a trace.
-const MAX_LINES: u64 = 4_294_967_295;
 
 /// The lines of a trace so far, by all that their verdict depends on.
 ///
@@ -51,13 +49,14 @@ pub struct Checker<L: Ledger> {
 impl<L: Ledger> Model for Checker<L> {
     ghost use Rattle.std.specs.Option.{ForSome};
     ghost use Rattle.std.specs.Prelude.{◌≡◌, ◌≤◌, None, false};
+    ghost use Rattle.qa_base.specs.values.Limits.{max_lines};
     ghost use Rattle.qa_check.specs.Standing.{Held};
 
     ghost Value = { Held L };
 
     ghost view = { λ c. record { ledger = c.ledger; lines = c.lines; last_event = c.last_event; verdict = c.verdict; failed = c.failed } };
 
-    ghost invariant = { λ c. (c.lines ≤ 4294967295)
+    ghost invariant = { λ c. (c.lines ≤ max_lines)
         × (c.verdict ≡ None → c.failed ≡ false → ForSome c.ledger (λ l. L.admitted l ≤ c.lines)) };
 }
 
@@ -104,7 +103,7 @@ impl<L: Ledger + Drop> Checker<L> {
         if let Err(stop) = self.expect_line() {
             return Err(stop);
         }
-        if bytes.len() > LINE_LIMIT {
+        if bytes.len() > MAX_LINE_LENGTH {
             return Err(self.stop(Fault::LineTooLong));
         }
         let read = read_line(self.alloc, bytes);
@@ -165,10 +164,7 @@ impl<L: Ledger + Drop> Checker<L> {
             → HoldsRun L.stands self.now.ledger header h
             → result ≡ option_map (λ c. state.totals c h) header }
     {
-        match &self.ledger {
-            None => None,
-            Some(ledger) => Some(ledger.totals()),
-        }
+        Some(self.ledger.as_ref()?.totals())
     }
 
     /// Stops where no line is taken, whatever it says: out of memory, after the verdict was fixed, and
@@ -178,7 +174,7 @@ impl<L: Ledger + Drop> Checker<L> {
         ensures fails { (result ≡ Err Stop.OutOfMemory)
             → (self.old.failed ≡ true) × (self.new.failed ≡ true) }
         ensures ok { OnOk result ((self.new ≡ self.old) × (self.new.failed ≡ false)
-            × (self.new.verdict ≡ None) × (self.new.lines < 4294967295)) }
+            × (self.new.verdict ≡ None) × (self.new.lines < max_lines)) }
         ensures decided { (result ≡ Err Stop.Decided) → (l : List ℕ)
             → AddsBad L.stands self.old self.new l }
     {
@@ -198,7 +194,7 @@ impl<L: Ledger + Drop> Checker<L> {
     fn take_read(&mut self, read: &Result<Line, LineFault>) -> Result<Option<LineKind>, Stop>
         requires whole { self.old.failed ≡ false }
         requires undecided { self.old.verdict ≡ None }
-        requires few { self.old.lines < 4294967295 }
+        requires few { self.old.lines < max_lines }
         requires fitting { IfOk read.now (λ line. line_fits line ≡ true) }
         ensures kind { IfOk result (λ kind. (l : List ℕ) → Gives (λ line. line) read.now (reading l)
             → kind ≡ kind_said (reading l)) }
@@ -227,7 +223,7 @@ impl<L: Ledger + Drop> Checker<L> {
     fn take(&mut self, line: &Line) -> Result<(), Stop>
         requires whole { self.old.failed ≡ false }
         requires undecided { self.old.verdict ≡ None }
-        requires few { self.old.lines < 4294967295 }
+        requires few { self.old.lines < max_lines }
         requires fitting { line_fits line.now ≡ true }
         ensures failed { (result ≡ Err Stop.OutOfMemory) → self.new.failed ≡ true }
         ensures whole { (result ≢ Err Stop.OutOfMemory) → self.new.failed ≡ false }
@@ -249,7 +245,7 @@ impl<L: Ledger + Drop> Checker<L> {
     fn start(&mut self, header: Header) -> Result<(), Stop>
         requires whole { self.old.failed ≡ false }
         requires undecided { self.old.verdict ≡ None }
-        requires few { self.old.lines < 4294967295 }
+        requires few { self.old.lines < max_lines }
         ensures whole { self.new.failed ≡ false }
         ensures memory { (result ≡ Err Stop.OutOfMemory) → ⊥ }
         ensures ok { OnOk result ((self.new.failed ≡ false)
@@ -269,7 +265,7 @@ impl<L: Ledger + Drop> Checker<L> {
     fn admit(&mut self, event: &Event) -> Result<(), Stop>
         requires whole { self.old.failed ≡ false }
         requires undecided { self.old.verdict ≡ None }
-        requires few { self.old.lines < 4294967295 }
+        requires few { self.old.lines < max_lines }
         requires fitting { fits event.now ≡ true }
         ensures failed { (result ≡ Err Stop.OutOfMemory) → self.new.failed ≡ true }
         ensures whole { (result ≢ Err Stop.OutOfMemory) → self.new.failed ≡ false }

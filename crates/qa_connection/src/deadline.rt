@@ -61,10 +61,7 @@ fn pto_at(space: Space, since: Option<Micros>, base: u64, count: u64) -> Option<
     requires base { base ≤ 6000000000000000 }
     ensures { result ≡ deadlines.pto_at space since base count }
 {
-    match since {
-        None => None,
-        Some(since) => Some(Due::probe_timeout(space, since, base, count)),
-    }
+    Some(Due::probe_timeout(space, since?, base, count))
 }
 
 /// The probe timeout of the space, where an open packet of it asks for an acknowledgment.

@@ -96,10 +96,7 @@ fn widened(spent: Option<u64>) -> Option<u128>
     ensures value { result ≡ spent }
     ensures bound { ForSome result (λ n. n ≤ 2 ^ 100) }
 {
-    match spent {
-        None => None,
-        Some(spent) => Some(u128::from(spent)),
-    }
+    Some(u128::from(spent?))
 }
 
 /// V7: a packet takes the bytes in flight past the congestion window.

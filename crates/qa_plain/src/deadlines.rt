@@ -71,14 +71,12 @@ fn loss_due(header: &Header, events: &[Event], look: Look, space: Space) -> Opti
     requires seen { IsLook header.now (history_of events.now) look }
     ensures { result ≡ timers.loss_due header.now (history_of events.now) space }
 {
-    match first_awaiting(header, events, look, space) {
-        None => None,
-        Some(sent) => Some(Due {
-            kind: TimerKind::Loss,
-            space,
-            time: u128::from(sent.get() + look.rtt.loss_delay()),
-        }),
-    }
+    let sent = first_awaiting(header, events, look, space)?;
+    Some(Due {
+        kind: TimerKind::Loss,
+        space,
+        time: u128::from(sent.get() + look.rtt.loss_delay()),
+    })
 }
 
 /// The earliest of these of all spaces.
@@ -146,15 +144,9 @@ fn pto_due(
     if !some_awaits(header, events, look, space) {
         return None;
     }
-    match last_eliciting(events, space) {
-        None => None,
-        Some(sent) => Some(Due::probe_timeout(
-            space,
-            sent,
-            look.rtt.pto_base() + peer_delay,
-            count,
-        )),
-    }
+    let sent = last_eliciting(events, space)?;
+    let timeout = look.rtt.pto_base() + peer_delay;
+    Some(Due::probe_timeout(space, sent, timeout, count))
 }
 
 /// The probe timeout of application data, which counts once the handshake is confirmed.
@@ -233,10 +225,8 @@ fn anti_deadlock(header: &Header, events: &[Event], look: Look, count: u64) -> O
     } else {
         Space::Initial
     };
-    match last_set(events) {
-        None => None,
-        Some(set) => Some(Due::probe_timeout(space, set, look.rtt.pto_base(), count)),
-    }
+    let set = last_set(events)?;
+    Some(Due::probe_timeout(space, set, look.rtt.pto_base(), count))
 }
 
 /// What the timer is set for by packets: one that will be old, else a probe timeout.

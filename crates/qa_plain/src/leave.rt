@@ -42,10 +42,7 @@ fn more_spent(spent: Option<u128>, size: u64, place: usize) -> Option<u128>
     ensures value { result ≡ option_map (λ n. size + n) spent }
     ensures few { ForSome result (λ n. n ≤ (place + 1) * 18446744073709551615) }
 {
-    match spent {
-        None => None,
-        Some(spent) => Some(u128::from(size) + spent),
-    }
+    Some(u128::from(size) + spent?)
 }
 
 /// The bytes of in-flight packets marked as probes since the last probe timeout; None without one
@@ -109,15 +106,11 @@ fn timer_space(event: &Event) -> Option<Space>
 fn unanswered_by(before: &[Event], event: &Event, due: Option<Space>) -> Option<Space>
     ensures { result ≡ probes.unanswered_by (event.now ∷ history_of before.now) due }
 {
-    match due {
-        None => None,
-        Some(space) => {
-            if answers_pto(before, event, space) {
-                None
-            } else {
-                Some(space)
-            }
-        }
+    let space = due?;
+    if answers_pto(before, event, space) {
+        None
+    } else {
+        Some(space)
     }
 }
 
@@ -179,10 +172,7 @@ fn one_more(spent: Option<u64>, more: u64, place: usize) -> Option<u64>
     ensures value { result ≡ option_map (λ n. more + n) spent }
     ensures few { ForSome result (λ n. n ≤ place + 1) }
 {
-    match spent {
-        None => None,
-        Some(spent) => Some(more + spent),
-    }
+    Some(more + spent?)
 }
 
 /// What was spent after an event: nothing where it enters recovery.

@@ -93,20 +93,16 @@ pub fn detection_by(before: &[Event], event: &Event) -> Option<(Space, Micros)>
 pub fn detection(events: &[Event]) -> Option<(Space, Micros)>
     ensures { result ≡ detections.detection (history_of events.now) }
 {
-    match events.split_last() {
-        None => None,
-        Some((event, before)) => detection_by(before, event),
-    }
+    let (event, before) = events.split_last()?;
+    detection_by(before, event)
 }
 
 /// The largest number that was acknowledged where the last event looks for losses.
 fn largest_there(events: &[Event]) -> Option<u64>
     ensures { result ≡ largest_there_of (history_of events.now) (detections.detection (history_of events.now)) }
 {
-    match detection(events) {
-        None => None,
-        Some((space, _)) => largest_acknowledged(events, space),
-    }
+    let (space, _) = detection(events)?;
+    largest_acknowledged(events, space)
 }
 
 /// What is known of the history, with its estimate before a refresh.

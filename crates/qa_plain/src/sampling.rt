@@ -77,14 +77,12 @@ fn limited_delay(header: &Header, before: &[Event], delay: u64) -> u64
 fn sample_by(time: Micros, delay: u64, packet: Option<Packet>) -> Option<Sample>
     ensures { result ≡ estimates.sample_by time delay packet }
 {
-    match packet {
-        None => None,
-        Some(packet) => Some(Sample {
-            latest_rtt: Micros::of(time.get().saturating_sub(packet.time.get())),
-            ack_delay: delay,
-            time,
-        }),
-    }
+    let sent = packet?.time;
+    Some(Sample {
+        latest_rtt: Micros::of(time.get().saturating_sub(sent.get())),
+        ack_delay: delay,
+        time,
+    })
 }
 
 /// The sample of an event after these, where it gives one.

@@ -153,10 +153,7 @@ impl State for Whole {
     }
 
     fn last_time(&self) -> Option<Micros> {
-        match self.events.last() {
-            None => None,
-            Some(event) => Some(event.time()),
-        }
+        Some(self.events.last()?.time())
     }
 
     fn has_owed(&self) -> bool {

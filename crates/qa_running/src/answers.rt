@@ -86,10 +86,7 @@ impl State for Running {
     }
 
     fn probe_spent(&self) -> Option<u128> {
-        match self.machine.connection.allowances.probe_spent {
-            None => None,
-            Some(spent) => Some(u128::from(spent)),
-        }
+        Some(u128::from(self.machine.connection.allowances.probe_spent?))
     }
 
     fn recovery_spent(&self) -> Option<u64> {

@@ -3,4 +3,4 @@
 
 mod split;
 
-pub use split::{LINE_LIMIT, SplitFault, Splitter};
+pub use split::{SplitFault, Splitter};

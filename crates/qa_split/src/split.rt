@@ -4,6 +4,7 @@ ghost use Rattle.qa_format.specs.format.Lines.{has_lf};
 ghost use Rattle.qa_split.specs.Stream.{AreSearched, IsFirstLf};
 
 use memchr::memchr;
+use qa_base::limits::MAX_LINE_LENGTH;
 use std::alloc::{AllocError, Global};
 use std::marker::Model;
 use thiserror::Error;
@@ -18,9 +19,6 @@ pub enum SplitFault {
     #[error("out of memory")]
     OutOfMemory,
 }
-
-/// The most bytes that a line of a trace has, its LF not counted.
-pub const LINE_LIMIT: usize = 65536;
 
 /// Bytes that come in pieces, returned as lines.
 ///
@@ -129,7 +127,7 @@ impl Splitter {
             Some(place) => (place, place + 1),
             None => (rest.len(), rest.len()),
         };
-        if LINE_LIMIT < len {
+        if MAX_LINE_LENGTH < len {
             self.refused = Some(SplitFault::TooLong);
             return Err(SplitFault::TooLong);
         }

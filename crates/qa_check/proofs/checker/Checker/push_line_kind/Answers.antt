@@ -17,8 +17,8 @@ returns-in-Err g c =
       decided = λ is. expected.decided (c.in-Err.is ∙ ap Err (error_of is)) c.args.bytes.now;
     }
 
-pub returns-then-bytes-gt-LINE_LIMIT : goal.returns-then-bytes-gt-LINE_LIMIT
-returns-then-bytes-gt-LINE_LIMIT g c =
+pub returns-then-bytes-gt-MAX_LINE_LENGTH : goal.returns-then-bytes-gt-MAX_LINE_LENGTH
+returns-then-bytes-gt-MAX_LINE_LENGTH g c =
     let open_yet = c.in_default.ensures.ok in
     let stop = c.stop.ensures in
     record {
@@ -28,14 +28,14 @@ returns-then-bytes-gt-LINE_LIMIT g c =
       good = tt;
       decided = λ is.
           rw (← open_yet.0)
-          (unread_adds _ c.expect_line.new.self c.stop.new.self _ _ stop.whole stop.decided stop.verdict open_yet.2 (too_long _ _ open_yet.3 (omega (arith, c.if-bytes-gt-LINE_LIMIT.true))));
+          (unread_adds _ c.expect_line.new.self c.stop.new.self _ _ stop.whole stop.decided stop.verdict open_yet.2 (too_long _ _ open_yet.3 (omega (arith, c.if-bytes-gt-MAX_LINE_LENGTH.true))));
     }
 
 pub returns : goal.returns
 returns g c =
     let open_yet = c.in_default.ensures.ok in
     let gives = c.read_line-read.ensures.read in
-    let short : length c.args.bytes.now ≤ line_limit = omega (arith, c.if-bytes-gt-LINE_LIMIT.false) in
+    let short : length c.args.bytes.now ≤ line_limit = omega (arith, c.if-bytes-gt-MAX_LINE_LENGTH.false) in
     let taken = c.take_read.ensures in
     record {
       kind = IfOk-weaker c.take_read.result _ _ (λ kind is. is c.args.bytes.now gives) taken.kind;
