@@ -33,6 +33,9 @@ impl Model for Due {
 impl Due {
     /// A probe timeout of the space: so long after a time, in microseconds, and doubled for each probe
     /// timeout before it (RFC 9002, section 6.2.1).
+    ///
+    /// Asks for a timeout of at most six times the greatest time. More than 40 doublings count as 40;
+    /// no run has more.
     pub fn probe_timeout(space: Space, since: Micros, timeout: u64, pto_count: u64) -> Due
         requires timeout { timeout ≤ 6 * max_time }
         ensures { result ≡ record {
