@@ -13,6 +13,7 @@ ghost use Rattle.qa_format.specs.declared.verdict.Verdict.TheVariants as verdict
 ghost use Rattle.qa_base.specs.values.Events.{fits, is_quiet};
 ghost use Rattle.qa_format.specs.format.AnyOrder.{AreOf, AreOfHeader, text_of};
 ghost use Rattle.qa_format.specs.format.Lines.{has_lf, lines};
+ghost use Rattle.qa_base.specs.machine.Breaches.{is_timer_late};
 ghost use Rattle.qa_base.specs.machine.Detection.{is_old};
 ghost use Rattle.qa_base.specs.machine.Estimates.{rtt, sampled};
 ghost use Rattle.qa_base.specs.machine.FirstVersion.{exact_tests, rtt_by_samples};
@@ -148,7 +149,7 @@ pub fn bytes_in_flight_are_bounded()
 {}
 
 /// A header that asks for no refresh has the RTT of its samples, one without a limit has no event that
-/// is late, and one without slack compares reported values exactly. So it is with each header of
+/// shows a late timer, and one without slack compares reported values exactly. So it is with each header of
 /// version 1 that is read: it has no options.
 pub fn first_version_asks_no_more()
     ensures rtt { (c : Settings) (h : List Event) → c.options.refresh_min_rtt ≡ false
@@ -156,6 +157,8 @@ pub fn first_version_asks_no_more()
     ensures sampled { (c : Settings) (h : List Event) → c.options.refresh_min_rtt ≡ false
         → sampled c h ≡ rtt_by_samples c h }
     ensures timers { (c : Settings) (h : List Event) (e : Event) → c.options.timer_late ≡ None
+        → is_timer_late c h e ≡ false }
+    ensures late { (c : Settings) (h : List Event) (e : Event) → c.options.timer_late ≡ None
         → first_broken c h e ≢ Some rules.TimerLate }
     ensures metrics { (c : Settings) (h : List Event) (e : Event) → c.options.report_slack_us ≡ 0
         → c.options.report_slack_bytes ≡ 0 → metric_tests c h e ≡ exact_tests c h e }

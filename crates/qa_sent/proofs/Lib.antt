@@ -8,6 +8,7 @@ pub mod Entries
 pub mod Stretches
 pub mod Numbers
 pub mod Opened
+pub mod Ordered
 pub mod Owed
 pub mod Parts
 pub mod Pushed

@@ -1,5 +1,5 @@
 -- What is kept of the packets, and beside them for each space.
-use Rattle.std.specs.Prelude.{◌≡◌, ◌≤◌, ◌<◌, ◌-◌, ℕ, suc, ◌+◌, ◌⊎◌, true, false, List, [], ◌∷◌, count_by, drop, length, sum_by, take, if◌then◌else◌}
+use Rattle.std.specs.Prelude.{◌≡◌, ◌≤◌, ◌<◌, ◌-◌, ℕ, suc, ◌+◌, ◌⊎◌, ◌&&◌, ◌||◌, Bool, not, nat_le, nat_lt, true, false, List, [], ◌∷◌, count_by, drop, length, sum_by, take, if◌then◌else◌}
 use Rattle.std.specs.List.{AllByRecursion}
 use Rattle.qa_base.specs.declared.space.Space.{Space}
 use Rattle.qa_base.specs.declared.space.Space.TheVariants.{Initial, Handshake, App}
@@ -22,6 +22,10 @@ pub record Held : Type 0 where
 pub record IsBefore (p q : SentPacket) : Type 0 where
   pub time : q.time ≤ p.time
   pub number : is_space p.space q.space ≡ true → q.number < p.number
+
+-- whether it was
+abbrev pub is_before : SentPacket → SentPacket → Bool
+is_before p q = nat_le q.time p.time && (not (is_space p.space q.space) || nat_lt q.number p.number)
 
 -- each packet was sent before those behind it
 abbrev pub AreOrdered : List SentPacket → Type 0

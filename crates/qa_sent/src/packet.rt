@@ -24,6 +24,7 @@ pub struct SentPacket {
 impl SentPacket {
     ghost use Rattle.std.specs.Prelude.{◌≡◌};
     ghost use Rattle.qa_sent.specs.Fates.{flight_bytes, is_closed, is_flying, is_open, is_owed, is_waiting};
+    ghost use Rattle.qa_sent.specs.Held.{is_before};
     ghost use Rattle.qa_sent.specs.Lanes.{awaiting_count};
 
     /// Whether it is open.
@@ -45,6 +46,13 @@ impl SentPacket {
         ensures { result ≡ is_closed self.now }
     {
         !self.is_open() && !self.is_owed()
+    }
+
+    /// Whether it was sent before another: no later, and by a lower number where it is of its space.
+    pub(crate) fn is_before(&self, other: &SentPacket) -> bool
+        ensures { result ≡ is_before other.now self.now }
+    {
+        self.time <= other.time && (self.space != other.space || self.number < other.number)
     }
 
     /// Whether it is of the space, and an acknowledgment would still cover it.

@@ -25,7 +25,7 @@ use crate::named::NamedNumbers;
 use crate::naming::are_next;
 use crate::owing::{are_apart_in, last_owed_in};
 use crate::packet::SentPacket;
-use crate::pushing::add;
+use crate::pushing::{add, are_before};
 use qa_base::{Micros, PerSpace, Space, Span};
 use std::alloc::{AllocError, Global};
 use std::collections::VecDeque;
@@ -89,6 +89,17 @@ impl SentPackets {
                 to: 0,
             },
         }
+    }
+
+    /// Whether each packet that is kept was sent before this one, as `push` asks: no later, and by a
+    /// lower number where it is of its space. It visits all of them.
+    pub fn is_next(&self, packet: &SentPacket) -> bool
+        ensures yes { result ≡ true
+            → AllByRecursion (λ q. IsBefore packet.now q) self.now.packets }
+        ensures no { result ≡ false
+            → AllByRecursion (λ q. IsBefore packet.now q) self.now.packets → ⊥ }
+    {
+        are_before(&self.packets, packet)
     }
 
     /// Keeps a packet that was just sent: it is open, its size is at most 65527 bytes, each packet

@@ -1,8 +1,8 @@
 //! A packet that is sent: it is kept behind the others, and found by its number.
 ghost use Rattle.std.specs.Prelude.{◌≡◌, ◌≤◌, ◌<◌, ◌+◌, [], ◌∷◌, ◌++◌, length, OnErr, OnOk};
-ghost use Rattle.std.specs.List.{AllByRecursion};
+ghost use Rattle.std.specs.List.{AllByRecursion, list_all};
 ghost use Rattle.qa_base.specs.values.Limits.{max_lines, max_packet_size};
-ghost use Rattle.qa_sent.specs.Held.{IsBefore, IsLane};
+ghost use Rattle.qa_sent.specs.Held.{is_before, IsBefore, IsLane};
 ghost use Rattle.qa_sent.specs.declared.fate.Fate.TheVariants.{Open};
 
 use crate::advancing::advance;
@@ -10,6 +10,18 @@ use crate::lane::Lane;
 use crate::packet::SentPacket;
 use std::alloc::AllocError;
 use std::collections::{BTreeMap, VecDeque};
+
+/// Whether each of the packets was sent before this one.
+pub(crate) fn are_before(packets: &VecDeque<SentPacket>, packet: &SentPacket) -> bool
+    ensures { result ≡ list_all (is_before packet.now) packets.now.items }
+{
+    for earlier in packets {
+        if !earlier.is_before(packet) {
+            return false;
+        }
+    }
+    true
+}
 
 /// Puts an entry behind all others.
 pub(crate) fn enter(map: &mut BTreeMap<u64, u64>, number: u64, place: u64) -> Result<(), AllocError>

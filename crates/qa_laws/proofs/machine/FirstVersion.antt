@@ -1,6 +1,6 @@
 -- A header without a limit, a refresh and slack asks what one of version 1 does.
 use Rattle.std.proofs.Common.{◌≡◌, ◌∙◌, ◌<◌, ℕ, List, [], ◌∷◌, ◌++◌, Bool, true, false, ◌==◌, not, Option, Some, None, Ok, refl, sym, ap, arith, inl, inr}
-use Rattle.std.proofs.lemmas.Bool.{cases_eq, cases_lt, eq-eqb, ne_eqb, le-ltb, lt-ltb}
+use Rattle.std.proofs.lemmas.Bool.{false≢true, cases_eq, cases_lt, eq-eqb, ne_eqb, le-ltb, lt-ltb}
 use Rattle.std.specs.List.{AllByRecursion}
 use Rattle.std.specs.Prelude.{nat_lt, if◌then◌else◌}
 use Rattle.qa_base.specs.declared.event.Event.{Event}
@@ -60,15 +60,19 @@ metrics_are_others c h (Metrics time values) tests all =
     ((λ t is. cc), ((λ t is. cc), ((λ t is. cc), ((λ t is. cc), ((λ t is. cc), ((λ t is. cc), ((λ t is. cc), all)))))))
 metrics_are_others c h _ tests all = all
 
-not_late : (c : Settings) (h : List Event) (time : ℕ) (limit : Option ℕ) → limit ≡ None → is_late_by c h time limit ≡ true → ⊥
-not_late c h time None none is = cc
-not_late c h time (Some limit) none is = cc
+no_late_by : (c : Settings) (h : List Event) (time : ℕ) (limit : Option ℕ) → limit ≡ None → is_late_by c h time limit ≡ false
+no_late_by c h time None none = refl
+no_late_by c h time (Some limit) none = cc
 
--- without a limit no event is late
+-- without a limit no event shows a late timer
+pub no_timer_late : (c : Settings) (h : List Event) (e : Event) → c.options.timer_late ≡ None → is_timer_late c h e ≡ false
+no_timer_late c h e none = no_late_by c h (time_of e) c.options.timer_late none
+
+-- so the rule is never the first that is broken
 pub never_late : (c : Settings) (h : List Event) (e : Event) → c.options.timer_late ≡ None → first_broken c h e ≡ Some TimerLate → ⊥
 unfolding first_broken
 never_late c h e none is =
-    let last = metrics_are_others c h e ((is_timer_late c h e, TimerLate) ∷ []) ((λ late same. not_late c h (time_of e) c.options.timer_late none late), tt) in
+    let last = metrics_are_others c h e ((is_timer_late c h e, TimerLate) ∷ []) ((λ late same. absurd (false≢true (sym (no_timer_late c h e none) ∙ late))), tt) in
     never_of (broken c h e)
     ((λ t r. cc), ((λ t r. cc), ((λ t r. cc), ((λ t r. cc), ((λ t r. cc), ((λ t r. cc), ((λ t r. cc), ((λ t r. cc), ((λ t r. cc), ((λ t r. cc), ((λ t r. cc), ((λ t r. cc), ((λ t r. cc), ((λ t r. cc), ((λ t r. cc), last))))))))))))))) is
 

@@ -5,7 +5,8 @@ pub returns : goal.returns
 returns c = record {
   rtt = lemmas.rtt_is_by_samples;
   sampled = lemmas.sampled_is_by_samples;
-  timers = lemmas.never_late;
+  timers = lemmas.no_timer_late;
+  late = lemmas.never_late;
   metrics = lemmas.metric_tests_are_exact;
   read = lemmas.first_version_has_no_options;
 }
