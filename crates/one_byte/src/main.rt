@@ -21,6 +21,8 @@ struct OneByte<T> {
 impl<T: Source> Source for OneByte<T> {
     ghost left = { λ _. None };
 
+    ghost last_read = { λ one. T.Source.last_read one.inner };
+
     ghost read_failures = { λ one. T.Source.read_failures one.inner };
 
     fn read_piece(&mut self, piece: &mut [u8]) -> io::Result<usize> {

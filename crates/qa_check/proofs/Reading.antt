@@ -12,8 +12,9 @@ use Rattle.qa_check.specs.Failures.{failures_after, write_failed}
 
 -- ---- reading
 
-pub short_piece : (n : ℕ) (piece : List ℕ) → length piece ≤ 4096 → length (take n piece) ≤ 4096
-short_piece n piece h = simp length-take (omega arith)
+-- so many bytes were read, of a piece of at most 4,096
+pub read_piece : (last n : ℕ) (piece : List ℕ) → last ≡ n → n ≤ length piece → length piece ≤ 4096 → (length (take n piece) ≡ last) × (last ≤ 4096)
+read_piece last n piece is within short = (simp length-take (omega (arith, is, within)), omega (arith, is, within, short))
 
 -- each piece has a byte
 pub more_bytes : (i : ℕ) (bytes piece : List ℕ) (n : ℕ) → i ≤ length bytes → n ≤ length piece → (n ≡ 0 → ⊥) → i + 1 ≤ length (bytes ++ take n piece)
@@ -25,18 +26,19 @@ consume_none (Some xs) None c bytes h k = elim h [ ]
 consume_none (Some xs) (Some ys) None bytes h k = elim k [ ]
 consume_none (Some xs) (Some ys) (Some zs) bytes h k = h ∙ ap (λ rest. bytes ++ rest) (sym k)
 
--- bytes that are not fixed were read no further
-pub open_read : (bytes : List ℕ) → (IsFixed reading bytes → ⊥) → IsReadNoFurther bytes
-open_read bytes open_yet = (bytes, [], sym (append-nil bytes), omega arith, open_yet)
+-- the last read gave no byte of bytes that are not fixed
+pub open_read : (last : ℕ) (bytes : List ℕ) → last ≡ 0 → (IsFixed reading bytes → ⊥) → IsReadNoFurther last bytes
+open_read last bytes none open_yet = (bytes, [], sym (append-nil bytes), sym none, omega (arith, none), open_yet)
 
 -- a read failed
-pub reads_failed : (a b c : Option (List ℕ)) (bytes : List ℕ) → Consumes a b bytes → Keeps b c → (IsFixed reading bytes → ⊥) → Reads a c
-reads_failed a b c bytes h k open_yet = (bytes, consume_none a b c bytes h k, open_read bytes open_yet)
+pub reads_failed : (a b c : Option (List ℕ)) (last : ℕ) (bytes : List ℕ) → Consumes a b bytes → Keeps b c → last ≡ 0 → (IsFixed reading bytes → ⊥)
+    → Reads a c last
+reads_failed a b c last bytes h k none open_yet = (bytes, consume_none a b c bytes h k, open_read last bytes none open_yet)
 
 -- a piece more was read
-pub reads_piece : (a b c : Option (List ℕ)) (bytes piece : List ℕ) → Consumes a b bytes → Consumes b c piece → length piece ≤ 4096
-    → (IsFixed reading bytes → ⊥) → Reads a c
-reads_piece a b c bytes piece h k short open_yet = (bytes ++ piece, Consumes-trans a b c bytes piece h k, (bytes, piece, refl, short, open_yet))
+pub reads_piece : (a b c : Option (List ℕ)) (last : ℕ) (bytes piece : List ℕ) → Consumes a b bytes → Consumes b c piece
+    → (length piece ≡ last) × (last ≤ 4096) → (IsFixed reading bytes → ⊥) → Reads a c last
+reads_piece a b c last bytes piece h k short open_yet = (bytes ++ piece, Consumes-trans a b c bytes piece h k, (bytes, piece, refl, short.0, short.1, open_yet))
 
 -- nothing more was there
 pub reads_nothing : (a b c : Option (List ℕ)) (bytes piece : List ℕ) (n : ℕ) → Consumes a b bytes → Consumes b c (take n piece) → n ≡ 0 → Consumes a c bytes
@@ -46,7 +48,7 @@ reads_nothing a b c bytes piece n h k zero =
     rw append-nil at (Consumes-trans a b c bytes [] h rest)
 
 -- what was read has the verdict of all the bytes that a reader tells
-pub told_verdict : (old new : Option (List ℕ)) (read bytes : List ℕ) → old ≡ Some bytes → ReadsEnough old new read → verdict reading bytes ≡ verdict reading read
+pub told_verdict : {last : ℕ} (old new : Option (List ℕ)) (read bytes : List ℕ) → old ≡ Some bytes → ReadsEnough old new last read → verdict reading bytes ≡ verdict reading read
 told_verdict (Some xs) (Some ys) read bytes tells enough =
     let all : bytes ≡ read ++ ys = cc in
     elim enough.1 [

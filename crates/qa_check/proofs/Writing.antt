@@ -197,7 +197,7 @@ told_rows (Some xs) None read bytes tells consumes = elim consumes [ ]
 told_rows None new read bytes tells consumes = cc
 
 -- what was begun of what was read is a beginning of what explains all the bytes that a reader tells
-pub told_begins : (old new held held' : Option (List ℕ)) (bytes : List ℕ) → old ≡ Some bytes → BeginsRead old new held held' (explain reading)
+pub told_begins : {last : ℕ} (old new held held' : Option (List ℕ)) (bytes : List ℕ) → old ≡ Some bytes → BeginsRead old new last held held' (explain reading)
     → Begins held held' (explain reading bytes)
 told_begins old new held held' bytes tells (read, consumes, further, begun) = elim begun [
   | inl ended ↦ let more = told_rows old new read bytes tells consumes in begins_longer held held' _ _ more.0 more.1 ended
@@ -205,7 +205,7 @@ told_begins old new held held' bytes tells (read, consumes, further, begun) = el
 ]
 
 -- the rows begin what explains the bytes
-pub rows_explain : (old new held held' : Option (List ℕ)) → BeginsRead old new held held' (rows reading) → BeginsRead old new held held' (explain reading)
+pub rows_explain : {last : ℕ} (old new held held' : Option (List ℕ)) → BeginsRead old new last held held' (rows reading) → BeginsRead old new last held held' (explain reading)
 rows_explain old new held held' (read, consumes, further, begun) = (
   read,
   consumes,
@@ -225,30 +225,30 @@ on_err_of (Err e) p = p
 -- ---- the rows and the report
 
 -- what was read and is all that counts was explained
-abbrev pub ExplainsRead : Option (List ℕ) → Option (List ℕ) → Option (List ℕ) → Option (List ℕ) → Outcome → Type 0
-ExplainsRead old new held held' o = (read : List ℕ) × ReadsEnough old new read × Explains held held' o read
+abbrev pub ExplainsRead : Option (List ℕ) → Option (List ℕ) → ℕ → Option (List ℕ) → Option (List ℕ) → Outcome → Type 0
+ExplainsRead old new last held held' o = (read : List ℕ) × ReadsEnough old new last read × Explains held held' o read
 
 -- the report was written behind the rows
-pub explained : (old new held mid held' : Option (List ℕ)) (v : Verdict) (o : Outcome) → JudgesShown old new held mid v
-    → Appends mid held' (report v) → o ≡ outcome_of v → ExplainsRead old new held held' o
+pub explained : {last : ℕ} (old new held mid held' : Option (List ℕ)) (v : Verdict) (o : Outcome) → JudgesShown old new last held mid v
+    → Appends mid held' (report v) → o ≡ outcome_of v → ExplainsRead old new last held held' o
 explained old new held mid held' v o (read, enough, is, written) report_written told =
     let all : Appends held held' (rows reading read ++ report v) = Appends-trans held mid held' _ _ written report_written in
     (read, enough, (rw is at all, rw (← is) told))
 
 -- what explains what was read explains all the bytes that a reader tells
-pub told_explained : (old new held held' : Option (List ℕ)) (o : Outcome) (bytes : List ℕ) → old ≡ Some bytes
-    → ExplainsRead old new held held' o → Explains held held' o bytes
+pub told_explained : {last : ℕ} (old new held held' : Option (List ℕ)) (o : Outcome) (bytes : List ℕ) → old ≡ Some bytes
+    → ExplainsRead old new last held held' o → Explains held held' o bytes
 told_explained old new held held' o bytes tells (read, enough, explains) =
     (rw (told_explanation old new read bytes tells enough.0 enough.1) explains.0, rw (told_verdict old new read bytes tells enough) explains.1)
 
 -- it was begun
-pub report_begun : (old new held mid held' : Option (List ℕ)) (v : Verdict) → JudgesShown old new held mid v → (n : ℕ) × Appends mid held' (take n (report v))
-    → BeginsRead old new held held' (explain reading)
+pub report_begun : {last : ℕ} (old new held mid held' : Option (List ℕ)) (v : Verdict) → JudgesShown old new last held mid v → (n : ℕ) × Appends mid held' (take n (report v))
+    → BeginsRead old new last held held' (explain reading)
 report_begun old new held mid held' v (read, enough, is, written) begun =
     let text : Begins held held' (rows reading read ++ report v) = begins_behind held mid held' _ _ written (begins_taken mid held' (report v) begun) in
     let known : Begins held held' (explain reading read) = rw is at text in
     (read, enough.0, enough.2, inr (enough.1, known))
 
 -- it was not
-pub rows_written : (old new held held' : Option (List ℕ)) (v : Verdict) → JudgesShown old new held held' v → BeginsRead old new held held' (rows reading)
+pub rows_written : {last : ℕ} (old new held held' : Option (List ℕ)) (v : Verdict) → JudgesShown old new last held held' v → BeginsRead old new last held held' (rows reading)
 rows_written old new held held' v (read, enough, is, written) = (read, enough.0, enough.2, inr (enough.1, begins_all held held' _ written))

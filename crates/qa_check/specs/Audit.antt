@@ -20,17 +20,17 @@ outcome_of (verdicts.Unreadable n f t) = Unreadable
 
 -- ---- reading
 
--- the verdict of the bytes without their last piece, of 4,096 bytes at most, was not fixed: no piece was read that did not count
-abbrev pub IsReadNoFurther : List ℕ → Type 0
-IsReadNoFurther bytes = (front : List ℕ) × (piece : List ℕ) × (bytes ≡ front ++ piece) × (length piece ≤ 4096) × (IsFixed reading front → ⊥)
+-- the verdict was not fixed by the bytes without those of the last read, 4,096 at most: no read was made that did not count
+abbrev pub IsReadNoFurther : ℕ → List ℕ → Type 0
+IsReadNoFurther last bytes = (front : List ℕ) × (piece : List ℕ) × (bytes ≡ front ++ piece) × (length piece ≡ last) × (last ≤ 4096) × (IsFixed reading front → ⊥)
 
--- from a reader that had old left and has new left, some bytes were read, and none that did not count
-abbrev pub Reads : Option (List ℕ) → Option (List ℕ) → Type 0
-Reads old new = (bytes : List ℕ) × Consumes old new bytes × IsReadNoFurther bytes
+-- from a reader that had old left and has new left, some bytes were read, so many of them by the last read, and none that did not count
+abbrev pub Reads : Option (List ℕ) → Option (List ℕ) → ℕ → Type 0
+Reads old new last = (bytes : List ℕ) × Consumes old new bytes × IsReadNoFurther last bytes
 
 -- these bytes were read, which are all that counts
-abbrev pub ReadsEnough : Option (List ℕ) → Option (List ℕ) → List ℕ → Type 0
-ReadsEnough old new bytes = Consumes old new bytes × (IsAtEnd new ⊎ IsFixed reading bytes) × IsReadNoFurther bytes
+abbrev pub ReadsEnough : Option (List ℕ) → Option (List ℕ) → ℕ → List ℕ → Type 0
+ReadsEnough old new last bytes = Consumes old new bytes × (IsAtEnd new ⊎ IsFixed reading bytes) × IsReadNoFurther last bytes
 
 -- ---- writing
 

@@ -33,15 +33,15 @@ ShowsRead old new held held' =
     (bytes : List ℕ) × Consumes old new bytes × (IsFixed reading bytes → ⊥) × Appends held held' (ended_rows bytes)
 
 -- of the bytes that were read the rows of the lines that an LF ends were begun; or this text, where those bytes are all that counts
-abbrev pub BeginsRead : Option (List ℕ) → Option (List ℕ) → Option (List ℕ) → Option (List ℕ) → (List ℕ → List ℕ) → Type 0
-BeginsRead old new held held' text =
-    (bytes : List ℕ) × Consumes old new bytes × IsReadNoFurther bytes
+abbrev pub BeginsRead : Option (List ℕ) → Option (List ℕ) → ℕ → Option (List ℕ) → Option (List ℕ) → (List ℕ → List ℕ) → Type 0
+BeginsRead old new last held held' text =
+    (bytes : List ℕ) × Consumes old new bytes × IsReadNoFurther last bytes
     × (Begins held held' (ended_rows bytes) ⊎ ((IsAtEnd new ⊎ IsFixed reading bytes) × Begins held held' (text bytes)))
 
 -- these bytes were read, which are all that counts, this is their verdict, and all their rows were written
-abbrev pub JudgesShown : Option (List ℕ) → Option (List ℕ) → Option (List ℕ) → Option (List ℕ) → Verdict → Type 0
-JudgesShown old new held held' v =
-    (bytes : List ℕ) × ReadsEnough old new bytes × (v ≡ verdict reading bytes) × Appends held held' (rows reading bytes)
+abbrev pub JudgesShown : Option (List ℕ) → Option (List ℕ) → ℕ → Option (List ℕ) → Option (List ℕ) → Verdict → Type 0
+JudgesShown old new last held held' v =
+    (bytes : List ℕ) × ReadsEnough old new last bytes × (v ≡ verdict reading bytes) × Appends held held' (rows reading bytes)
 
 -- ---- what a checker stands for whose rows were written
 

@@ -77,18 +77,18 @@ pub fn audit<L: Ledger + Drop, R: Source, W: Sink>(
 
     // For every reader: what was read decides, since it is all there is, or nothing behind it counts.
     ensures ok { IfOk result (λ outcome. (bytes : List ℕ)
-        × ReadsEnough (R.left reader.old) (R.left reader.new) bytes
+        × ReadsEnough (R.left reader.old) (R.left reader.new) (R.last_read reader.new) bytes
         × Reports (W.held writer.old) (W.held writer.new) outcome bytes) }
 
-    // Nothing was read that does not count, but for one piece, whatever the result.
-    ensures reads { Reads (R.left reader.old) (R.left reader.new) }
+    // The bytes before the last read did not fix the verdict, whatever the result.
+    ensures reads { Reads (R.left reader.old) (R.left reader.new) (R.last_read reader.new) }
 
     // After a failed write the beginning of the report was written, and else nothing.
     ensures told_beginning { (bytes : List ℕ) → R.left reader.old ≡ Some bytes
         → result ≡ Err AuditFault.Write
         → BeginsReport (W.held writer.old) (W.held writer.new) bytes }
     ensures beginning { result ≡ Err AuditFault.Write → (bytes : List ℕ)
-        × ReadsEnough (R.left reader.old) (R.left reader.new) bytes
+        × ReadsEnough (R.left reader.old) (R.left reader.new) (R.last_read reader.new) bytes
         × BeginsReport (W.held writer.old) (W.held writer.new) bytes }
     ensures unwritten { result ≢ Err AuditFault.Write
         → OnErr result (W.held writer.new ≡ W.held writer.old) }
@@ -110,12 +110,12 @@ pub fn judge<L: Ledger + Drop, R: Source, O: Observer>(
     reader: &mut R,
     observer: &mut O,
 ) -> Result<Verdict, AuditFault>
-    ensures verdict { IfOk result (JudgesShown (R.left reader.old) (R.left reader.new) (O.shown observer.old) (O.shown observer.new)) }
-    ensures reads { Reads (R.left reader.old) (R.left reader.new) }
+    ensures verdict { IfOk result (JudgesShown (R.left reader.old) (R.left reader.new) (R.last_read reader.new) (O.shown observer.old) (O.shown observer.new)) }
+    ensures reads { Reads (R.left reader.old) (R.left reader.new) (R.last_read reader.new) }
     ensures rows { result ≡ Err AuditFault.Read
         → ShowsRead (R.left reader.old) (R.left reader.new) (O.shown observer.old) (O.shown observer.new) }
     ensures begun { is_read_fault result ≡ false → OnErr result
-        (BeginsRead (R.left reader.old) (R.left reader.new) (O.shown observer.old) (O.shown observer.new) (explanation.rows reading)) }
+        (BeginsRead (R.left reader.old) (R.left reader.new) (R.last_read reader.new) (O.shown observer.old) (O.shown observer.new) (explanation.rows reading)) }
     ensures read_failures { R.read_failures reader.new
         ≡ failures_after (is_read_fault result) (R.read_failures reader.old) }
     ensures failures { O.failures observer.new

@@ -27,11 +27,11 @@ pub fn explain<L: Ledger + Drop, R: Source, W: Sink>(
 
     // For every reader: what was read decides, since it is all there is, or nothing behind it counts.
     ensures ok { IfOk result (λ outcome. (bytes : List ℕ)
-        × ReadsEnough (R.left reader.old) (R.left reader.new) bytes
+        × ReadsEnough (R.left reader.old) (R.left reader.new) (R.last_read reader.new) bytes
         × Explains (W.held writer.old) (W.held writer.new) outcome bytes) }
 
-    // Nothing was read that does not count, but for one piece, whatever the result.
-    ensures reads { Reads (R.left reader.old) (R.left reader.new) }
+    // The bytes before the last read did not fix the verdict, whatever the result.
+    ensures reads { Reads (R.left reader.old) (R.left reader.new) (R.last_read reader.new) }
 
     // After a failed read all rows of the lines that an LF ended were written, and nothing else.
     ensures rows { result ≡ Err AuditFault.Read
@@ -39,14 +39,14 @@ pub fn explain<L: Ledger + Drop, R: Source, W: Sink>(
 
     // Out of memory, the beginning of the rows was written.
     ensures out_of_memory { result ≡ Err AuditFault.OutOfMemory
-        → BeginsRead (R.left reader.old) (R.left reader.new) (W.held writer.old) (W.held writer.new) (explanation.rows reading) }
+        → BeginsRead (R.left reader.old) (R.left reader.new) (R.last_read reader.new) (W.held writer.old) (W.held writer.new) (explanation.rows reading) }
 
     // After a failed write the beginning of the rows and the report was written.
     ensures told_beginning { (bytes : List ℕ) → R.left reader.old ≡ Some bytes
         → result ≡ Err AuditFault.Write
         → Begins (W.held writer.old) (W.held writer.new) (explanation.explain reading bytes) }
     ensures beginning { result ≡ Err AuditFault.Write
-        → BeginsRead (R.left reader.old) (R.left reader.new) (W.held writer.old) (W.held writer.new) (explanation.explain reading) }
+        → BeginsRead (R.left reader.old) (R.left reader.new) (R.last_read reader.new) (W.held writer.old) (W.held writer.new) (explanation.explain reading) }
 
     // A fault of the reader or the writer is returned exactly where it failed, once.
     ensures read_failures { R.read_failures reader.new

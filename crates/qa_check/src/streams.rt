@@ -1,7 +1,7 @@
 //! The reader of a trace and the writer of a report.
 ghost use Rattle.std.specs.Prelude.{◌≡◌, ◌≤◌, ℕ, List, Option, IfOk, length};
 ghost use Rattle.std.specs.Io.KnownBytes.{ReadConsumes, WriteAppends};
-ghost use Rattle.qa_check.specs.Failures.{failures_after, read_failed, write_failed};
+ghost use Rattle.qa_check.specs.Failures.{failures_after, read_count, read_failed, write_failed};
 
 use std::io;
 use std::io::{Read, Write};
@@ -15,6 +15,9 @@ pub trait Source {
     // The bytes that are left to be read, where the reader tells them.
     ghost left: { Self → Option (List ℕ) };
 
+    // How many bytes the last read gave; none where it failed.
+    ghost last_read: { Self → ℕ };
+
     // The count of failures.
     ghost read_failures: { Self → ℕ };
 
@@ -23,6 +26,7 @@ pub trait Source {
     fn read_piece(&mut self, piece: &mut [u8]) -> io::Result<usize>
         ensures bound { IfOk result (λ n. n ≤ length piece.new) }
         ensures bytes { ReadConsumes (left self.old) (left self.new) result piece.new }
+        ensures last { last_read self.new ≡ read_count result }
         ensures failures { read_failures self.new
             ≡ failures_after (read_failed result) (read_failures self.old) };
 }
@@ -54,29 +58,34 @@ pub trait Sink {
 pub struct Metered<T> {
     inner: T,
     failures: u64,
+    last_read: usize,
 }
 
 impl<T> Model for Metered<T> {
     ghost use Rattle.std.specs.Prelude.{ℕ};
 
-    ghost Value = { T × ℕ };
+    ghost Value = { T × ℕ × ℕ };
 
-    ghost view = { λ m. (m.inner, m.failures) };
+    ghost view = { λ m. (m.inner, m.failures, m.last_read) };
 }
 
 impl<T> Metered<T> {
-    /// This reader or writer, with no failure so far. Takes no memory.
+    /// This reader or writer, with no failure and no read so far. Takes no memory.
     pub fn new(inner: T) -> Metered<T>
-        ensures { result ≡ (inner, 0) }
+        ensures { result ≡ (inner, 0, 0) }
     {
-        Metered { inner, failures: 0 }
+        Metered {
+            inner,
+            failures: 0,
+            last_read: 0,
+        }
     }
 
     /// The reader or writer itself.
     pub fn into_inner(self) -> T
         ensures { result ≡ self.0 }
     {
-        let Metered { inner, failures: _ } = self;
+        let Metered { inner, .. } = self;
         inner
     }
 }
@@ -84,10 +93,16 @@ impl<T> Metered<T> {
 impl<T: Read> Source for Metered<T> {
     ghost left = { λ m. T.remaining m.0 };
 
+    ghost last_read = { λ m. m.2 };
+
     ghost read_failures = { λ m. m.1 };
 
     fn read_piece(&mut self, piece: &mut [u8]) -> io::Result<usize> {
         let result = self.inner.read(piece);
+        self.last_read = match &result {
+            Ok(n) => *n,
+            Err(_) => 0,
+        };
         if result.is_err() {
             self.failures = self.failures.wrapping_add(1);
         }

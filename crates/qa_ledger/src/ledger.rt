@@ -69,9 +69,13 @@ pub trait Ledger {
             → (result ≡ Err LedgerFault.OutOfMemory) × (self.new ≡ self.old) };
 
     /// The state of the machine after the events that were admitted. Takes no memory.
+    ///
+    /// Its `events` say how many they are, so that a caller of any ledger can see that `admit` may be
+    /// called.
     fn totals(&self) -> Totals
-        ensures { (c : Settings) (h : List AnEvent) → stands self.now c h
-            → result ≡ state.totals c h };
+        ensures totals { (c : Settings) (h : List AnEvent) → stands self.now c h
+            → result ≡ state.totals c h }
+        ensures events { result.events ≡ admitted self.now };
 
     /// Whether packets are detected as lost that no event has declared yet. Takes no memory.
     fn owes(&self) -> bool

@@ -59,43 +59,6 @@ impl Running {
         }
     }
 
-    /// Admits an event, as `admit` of the trait `Ledger` does. Memory is taken only for a packet that
-    /// is sent and for an acknowledgment: at every other event a ledger that has not failed is not
-    /// out of memory.
-    ///
-    /// Asks for an event that fits, and for fewer than 2^32 - 1 admitted events. Where the event
-    /// breaks a rule it is refused with the first, and the ledger is as it was. Where the ledger is
-    /// out of memory it has failed and holds what it held; a ledger that failed before is as it was.
-    pub fn admit_event(&mut self, event: &Event) -> Result<(), LedgerFault>
-        requires fitting { fits event.now ≡ true }
-        requires few { self.old.connection.events < max_lines }
-        ensures ok { OnOk result ((self.new.failed ≡ false)
-            × (self.new.connection.events ≡ self.old.connection.events + 1)
-            × ((c : Settings) (h : List AnEvent) → IsAfter self.old c h
-            → (rules.first_broken c h event.now ≡ None) × IsAfter self.new c (event.now ∷ h))) }
-        ensures broken { (r : ARule) → result ≡ Err (LedgerFault.Broken r) → (self.new ≡ self.old)
-            × ((c : Settings) (h : List AnEvent) → IsAfter self.old c h
-            → rules.first_broken c h event.now ≡ Some r) }
-        ensures out_of_memory { result ≡ Err LedgerFault.OutOfMemory
-            → (self.new.failed ≡ true) × (self.new.connection.events ≡ self.old.connection.events)
-            × ((c : Settings) (h : List AnEvent) → IsAfter self.old c h → IsAfter self.new c h) }
-        ensures failed { self.old.failed ≡ true
-            → (result ≡ Err LedgerFault.OutOfMemory) × (self.new ≡ self.old) }
-        ensures memory { self.old.failed ≡ false → result ≡ Err LedgerFault.OutOfMemory
-            → takes_memory event.now ≡ true }
-    {
-        if self.failed {
-            return Err(LedgerFault::OutOfMemory);
-        }
-        if let Some(rule) = first_broken(self, event) {
-            return Err(LedgerFault::Broken(rule));
-        }
-        match self.follow(event) {
-            Ok(()) => Ok(()),
-            Err(_) => Err(LedgerFault::OutOfMemory),
-        }
-    }
-
     /// How many things it keeps: the packets, the entries by which an acknowledgment finds them, and
     /// the runs of consecutive numbers that were sent. It keeps nothing else whose size grows, and
     /// takes constant time to say so.
@@ -115,8 +78,9 @@ impl Running {
 
     /// The state of the machine after the events that were admitted, also where it has failed since.
     pub(crate) fn totals_now(&self) -> Totals
-        ensures { (c : Settings) (h : List AnEvent) → IsAfter self.now c h
+        ensures totals { (c : Settings) (h : List AnEvent) → IsAfter self.now c h
             → result ≡ state.totals c h }
+        ensures events { result.events ≡ self.now.connection.events }
     {
         let connection = &self.machine.connection;
         totals_by(
@@ -179,9 +143,38 @@ impl Ledger for Running {
         Running::new(alloc, header)
     }
 
-    /// Admits an event, where it breaks no rule after those that were admitted.
-    fn admit(&mut self, event: &Event) -> Result<(), LedgerFault> {
-        self.admit_event(event)
+    /// Admits an event that fits, where it breaks no rule after those that were admitted.
+    ///
+    /// Memory is taken only for a packet that is sent and for an acknowledgment: at every other event
+    /// a ledger that has not failed is not out of memory.
+    fn admit(&mut self, event: &Event) -> Result<(), LedgerFault>
+        requires fitting { fits event.now ≡ true }
+        requires few { self.old.connection.events < max_lines }
+        ensures ok { OnOk result ((self.new.failed ≡ false)
+            × (self.new.connection.events ≡ self.old.connection.events + 1)
+            × ((c : Settings) (h : List AnEvent) → IsAfter self.old c h
+            → (rules.first_broken c h event.now ≡ None) × IsAfter self.new c (event.now ∷ h))) }
+        ensures broken { (r : ARule) → result ≡ Err (LedgerFault.Broken r) → (self.new ≡ self.old)
+            × ((c : Settings) (h : List AnEvent) → IsAfter self.old c h
+            → rules.first_broken c h event.now ≡ Some r) }
+        ensures out_of_memory { result ≡ Err LedgerFault.OutOfMemory
+            → (self.new.failed ≡ true) × (self.new.connection.events ≡ self.old.connection.events)
+            × ((c : Settings) (h : List AnEvent) → IsAfter self.old c h → IsAfter self.new c h) }
+        ensures failed { self.old.failed ≡ true
+            → (result ≡ Err LedgerFault.OutOfMemory) × (self.new ≡ self.old) }
+        ensures memory { self.old.failed ≡ false → result ≡ Err LedgerFault.OutOfMemory
+            → takes_memory event.now ≡ true }
+    {
+        if self.failed {
+            return Err(LedgerFault::OutOfMemory);
+        }
+        if let Some(rule) = first_broken(self, event) {
+            return Err(LedgerFault::Broken(rule));
+        }
+        match self.follow(event) {
+            Ok(()) => Ok(()),
+            Err(_) => Err(LedgerFault::OutOfMemory),
+        }
     }
 
     /// The state of the machine after the events that were admitted.

@@ -9,7 +9,7 @@ use Rattle.qa_check.proofs.Faults.{ok_is_no_err, not_read}
 use Rattle.qa_check.proofs.Fed.{brings_open, brings_fixed, brings_failed}
 use Rattle.qa_check.proofs.Following.{follow_few}
 use Rattle.qa_check.proofs.LinesTaken.{counts_same}
-use Rattle.qa_check.proofs.Reading.{short_piece, more_bytes, open_read, reads_failed, reads_piece, reads_nothing}
+use Rattle.qa_check.proofs.Reading.{read_piece, more_bytes, open_read, reads_failed, reads_piece, reads_nothing}
 use Rattle.qa_check.proofs.Writing.{show_follows}
 use Rattle.qa_check.proofs.auditing.judge.Goals as goal
 
@@ -31,7 +31,7 @@ returns-in_default g c =
     let b = brings_open g.L.Ledger.stands before.progress before.stream before.held _ _ r.0 i.is_open r.2 in
     record {
       verdict = tt;
-      reads = reads_failed _ _ _ r.0 r.1 c.in_default.ensures.bytes b.0;
+      reads = reads_failed _ _ _ _ r.0 r.1 c.in_default.ensures.bytes c.in_default.ensures.last b.0;
       rows = λ is. (r.0, Consumes-kept _ _ _ r.0 r.1 c.in_default.ensures.bytes, b.0, show_follows g.L.Ledger.stands before.held _ _ _ r.0 b.1 b.2);
       begun = λ other. absurd (false≢true (sym other));
       read_failures = rw i.unfailed_read at c.in_default.ensures.failures;
@@ -49,12 +49,13 @@ returns-then-n-eq0 g c =
     let counts = ended.failures i.is_open in
     let end = c.in-Ok.ensures.bytes.1 c.if-n-eq0.true (omega arith) in
     let read = reads_nothing _ _ _ r.0 _ _ r.1 c.in-Ok.ensures.bytes.0 c.if-n-eq0.true in
+    let further = open_read _ r.0 (c.in-Ok.ensures.last ∙ c.if-n-eq0.true) b.0 in
     record {
       verdict = IfOk-weaker c.finish_to.result _ _
-          (λ v k. let judged = k start r.0 r.2 in (r.0, (read, inl end, open_read r.0 b.0), judged.0, judged.1)) ended.verdict;
-      reads = (r.0, read, open_read r.0 b.0);
+          (λ v k. let judged = k start r.0 r.2 in (r.0, (read, inl end, further), judged.0, judged.1)) ended.verdict;
+      reads = (r.0, read, further);
       rows = λ is. absurd (not_read c.finish_to.result counts.0 is);
-      begun = λ is. on_err_weaker c.finish_to.result (λ k. (r.0, read, open_read r.0 b.0, inr (inl end, k start r.0 r.2))) ended.begun;
+      begun = λ is. on_err_weaker c.finish_to.result (λ k. (r.0, read, further, inr (inl end, k start r.0 r.2))) ended.begun;
       read_failures = rw counts.0 (c.in-Ok.ensures.failures ∙ i.unfailed_read);
       failures = rw i.unfailed at counts.1;
     }
@@ -66,14 +67,14 @@ returns-in-Ok-Fixed g c =
     let start = g.O.Observer.shown c.args.observer.now in
     let before = c.pieces.auditor in
     let b = brings_open g.L.Ledger.stands before.progress before.stream before.held _ _ r.0 i.is_open r.2 in
-    let short : length (take c.in-Ok.n c.read_piece.new.piece) ≤ 4096 = short_piece _ _ (omega arith) in
+    let short = read_piece _ c.in-Ok.n c.read_piece.new.piece c.in-Ok.ensures.last c.in-Ok.ensures.bound (omega arith) in
     let after = c.feed_to.new.self in
     let is = sym c.feed_to.ensures.progress ∙ (rw c.in-Ok-Fixed.field-0-is at c.in-Ok-Fixed.is) in
     let d = brings_fixed g.L.Ledger.stands after.progress after.stream after.held start _ _ _ is (c.feed_to.ensures.fed start r.0 r.2) in
     let counts = c.in-Ok-Fixed.ensures.failures i.is_open in
     record {
-      verdict = (_, (Consumes-trans _ _ _ r.0 _ r.1 c.in-Ok.ensures.bytes.0, inr d.0, (r.0, _, refl, short, b.0)), d.1, d.2);
-      reads = reads_piece _ _ _ r.0 _ r.1 c.in-Ok.ensures.bytes.0 short b.0;
+      verdict = (_, (Consumes-trans _ _ _ r.0 _ r.1 c.in-Ok.ensures.bytes.0, inr d.0, (r.0, _, refl, short.0, short.1, b.0)), d.1, d.2);
+      reads = reads_piece _ _ _ _ r.0 _ r.1 c.in-Ok.ensures.bytes.0 short b.0;
       rows = λ is. absurd (ok_is_no_err is);
       begun = λ is. tt;
       read_failures = c.in-Ok.ensures.failures ∙ i.unfailed_read;
@@ -87,16 +88,16 @@ returns-in-Err g c =
     let start = g.O.Observer.shown c.args.observer.now in
     let before = c.pieces.auditor in
     let b = brings_open g.L.Ledger.stands before.progress before.stream before.held _ _ r.0 i.is_open r.2 in
-    let short : length (take c.in-Ok.n c.read_piece.new.piece) ≤ 4096 = short_piece _ _ (omega arith) in
+    let short = read_piece _ c.in-Ok.n c.read_piece.new.piece c.in-Ok.ensures.last c.in-Ok.ensures.bound (omega arith) in
     let fault = c.in-Err.fault in
     let after = c.feed_to.new.self in
     let failed = brings_failed g.L.Ledger.stands after.progress after.stream after.held start _ _ fault (sym c.feed_to.ensures.progress ∙ c.in-Err.is) (c.feed_to.ensures.fed start r.0 r.2) in
     let counts = counts_same Progress Verdict _ _ fault (c.in-Err.ensures.failures i.is_open) in
     record {
       verdict = tt;
-      reads = reads_piece _ _ _ r.0 _ r.1 c.in-Ok.ensures.bytes.0 short b.0;
+      reads = reads_piece _ _ _ _ r.0 _ r.1 c.in-Ok.ensures.bytes.0 short b.0;
       rows = λ is. absurd (not_read {A = Verdict} (Err fault) counts.0 is);
-      begun = λ is. (_, Consumes-trans _ _ _ r.0 _ r.1 c.in-Ok.ensures.bytes.0, (r.0, _, refl, short, b.0), inl failed);
+      begun = λ is. (_, Consumes-trans _ _ _ r.0 _ r.1 c.in-Ok.ensures.bytes.0, (r.0, _, refl, short.0, short.1, b.0), inl failed);
       read_failures = rw counts.0 (c.in-Ok.ensures.failures ∙ i.unfailed_read);
       failures = rw i.unfailed at counts.1;
     }

@@ -1,5 +1,5 @@
 use Rattle.std.proofs.Common.{◌≡◌, Ok, Err, rules}
-use Rattle.qa_running.proofs.running.Running.admit_event.Goals as goal
+use Rattle.qa_running.proofs.running.RunningLedger.admit.Goals as goal
 
 ok_is_no_err : {T E P : Type 0} (t : T) (e : E) → Ok t ≡ Err e → P
 ok_is_no_err t e same = cc
