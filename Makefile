@@ -13,11 +13,11 @@ program_by_one_byte := crates/one_byte/out/one_byte
 program_of_lines := crates/lines/out/lines
 example := examples/ten-packets.trace
 # The tests of the programs of conformance/, which mostly wait for one another's processes.
-runner_tests := test_run test_trials test_mutations test_simulate test_links
+runner_tests := test_run test_trials test_mutations test_simulate test_links test_made_up
 
 # All programs in Python, by the places where their names are unlike each other.
-python := $(addprefix conformance/,allocations cuts failing large links malicious mutations refusals run simulate) \
-	conformance/fuzz/instrument conformance/lines/make.py $(wildcard conformance/*.py)
+python := $(addprefix conformance/,allocations cuts failing large links made_up malicious mutations refusals run) \
+	conformance/simulate conformance/fuzz/instrument conformance/lines/make.py $(wildcard conformance/*.py)
 python_of_fuzz := conformance/fuzz/run
 python_of_bench := $(addprefix bench/,peers run trace) $(wildcard bench/*.py) bench/programs/read.py
 
@@ -25,8 +25,8 @@ python_of_bench := $(addprefix bench/,peers run trace) $(wildcard bench/*.py) be
 conformance := conformance-cuts conformance-failing conformance-refusals conformance-simulate conformance-mutations \
 	conformance-malicious conformance-large conformance-run conformance-allocations
 
-.PHONY: help build one_byte lines run test gate conformance $(conformance) links $(runner_tests) lint bench install \
-	clean
+.PHONY: help build one_byte lines run test gate conformance $(conformance) links made_up $(runner_tests) lint bench \
+	install clean
 
 help:
 	@echo 'make build     proves the program and builds $(program)'
@@ -52,17 +52,17 @@ lines:
 run: build
 	@$(program) check < $(example)
 
-# The tests of the runners and the check of the pages need no program of ours, so they run beside the gate, in its
-# first minutes.
+# The tests of the runners and the checks of pages and sources need no program of ours, so they run beside the gate,
+# in its first minutes.
 test:
-	$(MAKE) --no-print-directory -j 2 gate links $(runner_tests)
+	$(MAKE) --no-print-directory -j 2 gate links made_up $(runner_tests)
 	$(MAKE) --no-print-directory -j 4 --output-sync=target $(conformance)
 
 # `rt ci` proves all crates from nothing, and leaves each program built of what it proved.
 gate:
 	rt ci
 
-conformance: $(conformance) links $(runner_tests)
+conformance: $(conformance) links made_up $(runner_tests)
 
 conformance-cuts:
 	conformance/cuts $(program)
@@ -100,6 +100,10 @@ conformance-allocations:
 # What the pages name has to be there.
 links:
 	conformance/links
+
+# What the sources say of memory and of streams without being told has to be on a list.
+made_up:
+	conformance/made_up
 
 $(runner_tests):
 	python3 conformance/$@.py

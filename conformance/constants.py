@@ -41,6 +41,8 @@ SPACES = ("initial", "handshake", "app")
 METRICS_IN_BYTES = ("window", "ssthresh", "bytes_in_flight")
 METRICS_IN_MICROSECONDS = ("latest_rtt", "min_rtt", "smoothed_rtt", "rttvar")
 METRICS = (*METRICS_IN_BYTES, *METRICS_IN_MICROSECONDS)
+# The totals in a row of `explain`.
+OF_ROWS = ("window", "bytes_in_flight", "smoothed_rtt", "rttvar", "pto_count", "owed")
 
 
 class Rule(StrEnum):

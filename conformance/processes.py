@@ -12,7 +12,7 @@ import subprocess
 import termios
 import threading
 import time
-from collections.abc import Iterable, Iterator, Sequence
+from collections.abc import Callable, Iterable, Iterator, Sequence
 from dataclasses import dataclass
 from enum import IntEnum
 from pathlib import Path
@@ -20,16 +20,23 @@ from typing import IO, NamedTuple
 
 # After so many seconds a program is killed.
 MAX_SECONDS = 60
+# How many times as long a run may take as one that has as much to do, and how often that is tried.
+MAX_RATIO = 3.0
+TRIES = 3
 # Of Linux: linux/prctl.h and linux/capability.h.
 PR_CAPBSET_DROP = 24
 CAP_DAC_OVERRIDE = 1
 CAP_DAC_READ_SEARCH = 2
 LIBC = ctypes.CDLL(None)
+# What a program says on standard error to which memory was refused.
+OUT_OF_MEMORY = b"out of memory"
 
 # A program and its arguments.
 Words = Sequence[str | Path]
 # What a standard stream can be, of a program that is started.
 Stream = int | IO[bytes]
+# How a run failed, empty where it did not, and the seconds of processor time that it took.
+Timed = tuple[str, float]
 
 
 class Status(IntEnum):
@@ -46,11 +53,13 @@ class Status(IntEnum):
 class Outcome(NamedTuple):
     """How a program ended. Its status is None where it was killed because it
     took too long, and an output is None where nothing could capture it. A
-    wanted output is None where it is not compared."""
+    wanted output is None where it is not compared. What is left of its standard input
+    is None but where that is a pipe that stays open."""
 
     status: int | None
     output: bytes | None
     error: bytes | None
+    left: bytes | None = None
 
     def text(self) -> bytes:
         """Standard output, where it was captured."""
@@ -64,9 +73,12 @@ def status_of(report: bytes) -> Status | None:
     return {**verdicts, b"unreadable": Status.UNREADABLE}.get(word)
 
 
-def differences(outcome: Outcome, wanted: Outcome) -> str:
-    """What of an outcome is not as wanted; empty where all is."""
+def differences(outcome: Outcome, wanted: Outcome, *, is_memory_refused: bool = False) -> str:
+    """What of an outcome is not as wanted; empty where all is. A program to which no memory was
+    refused must not say that it is out of memory, whatever is wanted."""
     found = []
+    if OUT_OF_MEMORY in (outcome.error or b"") and not is_memory_refused:
+        found.append("out of memory, though none was refused")
     if outcome.status is None:
         found.append("killed, for it took too long")
     elif outcome.status != wanted.status:
@@ -74,6 +86,7 @@ def differences(outcome: Outcome, wanted: Outcome) -> str:
     for name, had, want in (
         ("standard error", outcome.error, wanted.error),
         ("standard output", outcome.output, wanted.output),
+        ("left of standard input", outcome.left, wanted.left),
     ):
         if want is not None and had != want:
             found.append(f"{name} {shown(had)}, wanted {shown(want)}")
@@ -177,10 +190,32 @@ def answered(data: bytes, command: Words) -> Outcome:
     return ended(start(command, subprocess.PIPE), data=data)
 
 
+# Time.
+
+
 def processor_seconds() -> float:
     """The processor time of all programs that were started and have ended."""
     usage = resource.getrusage(resource.RUSAGE_CHILDREN)
     return usage.ru_utime + usage.ru_stime
+
+
+def timed(run: Callable[[], Outcome], wanted: Outcome) -> Timed:
+    """How a run of a program differs from what it must do, and the processor time that it took."""
+    before = processor_seconds()
+    outcome = run()
+    return differences(outcome, wanted), processor_seconds() - before
+
+
+def slower(costly: Callable[[], Timed], plain: Callable[[], Timed], what: str) -> str:
+    """How one of two runs fails, or that the first takes many times the processor time of the
+    second, which has as much to do and is named. It is tried more than once, for times vary."""
+    least = float("inf")
+    for _ in range(TRIES):
+        (failure, seconds), (other_failure, other_seconds) = costly(), plain()
+        least = min(least, seconds / other_seconds)
+        if failure or other_failure or least < MAX_RATIO:
+            return joined([failure, other_failure])
+    return f"{least:.1f} times the processor time of {what}"
 
 
 # Feeding a program.
@@ -221,6 +256,25 @@ def feed(pieces: Iterable[bytes], pipe: int) -> None:
             while left:
                 left = left[os.write(pipe, left) :]
     os.close(pipe)
+
+
+def held_open(
+    data: bytes,
+    command: Words,
+    setting: Setting = USUAL,
+    *,
+    seconds: float = MAX_SECONDS,
+    waits: bool = True,
+) -> Outcome:
+    """Runs a program whose standard input is a pipe with these bytes, which stays open, and says
+    what is left in it. A read of what is not there waits, or else fails."""
+    reading, writing = os.pipe()
+    os.write(writing, data)
+    os.set_blocking(reading, waits)
+    outcome = ended(start(command, reading, setting), seconds)
+    os.close(writing)
+    with os.fdopen(reading, "rb") as pipe:
+        return outcome._replace(left=pipe.read())
 
 
 def fed_and_reset(

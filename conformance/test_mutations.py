@@ -130,7 +130,7 @@ class MaliciousTest(unittest.TestCase):
         start = "import sys, time\nread = sys.stdin.buffer.read()"
         write_program(self.program, f"{start}\n{body}\n")
         case = case._replace(seconds=seconds)
-        failure: str = malicious.failure_of(str(self.program), case, "case", tells_times=False)
+        failure: str = malicious.Running(str(self.program)).failure_of(case, "case")
         return failure
 
     def test_cases(self) -> None:
@@ -147,6 +147,29 @@ class MaliciousTest(unittest.TestCase):
         slow = "print('accepted')\nwhile time.process_time() < 0.5: pass"
         self.assertEqual(self.failure(slow, case), "")
         self.assertIn("seconds of processor time", self.failure(slow, case, seconds=0.4))
+
+    def test_program_that_takes_long_for_one_of_two(self) -> None:
+        costly, plain = (malicious.Case([text], b"accepted\n") for text in (b"costly", b""))
+        pair = malicious.Pair(costly, plain, "plain")
+        body = (
+            "import sys, time\nend = 0.1 + {} * len(sys.stdin.buffer.read())\n"
+            "print('accepted')\n"
+        )
+        for more, wanted in ((0.01, ""), (0.2, " times the processor time of plain")):
+            loop = "while time.process_time() < end: pass\n"
+            write_program(self.program, body.format(more) + loop)
+            failure = malicious.Running(str(self.program)).failure_of_pair(pair, "pair")
+            self.assertTrue(failure.endswith(wanted) and bool(failure) == bool(wanted), failure)
+        write_program(self.program, "print('refused')")
+        failure = malicious.Running(str(self.program)).failure_of_pair(pair, "pair")
+        self.assertIn("standard output b'refused\\n'", failure)
+
+    def test_totals_of_losses_are_steady(self) -> None:
+        few, more = (
+            malicious.totals_behind([header(), *malicious.lossy(1, losses)])
+            for losses in (malicious.STEADY, malicious.STEADY + 50)
+        )
+        self.assertEqual({**few, "events": 6 * (malicious.STEADY + 50)}, more)
 
     def test_program_that_needs_a_larger_stack(self) -> None:
         case = malicious.Case([b""], b"accepted\n")

@@ -384,6 +384,68 @@ class AuditorTest(RunnerCase):
             WRITES_FILES, {"arguments": ["a"], "files": {"a": repeated}, "stdout": "a\n" + whole}
         )
 
+    def test_files_in_folders_reach_the_program(self) -> None:
+        self.assert_case_passes(
+            WRITES_FILES,
+            {
+                "arguments": ["b/c/a", "../a", "./d"],
+                "files": {
+                    "a": {"file": "above\n"},
+                    "b/b/c/a": {"file": "below\n"},
+                    "b/d": "directory",
+                },
+                "folder": "b",
+                "stdout": "b/c/a\nbelow\n../a\nabove\n",
+                "stderr": "21\n",
+            },
+        )
+
+    def test_long_path_reaches_the_program(self) -> None:
+        path = {"before": "b/", "text": "d" * 99 + "/", "times": 40, "behind": "e" * 93}
+        self.assert_case_passes(
+            WRITES_FILES,
+            {
+                "texts": {"PATH": path},
+                "arguments": ["PATH", "PATHe"],
+                "files": {"PATH": {"file": "found\n"}},
+                "stdout": ["PATH\n", "found\n"],
+                "stderr": "36\n",
+            },
+        )
+
+    def test_program_that_reads_an_input_that_is_held(self) -> None:
+        case = {**USAGE_CASE, "status": 0, "stderr": "", "seconds": 2}
+        self.write_program("import os\nos.read(0, 1)")
+        self.write_cases(
+            [
+                {**case, "name": "bytes", "input": {"held": "a line"}},
+                {**case, "name": "nothing", "input": {"held": ""}},
+            ]
+        )
+        of_cases = [line for line in self.lines(1) if line.startswith("FAILED streams/")]
+        self.assertEqual(
+            of_cases,
+            [
+                "FAILED streams/bytes: left of standard input b' line', wanted b'a line'",
+                "FAILED streams/nothing: killed, for it took too long",
+            ],
+        )
+
+    def test_program_that_reads_no_input_that_is_held(self) -> None:
+        case = {**USAGE_CASE, "status": 0, "stderr": "", "seconds": 2}
+        self.write_program("")
+        self.write_cases([{**case, "input": {"held": text}} for text in ("a line", "")])
+        self.assert_cases_pass(2)
+
+    def test_input_that_would_block_reaches_the_program(self) -> None:
+        self.write_program(
+            "import os\nos.write(1, os.read(0, 9))\ntry:\n os.read(0, 9)\n"
+            "except OSError as error:\n os._exit(error.errno)\n"
+        )
+        case = {**USAGE_CASE, "stdout": "a line", "stderr": "", "seconds": 2}
+        self.write_cases([{**case, "status": 11, "input": {"would block": "a line"}}])
+        self.assert_cases_pass(1)
+
     def test_limit_of_memory_reaches_the_program(self) -> None:
         self.assert_case_passes(
             "import resource\nprint(resource.getrlimit(resource.RLIMIT_DATA)[0])",
@@ -523,10 +585,17 @@ class LargeTest(RunnerCase):
 
     def test_program_whose_window_does_not_grow(self) -> None:
         self.write_reader("sys.stdin.buffer")
+        large = script(FOLDER / "large")
+        # With no limit, for an interpreter takes more memory than that.
+        failure = large.run([str(self.program), "check"], large.acknowledged_one_by_one())
+        self.assertTrue(failure.startswith("standard output"), failure)
+
+    def test_program_that_takes_more_than_the_least_memory(self) -> None:
+        self.write_reader("sys.stdin.buffer")
         self.more = ("acknowledged-one-by-one",)
         failure, _last = self.lines(1)
         self.assertTrue(
-            failure.startswith("FAILED large/acknowledged-one-by-one: standard output"), failure
+            failure.startswith("FAILED large/acknowledged-one-by-one: status"), failure
         )
 
     def test_no_program(self) -> None:
@@ -569,7 +638,7 @@ def slowly(lines):
         large = script(FOLDER / "large")
         # Of one long line, for each byte takes long.
         with mock.patch.object(large, "BYTES_OF_LINES", MAX_LINE_LENGTH + 1):
-            failure = large.as_quick_as_short_lines([str(self.program), "check"])
+            failure = large.as_quick_as_short_lines(str(self.program))
         self.assertTrue(failure.endswith(" times the processor time of short lines"), failure)
 
     def test_program_that_counts_no_event(self) -> None:

@@ -105,12 +105,14 @@ static int audit(int file, const char *name, int explains)
 int main(int count, char **arguments)
 {
     int explains = arguments[1][0] == 'e', status = 0;
+    START;
     for (int i = 0; i < ALLOCATIONS; i++) {
         volatile char *block = malloc(16);
         if (!block) {
             REFUSED;
         }
     }
+    BEHIND;
     if (arguments[1][0] == 'a') {
         put(2, "usage: qaudit check [FILE...] or qaudit explain [FILE]\n");
         return 64;
@@ -130,7 +132,9 @@ int main(int count, char **arguments)
 }
 """
 RIGHT = {
+    "START": "",
     "ALLOCATIONS": "5",
+    "BEHIND": "",
     "REFUSED": 'return fault("qaudit: out of memory", "")',
     "WRITES": "4096",
     "READS": "4096",
@@ -255,6 +259,23 @@ class RefusalsTest(TrialCase):
         self.compile_program(ALLOCATIONS="0")
         self.assert_first_failure("check bad: no run was out of memory")
 
+    def test_program_that_is_always_out_of_memory(self) -> None:
+        self.compile_program(START='return fault("qaudit: out of memory", "")')
+        self.assert_first_failure(
+            "check bad without allocation 1: out of memory, though none was refused; status 3"
+        )
+
+    def test_program_that_is_out_of_memory_behind_its_last_allocation(self) -> None:
+        self.compile_program(BEHIND='return fault("qaudit: out of memory", "")')
+        self.assert_first_failure(
+            "check bad without allocation 6: out of memory, though none was refused; status 3"
+        )
+
+    def test_silent_program_that_is_out_of_memory_behind_its_last_allocation(self) -> None:
+        self.part = ("--traces",)
+        self.compile_program(REFUSED="return 3", BEHIND="return 3")
+        self.assert_first_failure("check bad without allocation 6: status 3, wanted 1")
+
     def test_program_that_ignores_a_refusal(self) -> None:
         self.compile_program(REFUSED='return report("unreadable\\n", 2)')
         self.assert_first_failure(
@@ -302,7 +323,7 @@ class FailingTest(TrialCase):
         # second line.
         reads = (len(TRACE) + 2) * 2 + (len(b"a line\nbad\n") + 1) * 2
         writes = sum(len(text) + 1 for text in (REPORT, EXPLANATION, BAD_REPORT, BAD_EXPLANATION))
-        self.assert_passes(2 * reads + 3 * writes + self.OF_FILES)
+        self.assert_passes(3 * reads + 4 * writes + self.OF_FILES)
 
     # Of two files each read fails once, and each write.
     OF_FILES = 2 * (len(TRACE) + 1) + 2 * len(b"file a\n" + REPORT) + 1
@@ -323,7 +344,7 @@ class FailingTest(TrialCase):
         thirds = sum(len(range(1, calls, 3)) + 1 for calls in reads + writes)
         short, longer = len(failing.TRACES), len(failing.LONGER_TRACES)
         self.assert_passes(
-            short * (2 * sum(reads) + 3 * sum(writes)) + longer * thirds + self.OF_FILES
+            short * (3 * sum(reads) + 4 * sum(writes)) + longer * thirds + self.OF_FILES
         )
 
     def test_ways_take_turns_on_a_longer_trace(self) -> None:
@@ -332,7 +353,7 @@ class FailingTest(TrialCase):
         of_the_trace = [
             line.split(":")[1] for line in self.lines(1) if " check first-loss where " in line
         ]
-        interrupted = range(4, len(REPORT) + 1, 3 * 3)
+        interrupted = range(4, len(REPORT) + 1, 3 * 4)
         self.assertEqual(
             of_the_trace,
             [f" check first-loss where write {number} is interrupted" for number in interrupted],
@@ -360,6 +381,14 @@ class FailingTest(TrialCase):
     def test_program_that_reads_again_after_an_interruption(self) -> None:
         self.compile_program(GOES_ON_READING="errno == EINTR")
         self.assert_first_failure("check bad where read 1 is interrupted: status 1, wanted 3")
+
+    def test_program_that_reads_again_where_it_would_block(self) -> None:
+        self.compile_program(GOES_ON_READING="errno == EAGAIN")
+        self.assert_first_failure("check bad where read 1 would block: status 1, wanted 3")
+
+    def test_program_that_writes_again_where_it_would_block(self) -> None:
+        self.compile_program(GOES_ON_WRITING="count < 0 && errno == EAGAIN")
+        self.assert_first_failure("check bad where write 1 would block: status 1, wanted 3")
 
     def test_program_that_takes_a_fault_for_the_end(self) -> None:
         self.compile_program(IGNORES_FAULTS="1")

@@ -14,6 +14,7 @@
 #include <stdlib.h>
 #include <string.h>
 #include <sys/mman.h>
+#include <sys/resource.h>
 #include <sys/syscall.h>
 #include <sys/wait.h>
 #include <unistd.h>
@@ -35,6 +36,8 @@ struct trial {
 
 struct counts {
     long allocations;
+    /* Of these, how many were refused. */
+    long refusals;
     long reads;
     long writes;
     /* Bytes of standard output. */
@@ -42,9 +45,11 @@ struct counts {
 };
 
 struct answer {
-    /* As waitpid gives it. */
+    /* As wait4 gives it. */
     long status;
     struct counts counts;
+    /* The processor time that the copy took, in microseconds. */
+    long time;
 };
 
 enum { SECONDS = 60, MAX_INPUT = 1 << 30, MAX_OUTPUT = 1 << 26 };
@@ -85,6 +90,11 @@ static void empty(int file)
         stop("ftruncate");
 }
 
+static long microseconds(struct timeval time)
+{
+    return time.tv_sec * 1000000L + time.tv_usec;
+}
+
 /* Returns in each copy, and in no other process. */
 static void serve(int requests, int answers, const int *files)
 {
@@ -102,13 +112,14 @@ static void serve(int requests, int answers, const int *files)
             return;
         }
         int status;
-        if (waitpid(copy, &status, 0) < 0)
-            stop("waitpid");
+        struct rusage usage;
+        if (wait4(copy, &status, 0, &usage) < 0)
+            stop("wait4");
         /* What was written by other calls is seen too. */
         long behind = moved(files[1], SEEK_CUR);
         if (counts->written < behind)
             counts->written = behind;
-        struct answer answer = {status, *counts};
+        struct answer answer = {status, *counts, microseconds(usage.ru_utime) + microseconds(usage.ru_stime)};
         if (syscall(SYS_write, answers, &answer, sizeof answer) != sizeof answer)
             stop("write");
     }
@@ -146,7 +157,9 @@ static int is_refused(void)
     if (!counts)
         return 0;
     long number = ++counts->allocations;
-    return trial.refused_from <= number && number <= trial.refused_to;
+    int refused = trial.refused_from <= number && number <= trial.refused_to;
+    counts->refusals += refused;
+    return refused;
 }
 
 static void *next(const char *name)

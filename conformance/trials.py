@@ -23,7 +23,7 @@ MAX_TRACE = 4096
 MAX_SHORT_TRACE = 256
 # What a program here reads at once.
 PIECE = 4096
-ANSWER = struct.Struct("5l")
+ANSWER = struct.Struct("7l")
 
 
 # Copies of a program.
@@ -46,12 +46,15 @@ class Trial(NamedTuple):
 
 
 class Run(NamedTuple):
-    """How a copy ended, and how often it allocated, read, and wrote to standard output."""
+    """How a copy ended, how often it allocated and was refused it, read, and wrote to standard
+    output, and how much processor time it took."""
 
     outcome: Outcome
     allocations: int
+    refusals: int
     reads: int
     writes: int
+    seconds: float
 
 
 UNDISTURBED = Trial()
@@ -117,10 +120,11 @@ class Held:
         answer = os.read(self.answers, ANSWER.size)
         if len(answer) < ANSWER.size:
             raise NotHeldError("the program is not linked with the C library at run time")
-        status, *counts, written = ANSWER.unpack(answer)
+        status, *counts, written, microseconds = ANSWER.unpack(answer)
         _input, output, error = self.files
         texts = os.pread(output, written, 0), os.pread(error, os.fstat(error).st_size, 0)
-        return Run(Outcome(os.waitstatus_to_exitcode(status), *texts), *counts)
+        outcome = Outcome(os.waitstatus_to_exitcode(status), *texts)
+        return Run(outcome, *counts, seconds=microseconds / 1e6)
 
 
 def compiled(folder: Path) -> Path:
@@ -310,4 +314,5 @@ def unlike(run: Run, wanted: Outcome, **counts: int) -> str:
         for name, count in counts.items()
         if had[name] != count
     )
-    return joined([differences(run.outcome, wanted), *others])
+    failure = differences(run.outcome, wanted, is_memory_refused=run.refusals > 0)
+    return joined([failure, *others])
