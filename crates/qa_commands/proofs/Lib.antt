@@ -1,2 +1,4 @@
-mod Greatest
+mod Endings
+mod Names
+mod Writes
 mod Written

@@ -9,11 +9,12 @@ use Rattle.qa_format.proofs.verdicts.Rows.{rows_begin, explanation_begins}
 use Rattle.qa_check.specs.declared.auditing.Outcome.{Outcome}
 use Rattle.qa_check.specs.declared.auditing.AuditFault.{AuditFault}
 use Rattle.qa_check.specs.declared.auditing.AuditFault.TheVariants as faults
-use Rattle.qa_check.specs.Audit.{Reports, BeginsReport, ReadsEnough}
+use Rattle.qa_check.specs.Audit.{Reports, BeginsReport, ReadsEnough, is_write_fault}
+use Rattle.qa_check.specs.Failures.{failures_after}
 use Rattle.qa_check.specs.Writing as writing
 use Rattle.qa_check.specs.Writing.{Begins, BeginsRead, ShowsRead, ended_rows}
 use Rattle.qa_check.proofs.Writing.{begins_longer}
-use Rattle.qa_commands.specs.Checking.{AreOf, Audited, Checks, heading}
+use Rattle.qa_commands.specs.Checking.{AreOf, Audited, Checks, heading, stops}
 use Rattle.qa_commands.specs.Ending.{failure_of}
 use Rattle.qa_commands.specs.Explaining.{Explained}
 use Rattle.qa_commands.specs.declared.ending.Failure.{Failure}
@@ -27,17 +28,24 @@ of_told : (P : List ℕ → Type 0) (left : Option (List ℕ)) → ((bytes : Lis
 of_told P None told bytes p = (bytes, tt, p)
 of_told P (Some all) told bytes p = (all, refl, told all refl)
 
+-- the count of failures by the failure that is told
+pub stop_counted : (origin : Origin) (fault : AuditFault) (failure : Failure) (n n' : ℕ) → failure ≡ failure_of origin fault
+    → n' ≡ failures_after (is_write_fault {A = Outcome} (Err fault)) n → n' ≡ failures_after (stops (Err failure)) n
+stop_counted origin faults.Read failure n n' is count = rw is count
+stop_counted origin faults.Write failure n n' is count = rw is count
+stop_counted origin faults.OutOfMemory failure n n' is count = rw is count
+
 -- ---- an audit
 
-pub audited_ok : (left left' held held' : Option (List ℕ)) (outcome : Outcome) (origin : Origin)
+pub audited_ok : {last : ℕ} (left left' held held' : Option (List ℕ)) (outcome : Outcome) (origin : Origin)
     → ((bytes : List ℕ) → left ≡ Some bytes → Reports held held' outcome bytes)
-    → (bytes : List ℕ) × ReadsEnough left left' bytes × Reports held held' outcome bytes
+    → (bytes : List ℕ) × ReadsEnough left left' last bytes × Reports held held' outcome bytes
     → Audited left origin (Ok outcome) held held'
 audited_ok left left' held held' outcome origin told (bytes, read, reports) = of_told (Reports held held' outcome) left told bytes reports
 
-pub audited_err : (left left' held held' : Option (List ℕ)) (origin : Origin) (fault : AuditFault) (failure : Failure) → failure ≡ failure_of origin fault
+pub audited_err : {last : ℕ} (left left' held held' : Option (List ℕ)) (origin : Origin) (fault : AuditFault) (failure : Failure) → failure ≡ failure_of origin fault
     → ((bytes : List ℕ) → left ≡ Some bytes → fault ≡ faults.Write → BeginsReport held held' bytes)
-    → (fault ≡ faults.Write → (bytes : List ℕ) × ReadsEnough left left' bytes × BeginsReport held held' bytes)
+    → (fault ≡ faults.Write → (bytes : List ℕ) × ReadsEnough left left' last bytes × BeginsReport held held' bytes)
     → ((fault ≡ faults.Write → ⊥) → held' ≡ held)
     → Audited left origin (Err failure) held held'
 audited_err left left' held held' origin faults.Read failure is told begun unwritten = rw is (refl, unwritten (λ e. cc))
@@ -59,7 +67,7 @@ audited_untold left held held' origin (Err OutOfMemory) a = a
 -- ---- an explanation
 
 -- a beginning of the rows
-begun_rows : (left left' held held' : Option (List ℕ)) → BeginsRead left left' held held' (explanation.rows reading)
+begun_rows : {last : ℕ} (left left' held held' : Option (List ℕ)) → BeginsRead left left' last held held' (explanation.rows reading)
     → (bytes : List ℕ) × Begins held held' (explanation.rows reading bytes)
 begun_rows left left' held held' (bytes, consumes, further, begun) = elim begun [
   | inl ended ↦ let more = rows_begin reading (ended_lines bytes) (last_line (unended bytes)) in (bytes, begins_longer held held' _ _ more.0 more.1 ended)
@@ -67,24 +75,24 @@ begun_rows left left' held held' (bytes, consumes, further, begun) = elim begun 
 ]
 
 -- a beginning of the rows and the report
-begun_all : (left left' held held' : Option (List ℕ)) → BeginsRead left left' held held' (explanation.explain reading)
+begun_all : {last : ℕ} (left left' held held' : Option (List ℕ)) → BeginsRead left left' last held held' (explanation.explain reading)
     → (bytes : List ℕ) × Begins held held' (explanation.explain reading bytes)
 begun_all left left' held held' (bytes, consumes, further, begun) = elim begun [
   | inl ended ↦ let more = explanation_begins reading bytes [] in (bytes ++ [], begins_longer held held' _ _ more.0 more.1 ended)
   | inr all ↦ (bytes, all.1)
 ]
 
-pub explained_ok : (left left' held held' : Option (List ℕ)) (outcome : Outcome) (origin : Origin)
+pub explained_ok : {last : ℕ} (left left' held held' : Option (List ℕ)) (outcome : Outcome) (origin : Origin)
     → ((bytes : List ℕ) → left ≡ Some bytes → writing.Explains held held' outcome bytes)
-    → (bytes : List ℕ) × ReadsEnough left left' bytes × writing.Explains held held' outcome bytes
+    → (bytes : List ℕ) × ReadsEnough left left' last bytes × writing.Explains held held' outcome bytes
     → Explained left origin (Ok outcome) held held'
 explained_ok left left' held held' outcome origin told (bytes, read, explains) = of_told (writing.Explains held held' outcome) left told bytes explains
 
-pub explained_err : (left left' held held' : Option (List ℕ)) (origin : Origin) (fault : AuditFault) (failure : Failure) → failure ≡ failure_of origin fault
+pub explained_err : {last : ℕ} (left left' held held' : Option (List ℕ)) (origin : Origin) (fault : AuditFault) (failure : Failure) → failure ≡ failure_of origin fault
     → (fault ≡ faults.Read → ShowsRead left left' held held')
-    → (fault ≡ faults.OutOfMemory → BeginsRead left left' held held' (explanation.rows reading))
+    → (fault ≡ faults.OutOfMemory → BeginsRead left left' last held held' (explanation.rows reading))
     → ((bytes : List ℕ) → left ≡ Some bytes → fault ≡ faults.Write → Begins held held' (explanation.explain reading bytes))
-    → (fault ≡ faults.Write → BeginsRead left left' held held' (explanation.explain reading))
+    → (fault ≡ faults.Write → BeginsRead left left' last held held' (explanation.explain reading))
     → Explained left origin (Err failure) held held'
 explained_err left left' held held' origin faults.Read failure is rows memory told begun = let shown = rows refl in rw is (refl, (shown.0, shown.3))
 explained_err left left' held held' origin faults.Write failure is rows memory told begun =

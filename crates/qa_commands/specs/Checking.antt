@@ -1,10 +1,12 @@
--- What `check` writes, and the exit status that it returns.
-use Rattle.std.specs.Prelude.{◌≡◌, ◌⊎◌, ◌++◌, ⊤, ℕ, Bool, true, false, List, [], ◌∷◌, take, max, codes, Option, Some, None, Result, Ok, Err}
+-- What `check` writes, and how it ends.
+use Rattle.std.specs.Prelude.{◌≡◌, ◌⊎◌, ⊤, ℕ, Bool, true, false, List, [], ◌∷◌, codes, Option, Some, None, Result, Ok, Err}
 use Rattle.std.specs.Borrow.{Bor}
+use Rattle.std.specs.List.{list_any}
 use Rattle.std.specs.Io.KnownBytes.{Appends}
 use Rattle.qa_check.specs.Audit.{Reports, BeginsReport}
+use Rattle.qa_check.specs.Writing.{Begins}
 use Rattle.qa_check.specs.declared.auditing.Outcome.{Outcome}
-use Rattle.qa_commands.specs.Ending.{status_of}
+use Rattle.qa_commands.specs.Names.{line_with}
 use Rattle.qa_commands.specs.declared.ending.Failure.{Failure}
 use Rattle.qa_commands.specs.declared.ending.Failure.TheVariants.{Arguments, Open, Read, Write, OutOfMemory}
 use Rattle.qa_commands.specs.declared.ending.Origin.{Origin}
@@ -12,7 +14,7 @@ use Rattle.qa_commands.specs.declared.ending.Origin.TheVariants as origins
 
 -- the line that stands before the report of one of several files
 abbrev pub heading : List ℕ → List ℕ
-heading name = codes "file " ++ name ++ codes "\n"
+heading name = line_with (codes "file ") name
 
 -- this line was written, where there are several files
 abbrev pub Headed : Bool → List ℕ → Option (List ℕ) → Option (List ℕ) → Type 0
@@ -39,8 +41,8 @@ Unaudited name (Ok outcome) old new = ⊥
 Unaudited name (Err Arguments) old new = ⊥
 Unaudited name (Err (Open unopened)) old new = (unopened ≡ name) × (new ≡ old)
 Unaudited name (Err (Read origin)) old new = ⊥
-Unaudited name (Err Write) old new = (n : ℕ) × Appends old new (take n (heading name.now))
-Unaudited name (Err OutOfMemory) old new = new ≡ old
+Unaudited name (Err Write) old new = Begins old new (heading name.now)
+Unaudited name (Err OutOfMemory) old new = ⊥
 
 -- what was written for one file, one of several or not, which ended so
 abbrev pub Checks : Bool → Bor (List ℕ) → Result Outcome Failure → Option (List ℕ) → Option (List ℕ) → Type 0
@@ -56,16 +58,20 @@ stops (Err (Read origin)) = false
 stops (Err Write) = true
 stops (Err OutOfMemory) = false
 
+-- whether a failed write ended one of these
+abbrev pub any_stops : List (Result Outcome Failure) → Bool
+any_stops = list_any stops
+
 -- the first of two where it stops, and else the second
 abbrev pub Then : Bool → Type 0 → Type 0 → Type 0
 Then true stopped goes_on = stopped
 Then false stopped goes_on = goes_on
 
--- what was written for these files, in order, and the greatest of their statuses
-abbrev pub ChecksAll : Bool → List (Bor (List ℕ)) → Option (List ℕ) → Option (List ℕ) → ℕ → Type 0
-ChecksAll several [] old new status = (new ≡ old) × (status ≡ 0)
-ChecksAll several (name ∷ names) old new status =
-    (ended : Result Outcome Failure) × (middle : Option (List ℕ)) × (later : ℕ)
-    × Checks several name ended old middle
-    × Then (stops ended) ((new ≡ middle) × (later ≡ 0)) (ChecksAll several names middle new later)
-    × (status ≡ max (status_of ended) later)
+-- what was written for these files, in order, which ended so, up to one that stops
+abbrev pub ChecksAll : Bool → List (Bor (List ℕ)) → List (Result Outcome Failure) → Option (List ℕ) → Option (List ℕ) → Type 0
+ChecksAll several [] [] old new = new ≡ old
+ChecksAll several [] (ended ∷ endings) old new = ⊥
+ChecksAll several (name ∷ names) [] old new = ⊥
+ChecksAll several (name ∷ names) (ended ∷ endings) old new =
+    (middle : Option (List ℕ)) × Checks several name ended old middle
+    × Then (stops ended) ((endings ≡ []) × (new ≡ middle)) (ChecksAll several names endings middle new)

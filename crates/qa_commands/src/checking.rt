@@ -1,15 +1,18 @@
 //! The subcommand `check`.
-ghost use Rattle.std.specs.Prelude.{◌≡◌, ◌⊎◌, ℕ, [], true, Result, Err, IfOk, OnOk, IfErr, nat_lt, length, take, string_bytes};
+ghost use Rattle.std.specs.Prelude.{◌≡◌, ◌⊎◌, [], List, Result, OnOk, IfErr, is_err, length, nat_lt};
 ghost use Rattle.std.specs.Io.KnownBytes.{Appends};
 ghost use Rattle.qa_check.specs.Failures.{failures_after};
+ghost use Rattle.qa_check.specs.Writing.{Begins};
 ghost use Rattle.qa_commands.specs.Checking as checking;
-ghost use Rattle.qa_commands.specs.Checking.{Audited, Checks, ChecksAll, heading};
-ghost use Rattle.qa_commands.specs.Ending.{status_of};
+ghost use Rattle.qa_commands.specs.Checking.{Audited, Checks, ChecksAll, any_stops, heading};
+ghost use Rattle.qa_commands.specs.Commands.{ChecksFiles};
+ghost use Rattle.qa_commands.specs.Ending.{Ends};
 
-use crate::ending::{Failure, Origin, status};
-use qa_check::{Metered, Outcome, Sink, Source, audit, write_whole};
+use crate::ending::{Failure, Origin, end, exit_status, tell};
+use crate::naming::write_line;
+use qa_check::{Metered, Outcome, Sink, Source, audit};
 use qa_running::Running;
-use std::alloc::{AllocError, Global};
+use std::alloc::Global;
 use std::fs;
 use std::rt::Files;
 
@@ -17,50 +20,52 @@ use std::rt::Files;
 /// statuses. Before the report of one of several files stands a line with its name.
 ///
 /// Each failure is told on standard error. All but a failed write leave the files behind it to be
-/// audited.
-pub fn check<R: Files + Eprint + AllocGlobal, I: Source, O: Sink>(
+/// audited. Where there are files, nothing is read from standard input.
+pub fn check<R: Files, I: Source, O: Sink, E: Sink>(
     rt: &R,
+    alloc: Global,
     files: &[&str],
     input: &mut I,
     output: &mut O,
+    error: &mut E,
 ) -> u8
-    ensures files { files.now ≡ []
-        ⊎ ChecksAll (nat_lt 1 (length files.now)) files.now (O.held output.old) (O.held output.new) result }
-    ensures input { files.now ≡ [] → (ended : Result Outcome Failure)
-        × Audited (I.left input.old) Origin.StandardInput ended (O.held output.old) (O.held output.new) × (result ≡ status_of ended) }
+    ensures ended { (endings : List (Result Outcome Failure))
+        × ChecksFiles (I.left input.old) files.now endings (O.held output.old) (O.held output.new)
+        × (O.write_failures output.new
+        ≡ failures_after (any_stops endings) (O.write_failures output.old))
+        × Ends endings result (E.held error.old) (E.held error.new)
+        (E.write_failures error.old) (E.write_failures error.new) }
+    ensures unread { (files.now ≡ []) ⊎ (input.new ≡ input.old) }
 {
     if files.is_empty() {
-        let ended = audited(rt.alloc(), Origin::StandardInput, input, output);
-        end(rt, &ended)
+        let ended = audited(alloc, Origin::StandardInput, input, output);
+        end(&ended, error)
     } else {
-        check_files(rt, files, output)
+        check_files(rt, alloc, files, output, error)
     }
-}
-
-/// Tells a failure on standard error, and returns the exit status.
-pub fn end(rt: &impl Eprint, ended: &Result<Outcome, Failure<'_>>) -> u8
-    ensures { result ≡ status_of ended.now }
-{
-    if let Err(failure) = ended {
-        // A failure of standard error changes nothing.
-        let _ = eprintln!(rt; "{failure}");
-    }
-    status(ended)
 }
 
 /// Audits each file, up to a failed write.
-fn check_files<R: Files + Eprint + AllocGlobal, O: Sink>(
+fn check_files<R: Files, O: Sink, E: Sink>(
     rt: &R,
+    alloc: Global,
     files: &[&str],
     output: &mut O,
+    error: &mut E,
 ) -> u8
-    ensures { ChecksAll (nat_lt 1 (length files.now)) files.now (O.held output.old) (O.held output.new) result }
+    ensures { (endings : List (Result Outcome Failure))
+        × ChecksAll (nat_lt 1 (length files.now)) files.now endings (O.held output.old) (O.held output.new)
+        × (O.write_failures output.new
+        ≡ failures_after (any_stops endings) (O.write_failures output.old))
+        × Ends endings result (E.held error.old) (E.held error.new)
+        (E.write_failures error.old) (E.write_failures error.new) }
 {
     let several = files.len() > 1;
     let mut greatest = 0;
     for name in files {
-        let ended = check_file(rt, name, several, output);
-        greatest = end(rt, &ended).max(greatest);
+        let ended = check_file(rt, alloc, name, several, output);
+        tell(&ended, error);
+        greatest = exit_status(&ended).max(greatest);
         if stops(&ended) {
             return greatest;
         }
@@ -76,51 +81,38 @@ fn stops(ended: &Result<Outcome, Failure<'_>>) -> bool
 }
 
 /// Audits one file, which is one of several or not.
-fn check_file<'a, R: Files + AllocGlobal, O: Sink>(
+fn check_file<'a, R: Files, O: Sink>(
     rt: &R,
+    alloc: Global,
     name: &'a str,
     several: bool,
     output: &mut O,
 ) -> Result<Outcome, Failure<'a>>
-    ensures { Checks several name.entry result (O.held output.old) (O.held output.new) }
+    ensures written { Checks several name.entry result (O.held output.old) (O.held output.new) }
+    ensures failures { O.write_failures output.new
+        ≡ failures_after (checking.stops result) (O.write_failures output.old) }
 {
     let Ok(file) = fs::open(rt, name) else {
         return Err(Failure::Open(name));
     };
     if several {
-        write_heading(rt.alloc(), name, output)?;
+        write_heading(name, output)?;
     }
-    audited(
-        rt.alloc(),
-        Origin::File(name),
-        &mut Metered::new(file),
-        output,
-    )
+    audited(alloc, Origin::File(name), &mut Metered::new(file), output)
 }
 
 /// Writes the line that stands before the report of one of several files.
-fn write_heading<'a, O: Sink>(alloc: Global, name: &str, output: &mut O) -> Result<(), Failure<'a>>
+fn write_heading<'a, O: Sink>(name: &str, output: &mut O) -> Result<(), Failure<'a>>
     ensures ok { OnOk result (Appends (O.held output.old) (O.held output.new) (heading name.now)) }
-    ensures err { IfErr result (λ failure.
-        (failure ≡ Failure.Write
-        × ((n : ℕ) × Appends (O.held output.old) (O.held output.new) (take n (heading name.now))))
-        ⊎ (failure ≡ Failure.OutOfMemory × (O.held output.new ≡ O.held output.old))) }
-    ensures failed { (result ≡ Err Failure.Write)
-        → O.write_failures output.new ≡ failures_after true (O.write_failures output.old) }
+    ensures err { IfErr result (λ failure. (failure ≡ Failure.Write)
+        × Begins (O.held output.old) (O.held output.new) (heading name.now)) }
+    ensures failures { O.write_failures output.new
+        ≡ failures_after (is_err result) (O.write_failures output.old) }
 {
-    let Ok(line) = heading_line(alloc, name) else {
-        return Err(Failure::OutOfMemory);
-    };
-    match write_whole(output, line.as_bytes()) {
+    match write_line("file ", name, output) {
         Ok(()) => Ok(()),
         Err(_) => Err(Failure::Write),
     }
-}
-
-fn heading_line(alloc: Global, name: &str) -> Result<String, AllocError>
-    ensures { IfOk result (λ line. string_bytes line ≡ heading name.now) }
-{
-    format!(in alloc; "file {name}\n")
 }
 
 /// Audits one trace.
@@ -130,7 +122,9 @@ fn audited<'a, I: Source, O: Sink>(
     input: &mut I,
     output: &mut O,
 ) -> Result<Outcome, Failure<'a>>
-    ensures { Audited (I.left input.old) origin.entry result (O.held output.old) (O.held output.new) }
+    ensures written { Audited (I.left input.old) origin.entry result (O.held output.old) (O.held output.new) }
+    ensures failures { O.write_failures output.new
+        ≡ failures_after (checking.stops result) (O.write_failures output.old) }
 {
     match audit::<Running, I, O>(alloc, input, output) {
         Ok(outcome) => Ok(outcome),

@@ -1,10 +1,11 @@
 //! How the program ends.
-ghost use Rattle.std.specs.Prelude.{◌≡◌};
-ghost use Rattle.qa_commands.specs.Ending.{failure_of, status_of};
+ghost use Rattle.std.specs.Prelude.{◌≡◌, ◌++◌, ◌∷◌, Bool, [], Err, is_err};
+ghost use Rattle.qa_commands.specs.Ending.{audit_status, failure_of, line_told, message_of, status_of, Ends};
+ghost use Rattle.qa_commands.specs.Names.{shown_name};
+ghost use Rattle.qa_commands.specs.Writes.{Writes};
 
-use qa_check::{AuditFault, Outcome};
-use std::alloc::AllocError;
-use std::fmt;
+use crate::naming::write_line;
+use qa_check::{AuditFault, Outcome, Sink};
 
 /// What a trace is read from.
 #[derive(Clone, Copy)]
@@ -15,8 +16,6 @@ pub enum Origin<'a> {
 }
 
 /// Why there is no verdict on a trace.
-///
-/// It is printed as the line on standard error, without the LF.
 #[derive(Clone, Copy)]
 pub enum Failure<'a> {
     /// The arguments were refused.
@@ -41,62 +40,73 @@ impl<'a> Failure<'a> {
             AuditFault::OutOfMemory => Failure::OutOfMemory,
         }
     }
+
+    /// Writes the line that stands on standard error. Takes no memory.
+    pub fn write_to<E: Sink>(&self, error: &mut E) -> Result<(), AuditFault>
+        ensures { Writes (is_err result) (E.held error.old) (E.held error.new)
+            (E.write_failures error.old) (E.write_failures error.new) (line_told (Err self.now)) }
+    {
+        let (message, name) = self.message();
+        write_line(message, name, error)
+    }
+
+    /// The message, and the name that it ends in.
+    fn message(&self) -> (&'a str, &'a str)
+        ensures { result.0.now ++ shown_name result.1.now ≡ message_of self.now }
+    {
+        match self {
+            Failure::Arguments => ("usage: qaudit check [FILE...] or qaudit explain [FILE]", ""),
+            Failure::Open(name) => ("qaudit: cannot open ", name),
+            Failure::Read(origin) => match origin {
+                Origin::StandardInput => ("qaudit: read fault: standard input", ""),
+                Origin::File(name) => ("qaudit: read fault: ", name),
+            },
+            Failure::Write => ("qaudit: write fault", ""),
+            Failure::OutOfMemory => ("qaudit: out of memory", ""),
+        }
+    }
 }
 
-/// The exit status: 0 accepted, 1 refused, 2 unreadable, 64 where the arguments were refused, and 3
-/// where a file did not open, a stream failed or it was out of memory.
-pub fn status(ended: &Result<Outcome, Failure<'_>>) -> u8
-    ensures { result ≡ status_of ended.now }
+/// The exit status of an audit: 0 accepted, 1 refused, 2 unreadable, and 3 where a stream failed or
+/// it was out of memory.
+pub fn status(ended: &Result<Outcome, AuditFault>) -> u8
+    ensures { result ≡ audit_status ended.now }
 {
     match ended {
         Ok(Outcome::Accepted) => 0,
         Ok(Outcome::Refused) => 1,
         Ok(Outcome::Unreadable) => 2,
+        Err(_) => 3,
+    }
+}
+
+/// The exit status where it ended so: that of the audit, 64 where the arguments were refused, and 3
+/// where a file did not open.
+pub fn exit_status(ended: &Result<Outcome, Failure<'_>>) -> u8
+    ensures { result ≡ status_of ended.now }
+{
+    match ended {
+        Ok(outcome) => status(&Ok(*outcome)),
         Err(Failure::Arguments) => 64,
         Err(Failure::Open(_) | Failure::Read(_) | Failure::Write | Failure::OutOfMemory) => 3,
     }
 }
 
-impl fmt::Display for Origin<'_> {
-    ghost use Rattle.std.specs.Prelude.{Some};
-    ghost use Rattle.qa_commands.specs.Ending.{origin_text};
-
-    ghost output = { λ origin. Some (origin_text origin) };
-
-    fn fmt<W: fmt::Write>(&self, f: &mut fmt::Formatter<W>) -> fmt::Result {
-        match self {
-            Origin::StandardInput => f.write_str("standard input"),
-            Origin::File(name) => f.write_str(name),
-        }
-    }
+/// Tells a failure on standard error, and returns the exit status.
+pub fn end<E: Sink>(ended: &Result<Outcome, Failure<'_>>, error: &mut E) -> u8
+    ensures { Ends (ended.now ∷ []) result (E.held error.old) (E.held error.new)
+        (E.write_failures error.old) (E.write_failures error.new) }
+{
+    tell(ended, error);
+    exit_status(ended)
 }
 
-impl fmt::Display for Failure<'_> {
-    ghost use Rattle.std.specs.Prelude.{Some};
-    ghost use Rattle.qa_commands.specs.Ending.{message_of};
-
-    ghost output = { λ failure. Some (message_of failure) };
-
-    fn fmt<W: fmt::Write>(&self, f: &mut fmt::Formatter<W>) -> fmt::Result {
-        match self {
-            Failure::Arguments => {
-                f.write_str("usage: qaudit check [FILE...] or qaudit explain [FILE]")
-            }
-            Failure::Open(name) => write!(f, "qaudit: cannot open {name}"),
-            Failure::Read(origin) => write!(f, "qaudit: read fault: {origin}"),
-            Failure::Write => f.write_str("qaudit: write fault"),
-            Failure::OutOfMemory => f.write_str("qaudit: out of memory"),
-        }
-    }
-}
-
-impl From<AllocError> for Failure<'_> {
-    ghost use Rattle.std.specs.Prelude.{◌≡◌};
-    ghost use Rattle.qa_commands.specs.declared.ending.Failure.TheVariants as failures;
-
-    ghost from_gives = { λ _ failure. failure ≡ failures.OutOfMemory };
-
-    fn from(_refused: AllocError) -> Self {
-        Failure::OutOfMemory
+/// Tells a failure on standard error, whose own failure changes nothing.
+pub fn tell<E: Sink>(ended: &Result<Outcome, Failure<'_>>, error: &mut E)
+    ensures { (failed : Bool) × Writes failed (E.held error.old) (E.held error.new)
+        (E.write_failures error.old) (E.write_failures error.new) (line_told ended.now) }
+{
+    if let Err(failure) = ended {
+        let _lost = failure.write_to(error);
     }
 }

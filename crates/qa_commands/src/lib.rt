@@ -1,11 +1,14 @@
-//! What the subcommands of the program do: they audit or explain traces, of files or of standard
-//! input, tell each failure on standard error, and return the exit status.
+//! What the program does with its arguments: it audits or explains traces, of files or of standard
+//! input, tells each failure on standard error, and returns the exit status.
 #![tactic(auto)]
 
 mod checking;
+mod commanding;
 mod ending;
 mod explaining;
+mod naming;
 
-pub use checking::{check, end};
-pub use ending::{Failure, Origin};
+pub use checking::check;
+pub use commanding::{command, refuse};
+pub use ending::{Failure, Origin, status};
 pub use explaining::explain;

@@ -1,6 +1,7 @@
 //! What neither a clause nor a trace shows, and the examples of the README.
 mod arithmetic;
 mod auditor;
+mod commands;
 mod lines;
 mod machine;
 mod streams;
