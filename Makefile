@@ -11,19 +11,22 @@ program := crates/qaudit/out/qaudit
 program_by_one_byte := crates/one_byte/out/one_byte
 # The reader of lines by itself, a test of it.
 program_of_lines := crates/lines/out/lines
+# Each call over a trace, to be run with each allocation refused.
+program_without_memory := crates/without_memory/out/without_memory
 example := examples/ten-packets.trace
 # The tests of the programs of conformance/, which mostly wait for one another's processes.
 runner_tests := test_run test_trials test_mutations test_simulate test_links test_made_up
 
 # All programs in Python, by the places where their names are unlike each other.
-python := $(addprefix conformance/,allocations cuts failing large links made_up malicious mutations refusals run) \
-	conformance/simulate conformance/fuzz/instrument conformance/lines/make.py $(wildcard conformance/*.py)
+python := $(addprefix conformance/,allocations cuts failing large links made_up malicious memory mutations \
+	refusals run simulate) \
+	conformance/fuzz/instrument conformance/lines/make.py $(wildcard conformance/*.py)
 python_of_fuzz := conformance/fuzz/run
 python_of_bench := $(addprefix bench/,peers run trace) $(wildcard bench/*.py) bench/programs/read.py
 
 # The programs of conformance/ over what the gate built, the longest first. None waits for another.
 conformance := conformance-cuts conformance-failing conformance-refusals conformance-simulate conformance-mutations \
-	conformance-malicious conformance-large conformance-run conformance-allocations
+	conformance-malicious conformance-large conformance-run conformance-allocations conformance-memory
 
 .PHONY: help build one_byte lines run test gate conformance $(conformance) links made_up $(runner_tests) lint bench \
 	install clean
@@ -96,6 +99,9 @@ conformance-run:
 
 conformance-allocations:
 	conformance/allocations $(program)
+
+conformance-memory:
+	conformance/memory $(program_without_memory)
 
 # What the pages name has to be there.
 links:

@@ -4,5 +4,6 @@ mod auditor;
 mod commands;
 mod lines;
 mod machine;
+mod sets;
 mod streams;
 mod values;

@@ -38,3 +38,20 @@ fn lf_is_not_blank(rt: HostRuntime) {
     let not_json = LineFault::Fault(Fault::NotJson);
     assert_eq!(rt; read_line(rt.alloc(), b"\n").err(), Some(not_json));
 }
+
+/// Ranges that overlap and fall are copied as they stand.
+#[test]
+fn ranges_are_copied_in_their_order(rt: HostRuntime) -> Result<(), Fail> {
+    let mut ranges = Spans::new(rt.alloc());
+    ranges.push(span(3, 3)?)?;
+    ranges.push(span(0, 3)?)?;
+    let event = Event::Ack {
+        time: Micros::of(5),
+        space: Space::App,
+        ranges,
+        delay: 0,
+        app_limited: false,
+    };
+    assert!(rt; event.duplicate(rt.alloc())? == event);
+    Ok(())
+}

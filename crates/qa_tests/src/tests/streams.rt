@@ -94,12 +94,12 @@ fn a_write_fails(rt: HostRuntime) {
 
 /// A ledger that is out of memory at each event.
 #[derive(Drop)]
-struct Exhausted {
+struct Deaf {
     whole: Whole,
     failed: bool,
 }
 
-impl Ledger for Exhausted {
+impl Ledger for Deaf {
     ghost use Rattle.std.specs.Prelude.{length};
     ghost use Rattle.qa_plain.specs.Holding.{StandsFor};
 
@@ -109,8 +109,8 @@ impl Ledger for Exhausted {
 
     ghost admitted = { λ l. length l.whole.events };
 
-    fn start(alloc: Global, header: Header) -> Exhausted {
-        Exhausted {
+    fn start(alloc: Global, header: Header) -> Deaf {
+        Deaf {
             whole: Whole::start(alloc, header),
             failed: false,
         }
@@ -132,12 +132,22 @@ impl Ledger for Exhausted {
     }
 }
 
-/// The header is taken in, and the packet is not.
+/// Nothing is written, so the ledger that is named is the one that is asked.
 #[test]
-fn a_ledger_is_out_of_memory(rt: HostRuntime) {
+fn an_audit_has_a_ledger_out_of_memory(rt: HostRuntime) {
     let mut reader = Metered::new(TRACE.as_bytes());
     let mut writer = Metered::new(Vec::new(rt.alloc()));
-    let ended = explain::<Exhausted, _, _>(rt.alloc(), &mut reader, &mut writer);
+    let ended = audit::<Deaf, _, _>(rt.alloc(), &mut reader, &mut writer);
+    assert_eq!(rt; ended, Err(AuditFault::OutOfMemory));
+    assert!(rt; writer.into_inner().is_empty());
+}
+
+/// The header is taken in, and the packet is not.
+#[test]
+fn an_explanation_has_a_ledger_out_of_memory(rt: HostRuntime) {
+    let mut reader = Metered::new(TRACE.as_bytes());
+    let mut writer = Metered::new(Vec::new(rt.alloc()));
+    let ended = explain::<Deaf, _, _>(rt.alloc(), &mut reader, &mut writer);
     assert_eq!(rt; ended, Err(AuditFault::OutOfMemory));
     assert_eq!(rt; writer.into_inner().as_slice(), ROW.as_bytes());
 }

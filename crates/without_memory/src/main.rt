@@ -1,0 +1,270 @@
+//! A test of calls that are out of memory: makes each over the trace on standard input, and writes what
+//! it answers, a line for each call.
+//!
+//! It is run with one of its allocations refused, each in turn, so that there is memory again behind
+//! it. A splitter, a checker and a ledger that were out of memory are then asked again. What is written
+//! takes no memory. It ignores its arguments. It ends with status 0, or with 3 where a stream fails or
+//! the input itself takes more memory than there is.
+#![tactic(auto)]
+
+use qa_base::Totals;
+use qa_base::limits::MAX_LINES;
+use qa_check::{AuditFault, Checker, Metered, Outcome, Stop, Verdict, audit, explain};
+use qa_ledger::{Ledger, LedgerFault};
+use qa_plain::Whole;
+use qa_running::Running;
+use qa_trace::{Event, Header, Line, LineFault, SplitFault, Splitter, read_line, write_line};
+use std::alloc::{AllocError, Global};
+use std::io;
+use std::io::{Read, Write};
+use std::marker::Model;
+use std::process::ExitCode;
+
+fn main(rt: HostRuntime) -> ExitCode {
+    match tell_all(rt.alloc(), &mut rt.stdin(), &mut rt.stdout()) {
+        Ok(()) => ExitCode::from(0),
+        Err(_) => ExitCode::from(3),
+    }
+}
+
+/// Makes all calls over the input.
+fn tell_all<R: Read, W: Write>(alloc: Global, reader: &mut R, writer: &mut W) -> io::Result<()> {
+    let mut input = Vec::new(alloc);
+    reader.read_to_end(&mut input)?;
+    tell_splitter(alloc, &input, writer)?;
+    tell_lines(alloc, &input, writer)?;
+    tell(writer, "checker over the definitions")?;
+    tell_checker::<Whole, W>(alloc, &input, writer)?;
+    tell(writer, "checker over the running state")?;
+    tell_checker::<Running, W>(alloc, &input, writer)?;
+    tell(writer, "ledger of the definitions")?;
+    tell_ledger::<Whole, W>(alloc, &input, writer)?;
+    tell(writer, "ledger of the running state")?;
+    tell_ledger::<Running, W>(alloc, &input, writer)?;
+    tell_audit(alloc, &input, writer)?;
+    tell_explanation(alloc, &input, writer)
+}
+
+/// Writes a line.
+fn tell<W: Write>(writer: &mut W, text: &str) -> io::Result<()> {
+    writer.write_all(text.as_bytes())?;
+    writer.write_all(b"\n")
+}
+
+/// Writes what was written to a vector, and LF.
+fn tell_text<W: Write>(writer: &mut W, text: &[u8]) -> io::Result<()> {
+    writer.write_all(text)?;
+    writer.write_all(b"\n")
+}
+
+/// Cuts the input by a splitter, and asks it again where it was out of memory.
+fn tell_splitter<W: Write>(alloc: Global, input: &[u8], writer: &mut W) -> io::Result<()> {
+    tell(writer, "splitter")?;
+    let mut lines = Splitter::new(alloc);
+    if lines.feed(input).is_err() {
+        tell(writer, "out of memory")?;
+    }
+    // Closed or not, one that was out of memory answers so.
+    tell(writer, told_of_split(lines.next_line()))?;
+    lines.close();
+    tell(writer, told_of_split(lines.next_line()))
+}
+
+/// What a splitter answered.
+fn told_of_split(answer: Result<Option<&[u8]>, SplitFault>) -> &'static str {
+    match answer {
+        Ok(Some(_)) => "line",
+        Ok(None) => "no line",
+        Err(SplitFault::TooLong) => "line too long",
+        Err(SplitFault::OutOfMemory) => "out of memory",
+    }
+}
+
+/// Reads each line, and writes those that are good.
+fn tell_lines<W: Write>(alloc: Global, input: &[u8], writer: &mut W) -> io::Result<()> {
+    tell(writer, "lines")?;
+    for bytes in input.split(|byte| *byte == b'\n') {
+        let read = read_line(alloc, bytes);
+        tell(writer, told_of_read(&read))?;
+        // What was not read is read again.
+        if let Ok(line) = read.or(read_line(alloc, bytes)) {
+            tell(writer, told_of_written(&write_line(alloc, &line)))?;
+        }
+    }
+    Ok(())
+}
+
+/// What was read of a line.
+fn told_of_read(answer: &Result<Line, LineFault>) -> &'static str {
+    match answer {
+        Ok(_) => "read",
+        Err(LineFault::Fault(_)) => "fault",
+        Err(LineFault::OutOfMemory) => "out of memory",
+    }
+}
+
+/// Whether a line was written.
+fn told_of_written(answer: &Result<String, AllocError>) -> &'static str {
+    match answer {
+        Ok(_) => "written",
+        Err(_) => "out of memory",
+    }
+}
+
+/// Has a checker take each line, and asks it for its verdict.
+fn tell_checker<L: Ledger + Drop, W: Write>(
+    alloc: Global,
+    input: &[u8],
+    writer: &mut W,
+) -> io::Result<()> {
+    let mut checker = Checker::<L>::new(alloc);
+    for bytes in input.split(|byte| *byte == b'\n') {
+        let answer = checker.push_line(bytes);
+        tell(writer, told_of_push(answer))?;
+    }
+    tell(writer, told_of_verdict(checker.verdict()))
+}
+
+/// What a checker answered to a line.
+fn told_of_push(answer: Result<(), Stop>) -> &'static str {
+    match answer {
+        Ok(()) => "good",
+        Err(Stop::Decided) => "decided",
+        Err(Stop::OutOfMemory) => "out of memory",
+    }
+}
+
+/// What a checker came to.
+fn told_of_verdict(verdict: Option<Verdict>) -> &'static str {
+    match verdict {
+        None => "out of memory",
+        Some(Verdict::Accepted(_)) => "accepted",
+        Some(Verdict::Refused(..)) => "refused",
+        Some(Verdict::Unreadable(..)) => "unreadable",
+    }
+}
+
+/// A ledger, and how many events it was asked to admit.
+#[derive(Drop)]
+struct Asked<L: Ledger> {
+    ledger: L,
+    count: u64,
+}
+
+impl<L: Ledger> Model for Asked<L> {
+    ghost use Rattle.std.specs.Prelude.{ℕ, ◌≤◌};
+
+    ghost Value = { ℕ };
+
+    ghost view = { λ a. a.count };
+
+    ghost invariant = { λ a. L.admitted a.ledger ≤ a.count };
+}
+
+impl<L: Ledger + Drop> Asked<L> {
+    /// A ledger that was asked nothing.
+    fn new(alloc: Global, header: Header) -> Asked<L> {
+        Asked {
+            ledger: L::start(alloc, header),
+            count: 0,
+        }
+    }
+
+    /// Asks it to admit an event, and returns what it answered.
+    fn admit(&mut self, event: &Event) -> &'static str {
+        if MAX_LINES <= self.count || !event.fits() {
+            return "not asked";
+        }
+        self.count += 1;
+        match self.ledger.admit(event) {
+            Ok(()) => "admitted",
+            Err(LedgerFault::Broken(_)) => "broken",
+            Err(LedgerFault::OutOfMemory) => "out of memory",
+        }
+    }
+
+    /// Whether this is its state.
+    fn is_at(&self, totals: &Totals, owes: bool) -> bool {
+        self.ledger.totals() == *totals && self.ledger.owes() == owes
+    }
+}
+
+/// Has a ledger admit each event, and compares its state where it answers that it is out of memory.
+fn tell_ledger<L: Ledger + Drop, W: Write>(
+    alloc: Global,
+    input: &[u8],
+    writer: &mut W,
+) -> io::Result<()> {
+    let mut ledger: Option<Asked<L>> = None;
+    for bytes in input.split(|byte| *byte == b'\n') {
+        // An event that was not read is read again.
+        if let Ok(line) = read_line(alloc, bytes).or(read_line(alloc, bytes)) {
+            tell_taken(alloc, &mut ledger, &line, writer)?;
+        }
+    }
+    Ok(())
+}
+
+/// Takes in a line: a header starts the ledger.
+fn tell_taken<L: Ledger + Drop, W: Write>(
+    alloc: Global,
+    ledger: &mut Option<Asked<L>>,
+    line: &Line,
+    writer: &mut W,
+) -> io::Result<()> {
+    match line {
+        Line::Blank => Ok(()),
+        Line::Header(header) => {
+            *ledger = Some(Asked::new(alloc, *header));
+            Ok(())
+        }
+        Line::Event(event) => match ledger {
+            None => Ok(()),
+            Some(ledger) => tell_admitted(ledger, event, writer),
+        },
+    }
+}
+
+/// Has a ledger admit an event.
+fn tell_admitted<L: Ledger + Drop, W: Write>(
+    asked: &mut Asked<L>,
+    event: &Event,
+    writer: &mut W,
+) -> io::Result<()> {
+    let totals = asked.ledger.totals();
+    let owes = asked.ledger.owes();
+    let answer = asked.admit(event);
+    tell(writer, answer)?;
+    if answer != "admitted" && !asked.is_at(&totals, owes) {
+        tell(writer, "changed")?;
+    }
+    Ok(())
+}
+
+/// Audits the input onto a vector.
+fn tell_audit<W: Write>(alloc: Global, input: &[u8], writer: &mut W) -> io::Result<()> {
+    tell(writer, "audit")?;
+    let mut report = Metered::new(Vec::new(alloc));
+    let ended = audit::<Running, _, _>(alloc, &mut Metered::new(input), &mut report);
+    tell(writer, told_of_audit(ended))?;
+    tell_text(writer, &report.into_inner())
+}
+
+/// Explains the input onto a vector.
+fn tell_explanation<W: Write>(alloc: Global, input: &[u8], writer: &mut W) -> io::Result<()> {
+    tell(writer, "explanation")?;
+    let mut rows = Metered::new(Vec::new(alloc));
+    let ended = explain::<Running, _, _>(alloc, &mut Metered::new(input), &mut rows);
+    tell(writer, told_of_audit(ended))?;
+    tell_text(writer, &rows.into_inner())
+}
+
+/// How an audit ended.
+fn told_of_audit(ended: Result<Outcome, AuditFault>) -> &'static str {
+    match ended {
+        Ok(_) => "whole",
+        Err(AuditFault::Read) => "read fault",
+        Err(AuditFault::Write) => "write fault",
+        Err(AuditFault::OutOfMemory) => "out of memory",
+    }
+}
