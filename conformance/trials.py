@@ -120,11 +120,11 @@ class Held:
         answer = os.read(self.answers, ANSWER.size)
         if len(answer) < ANSWER.size:
             raise NotHeldError("the program is not linked with the C library at run time")
-        status, *counts, written, microseconds = ANSWER.unpack(answer)
+        status, allocations, refusals, reads, writes, written, microseconds = ANSWER.unpack(answer)
         _input, output, error = self.files
         texts = os.pread(output, written, 0), os.pread(error, os.fstat(error).st_size, 0)
         outcome = Outcome(os.waitstatus_to_exitcode(status), *texts)
-        return Run(outcome, *counts, seconds=microseconds / 1e6)
+        return Run(outcome, allocations, refusals, reads, writes, microseconds / 1e6)
 
 
 def compiled(folder: Path) -> Path:
