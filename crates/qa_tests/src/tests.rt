@@ -1,4 +1,4 @@
-//! What neither a clause nor a trace shows, and the examples of the README.
+//! What neither a clause nor a trace shows, and the examples of docs/library.md.
 mod arithmetic;
 mod auditor;
 mod commands;

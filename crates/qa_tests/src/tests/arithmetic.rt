@@ -5,7 +5,7 @@ ghost use Rattle.qa_base.specs.values.Limits.{max_time};
 use qa_base::Micros;
 use qa_recovery::{Reno, Rtt};
 
-/// The whole of a sender's arithmetic in a few lines: this is an example of the README.
+/// The whole of a sender's arithmetic in a few lines: this is an example of docs/library.md.
 #[test]
 fn a_sender(rt: HostRuntime) {
     let mut rtt = Rtt::start(Micros::of(333_000));

@@ -12,7 +12,7 @@ fn span(lo: u64, hi: u64) -> Result<Span, Fail> {
     Ok(Span::new(lo, hi).ok_or("a range")?)
 }
 
-/// This is an example of the README.
+/// This is an example of docs/library.md.
 #[test]
 fn a_line_is_written_and_read(rt: HostRuntime) -> Result<(), Fail> {
     let mut ranges = Spans::new(rt.alloc());

@@ -48,7 +48,7 @@ fn judged(ledger: &mut Running, event: Option<Event>) -> Option<Result<(), Ledge
     Some(ledger.admit(&event))
 }
 
-/// A loss and what comes of it: this is an example of the README.
+/// A loss and what comes of it: this is an example of docs/library.md.
 #[test]
 fn a_loss(rt: HostRuntime) -> Result<(), Fail> {
     let header = Header::new(Role::Server, 1200, None, None, None)?;
