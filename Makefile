@@ -1,11 +1,17 @@
-# What this repository is built, tested and installed with.
+# What this repository is built, tested, installed and released with.
 # It needs `rt`, which proves and builds Rattle crates, and Python 3.11; `make test` also needs a C compiler,
 # `make bench` compares with a program in Rust too where `cargo` and the crate `serde_json` are installed, and
 # `make lint` needs mypy, and ruff or flake8.
 
 PREFIX ?= /usr/local
 DESTDIR ?=
+# How many crates `make build` proves side by side; a proof takes 1 to 4 GB.
+JOBS ?= $(shell nproc)
 
+release := qaudit-$(shell cat VERSION)-x86_64-linux
+# A copy of the program that `make build` makes. The gate takes away what lies in crates/*/out while it runs.
+built := bin/qaudit
+# The program as the gate leaves it.
 program := crates/qaudit/out/qaudit
 # The same audit by a reader and a writer that move one byte a call, a test of it.
 program_by_one_byte := crates/one_byte/out/one_byte
@@ -28,32 +34,32 @@ python_of_bench := $(addprefix bench/,peers run trace) $(wildcard bench/*.py) be
 conformance := conformance-cuts conformance-failing conformance-refusals conformance-simulate conformance-mutations \
 	conformance-malicious conformance-large conformance-run conformance-allocations conformance-memory
 
-.PHONY: help build one_byte lines run test gate conformance $(conformance) links made_up $(runner_tests) lint bench \
-	install clean
+.PHONY: help build run test gate conformance $(conformance) links made_up $(runner_tests) lint bench install dist clean
 
 help:
-	@echo 'make build     proves the program and builds $(program)'
+	@echo 'make build     proves the program and builds $(built)'
 	@echo 'make run       builds it and audits $(example)'
 	@echo 'make test      runs the merge gate, and then the program over conformance/'
 	@echo 'make gate      runs the merge gate alone'
 	@echo 'make conformance runs the programs over conformance/ alone, once the gate has built them'
 	@echo 'make lint      checks the types and the style of the programs in Python'
 	@echo 'make bench     builds it, measures it on long traces and compares it with others, in about five minutes'
-	@echo 'make install   builds it and installs it in $$(DESTDIR)$$(PREFIX)/bin, and its man page; PREFIX is $(PREFIX)'
+	@echo 'make install   builds it and installs it in $$(DESTDIR)$$(PREFIX), with its man page, completions and docs;'
+	@echo '               PREFIX is $(PREFIX)'
+	@echo 'make dist      builds it and packs dist/$(release).tar.gz, which needs no kit'
 	@echo 'make clean     removes what was built'
 
-# `rt run` proves, builds and then runs the program; with no change since, it only runs it.
-build:
-	@cd crates/qaudit && rt run -- check < ../../$(example) > /dev/null
+build: $(built)
 
-one_byte:
-	@cd crates/one_byte && rt run < stdin > /dev/null
-
-lines:
-	@cd crates/lines && rt run < stdin > /dev/null
+# All other crates wait for qa_base. The rest of what crates.txt names for the program is proved side by side.
+$(built): crates.txt HANDLES $(shell find crates/qa_*/src crates/qa_*/specs crates/qa_*/proofs crates/qaudit/src)
+	cd crates/qa_base && rt lib --jobs $(JOBS)
+	cd crates/qaudit && rt all check --jobs $(JOBS)
+	cd crates/qaudit && rt run -- check < ../../$(example) > /dev/null
+	install -D -m 755 $(program) $@
 
 run: build
-	@$(program) check < $(example)
+	@$(built) check < $(example)
 
 # The tests of the runners and the checks of pages and sources need no program of ours, so they run beside the gate,
 # in its first minutes.
@@ -127,14 +133,19 @@ lint:
 # No part of `test`, for no number of seconds is right on every machine.
 bench: build
 	python3 bench/test_bench.py
-	bench/run $(program)
-	bench/peers $(program)
+	bench/run $(built)
+	bench/peers $(built)
 
+# A release is a folder that installs itself, so that there is one way to install.
 install: build
-	install -d '$(DESTDIR)$(PREFIX)/bin'
-	install -m 755 $(program) '$(DESTDIR)$(PREFIX)/bin/qaudit'
-	install -d '$(DESTDIR)$(PREFIX)/share/man/man1'
-	install -m 644 docs/qaudit.1 '$(DESTDIR)$(PREFIX)/share/man/man1/qaudit.1'
+	release/pack $(built) bin/$(release)
+	bin/$(release)/install '$(DESTDIR)$(PREFIX)'
+
+dist: build
+	release/pack $(built) bin/$(release)
+	mkdir -p dist
+	tar --sort=name --owner=0 --group=0 --numeric-owner -C bin -czf dist/$(release).tar.gz $(release)
+	@echo dist/$(release).tar.gz
 
 clean:
-	rm -rf crates/*/out
+	rm -rf crates/*/out bin dist
