@@ -34,7 +34,8 @@ python_of_bench := $(addprefix bench/,peers run trace) $(wildcard bench/*.py) be
 conformance := conformance-cuts conformance-failing conformance-refusals conformance-simulate conformance-mutations \
 	conformance-malicious conformance-large conformance-run conformance-allocations conformance-memory
 
-.PHONY: help build run test gate conformance $(conformance) links made_up $(runner_tests) lint bench install dist clean
+.PHONY: help build run one_byte lines test gate conformance $(conformance) links made_up $(runner_tests) lint bench \
+	install dist clean
 
 help:
 	@echo 'make build     proves the program and builds $(built)'
@@ -60,6 +61,12 @@ $(built): crates.txt HANDLES $(shell find crates/qa_*/src crates/qa_*/specs crat
 
 run: build
 	@$(built) check < $(example)
+
+one_byte:
+	@cd crates/one_byte && rt run < stdin > /dev/null
+
+lines:
+	@cd crates/lines && rt run < stdin > /dev/null
 
 # The tests of the runners and the checks of pages and sources need no program of ours, so they run beside the gate,
 # in its first minutes.
