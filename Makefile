@@ -28,14 +28,17 @@ python := $(addprefix conformance/,allocations cuts failing large links made_up 
 	refusals run simulate) \
 	conformance/fuzz/instrument conformance/lines/make.py $(wildcard conformance/*.py)
 python_of_fuzz := conformance/fuzz/run
+python_of_qlog := qlog/qlog-to-trace qlog/test_qlog.py $(wildcard qlog/qlog_to_trace/*.py)
+# captures/transfer.py runs where aioquic is, and is checked for style alone.
+python_of_captures := captures/run examples/logger.py
 python_of_bench := $(addprefix bench/,peers run trace) $(wildcard bench/*.py) bench/programs/read.py
 
 # The programs of conformance/ over what the gate built, the longest first. None waits for another.
 conformance := conformance-cuts conformance-failing conformance-refusals conformance-simulate conformance-mutations \
 	conformance-malicious conformance-large conformance-run conformance-allocations conformance-memory
 
-.PHONY: help build run one_byte lines test gate conformance $(conformance) links made_up $(runner_tests) lint bench \
-	install dist clean
+.PHONY: help build run one_byte lines test gate conformance $(conformance) links made_up $(runner_tests) test_qlog lint \
+	bench install dist clean
 
 help:
 	@echo 'make build     proves the program and builds $(built)'
@@ -71,14 +74,14 @@ lines:
 # The tests of the runners and the checks of pages and sources need no program of ours, so they run beside the gate,
 # in its first minutes.
 test:
-	$(MAKE) --no-print-directory -j 2 gate links made_up $(runner_tests)
+	$(MAKE) --no-print-directory -j 2 gate links made_up $(runner_tests) test_qlog
 	$(MAKE) --no-print-directory -j 4 --output-sync=target $(conformance)
 
 # `rt ci` proves all crates from nothing, and leaves each program built of what it proved.
 gate:
 	rt ci
 
-conformance: $(conformance) links made_up $(runner_tests)
+conformance: $(conformance) links made_up $(runner_tests) test_qlog
 
 conformance-cuts:
 	conformance/cuts $(program)
@@ -107,6 +110,7 @@ conformance-large:
 conformance-run:
 	conformance/run $(program)
 	conformance/run --traces $(program_by_one_byte)
+	conformance/run --traces $(program) conformance/real
 	python3 conformance/lines/make.py --check
 	conformance/run --lines $(program_of_lines)
 
@@ -127,15 +131,22 @@ made_up:
 $(runner_tests):
 	python3 conformance/$@.py
 
+# The converter of logs, over small logs and those of conformance/real, and the example of a logger.
+test_qlog:
+	python3 qlog/test_qlog.py
+
 # No part of `test`, for it needs tools that need not be there. Both are told what to check by pyproject.toml; flake8,
 # which stands in for ruff where there is none, knows less and does not read it.
 lint:
 	mypy $(python)
 	mypy $(python_of_fuzz)
 	mypy $(python_of_bench)
+	mypy $(python_of_qlog)
+	mypy $(python_of_captures)
 	if command -v ruff > /dev/null; then ruff check; else \
 		flake8 --max-line-length 100 --extend-ignore E203,W503 \
-			--per-file-ignores '*/test_*.py:N802' $(python) $(python_of_fuzz) $(python_of_bench); fi
+			--per-file-ignores '*/test_*.py:N802' $(python) $(python_of_fuzz) $(python_of_bench) \
+			$(python_of_qlog) $(python_of_captures) captures/transfer.py; fi
 
 # No part of `test`, for no number of seconds is right on every machine.
 bench: build

@@ -51,12 +51,13 @@ def events_of(trace: bytes) -> tuple[Event, list[tuple[int, Event]]]:
 
 
 class TheSender(unittest.TestCase):
-    """The reports of the corpus were written by hand, and the sender gives them."""
+    """The sender gives the reports of the corpus, which were written by hand but for real logs."""
 
     def test_corpus(self) -> None:
         traces = [
             it
-            for it in sorted((FOLDER / "traces").glob("*.trace"))
+            for folder in (FOLDER, FOLDER / "real")
+            for it in sorted((folder / "traces").glob("*.trace"))
             if not it.with_suffix(".report").read_text().startswith("unreadable")
         ]
         self.assertGreater(len(traces), 50)

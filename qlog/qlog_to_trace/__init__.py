@@ -1,0 +1,1 @@
+"""Turns the qlog of a QUIC connection into a trace that `qaudit check` reads."""

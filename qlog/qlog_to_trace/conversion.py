@@ -1,0 +1,338 @@
+"""The second reading of a log: the lines of its events."""
+
+from collections import defaultdict
+from collections.abc import Iterable
+
+from .dialects import Dialect, Limited
+from .events import SPACE_OF_NAME, SPACES, Event
+from .flight import Flight, as_ranges
+from .groups import Group, Groups, Kind
+from .handshake import Handshake
+from .lines import RTTS, Lines
+from .notes import Guess, Notes, Omission
+from .survey import Survey
+
+# RFC 9002, 6.1: kPacketThreshold, kTimeThreshold, and 6.2.4: packets of a probe.
+PACKET_THRESHOLD = 3
+TIME_THRESHOLD = (9, 8)
+DATAGRAMS_OF_PROBE = 2
+KINDS_OF_TIMER = {"ack": "loss", "loss": "loss", "loss_timeout": "loss", "pto": "pto"}
+
+
+class Conversion:
+    """Writes the lines of a trace, group by group."""
+
+    def __init__(
+        self, dialect: Dialect, role: str, survey: Survey, lines: Lines, notes: Notes, datagram: int
+    ) -> None:
+        self._dialect, self._survey, self._lines, self._notes = dialect, survey, lines, notes
+        told = dialect.logs_timers
+        self._logs_timers = survey.has_timers if told is None else told
+        self._datagram = datagram
+        self._flight = Flight()
+        self._handshake = Handshake(role, survey, lines, self._flight, notes)
+        # The latest values of each metric, RTTs in nanoseconds.
+        self._metrics: dict[str, int] = {}
+        self._has_sample = False
+        self._state: str | None = None
+        self._pto_count = 0
+        # Bytes that the last probe timeout still allows.
+        self._probe_left = 0
+        # Whether the window fell since the last packet that was sent.
+        self._has_fallen = False
+        # When the last ack-eliciting packet of a space was sent.
+        self._last_eliciting: dict[str, int] = {}
+
+    def convert(self, events: Iterable[Event]) -> None:
+        """Writes all lines behind the header."""
+        acts = {
+            Kind.SENT: self._on_sent,
+            Kind.RECEIVED: self._on_received,
+            Kind.LOST: self._on_lost,
+            Kind.TIMER: self._on_timer,
+            Kind.OTHER: self._on_other,
+        }
+        for group in Groups(events, self._dialect):
+            acts[group.kind](group)
+
+    # What the log says beside packets.
+
+    def _take_metrics(self, events: Iterable[Event]) -> bool:
+        """Takes what metrics say; whether they say more than a PTO count.
+
+        A line of the PTO count alone says nothing of the rest; one of anything else, that the rest
+        is as it was.
+        """
+        found = False
+        before = self._metrics.get("window")
+        for event in events:
+            if event.name == "congestion_state_updated":
+                self._state = str(event.data.get("new"))
+            if event.name != "metrics_updated":
+                continue
+            count = event.pto_count()
+            self._pto_count = self._pto_count if count is None else count
+            found = found or set(event.data) != {"pto_count"}
+            self._metrics |= event.metrics()
+        self._has_sample = self._has_sample or self._metrics.get("min_rtt", 0) > 0
+        if before is not None and self._metrics["window"] < before:
+            self._has_fallen = True
+        return found
+
+    def _report(self, time: int) -> None:
+        """A report of all values that are known. Before a sample a log says 0, or nothing."""
+        known = {
+            key: value
+            for key, value in self._metrics.items()
+            if self._has_sample or key not in RTTS
+        }
+        if known:
+            self._lines.metrics(time, known)
+
+    def _write_lost(self, event: Event, lost: Iterable[Event]) -> None:
+        """The Lost line of each space, at the time of an event."""
+        spaces: dict[str, list[int]] = defaultdict(list)
+        for it in lost:
+            if it.name == "packet_lost" and it.space:
+                spaces[it.space].append(it.number)
+        for space, numbers in spaces.items():
+            self._lines.event("lost", event.time, space=space, ranges=as_ranges(numbers))
+            self._flight.take(space, numbers)
+
+    # Packets that are sent.
+
+    def _on_sent(self, group: Group) -> None:
+        first, last = group.events[0], group.events[-1]
+        self._guess_probes(group)
+        is_reported = self._take_metrics(group.beside)
+        reported = self._metrics.get("bytes_in_flight")
+        if self._handshake.awaits_discard:
+            added = sum(event.size for event in group.events if event.is_in_flight)
+            self._handshake.settle(first, reported, added)
+        is_late = False
+        for event in group.events:
+            is_late |= self._handshake.before_sent(event, reported if is_reported else None)
+            self._write_sent(event)
+        if is_reported:
+            self._forget(last)
+            self._report(max(last.time, *(it.time for it in group.beside)))
+        if is_late:
+            self._handshake.discard("initial", last)
+
+    def _guess_probes(self, group: Group) -> None:
+        """Probe timeouts that a log without timers shows by its count, or by a PING."""
+        if self._logs_timers:
+            return
+        if self._dialect.probes_by_ping:
+            if any("ping" in event.frame_types for event in group.events):
+                self._notes.guess(Guess.PROBE_BY_PING)
+                self._write_timer(group.first, "pto", self._probed_space())
+            return
+        counts = (event.pto_count() for event in group.beside)
+        count = next((it for it in counts if it is not None), self._pto_count)
+        for _ in range(count - self._pto_count):
+            self._notes.guess(Guess.PROBE_BY_COUNT)
+            self._write_timer(group.first, "pto", self._probed_space())
+
+    def _write_sent(self, event: Event) -> None:
+        space, number, size = event.space, event.number, event.size
+        assert space
+        is_eliciting, is_in_flight = event.is_eliciting, event.is_in_flight
+        self._lines.event(
+            "sent",
+            event.time,
+            space=space,
+            number=number,
+            size=size,
+            eliciting=is_eliciting,
+            in_flight=is_in_flight,
+            leave=self._leave(size) if is_in_flight else "window",
+        )
+        if is_in_flight:
+            self._flight.add(space, number, size, event.time)
+        if is_eliciting:
+            self._last_eliciting[space] = event.time
+
+    def _leave(self, size: int) -> str:
+        """By a probe if one is allowed, else by the window if it has room, else by recovery."""
+        is_first, self._has_fallen = self._has_fallen, False
+        if self._probe_left >= size:
+            self._probe_left -= size
+            self._notes.guess(Guess.LEAVE_PROBE)
+            return "probe"
+        window = self._metrics.get("window")
+        if is_first and window is not None and self._flight.bytes + size > window:
+            self._notes.guess(Guess.LEAVE_RECOVERY)
+            return "recovery"
+        return "window"
+
+    def _probed_space(self) -> str:
+        """The space whose probe timeout is the first, where the log does not name it."""
+        delay = self._survey.max_ack_delay or 0
+        due = [
+            (self._last_eliciting[space] + (delay if space == "app" else 0), order, space)
+            for order, space in enumerate(SPACES)
+            if self._flight.has(space)
+            and space in self._last_eliciting
+            and (space != "app" or self._handshake.is_confirmed)
+        ]
+        if due:
+            return min(due)[2]
+        return "handshake" if self._handshake.has_keys else "initial"
+
+    def _forget(self, event: Event) -> None:
+        """Bytes that left with no event: quic-go takes packets out of flight that it probes for."""
+        missing = self._flight.bytes - self._metrics.get("bytes_in_flight", self._flight.bytes)
+        if missing <= 0:
+            return
+        found = self._flight.first_of_sum(missing)
+        if found is None:
+            self._notes.omit(Omission.FLIGHT_DIFFERS)
+            return
+        space, numbers = found
+        self._lines.event("metrics", event.time, x_forgot=as_ranges(numbers), x_space=space)
+        self._flight.take(space, numbers)
+        self._notes.omit(Omission.LEFT_FLIGHT, len(numbers))
+
+    # Packets that come.
+
+    def _on_received(self, group: Group) -> None:
+        event, lost = group.first, group.lost_before
+        if lost and not self._is_shown(lost, event, group.beside):
+            self._guess_loss_timer(lost)
+            lost = []
+        if event.space == "handshake":
+            self._handshake.take_keys(event)
+        held = dict(self._metrics)
+        is_reported = self._take_metrics(group.beside)
+        lost = lost or [it for it in group.beside if it.name == "packet_lost"]
+        if self._handshake.awaits_discard:
+            self._settle_received(event, lost)
+        for frame in event.acks:
+            self._write_ack(event, frame, held.get("window"), lost)
+            lost = []
+        self._lost_alone(lost)
+        if "handshake_done" in event.frame_types:
+            self._handshake.on_done(event)
+        if is_reported:
+            times = [it.time for it in group.beside if it.name == "metrics_updated"]
+            self._report(max(event.time, *times))
+        elif held != self._metrics:
+            self._report(event.time)
+        self._handshake.after_received(event)
+
+    def _settle_received(self, event: Event, lost: list[Event]) -> None:
+        """The discards that are due, by what leaves with an acknowledgment and its losses."""
+        space = event.space
+        assert space
+        gone = {
+            (space, number)
+            for frame in event.acks
+            for number in self._flight.named(space, event.ranges(frame))
+        }
+        gone |= {(it.space, it.number) for it in lost if it.space}
+        change = -sum(self._flight.size_of(at, number) for at, number in gone)
+        self._handshake.settle(event, self._metrics.get("bytes_in_flight"), change)
+
+    def _write_ack(
+        self, event: Event, frame: dict[str, object], before: int | None, lost: list[Event]
+    ) -> None:
+        space, ranges = event.space, event.ranges(frame)
+        assert space
+        if space in self._handshake.gone or not ranges:
+            what = Omission.ACK_OF_NOTHING if not ranges else Omission.ACK_OF_GONE_SPACE
+            self._notes.omit(what)
+            return
+        delay = 0
+        if space in self._dialect.delay_spaces:
+            delay = event.nanoseconds(frame.get("ack_delay") or 0, "ack_delay")
+        self._lines.event(
+            "ack",
+            event.time,
+            space=space,
+            ranges=ranges,
+            delay=self._lines.in_unit(delay),
+            limited=self._is_limited(before) and not lost,
+        )
+        self._flight.take(space, self._flight.named(space, ranges))
+        self._write_lost(event, lost)
+
+    def _is_limited(self, before: int | None) -> bool:
+        """Whether the sender had not used its window."""
+        if self._dialect.limited is Limited.BY_STATE:
+            return self._state == "application_limited"
+        if self._dialect.limited is Limited.NEVER or before is None:
+            return False
+        is_same = self._metrics.get("window") == before
+        if is_same:
+            self._notes.guess(Guess.LIMITED_BY_WINDOW)
+        return is_same
+
+    def _is_shown(self, lost: list[Event], received: Event, beside: list[Event]) -> bool:
+        """Whether an acknowledgment shows losses, by number or by age at the RTT behind it."""
+        ranges = [pair for frame in received.acks for pair in received.ranges(frame)]
+        if not ranges or received.time != lost[0].time:
+            return False
+        top = max(high for _, high in ranges)
+        numbers = [event.number for event in lost]
+        if numbers[0] > top or any(low <= it <= high for it in numbers for low, high in ranges):
+            return False
+        values = beside[-1].metrics() if beside else {}
+        rtt = max(values.get("latest_rtt", 0), values.get("smoothed_rtt", 0))
+        space = str(lost[0].space)
+        times, part = TIME_THRESHOLD
+        return any(
+            number + PACKET_THRESHOLD <= top
+            or part * (received.time - self._flight.time_of(space, number)) >= times * rtt
+            for number in numbers
+        )
+
+    # Losses and timers.
+
+    def _on_lost(self, group: Group) -> None:
+        self._lost_alone([*group.events, *group.beside])
+
+    def _lost_alone(self, lost: list[Event]) -> None:
+        """Losses that no acknowledgment shows: those of a timer, where the log has no timers."""
+        if not lost:
+            return
+        if not self._logs_timers:
+            self._guess_loss_timer(lost)
+            return
+        self._notes.omit(Omission.LOSS_OF_NOTHING)
+        self._write_lost(lost[0], lost)
+
+    def _guess_loss_timer(self, lost: list[Event]) -> None:
+        self._notes.guess(Guess.LOSS_TIMER)
+        self._write_timer(lost[0], "loss", str(lost[0].space))
+        self._after_timer(lost[0], lost)
+
+    def _on_timer(self, group: Group) -> None:
+        event = group.first
+        kind = KINDS_OF_TIMER.get(str(event.data.get("timer_type")))
+        space = SPACE_OF_NAME.get(str(event.data.get("packet_number_space")))
+        if kind is None or space is None:
+            self._notes.omit(Omission.OTHER_TIMER)
+            return
+        self._write_timer(event, kind, space)
+        self._after_timer(event, group.beside)
+
+    def _write_timer(self, event: Event, kind: str, space: str) -> None:
+        self._lines.event("timer", event.time, kind=kind, space=space)
+        if kind == "pto":
+            self._probe_left = DATAGRAMS_OF_PROBE * self._datagram
+            if not self._logs_timers:
+                self._pto_count += 1
+
+    def _after_timer(self, event: Event, beside: list[Event]) -> None:
+        """The losses that a timer found, and the values behind it."""
+        self._write_lost(event, beside)
+        if self._take_metrics(beside):
+            self._report(max(it.time for it in beside))
+
+    def _on_other(self, group: Group) -> None:
+        event = group.first
+        if event.name in ("key_updated", "key_retired", "key_discarded"):
+            self._handshake.on_keys_event(event)
+        elif self._take_metrics([event]):
+            self._report(event.time)

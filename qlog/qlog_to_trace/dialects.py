@@ -1,0 +1,134 @@
+"""What is known of the stacks: what their logs leave out, and what is taken in its place.
+
+A new stack is one more entry of DIALECTS. The one named `generic` is for all others.
+"""
+
+from dataclasses import dataclass
+from enum import Enum
+from typing import Any
+
+MICROSECONDS_OF_INITIAL_RTT = 333_000
+
+
+class Limited(Enum):
+    """How it is known that the sender had not used its window (RFC 9002, 7.8)."""
+
+    BY_STATE = "the congestion state application_limited"
+    BY_WINDOW = "a window that an acknowledgment left as it was"
+    NEVER = "not at all"
+
+
+@dataclass(frozen=True)
+class Dialect:
+    """A kind of log. Times are in microseconds."""
+
+    name: str
+    # It is of this kind where its title or the name of its vantage point has one of these.
+    marks: tuple[str, ...] = ()
+    # Whether logs of it were converted and audited; if not, it is as the documentation says.
+    is_tried: bool = False
+    # The RTT before a sample, where the log does not say it.
+    initial_rtt: int | None = None
+    # How many datagrams the first window has.
+    initial_datagrams: int = 10
+    # packet_lost stands before the packet_received that shows the loss.
+    losses_stand_before: bool = False
+    # The metrics after a packet that was sent stand before it.
+    metrics_stand_before: bool = False
+    # Whether timers that expire are logged; where it is not known, by whether the log has one.
+    logs_timers: bool | None = None
+    # Nothing tells of a probe timeout but a PING that is sent.
+    probes_by_ping: bool = False
+    # Spaces in which the sender subtracts the peer's delay.
+    delay_spaces: tuple[str, ...] = ("handshake", "app")
+    limited: Limited = Limited.BY_STATE
+    # How far off reports can be.
+    slack_us: int = 10
+    slack_bytes: int = 0
+    # Options of version 3 of the format alone.
+    window: str = "newreno"
+    window_overshoot: bool = False
+    sample_eliciting_only: bool = False
+    packet_threshold: int = 3
+    timer_early_us: int = 0
+
+
+GENERIC = Dialect("generic")
+
+DIALECTS = (
+    # 0.29: a JSON text a line, draft-02, times with six decimals, read after the event. Metrics
+    # have changes alone. Before a sample all RTT values are 0 and the probe timeout is 200 ms,
+    # three times 66.667 ms. latest_rtt is the sample without the peer's delay, smoothed_rtt and
+    # rtt_variance are whole microseconds. No ssthresh. PADDING is not logged. Packets of one
+    # datagram are all logged before the metrics of the first. The timer of a client with nothing in
+    # flight is not logged.
+    Dialect(
+        "quic-go",
+        ("quic-go",),
+        is_tried=True,
+        initial_rtt=66_666,
+        initial_datagrams=32,
+        logs_timers=True,
+        delay_spaces=("app",),
+        slack_us=1_000,
+        window="reported",
+        window_overshoot=True,
+        sample_eliciting_only=True,
+        timer_early_us=1_000,
+    ),
+    # 0.12: JSON-SEQ, 0.3, all times in whole ms, rounded down. No timers and no keys. Metrics have
+    # all values. The delay of Initial and Handshake acknowledgments is logged as 0.
+    Dialect(
+        "ngtcp2",
+        ("ngtcp2",),
+        is_tried=True,
+        losses_stand_before=True,
+        logs_timers=False,
+        limited=Limited.BY_WINDOW,
+        slack_us=2_000,
+        slack_bytes=64,
+        window="reported",
+        window_overshoot=True,
+        sample_eliciting_only=True,
+        timer_early_us=3_000,
+    ),
+    # 1.2: one JSON object, 0.3, times of the wall clock. No timers, no PTO count and no key_retired
+    # of the Initial space. Metrics have what changed. Before a sample the probe timeout is 200 ms.
+    # packet_lost has its type and number beside and not in a header.
+    Dialect(
+        "aioquic",
+        ("aioquic",),
+        is_tried=True,
+        initial_rtt=66_666,
+        metrics_stand_before=True,
+        logs_timers=False,
+        probes_by_ping=True,
+        delay_spaces=("initial", "handshake", "app"),
+        limited=Limited.NEVER,
+        slack_us=1_000,
+        slack_bytes=64,
+        window="reported",
+        window_overshoot=True,
+        timer_early_us=1_000,
+    ),
+    # By their documentation: JSON-SEQ of the Rust crate `qlog`, 0.3, times in ms with fractions;
+    # metrics have what changed.
+    Dialect("quinn", ("quinn",), slack_us=1_000, slack_bytes=1_200),
+    Dialect("neqo", ("neqo",), slack_us=1_000),
+    Dialect("quiche", ("quiche",), slack_us=1_000, slack_bytes=1_200),
+    # By its documentation: one JSON object, events as lists, times in microseconds. Its losses name
+    # no packets, so a log with losses gives no trace.
+    Dialect("mvfst", ("mvfst",), slack_us=1_000),
+    GENERIC,
+)
+
+BY_NAME = {dialect.name: dialect for dialect in DIALECTS}
+
+
+def dialect_of(header: dict[str, Any]) -> Dialect:
+    """The dialect that a log names in its title or at its vantage point."""
+    vantage = header.get("vantage_point")
+    name = vantage.get("name") if isinstance(vantage, dict) else vantage
+    said = (header.get("title"), header.get("description"), name, header.get("code_version"))
+    text = " ".join(str(it) for it in said).lower()
+    return next((it for it in DIALECTS if any(mark in text for mark in it.marks)), GENERIC)

@@ -1,0 +1,333 @@
+"""The events of a qlog, by whatever names and in whatever units its draft has them."""
+
+from collections.abc import Iterable, Iterator
+from decimal import Decimal
+from functools import lru_cache
+from typing import Any
+
+from .errors import Unusable
+from .forms import Record, object_at
+
+NANOSECONDS = {"ns": 1, "us": 1_000, "ms": 1_000_000}
+SPACE_OF_PACKET = {
+    "initial": "initial",
+    "handshake": "handshake",
+    "0rtt": "app",
+    "1rtt": "app",
+}
+SPACE_OF_NAME = {
+    "initial": "initial",
+    "handshake": "handshake",
+    "application_data": "app",
+    "application": "app",
+    "appdata": "app",
+    "app": "app",
+}
+SPACES = ("initial", "handshake", "app")
+# All other events are passed over, also where they stand within a group.
+NAMES = {
+    "packet_sent",
+    "packet_received",
+    "packet_lost",
+    "packets_lost",
+    "metrics_updated",
+    "congestion_state_updated",
+    "loss_timer_updated",
+    "key_updated",
+    "key_retired",
+    "key_discarded",
+    "parameters_set",
+}
+# Names of later drafts for the same.
+OTHER_NAMES = {
+    "recovery_metrics_updated": "metrics_updated",
+    "timer_updated": "loss_timer_updated",
+    "transport_parameters_set": "parameters_set",
+    "metric_update": "metrics_updated",
+}
+# Frames that do not make a packet ack-eliciting (RFC 9002, section 2).
+QUIET_FRAMES = {"ack", "ack_ecn", "padding", "connection_close", "application_close"}
+ACK_FRAMES = ("ack", "ack_ecn")
+# Names of the forms of times in several drafts: whether each counts from the one before.
+IS_DELTA = {
+    "delta": True,
+    "delta_time": True,
+    "relative_to_previous_event": True,
+    "relative": False,
+    "relative_time": False,
+    "relative_to_epoch": False,
+    "absolute": False,
+    "time": False,
+}
+RTTS = {
+    "latest_rtt": "latest_rtt",
+    "min_rtt": "min_rtt",
+    "smoothed_rtt": "smoothed_rtt",
+    "rtt_variance": "rttvar",
+}
+BYTES = {
+    "congestion_window": "window",
+    "cwnd": "window",
+    "current_cwnd": "window",
+    "ssthresh": "ssthresh",
+    "bytes_in_flight": "bytes_in_flight",
+}
+GREATEST_PACKET_NUMBER = (1 << 62) - 1
+GREATEST_SIZE = 65527
+GREATEST_BYTES = (1 << 64) - 1
+
+Ranges = list[list[int]]
+
+
+class Event:
+    """An event: its time in nanoseconds from the start, its name without a category, its data."""
+
+    __slots__ = ("index", "place", "time", "scale", "name", "data", "space", "_kinds")
+
+    def __init__(self, place: str, time: int, name: str, data: dict[str, Any]) -> None:
+        self.place, self.time, self.name, self.data = place, time, name, data
+        # Which of the events of the log it is.
+        self.index = 0
+        # How many nanoseconds its durations count.
+        self.scale = NANOSECONDS["ms"]
+        kind = self.header.get("packet_type") or data.get("packet_type") or data.get("type") or ""
+        self.space = space_of_packet(str(kind)) if kind else None
+        self._kinds: list[str] | None = None
+
+    def error(self, reason: str) -> Unusable:
+        """What is wrong with the event."""
+        return Unusable(f"{self.name}: {reason}", self.place)
+
+    def integer(self, value: Any, what: str, greatest: int = GREATEST_PACKET_NUMBER) -> int:
+        """A whole number that a log may write as a string or with a fraction of 0."""
+        number = value if type(value) is int else self._integer(value, what)
+        if not 0 <= number <= greatest:
+            raise self.error(f"{what} is {number}")
+        return number
+
+    def _integer(self, value: Any, what: str) -> int:
+        if isinstance(value, bool) or not isinstance(value, int | str | Decimal):
+            raise self.error(f"no {what}")
+        try:
+            return int(Decimal(value))
+        except (ArithmeticError, ValueError) as error:
+            raise self.error(f"{what} is no number") from error
+
+    def nanoseconds(self, value: Any, what: str) -> int:
+        """A duration, rounded down."""
+        if type(value) is int and value >= 0:
+            return value * self.scale
+        try:
+            return max(0, int(as_number(value) * self.scale))
+        except (ArithmeticError, TypeError, ValueError) as error:
+            raise self.error(f"{what} is no number") from error
+
+    # Packets.
+
+    @property
+    def header(self) -> dict[str, Any]:
+        """The header of the packet; some logs have its keys beside."""
+        header = self.data.get("header")
+        return header if isinstance(header, dict) else self.data
+
+    @property
+    def number(self) -> int:
+        """The packet number."""
+        number = self.header.get("packet_number")
+        number = self.data.get("packet_number") if number is None else number
+        return self.integer(number, "packet_number")
+
+    @property
+    def size(self) -> int:
+        """The size of the packet."""
+        raw = self.data.get("raw") or {}
+        size = raw.get("length") if isinstance(raw, dict) else None
+        size = size or self.header.get("packet_size") or self.data.get("packet_size")
+        found = self.integer(size, "raw.length", GREATEST_SIZE)
+        if found == 0:
+            raise self.error("raw.length is 0")
+        return found
+
+    @property
+    def frames(self) -> list[dict[str, Any]]:
+        """The frames of the packet."""
+        frames = self.data.get("frames") or []
+        if not isinstance(frames, list) or not all(isinstance(it, dict) for it in frames):
+            raise self.error("frames is no list of objects")
+        return frames
+
+    @property
+    def frame_types(self) -> list[str]:
+        """The kinds of its frames, in their order."""
+        if self._kinds is None:
+            kinds = (it.get("frame_type") or it.get("type") for it in self.frames)
+            self._kinds = [str(it).lower() for it in kinds]
+        return self._kinds
+
+    @property
+    def acks(self) -> list[dict[str, Any]]:
+        """Its ACK frames."""
+        kinds = self.frame_types
+        if not any(kind in ACK_FRAMES for kind in kinds):
+            return []
+        return [it for it, kind in zip(self.frames, kinds, strict=True) if kind in ACK_FRAMES]
+
+    @property
+    def is_eliciting(self) -> bool:
+        """Whether it is ack-eliciting."""
+        return any(kind not in QUIET_FRAMES for kind in self.frame_types)
+
+    @property
+    def is_in_flight(self) -> bool:
+        """Whether it counts to the bytes in flight."""
+        return self.is_eliciting or "padding" in self.frame_types
+
+    def ranges(self, ack: dict[str, Any]) -> Ranges:
+        """The ranges of an ACK frame."""
+        found = []
+        for pair in ack.get("acked_ranges") or []:
+            ends = pair if isinstance(pair, list) and pair else [pair]
+            low, high = self.integer(ends[0], "a range"), self.integer(ends[-1], "a range")
+            if low > high:
+                raise self.error(f"the range {low} to {high}")
+            found.append([low, high])
+        return found
+
+    # Other events.
+
+    def metrics(self) -> dict[str, int]:
+        """The values of a metrics_updated by the names of the format, RTTs in nanoseconds."""
+        found = {}
+        for key, value in self.data.items():
+            if value is None:
+                continue
+            if key in RTTS:
+                found[RTTS[key]] = self.nanoseconds(value, key)
+            elif key in BYTES:
+                found[BYTES[key]] = self.integer(value, key, GREATEST_BYTES)
+        # The greatest integer stands for no threshold.
+        if found.get("ssthresh", 0) > GREATEST_PACKET_NUMBER:
+            del found["ssthresh"]
+        return found
+
+    def pto_count(self) -> int | None:
+        """The count of probe timeouts, if the event has one."""
+        count = self.data.get("pto_count")
+        return None if count is None else self.integer(count, "pto_count")
+
+    @property
+    def has_expired(self) -> bool:
+        """Whether it says that the loss detection timer fired."""
+        return self.name == "loss_timer_updated" and self.data.get("event_type") == "expired"
+
+    def key_space(self) -> str | None:
+        """The space of whose keys it speaks."""
+        kind = str(self.data.get("key_type", ""))
+        return next((space for space in ("initial", "handshake") if space in kind), None)
+
+    @property
+    def retires_keys(self) -> bool:
+        """Whether it says that keys are gone."""
+        return self.name in ("key_retired", "key_discarded")
+
+
+@lru_cache(maxsize=64)
+def space_of_packet(kind: str) -> str | None:
+    """The packet number space of a type of packet, however it is written; nothing for another."""
+    return SPACE_OF_PACKET.get(kind.lower().replace("-", "").replace("_", ""))
+
+
+def as_number(value: Any) -> int | Decimal:
+    """A number that a log may write as a string."""
+    return value if isinstance(value, int) else Decimal(value)
+
+
+class Times:
+    """The times of a log: what they count from and in which unit they are."""
+
+    def __init__(self, header: dict[str, Any]) -> None:
+        fields = header.get("event_fields") or []
+        if not isinstance(fields, list):
+            raise Unusable("event_fields is no list")
+        self.fields = [str(it) for it in fields]
+        said = object_at(header, "common_fields").get("time_format")
+        form = str(said or self._form_of_field())
+        if form not in IS_DELTA:
+            raise Unusable(f"time_format is {form}")
+        self._is_delta = IS_DELTA[form]
+        self._is_absolute = form in ("absolute", "time", "relative_to_epoch")
+        unit = str(object_at(header, "configuration").get("time_units", "ms"))
+        if unit not in NANOSECONDS:
+            raise Unusable(f"time_units is {unit}")
+        self.scale = NANOSECONDS[unit]
+        self._last = 0
+        self._start: int | None = None
+
+    def _form_of_field(self) -> str:
+        """The first drafts have it in the name of a field."""
+        return next((it for it in self.fields if it in IS_DELTA), "absolute")
+
+    def next(self, value: Any) -> int:
+        """The time of the next event."""
+        time = int(as_number(value) * self.scale)
+        if self._is_delta:
+            time += self._last
+        elif self._is_absolute:
+            self._start = time if self._start is None else self._start
+            time -= self._start
+        self._last = time
+        return max(time, 0)
+
+
+def member_of(record: Record, fields: list[str]) -> dict[str, Any] | None:
+    """A record as an object; the first drafts write lists whose fields the header names."""
+    if isinstance(record.value, list):
+        return dict(zip(fields, record.value, strict=False))
+    return record.value if isinstance(record.value, dict) else None
+
+
+@lru_cache(maxsize=256)
+def known_name(name: str) -> str | None:
+    """The name of an event without its category, as most drafts have it; nothing for another."""
+    name = name.rpartition(":")[2]
+    name = OTHER_NAMES.get(name, name)
+    return name if name in NAMES else None
+
+
+def time_of(member: dict[str, Any], record: Record, times: Times) -> int:
+    """The time of an event, by whatever key."""
+    value = member.get("time")
+    if value is None:
+        value = next((member[key] for key in IS_DELTA if key in member), 0)
+    try:
+        return times.next(value)
+    except (ArithmeticError, TypeError, ValueError) as error:
+        raise Unusable("time is no number", record.place) from error
+
+
+def event_of(record: Record, times: Times) -> Event | None:
+    """The event of a record, or nothing where the record is none that matters."""
+    member = member_of(record, times.fields)
+    if member is None:
+        return None
+    name = member.get("name") or member.get("event") or member.get("event_type")
+    if not isinstance(name, str):
+        return None
+    time = time_of(member, record, times)
+    known = known_name(name)
+    if known is None:
+        return None
+    data = member.get("data")
+    event = Event(record.place, time, known, data if isinstance(data, dict) else {})
+    event.scale = times.scale
+    return event
+
+
+def events_of(records: Iterable[Record], header: dict[str, Any]) -> Iterator[Event]:
+    """The events of which a trace tells, with their times counted from the start of the log."""
+    times = Times(header)
+    for index, record in enumerate(records):
+        event = event_of(record, times)
+        if event is not None:
+            event.index = index
+            yield event

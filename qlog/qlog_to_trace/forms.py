@@ -1,0 +1,197 @@
+"""The forms in which a qlog is written: one JSON object, JSON-SEQ, and a JSON text a line."""
+
+import json
+from collections.abc import Iterator
+from typing import Any, BinaryIO, NamedTuple
+
+from .errors import Torn, Unusable
+from .scanner import DECODER, Scanner, is_torn
+
+RECORD_SEPARATOR = b"\x1e"
+# A first line that is longer is no record of a sequence.
+LONGEST_HEADER = 1 << 20
+MARKS_OF_SEQUENCE = ("trace", "qlog_format", "file_schema", "serialization_format")
+
+
+class Record(NamedTuple):
+    """A value of a log, and the place where it begins, for people."""
+
+    place: str
+    value: Any
+
+
+def object_at(header: dict[str, Any], key: str) -> dict[str, Any]:
+    """The object at a key of a header; an empty one where there is none."""
+    value = header.get(key)
+    if value is None:
+        return {}
+    if not isinstance(value, dict):
+        raise Unusable(f"{key} is no object")
+    return value
+
+
+class Form:
+    """A log of one form, which can be read again and again."""
+
+    def __init__(self, file: BinaryIO) -> None:
+        self.file = file
+        # Where the log is torn off, once its end was read.
+        self.torn_at: str | None = None
+
+    def headers(self) -> list[dict[str, Any]]:
+        """What the log says of each of its traces beside their events."""
+        raise NotImplementedError
+
+    def events(self, index: int) -> Iterator[Record]:
+        """The events of a trace."""
+        raise NotImplementedError
+
+    def position(self) -> int:
+        """How many bytes were read since the log was last begun."""
+        return self.file.tell()
+
+
+class Sequence(Form):
+    """A header and then events: JSON-SEQ, where each begins with 0x1E, or one in each line."""
+
+    def __init__(self, file: BinaryIO) -> None:
+        super().__init__(file)
+        file.seek(0)
+        self.is_marked = file.read(1) == RECORD_SEPARATOR
+
+    def headers(self) -> list[dict[str, Any]]:
+        """The one header."""
+        first = next(self._records(), None)
+        if first is None:
+            raise Unusable("no record")
+        header = first.value
+        if not isinstance(header, dict):
+            raise Unusable("the first record is no object", first.place)
+        return [header | object_at(header, "trace")]
+
+    def events(self, index: int) -> Iterator[Record]:
+        """All records behind the header."""
+        records = self._records()
+        next(records, None)
+        return records
+
+    def _records(self) -> Iterator[Record]:
+        self.torn_at = None
+        for number, text in self._texts():
+            try:
+                value = DECODER.decode(text.decode())
+            except (ValueError, RecursionError) as error:
+                is_cut = isinstance(error, json.JSONDecodeError) and is_torn(error)
+                if not text.endswith(b"\n") and (is_cut or isinstance(error, UnicodeDecodeError)):
+                    self.torn_at = f"line {number}"
+                    return
+                raise Unusable(f"not JSON: {error}", f"line {number}") from error
+            yield Record(f"line {number}", value)
+
+    def _texts(self) -> Iterator[tuple[int, bytes]]:
+        """The text of each record with the number of its first line."""
+        self.file.seek(0)
+        return self._marked_texts() if self.is_marked else self._lines()
+
+    def _lines(self) -> Iterator[tuple[int, bytes]]:
+        for number, line in enumerate(self.file, 1):
+            if line.strip():
+                yield number, line
+
+    def _marked_texts(self) -> Iterator[tuple[int, bytes]]:
+        """A record goes to the next mark, over several lines if need be."""
+        start, text = 1, b""
+        for number, line in enumerate(self.file, 1):
+            pieces = line.split(RECORD_SEPARATOR)
+            text += pieces[0]
+            for piece in pieces[1:]:
+                if text.strip():
+                    yield start, text
+                start, text = number, piece
+        if text.strip():
+            yield start, text
+
+
+class Document(Form):
+    """One JSON object with a list of traces, each with a list of events."""
+
+    def headers(self) -> list[dict[str, Any]]:
+        """The header of each trace, wherever its keys stand; its events are passed over."""
+        found: list[dict[str, Any]] = []
+        shared: dict[str, Any] = {}
+        self._read(found, shared)
+        return [shared | header for header in found]
+
+    def _read(self, found: list[dict[str, Any]], shared: dict[str, Any]) -> None:
+        """Reads all headers that there are before the log ends or is torn off."""
+        scanner = self._begin()
+        try:
+            for key in scanner.members():
+                if key != "traces":
+                    shared[key] = scanner.value()
+                    continue
+                for _ in scanner.elements():
+                    found.append({})
+                    self._read_header(scanner, found[-1])
+        except Torn:
+            self.torn_at = scanner.place()
+
+    @staticmethod
+    def _read_header(scanner: Scanner, header: dict[str, Any]) -> None:
+        for key in scanner.members():
+            if key != "events":
+                header[key] = scanner.value()
+                continue
+            for _ in scanner.elements():
+                scanner.value()
+
+    def events(self, index: int) -> Iterator[Record]:
+        """The events of the trace with this index."""
+        scanner = self._begin()
+        try:
+            for key in scanner.members():
+                if key != "traces":
+                    scanner.value()
+                    continue
+                for number, _ in enumerate(scanner.elements()):
+                    yield from self._events_of_trace(scanner, number == index)
+        except Torn:
+            self.torn_at = scanner.place()
+
+    @staticmethod
+    def _events_of_trace(scanner: Scanner, is_asked: bool) -> Iterator[Record]:
+        for key in scanner.members():
+            if key != "events":
+                scanner.value()
+                continue
+            for _ in scanner.elements():
+                place = scanner.place() if is_asked else ""
+                value = scanner.value()
+                if is_asked:
+                    yield Record(place, value)
+
+    def _begin(self) -> Scanner:
+        self.torn_at = None
+        self.file.seek(0)
+        scanner = Scanner(self.file)
+        if scanner.peek() != "{":
+            raise Unusable("neither JSON-SEQ nor a JSON text a line nor one JSON object", "byte 0")
+        return scanner
+
+
+def form_of(file: BinaryIO) -> Form:
+    """The form of a log, by its first bytes."""
+    file.seek(0)
+    first = file.readline(LONGEST_HEADER)
+    if not first:
+        raise Unusable("empty")
+    if first.startswith(RECORD_SEPARATOR):
+        return Sequence(file)
+    try:
+        header = DECODER.decode(first.decode())
+    except (ValueError, RecursionError):
+        header = None
+    if not isinstance(header, dict):
+        return Document(file)
+    is_sequence = "traces" not in header and any(mark in header for mark in MARKS_OF_SEQUENCE)
+    return Sequence(file) if is_sequence else Document(file)

@@ -1,0 +1,61 @@
+"""The header of a trace."""
+
+from dataclasses import dataclass
+from typing import Any
+
+from .dialects import Dialect
+from .lines import Lines
+from .notes import Guess, Notes
+from .survey import Survey
+
+
+@dataclass(frozen=True)
+class Choices:
+    """What the user of the converter says of the header."""
+
+    version: int = 2
+    unit: str = "us"
+    # Keys of the header that take the place of those of the dialect.
+    options: tuple[tuple[str, int], ...] = ()
+
+
+def options_of(dialect: Dialect, choices: Choices) -> dict[str, Any]:
+    """The options of the versions behind the first."""
+    if choices.version == 1:
+        return {}
+    found: dict[str, Any] = {
+        "report_slack_us": dialect.slack_us,
+        "report_slack_bytes": dialect.slack_bytes,
+    }
+    if choices.version >= 3:
+        found |= {
+            "unit": choices.unit,
+            "window": dialect.window,
+            "window_overshoot": dialect.window_overshoot,
+            "sample_eliciting_only": dialect.sample_eliciting_only,
+            "packet_threshold": dialect.packet_threshold,
+            "timer_early_us": dialect.timer_early_us,
+        }
+    return found | dict(choices.options)
+
+
+def write_header(
+    lines: Lines, notes: Notes, role: str, dialect: Dialect, survey: Survey, choices: Choices
+) -> int:
+    """Writes the header; gives the datagram size."""
+    size, guess = survey.max_datagram_size(dialect.initial_datagrams)
+    notes.guess(guess)
+    line: dict[str, Any] = {"version": choices.version, "role": role, "max_datagram_size": size}
+    if survey.max_ack_delay is None:
+        notes.guess(Guess.NO_MAX_ACK_DELAY)
+    else:
+        line["max_ack_delay"] = lines.in_unit(survey.max_ack_delay)
+    if dialect.initial_rtt is not None:
+        notes.guess(Guess.INITIAL_RTT)
+        line["initial_rtt"] = lines.in_unit(dialect.initial_rtt * 1_000)
+    elif survey.first_smoothed:
+        line["initial_rtt"] = lines.in_unit(survey.first_smoothed)
+    if survey.first_window:
+        line["initial_window"] = survey.first_window
+    lines.header(line | options_of(dialect, choices) | {"x_dialect": dialect.name})
+    return size

@@ -1,0 +1,41 @@
+"""The lines of a trace."""
+
+from collections.abc import Callable
+from typing import Any
+
+from .events import NANOSECONDS
+from .notes import Guess, Notes
+
+Line = dict[str, Any]
+RTTS = ("latest_rtt", "min_rtt", "smoothed_rtt", "rttvar")
+
+
+class Lines:
+    """Hands on lines, with times in the unit of the trace that do not go back."""
+
+    def __init__(self, write: Callable[[Line], None], notes: Notes, unit: str) -> None:
+        self._write, self._notes = write, notes
+        self._divisor = NANOSECONDS[unit]
+        self._time = 0
+
+    def in_unit(self, nanoseconds: int) -> int:
+        """A time or a duration as the trace has it, rounded down."""
+        return nanoseconds // self._divisor
+
+    def header(self, line: Line) -> None:
+        """The first line."""
+        self._write({"event": "header", **line, **self._notes.for_next_line()})
+
+    def event(self, event: str, nanoseconds: int, **keys: Any) -> None:
+        """The line of an event."""
+        time = self.in_unit(nanoseconds)
+        if time < self._time:
+            self._notes.guess(Guess.TIME_BACK)
+            time = self._time
+        self._time = time
+        self._write({"event": event, "time": time, **keys, **self._notes.for_next_line()})
+
+    def metrics(self, nanoseconds: int, values: dict[str, int]) -> None:
+        """A report, of RTTs in nanoseconds."""
+        said = {key: self.in_unit(it) if key in RTTS else it for key, it in values.items()}
+        self.event("metrics", nanoseconds, **said)

@@ -1,0 +1,64 @@
+"""What was guessed, and what was left out, counted and told."""
+
+from collections import Counter
+from enum import Enum
+
+
+class Guess(Enum):
+    """What a log does not say and a line of the trace says all the same."""
+
+    DATAGRAM_BY_WINDOW = "max_datagram_size: the first window by the datagrams that it has"
+    DATAGRAM_BY_PACKET = "max_datagram_size: the largest packet that was sent"
+    DATAGRAM_LEAST = "max_datagram_size: 1200, for no packet was larger"
+    NO_MAX_ACK_DELAY = "max_ack_delay: 25 ms, for the peer's is not logged"
+    INITIAL_RTT = "initial_rtt: that of the stack's sources or documentation"
+    PROBE_BY_COUNT = "a probe timeout and its space: pto_count rose"
+    PROBE_BY_PING = "a probe timeout and its space: a PING was sent"
+    LOSS_TIMER = "a loss timer: no acknowledgment shows the losses"
+    DISCARD = "discard: the log tells of none"
+    CONFIRMED = "confirmed: the log does not say when"
+    LIMITED_BY_WINDOW = "limited: the window stayed as it was"
+    LEAVE_PROBE = "leave probe: a probe timeout allowed it"
+    LEAVE_RECOVERY = "leave recovery: the first packet past the window after it fell"
+    TIME_BACK = "time: it went back, and is that of the line before"
+
+
+class Omission(Enum):
+    """What a log says and the trace does not."""
+
+    ACK_OF_GONE_SPACE = "an acknowledgment of a discarded space"
+    ACK_OF_NOTHING = "an acknowledgment frame without ranges"
+    LEFT_FLIGHT = "packets that left the bytes in flight with no event"
+    FLIGHT_DIFFERS = "bytes in flight below those of the packets that are open"
+    LOSS_OF_NOTHING = "a loss that neither an acknowledgment nor a timer shows"
+    OTHER_TIMER = "a timer of another kind than loss and pto, or of no space"
+
+
+class Notes:
+    """How often each guess was made and each thing left out."""
+
+    def __init__(self) -> None:
+        self.guesses: Counter[Guess] = Counter()
+        self.omissions: Counter[Omission] = Counter()
+        self._of_next_line: list[Guess] = []
+
+    def guess(self, guess: Guess) -> None:
+        """Counts a guess; the next line tells of it."""
+        self.guesses[guess] += 1
+        self._of_next_line.append(guess)
+
+    def omit(self, omission: Omission, count: int = 1) -> None:
+        """Counts what is left out."""
+        self.omissions[omission] += count
+
+    def for_next_line(self) -> dict[str, list[str]]:
+        """The key by which a line tells of the guesses that stand in it."""
+        told = [guess.value for guess in dict.fromkeys(self._of_next_line)]
+        self._of_next_line = []
+        return {"x_guess": told} if told else {}
+
+    def lines(self) -> list[str]:
+        """What `--notes` prints."""
+        guessed = [f"guessed {count}: {it.value}" for it, count in self.guesses.items()]
+        left = [f"left out {count}: {it.value}" for it, count in self.omissions.items()]
+        return sorted(guessed) + sorted(left)

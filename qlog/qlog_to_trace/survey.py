@@ -1,0 +1,93 @@
+"""The first reading of a log: what has to be known before the first line is written."""
+
+from collections.abc import Iterable
+
+from .errors import Unusable
+from .events import Event
+from .notes import Guess
+
+LEAST_DATAGRAM = 1200
+
+
+class Survey:
+    """What the header and the second reading need. All packets are checked here."""
+
+    def __init__(self, events: Iterable[Event]) -> None:
+        # Nanoseconds.
+        self.max_ack_delay: int | None = None
+        self.first_smoothed: int | None = None
+        self.first_window: int | None = None
+        self.largest_size = 0
+        # The spaces of whose discard the log tells.
+        self.retired: set[str] = set()
+        self.has_timers = False
+        # Places of events.
+        self.first_handshake_received: int | None = None
+        self.handshake_done: int | None = None
+        self.last_crypto_before_done: int | None = None
+        self._has_ack = False
+        for event in events:
+            self._see(event)
+        if self.largest_size == 0:
+            raise Unusable("no packet_sent of a QUIC packet with a size")
+
+    def _see(self, event: Event) -> None:
+        if event.name == "parameters_set":
+            self._see_parameters(event)
+        elif event.name == "packet_sent":
+            self._see_sent(event)
+        elif event.name == "packet_received":
+            self._see_received(event)
+        elif event.name == "metrics_updated":
+            self._see_metrics(event)
+        elif event.name == "packet_lost" and event.space:
+            assert event.number >= 0
+        elif event.name == "packets_lost":
+            raise event.error("it names no packets, so no trace can be made of this log")
+        elif event.retires_keys:
+            self.retired.add(event.key_space() or "")
+        elif event.has_expired:
+            self.has_timers = True
+
+    def _see_parameters(self, event: Event) -> None:
+        delay = event.data.get("max_ack_delay")
+        if event.data.get("owner", event.data.get("initiator")) == "remote" and delay is not None:
+            self.max_ack_delay = event.nanoseconds(delay, "max_ack_delay")
+
+    def _see_sent(self, event: Event) -> None:
+        if event.space is None:
+            return
+        assert event.number >= 0
+        self.largest_size = max(self.largest_size, event.size)
+        if self.handshake_done is None and "handshake_done" in event.frame_types:
+            self.handshake_done = event.index
+
+    def _see_received(self, event: Event) -> None:
+        for ack in event.acks:
+            event.ranges(ack)
+            self._has_ack = True
+        if event.space != "handshake":
+            return
+        if self.first_handshake_received is None:
+            self.first_handshake_received = event.index
+        if self.handshake_done is None and "crypto" in event.frame_types:
+            self.last_crypto_before_done = event.index
+
+    def _see_metrics(self, event: Event) -> None:
+        if self._has_ack:
+            return
+        values = event.metrics()
+        if self.first_window is None and values.get("window"):
+            self.first_window = values["window"]
+        if self.first_smoothed is None and values.get("smoothed_rtt"):
+            self.first_smoothed = values["smoothed_rtt"]
+
+    def max_datagram_size(self, initial_datagrams: int) -> tuple[int, Guess]:
+        """The part of the first window, where no packet was larger; else the largest packet."""
+        window = self.first_window or 0
+        part, rest = divmod(window, initial_datagrams)
+        if rest == 0 and part >= max(self.largest_size, LEAST_DATAGRAM):
+            return part, Guess.DATAGRAM_BY_WINDOW
+        if self.largest_size < LEAST_DATAGRAM:
+            return LEAST_DATAGRAM, Guess.DATAGRAM_LEAST
+        return self.largest_size, Guess.DATAGRAM_BY_PACKET
