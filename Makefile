@@ -30,7 +30,7 @@ python := $(addprefix conformance/,allocations cuts failing large links made_up 
 python_of_fuzz := conformance/fuzz/run
 python_of_qlog := qlog/qlog-to-trace qlog/test_qlog.py $(wildcard qlog/qlog_to_trace/*.py)
 # captures/transfer.py runs where aioquic is, and is checked for style alone.
-python_of_captures := captures/run examples/logger.py
+python_of_captures := captures/audit.py captures/run captures/table examples/delay.py examples/logger.py
 python_of_bench := $(addprefix bench/,peers run trace) $(wildcard bench/*.py) bench/programs/read.py
 
 # The programs of conformance/ over what the gate built, the longest first. None waits for another.

@@ -27,6 +27,8 @@ PROBE_DATAGRAMS = 2
 # Where the peer sends none (RFC 9000, section 18.2).
 DEFAULT_MAX_ACK_DELAY = 25_000
 
+NANOSECONDS_IN_A_MICROSECOND = 1_000
+
 # The limits of docs/format.md.
 
 MAX_TIME = 10**15
@@ -41,6 +43,8 @@ SPACES = ("initial", "handshake", "app")
 METRICS_IN_BYTES = ("window", "ssthresh", "bytes_in_flight")
 METRICS_IN_MICROSECONDS = ("latest_rtt", "min_rtt", "smoothed_rtt", "rttvar")
 METRICS = (*METRICS_IN_BYTES, *METRICS_IN_MICROSECONDS)
+# Those that congestion control sets.
+OF_THE_CONTROLLER = ("window", "ssthresh")
 # The totals in a row of `explain`.
 OF_ROWS = ("window", "bytes_in_flight", "smoothed_rtt", "rttvar", "pto_count", "owed")
 
@@ -66,3 +70,4 @@ class Rule(StrEnum):
     METRIC = "V16 metric"
     OWED_AT_END = "V17 owed-at-end"
     TIMER_LATE = "V18 timer-late"
+    COLLAPSE_MISSING = "V19 collapse-missing"

@@ -27,6 +27,8 @@ from constants import (
     K_TIME_THRESHOLD,
     METRICS,
     METRICS_IN_BYTES,
+    NANOSECONDS_IN_A_MICROSECOND,
+    OF_THE_CONTROLLER,
     PROBE_DATAGRAMS,
     SPACES,
     Rule,
@@ -74,21 +76,36 @@ class Space:
 
 
 class Settings:
-    """What a header says, with a value for each key that it leaves out."""
+    """What a header says, with a value for each key that it leaves out. Times are in its unit."""
 
     def __init__(self, header: Event) -> None:
+        options = header if header["version"] >= 2 else {}
+        choices = header if header["version"] >= 3 else {}
+        is_in_nanoseconds = choices.get("unit") == "ns"
+        self.microsecond = NANOSECONDS_IN_A_MICROSECOND if is_in_nanoseconds else 1
+        self.granularity = K_GRANULARITY * self.microsecond
         self.is_server = header["role"] == "server"
         self.max_datagram_size: int = header["max_datagram_size"]
-        self.max_ack_delay: int = header.get("max_ack_delay", DEFAULT_MAX_ACK_DELAY)
-        self.initial_rtt: int = header.get("initial_rtt", K_INITIAL_RTT)
+        self.max_ack_delay = self.time_of(header, "max_ack_delay", DEFAULT_MAX_ACK_DELAY)
+        self.initial_rtt = self.time_of(header, "initial_rtt", K_INITIAL_RTT)
         self.initial_window: int = header.get(
             "initial_window", default_window(self.max_datagram_size)
         )
-        options = header if header["version"] == 2 else {}
-        self.timer_late: int | None = options.get("timer_late_us")
+        limit: int | None = options.get("timer_late_us")
+        self.timer_late = None if limit is None else limit * self.microsecond
         self.refreshes_min_rtt: bool = options.get("refresh_min_rtt") or False
-        self.slack_us: int = options.get("report_slack_us") or 0
+        self.slack_in_time = (options.get("report_slack_us") or 0) * self.microsecond
         self.slack_bytes: int = options.get("report_slack_bytes") or 0
+        self.is_window_reported = choices.get("window") == "reported"
+        self.may_overshoot: bool = choices.get("window_overshoot") or False
+        self.samples_eliciting_only: bool = choices.get("sample_eliciting_only") or False
+        self.packet_threshold: int = choices.get("packet_threshold") or K_PACKET_THRESHOLD
+        self.timer_early = (choices.get("timer_early_us") or 0) * self.microsecond
+
+    def time_of(self, header: Event, key: str, microseconds: int) -> int:
+        """The time that a header has under a key, or this one where it leaves it out."""
+        time: int = header.get(key, microseconds * self.microsecond)
+        return time
 
     @property
     def minimum_window(self) -> int:
@@ -102,7 +119,7 @@ class Settings:
 
     def slack_of(self, metric: str) -> int:
         """By how much a reported value may differ from the sender's."""
-        return self.slack_bytes if metric in METRICS_IN_BYTES else self.slack_us
+        return self.slack_bytes if metric in METRICS_IN_BYTES else self.slack_in_time
 
 
 def default_window(max_datagram_size: int) -> int:
@@ -147,8 +164,10 @@ class Sender:
         self.smoothed_rtt = self.settings.initial_rtt
         self.rttvar = self.smoothed_rtt // 2
         self.first_rtt_sample: int | None = None
-        self.window = self.settings.initial_window
-        self.ssthresh: int | None = None
+        # NewReno's, which goes on where the window is the one that is reported.
+        self.congestion_window = self.settings.initial_window
+        self.slow_start_threshold: int | None = None
+        self.reported_window = self.settings.initial_window
         self.recovery_start_time: int | None = None
         self.bytes_in_flight = 0
         self.pto_count = 0
@@ -163,10 +182,24 @@ class Sender:
         self.is_confirmed = False
         self.is_handshake_acknowledged = False
         self.has_keys = False
+        # The bytes in flight newly acknowledged since persistent congestion was established, that
+        # event's own included, until a report has another window.
+        self.acked_since_collapse: int | None = None
         # Since when the deadline is what it is; kept only where timers have a limit.
         self.due_since = 0
 
     # What is computed from the state.
+
+    @property
+    def window(self) -> int:
+        """The congestion window by which packets are judged."""
+        is_reported = self.settings.is_window_reported
+        return self.reported_window if is_reported else self.congestion_window
+
+    @property
+    def ssthresh(self) -> int | None:
+        """The slow start threshold, where the window is NewReno's."""
+        return None if self.settings.is_window_reported else self.slow_start_threshold
 
     @property
     def owed(self) -> int:
@@ -181,13 +214,13 @@ class Sender:
     @property
     def pto_base(self) -> int:
         """The probe timeout before the peer's delay, where the PTO count is 0 (section 6.2.1)."""
-        return self.smoothed_rtt + max(4 * self.rttvar, K_GRANULARITY)
+        return self.smoothed_rtt + max(4 * self.rttvar, self.settings.granularity)
 
     @property
     def loss_delay(self) -> int:
         """At which age a packet is past the time threshold (section 6.1.2), rounded up."""
         longest_rtt = max(self.latest_rtt, self.smoothed_rtt)
-        return max(math.ceil(K_TIME_THRESHOLD * longest_rtt), K_GRANULARITY)
+        return max(math.ceil(K_TIME_THRESHOLD * longest_rtt), self.settings.granularity)
 
     def total(self, name: str) -> int | None:
         """A total by its name in a report; None where there is none yet."""
@@ -204,13 +237,21 @@ class Sender:
     def loss_deadline(self) -> Deadline | None:
         """The earliest time at which a packet is past the time threshold."""
         found = []
-        for name, space in self.spaces.items():
-            largest = -1 if space.largest_acked is None else space.largest_acked
-            packets = space.sent.values()
-            times = [it.time for it in packets if it.is_in_flight and it.number < largest]
-            if times:
-                found.append(Deadline(min(times) + self.loss_delay, "loss", name))
+        for name in self.spaces:
+            time = self.loss_time(name)
+            if time is not None:
+                found.append(Deadline(time, "loss", name))
         return earliest(found)
+
+    def loss_time(self, name: str) -> int | None:
+        """When the first packet of a space will be past the time threshold."""
+        times = [it.time for it in self.below_largest(self.spaces[name])]
+        return min(times) + self.loss_delay if times else None
+
+    def below_largest(self, space: Space) -> list[Packet]:
+        """The packets in flight of a space below its largest acknowledged number."""
+        largest = -1 if space.largest_acked is None else space.largest_acked
+        return [it for it in space.sent.values() if it.is_in_flight and it.number < largest]
 
     def pto_deadline(self) -> Deadline | None:
         """The earliest probe timeout of the spaces that await an acknowledgment."""
@@ -244,12 +285,14 @@ class Sender:
     def first_broken(self, event: Event) -> str | None:
         """The first rule that the event breaks, as a report names it."""
         broken = self.broken_by_any(event)
-        if broken is None and self.is_timer_late(event["time"]):
+        if broken is not None:
+            return broken
+        if self.is_timer_late(event["time"]):
             return Rule.TIMER_LATE
-        return broken
+        return Rule.COLLAPSE_MISSING if self.is_collapse_missing(event) else None
 
     def broken_by_any(self, event: Event) -> str | None:
-        """The first rule that the event breaks, but for the one about late timers."""
+        """The first rule that the event breaks, but for those about late timers and collapses."""
         kind = event["event"]
         if event["time"] < self.last_time:
             return Rule.TIME_BACK
@@ -291,13 +334,19 @@ class Sender:
         leave, size = event.get("leave", "window"), event["size"]
         if not event["in_flight"]:
             return None
-        if leave == "window" and self.bytes_in_flight + size > self.window:
+        if leave == "window" and self.is_past_window(size):
             return Rule.PAST_WINDOW
         if leave == "probe" and not self.may_probe(size):
             return Rule.PAST_PROBE
         if leave == "recovery" and self.recovery_spent != 0:
             return Rule.PAST_RECOVERY
         return None
+
+    def is_past_window(self, size: int) -> bool:
+        """Whether there is no room for a packet of this size (section 7)."""
+        if self.settings.may_overshoot:
+            return self.bytes_in_flight >= self.window
+        return self.bytes_in_flight + size > self.window
 
     def may_probe(self, size: int) -> bool:
         """Whether a probe of this size is within what the last probe timeout allows."""
@@ -316,7 +365,7 @@ class Sender:
             return Rule.TIMER_NOT_SET
         if (event["kind"], event["space"]) != (due.kind, due.space):
             return Rule.TIMER_OTHER
-        if event["time"] < due.time:
+        if event["time"] + self.settings.timer_early < due.time:
             return Rule.TIMER_EARLY
         return Rule.PROBE_OWED if event["kind"] == "pto" and self.probe_due else None
 
@@ -328,7 +377,9 @@ class Sender:
     def broken_by_metrics(self, event: Event) -> str | None:
         """The first reported value that is not the sender's."""
         for name in METRICS:
-            if event.get(name) is not None and self.differs(name, event[name]):
+            is_chosen = self.settings.is_window_reported and name in OF_THE_CONTROLLER
+            is_compared = event.get(name) is not None and not is_chosen
+            if is_compared and self.differs(name, event[name]):
                 return f"{Rule.METRIC} {name}"
         return None
 
@@ -343,6 +394,21 @@ class Sender:
             return False
         due = self.packet_deadline()
         return due is not None and time > max(due.time, self.due_since) + self.settings.timer_late
+
+    def is_collapse_missing(self, event: Event) -> bool:
+        """Whether the first other window behind persistent congestion is more than two datagrams
+        and what has been acknowledged since (section 7.6.2)."""
+        if not self.is_other_window(event) or self.acked_since_collapse is None:
+            return False
+        most = self.settings.minimum_window + self.acked_since_collapse
+        reported: int = event["window"]
+        return reported > most + self.settings.slack_bytes
+
+    def is_other_window(self, event: Event) -> bool:
+        """Whether the event reports another window than the one that is in force."""
+        reported = event.get("window") if event["event"] == "metrics" else None
+        is_reported = self.settings.is_window_reported and reported is not None
+        return is_reported and reported != self.window
 
     # What each event changes.
 
@@ -375,8 +441,7 @@ class Sender:
             case "keys":
                 self.has_keys = True
             case "metrics":
-                # A report of the sender's state changes nothing.
-                pass
+                self.on_report(event)
             case _:
                 raise ValueError(f"there is no event {kind}")
 
@@ -423,11 +488,15 @@ class Sender:
         newly_acked = [space.sent.pop(number) for number in numbers]
         if not newly_acked:
             return
-        self.bytes_in_flight -= sum(it.size for it in newly_acked if it.is_in_flight)
+        acked_bytes = sum(it.size for it in newly_acked if it.is_in_flight)
+        self.bytes_in_flight -= acked_bytes
         last = newly_acked[-1]
-        if last.number == max(acknowledged) and any(it.is_eliciting for it in newly_acked):
+        asked = [last] if self.settings.samples_eliciting_only else newly_acked
+        if last.number == max(acknowledged) and any(it.is_eliciting for it in asked):
             self.update_rtt(now, now - last.time, event.get("delay", 0))
-        self.detect_losses(name, now)
+        self.detect_losses(name, now, now)
+        if self.acked_since_collapse is not None:
+            self.acked_since_collapse += acked_bytes
         is_app_limited = event.get("limited", False)
         if not is_app_limited:
             for packet in newly_acked:
@@ -451,10 +520,10 @@ class Sender:
         self.rttvar = (3 * self.rttvar + abs(self.smoothed_rtt - adjusted)) // 4
         self.smoothed_rtt = (7 * self.smoothed_rtt + adjusted) // 8
 
-    def detect_losses(self, name: str, now: int) -> None:
-        """DetectAndRemoveLostPackets (A.10) and OnPacketsLost (B.8)."""
+    def detect_losses(self, name: str, as_of: int, now: int) -> None:
+        """DetectAndRemoveLostPackets (A.10), as of a time, and OnPacketsLost (B.8)."""
         space = self.spaces[name]
-        lost = self.past_threshold(space, now)
+        lost = self.past_threshold(space, as_of)
         if not lost:
             return
         for packet in lost:
@@ -463,23 +532,23 @@ class Sender:
         self.owed_space, self.owed_numbers = name, {it.number for it in lost}
         self.on_congestion_event(max(it.time for it in lost), now)
         if self.is_persistent(lost):
-            self.window = self.settings.minimum_window
+            self.congestion_window = self.settings.minimum_window
             self.recovery_start_time = None
+            self.acked_since_collapse = 0
             # Once the sample of the event has counted (section 5.2).
             if self.settings.refreshes_min_rtt:
                 self.min_rtt = self.latest_rtt
 
-    def past_threshold(self, space: Space, now: int) -> list[Packet]:
+    def past_threshold(self, space: Space, as_of: int) -> list[Packet]:
         """The packets of a space that are past a threshold, and so are lost (section 6.1)."""
         largest = space.largest_acked
         if largest is None:
             return []
-        delay = self.loss_delay
-        below = [it for it in space.sent.values() if it.is_in_flight and it.number < largest]
+        threshold, delay = self.settings.packet_threshold, self.loss_delay
         return [
             it
-            for it in below
-            if largest - it.number >= K_PACKET_THRESHOLD or now - it.time >= delay
+            for it in self.below_largest(space)
+            if largest - it.number >= threshold or as_of - it.time >= delay
         ]
 
     def on_congestion_event(self, last_sent: int, now: int) -> None:
@@ -487,8 +556,8 @@ class Sender:
         if self.is_in_recovery(last_sent):
             return
         self.recovery_start_time, self.recovery_spent = now, 0
-        self.ssthresh = math.floor(K_LOSS_REDUCTION_FACTOR * self.window)
-        self.window = max(self.ssthresh, self.settings.minimum_window)
+        self.slow_start_threshold = math.floor(K_LOSS_REDUCTION_FACTOR * self.congestion_window)
+        self.congestion_window = max(self.slow_start_threshold, self.settings.minimum_window)
 
     def is_in_recovery(self, sent: int) -> bool:
         """InCongestionRecovery (B.5)."""
@@ -516,10 +585,12 @@ class Sender:
         """OnPacketAcked (B.5)."""
         if not packet.is_in_flight or self.is_in_recovery(packet.time):
             return
-        if self.ssthresh is None or self.window < self.ssthresh:
-            self.window += packet.size
+        threshold = self.slow_start_threshold
+        if threshold is None or self.congestion_window < threshold:
+            self.congestion_window += packet.size
         else:
-            self.window += self.settings.max_datagram_size * packet.size // self.window
+            datagram = self.settings.max_datagram_size
+            self.congestion_window += datagram * packet.size // self.congestion_window
 
     def on_declared_lost(self) -> None:
         """The packets that were found lost are declared lost."""
@@ -529,10 +600,23 @@ class Sender:
         """OnLossDetectionTimeout (A.9)."""
         self.last_set = event["time"]
         if event["kind"] == "loss":
-            self.detect_losses(event["space"], event["time"])
+            self.detect_losses(event["space"], self.looks_at(event), event["time"])
             return
         self.pto_count += 1
         self.probe_spent, self.probe_due = 0, event["space"]
+
+    def looks_at(self, event: Event) -> int:
+        """As of when a loss timer looks for losses: the time for which it is set where it is
+        early, but no later than the header allows."""
+        now: int = event["time"]
+        due = self.loss_time(event["space"])
+        return now if due is None else max(now, min(due, now + self.settings.timer_early))
+
+    def on_report(self, event: Event) -> None:
+        """A report changes nothing, but for the window where it is the one that is reported."""
+        if self.is_other_window(event):
+            self.reported_window = event["window"]
+            self.acked_since_collapse = None
 
     def on_discard(self, event: Event) -> None:
         """OnPacketNumberSpaceDiscarded (A.11, B.9)."""

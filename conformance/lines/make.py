@@ -22,9 +22,11 @@ from runners import Parser, Result, Results, tell  # noqa: E402
 
 FOLDER = Path(__file__).resolve().parent
 
-# What an absent key means: a fault, or that the written line has no such key, or else a value.
+# What an absent key means: a fault, or that the written line has no such key, or else a value; or
+# another kind of line, so that it is never absent in this one.
 FAULT = "a fault"
 LEFT_OUT = "left out"
+OTHER_KIND = "another kind of line"
 
 # fmt: off
 
@@ -144,25 +146,37 @@ def metric(name: str, usual: str) -> Key:
     return Key(name, good, NOT_INTEGER, absent=LEFT_OUT)
 
 
-def header(version: str) -> tuple[Key, ...]:
-    """The table of a header in any version."""
+def unit(name: str, absent: str) -> Key:
+    """The row of the unit of times in a header with times in this one."""
+    others = ('"ms"', '"Us"', '"US"', '"NS"', '""', '"u"', '"s"', '"us "', '" ns"', '"nss"')
+    return Key("unit", (f'"{name}"',), NOT_STRING, others, absent)
+
+
+def header(version: str, *words: Key, scale: int = 1) -> tuple[Key, ...]:
+    """The table of a header in any version, with the rows of words that the version has behind the
+    role, and times of which so many are a microsecond."""
+    longest_delay, longest_rtt = 16383000 * scale, 1000000000 * scale
     return (
         Key(
             "version", (version,), NOT_INTEGER,
-            judged_last=("3", "0", "10", MAX), last_fault="F10 version",
+            judged_last=("9", "0", "10", MAX), last_fault="F10 version",
         ),
         Key(
             "role", ('"client"', '"server"'), NOT_STRING,
             ('"Client"', '""', '"clients"', '"server "', '"proxy"'),
         ),
+        *words,
         Key(
             "max_datagram_size", ("1200", "1201", "65527"), NOT_INTEGER,
             ("1199", "0", "1", "65528", MAX),
         ),
-        Key("max_ack_delay", ("25001", "0", "16383000"), NOT_INTEGER, ("16383001", MAX), "25000"),
         Key(
-            "initial_rtt", ("333001", "1", "1000000000"), NOT_INTEGER,
-            ("0", "1000000001", MAX), "333000",
+            "max_ack_delay", ("25001", "0", f"{longest_delay}"), NOT_INTEGER,
+            (f"{longest_delay + 1}", MAX), f"{25000 * scale}",
+        ),
+        Key(
+            "initial_rtt", ("333001", "1", f"{longest_rtt}"), NOT_INTEGER,
+            ("0", f"{longest_rtt + 1}", MAX), f"{333000 * scale}",
         ),
         Key(
             "initial_window", ("131054", "131055", "4294967295"), NOT_INTEGER,
@@ -171,7 +185,7 @@ def header(version: str) -> tuple[Key, ...]:
     )
 
 
-# The keys of a header that have a meaning in version 2 alone.
+# The keys of a header that have a meaning in versions 2 and 3 alone.
 OPTIONS = (
     Key(
         "timer_late_us", ("7", "0", "1000000000000000"), NOT_INTEGER,
@@ -182,12 +196,30 @@ OPTIONS = (
     Key("report_slack_bytes", ("2", "0", "4294967295"), NOT_INTEGER, ("4294967296", MAX), "0"),
 )
 
+# Those that have one in version 3 alone: behind the unit, and at the end.
+WINDOW = Key(
+    "window", ('"reported"', '"newreno"'), NOT_STRING,
+    (
+        '"Reported"', '"REPORTED"', '"report"', '"reported "', '"NewReno"', '"newReno"', '"reno"',
+        '" newreno"', '""', '"cubic"', '"bbr"', '"none"', '"12000"',
+    ),
+    '"newreno"',
+)
+CHOICES = (
+    Key("window_overshoot", ("true", "false"), NOT_BOOLEAN, absent="false"),
+    Key("sample_eliciting_only", ("true", "false"), NOT_BOOLEAN, absent="false"),
+    Key("packet_threshold", ("4", "3", "65535"), NOT_INTEGER, ("2", "0", "65536", MAX), "3"),
+    Key("timer_early_us", ("8", "0", "1000000000"), NOT_INTEGER, ("1000000001", MAX), "0"),
+)
+
 # The tables, without the key `event`, by the names of their files. The usual initial window is one
 # for every datagram size, and what is out of its range, or is its value where it is absent, is so
 # for datagrams of 1200 bytes.
 TABLES: dict[str, tuple[Key, ...]] = {
     "header": header("1"),
     "header-2": (*header("2"), *OPTIONS),
+    "header-3": (*header("3", unit("us", '"us"'), WINDOW), *OPTIONS, *CHOICES),
+    "header-3-ns": (*header("3", unit("ns", OTHER_KIND), WINDOW, scale=1000), *OPTIONS, *CHOICES),
     "sent": (
         TIME,
         SPACE,
@@ -376,7 +408,7 @@ def written(kind: str, members: Members) -> str:
 
 def optional_keys(kind: str) -> list[Key]:
     """The keys of a table that may be absent."""
-    return [key for key in TABLES[kind] if key.absent != FAULT]
+    return [key for key in TABLES[kind] if key.absent not in (FAULT, OTHER_KIND)]
 
 
 def good_lines(kind: str) -> Iterator[Members]:
@@ -395,11 +427,14 @@ def good_lines(kind: str) -> Iterator[Members]:
 
 
 def lines_without(kind: str) -> Iterator[Members]:
-    """Lines without each set of the keys that may be absent, and with null for each and for all."""
+    """Lines without each set of the keys that may be absent, of more than eight without each one,
+    each two and all of them, and with null for each and for all."""
     names = [key.name for key in optional_keys(kind)]
+    are_few = len(names) <= 8
     for are_kept in itertools.product((True, False), repeat=len(names)):
-        absent = (name for name, is_kept in zip(names, are_kept, strict=True) if not is_kept)
-        yield changed(kind, {name: None for name in absent})
+        if are_few or are_kept.count(False) <= 2 or not any(are_kept):
+            absent = (name for name, is_kept in zip(names, are_kept, strict=True) if not is_kept)
+            yield changed(kind, {name: None for name in absent})
     for name in names:
         yield changed(kind, {name: "null"})
     yield changed(kind, {name: "null" for name in names})
@@ -485,10 +520,10 @@ def order_cases(kind: str) -> Iterator[Case]:
 
 
 def judged(*faults: Fault) -> list[Fault]:
-    """Those of the faults that are judged: in a header of an unknown version the options mean
-    nothing."""
+    """Those of the faults that are judged: in a header of an unknown version the unit, the window
+    and the options mean nothing."""
     if any(fault.rank.round == Round.LAST and fault.name == "version" for fault in faults):
-        options = [key.name for key in OPTIONS]
+        options = ["unit", *(key.name for key in (WINDOW, *OPTIONS, *CHOICES))]
         return [fault for fault in faults if fault.name not in options]
     return list(faults)
 

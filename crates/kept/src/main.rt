@@ -8,7 +8,7 @@
 #![tactic(auto)]
 
 use qa_base::limits::MAX_LINES;
-use qa_base::{Event, Header, Leave, Micros, PacketNumber, Role, Space, Span, Spans};
+use qa_base::{Event, Header, Leave, PacketNumber, Role, Space, Span, Spans, Ticks};
 use qa_ledger::{Ledger, LedgerFault};
 use qa_running::Running;
 use qa_trace::{Line, LineFault, read_line};
@@ -200,7 +200,7 @@ fn never_acknowledged(alloc: Global) -> Result<History, Failure> {
 /// A packet of 1,200 bytes, which is ack-eliciting and in flight, or neither.
 fn sent(number: u64, time: u64, in_flight: bool) -> Result<Event, Failure> {
     Ok(Event::Sent {
-        time: Micros::new(time).ok_or(Failure::Line)?,
+        time: Ticks::new(time).ok_or(Failure::Line)?,
         space: Space::App,
         number: PacketNumber::new(number).ok_or(Failure::Line)?,
         size: 1200,
@@ -216,7 +216,7 @@ fn ack(alloc: Global, number: u64, time: u64) -> Result<Event, Failure> {
     let mut ranges = Spans::new(alloc);
     ranges.push(Span::new(number, number).ok_or(Failure::Line)?)?;
     Ok(Event::Ack {
-        time: Micros::new(time).ok_or(Failure::Line)?,
+        time: Ticks::new(time).ok_or(Failure::Line)?,
         space: Space::App,
         ranges,
         delay: 0,

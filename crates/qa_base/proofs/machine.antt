@@ -6,4 +6,5 @@ pub mod Ranges
 pub mod Steps
 pub mod PtoCount
 pub mod WindowBound
+pub mod Collapses
 pub mod Powers

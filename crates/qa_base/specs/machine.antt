@@ -7,6 +7,7 @@ pub mod Detection
 pub mod Estimates
 pub mod Loss
 pub mod Reno
+pub mod Window
 pub mod Timer
 pub mod Leave
 pub mod Numbers

@@ -5,8 +5,9 @@ ghost use Rattle.qa_base.specs.values.Limits.{max_packet_size};
 
 // ---- loss detection (A.2)
 
-/// `kPacketThreshold`: a packet this many numbers below an acknowledged one is lost (section 6.1.1).
-pub const PACKET_THRESHOLD: u64 = 3;
+/// `kPacketThreshold` where a header names none: a packet this many numbers below an acknowledged
+/// one is lost (section 6.1.1).
+pub const DEFAULT_PACKET_THRESHOLD: u64 = 3;
 
 /// `kTimeThreshold` is 9/8 of the RTT (section 6.1.2): so many parts ..
 pub const TIME_THRESHOLD_PARTS: u64 = 9;
@@ -15,7 +16,7 @@ pub const TIME_THRESHOLD_PARTS: u64 = 9;
 pub const TIME_THRESHOLD_DIVISOR: u64 = 8;
 
 /// `kGranularity`: a millisecond, in microseconds (section 6.1.2).
-pub const GRANULARITY: u64 = 1000;
+pub const GRANULARITY_US: u64 = 1000;
 
 /// `kInitialRtt`: the RTT in microseconds that is assumed before the first sample (section 6.2.2).
 pub const DEFAULT_INITIAL_RTT: u64 = 333_000;

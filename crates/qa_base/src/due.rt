@@ -4,7 +4,7 @@ ghost use Rattle.qa_base.specs.declared.space.TimerKind.TheVariants as kinds;
 ghost use Rattle.qa_base.specs.machine.Timer as timers;
 ghost use Rattle.qa_base.specs.values.Limits.{max_time};
 
-use crate::number::Micros;
+use crate::number::Ticks;
 use crate::space::{Space, TimerKind};
 use std::marker::Model;
 
@@ -15,7 +15,7 @@ pub struct Due {
     pub kind: TimerKind,
     /// The packet number space that it is for.
     pub space: Space,
-    /// When, in microseconds. It can lie beyond every time of a trace: a probe timeout's duration
+    /// When, in the unit of times. It can lie beyond every time of a trace: a probe timeout's duration
     /// is doubled for each before it.
     pub time: u128,
 }
@@ -31,12 +31,12 @@ impl Model for Due {
 }
 
 impl Due {
-    /// A probe timeout of the space: so long after a time, in microseconds, and doubled for each probe
+    /// A probe timeout of the space: so long after a time, and doubled for each probe
     /// timeout before it (RFC 9002, section 6.2.1).
     ///
     /// Asks for a timeout of at most six times the greatest time. More than 40 doublings count as 40;
     /// no run has more.
-    pub fn probe_timeout(space: Space, since: Micros, timeout: u64, pto_count: u64) -> Due
+    pub fn probe_timeout(space: Space, since: Ticks, timeout: u64, pto_count: u64) -> Due
         requires timeout { timeout ≤ 6 * max_time }
         ensures { result ≡ record {
           kind = kinds.Pto;

@@ -9,13 +9,13 @@ ghost use Rattle.qa_base.specs.values.Kinds.{event_kind};
 
 use crate::limits::MAX_PACKET_SIZE;
 use crate::line_kind::LineKind;
-use crate::number::{Micros, PacketNumber, Spans};
+use crate::number::{PacketNumber, Spans, Ticks};
 use crate::space::{Leave, Space, TimerKind};
 use std::alloc::{AllocError, Global};
 
 /// What a sender reports of its own state, each value where it reports it.
 ///
-/// `window`, `ssthresh` and `bytes_in_flight` are in bytes, the others in microseconds.
+/// `window`, `ssthresh` and `bytes_in_flight` are in bytes, the others in the unit of the trace.
 #[derive(Clone, Copy, PartialEq, Eq)]
 pub struct MetricValues {
     pub window: Option<u64>,
@@ -32,7 +32,7 @@ pub struct MetricValues {
 pub enum Event {
     /// A packet was sent (RFC 9002, A.5): `size` bytes, ack-eliciting or not, in flight or not.
     Sent {
-        time: Micros,
+        time: Ticks,
         space: Space,
         number: PacketNumber,
         size: u64,
@@ -40,10 +40,10 @@ pub enum Event {
         in_flight: bool,
         leave: Leave,
     },
-    /// An acknowledgment came (A.7). `delay` is in microseconds, as the sender used it before it
+    /// An acknowledgment came (A.7). `delay` is in the unit of times, as the sender used it before it
     /// limited it; `limited` says that the sender did not use the window it had (7.8).
     Ack {
-        time: Micros,
+        time: Ticks,
         space: Space,
         ranges: Spans,
         delay: u64,
@@ -51,39 +51,39 @@ pub enum Event {
     },
     /// The sender declared packets lost (A.10).
     Lost {
-        time: Micros,
+        time: Ticks,
         space: Space,
         ranges: Spans,
     },
     /// The loss detection timer fired (A.9).
     Timer {
-        time: Micros,
+        time: Ticks,
         kind: TimerKind,
         space: Space,
     },
     /// The keys of a space were discarded, and with them its packets (6.4).
     Discard {
-        time: Micros,
+        time: Ticks,
         space: Space,
     },
     /// The handshake was confirmed.
     Confirmed {
-        time: Micros,
+        time: Ticks,
     },
     /// The keys of the Handshake space are there.
     Keys {
-        time: Micros,
+        time: Ticks,
     },
     /// The sender reports its own state, to be compared.
     Metrics {
-        time: Micros,
+        time: Ticks,
         values: MetricValues,
     },
 }
 
 impl Event {
     /// When it happened.
-    pub fn time(&self) -> Micros
+    pub fn time(&self) -> Ticks
         ensures value { result ≡ time_of self.now }
         ensures range { time_of self.now ≤ max_time }
     {
@@ -97,7 +97,7 @@ impl Event {
             | Event::Keys { time }
             | Event::Metrics { time, .. } => time,
         };
-        Micros::of(time.get())
+        Ticks::of(time.get())
     }
 
     /// Whether it is a probe timeout (RFC 9002, section 6.2.1).

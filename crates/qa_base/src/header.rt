@@ -1,18 +1,20 @@
 //! The header of a trace.
 ghost use Rattle.std.specs.Prelude.{◌≡◌, ◌≤◌};
-ghost use Rattle.qa_base.specs.values.Limits.{max_packet_size};
+ghost use Rattle.qa_base.specs.values.Limits.{max_packet_size, max_max_ack_delay_ns, max_initial_rtt_ns};
 ghost use Rattle.qa_base.specs.values.Settings.{default_window as default_window_of};
 
 use crate::constants::{
-    DEFAULT_INITIAL_RTT, DEFAULT_MAX_ACK_DELAY, INITIAL_WINDOW_BYTES, INITIAL_WINDOW_DATAGRAMS,
-    minimum_window,
+    DEFAULT_INITIAL_RTT, DEFAULT_MAX_ACK_DELAY, DEFAULT_PACKET_THRESHOLD, GRANULARITY_US,
+    INITIAL_WINDOW_BYTES, INITIAL_WINDOW_DATAGRAMS, minimum_window,
 };
 use crate::key::{Key, RangeFault};
 use crate::limits::{
-    MAX_INITIAL_RTT, MAX_INITIAL_WINDOW, MAX_MAX_ACK_DELAY, MAX_PACKET_SIZE,
-    MAX_REPORT_SLACK_BYTES, MAX_REPORT_SLACK_US, MAX_TIMER_LATE, MIN_DATAGRAM_SIZE,
+    MAX_INITIAL_RTT, MAX_INITIAL_WINDOW, MAX_MAX_ACK_DELAY, MAX_PACKET_SIZE, MAX_PACKET_THRESHOLD,
+    MAX_REPORT_SLACK_BYTES, MAX_REPORT_SLACK_US, MAX_TIMER_EARLY_US, MAX_TIMER_LATE,
+    MIN_DATAGRAM_SIZE, MIN_PACKET_THRESHOLD,
 };
-use crate::space::Role;
+use crate::number::Ticks;
+use crate::space::{Controller, Role, TimeUnit};
 use std::marker::Model;
 
 /// The version of the trace format.
@@ -20,27 +22,54 @@ use std::marker::Model;
 pub enum Version {
     /// Timers may be late, `min_rtt` is never refreshed, and reported values are compared exactly.
     One,
-    /// The header says how late timers may be, and more: its `Options`.
+    /// The header says how late timers may be, and more: the first four of its `Options`.
     Two,
+    /// The header says the unit of its times, and what the sender chooses: all of its `Options`.
+    Three,
 }
 
 impl Version {
     ghost use Rattle.qa_base.specs.values.Names.{version_number};
+    ghost use Rattle.qa_base.specs.values.Settings.{version_in, version_with};
 
-    /// The number that stands in a line, 1 or 2.
+    /// The number that stands in a line, 1 to 3.
     pub fn number(self) -> u64
         ensures { result ≡ version_number self }
     {
         match self {
             Version::One => 1,
             Version::Two => 2,
+            Version::Three => 3,
+        }
+    }
+
+    /// The first version that says this unit.
+    fn in_unit(unit: TimeUnit) -> Version
+        ensures { result ≡ version_in unit }
+    {
+        match unit {
+            TimeUnit::Microseconds => Version::One,
+            TimeUnit::Nanoseconds => Version::Three,
+        }
+    }
+
+    /// The version of a header that gets these options: at least 2, and 3 where version 2 cannot
+    /// say them.
+    fn with(self, options: &Options) -> Version
+        ensures { result ≡ version_with self options.now }
+    {
+        match self {
+            Version::Three => Version::Three,
+            _ if options.are_second() => Version::Two,
+            _ => Version::Three,
         }
     }
 }
 
-/// What a header of version 2 asks of the sender and of its reports. The default asks what version
-/// 1 does: no limit, no refresh and no slack.
-#[derive(Clone, Copy, Default, PartialEq, Eq)]
+/// What a header asks of the sender and of its reports, beyond what version 1 does. The default asks
+/// no more: no limit, no refresh and no slack, and a sender as RFC 9002 has it. Version 2 says the
+/// first four, version 3 all. What is counted in microseconds is so whatever the unit of the trace.
+#[derive(Clone, Copy, PartialEq, Eq)]
 pub struct Options {
     /// By how many microseconds the timer may be late, 0 to 10^15; None: by any number.
     pub timer_late: Option<u64>,
@@ -50,16 +79,65 @@ pub struct Options {
     pub report_slack_us: u64,
     /// By how many bytes a reported window, `ssthresh` or bytes in flight may differ, 0 to 4294967295.
     pub report_slack_bytes: u64,
+    /// By whose congestion window packets are judged.
+    pub controller: Controller,
+    /// A packet may go out wherever the bytes in flight are below the window before it, though it
+    /// takes them past the window. The text of RFC 9002, section 7, forbids it.
+    pub window_overshoot: bool,
+    /// An acknowledgment gives a sample of the RTT only if the packet with its largest number is
+    /// ack-eliciting; in RFC 9002, section 5.1, if some packet is that it newly acknowledges.
+    pub sample_eliciting_only: bool,
+    /// `kPacketThreshold` of the sender (RFC 9002, section 6.1.1), 3 to 65535.
+    pub packet_threshold: u64,
+    /// By how many microseconds a timer may go off before it is due, 0 to 1000000000.
+    pub timer_early_us: u64,
+}
+
+impl Default for Options {
+    ghost use Rattle.qa_base.specs.values.Settings.{no_options};
+
+    ghost is_default = { λ o. o ≡ no_options };
+
+    fn default() -> Options {
+        Options {
+            timer_late: None,
+            refresh_min_rtt: false,
+            report_slack_us: 0,
+            report_slack_bytes: 0,
+            controller: Controller::NewReno,
+            window_overshoot: false,
+            sample_eliciting_only: false,
+            packet_threshold: DEFAULT_PACKET_THRESHOLD,
+            timer_early_us: 0,
+        }
+    }
+}
+
+impl Options {
+    ghost use Rattle.qa_base.specs.values.Settings.{are_second};
+
+    /// Whether version 2 can say them.
+    fn are_second(&self) -> bool
+        ensures { result ≡ are_second self.now }
+    {
+        !self.controller.is_reported()
+            && !self.window_overshoot
+            && !self.sample_eliciting_only
+            && self.packet_threshold == DEFAULT_PACKET_THRESHOLD
+            && self.timer_early_us == 0
+    }
 }
 
 /// What holds of a whole trace: the sender's role, the parameters of its connection, and what is
 /// asked of it.
 ///
-/// Each value is in its range, as `Header::new` and `Header::with` test it. A header of version 1
-/// has the default options.
+/// Each value is in its range, as `Header::in_unit` and `Header::with` test it. A header of version 1
+/// has the default options, one of version 2 those that it can say, and times in nanoseconds are of
+/// version 3 alone.
 #[derive(Clone, Copy, PartialEq, Eq)]
 pub struct Header {
     role: Role,
+    unit: TimeUnit,
     max_datagram_size: u64,
     max_ack_delay: u64,
     initial_rtt: u64,
@@ -75,6 +153,7 @@ impl Model for Header {
 
     ghost view = { λ h. record {
       role = h.role;
+      unit = h.unit;
       max_datagram_size = h.max_datagram_size;
       max_ack_delay = h.max_ack_delay;
       initial_rtt = h.initial_rtt;
@@ -85,6 +164,7 @@ impl Model for Header {
 
     ghost invariant = { λ h. AreInRange (record {
       role = h.role;
+      unit = h.unit;
       max_datagram_size = h.max_datagram_size;
       max_ack_delay = h.max_ack_delay;
       initial_rtt = h.initial_rtt;
@@ -95,6 +175,7 @@ impl Model for Header {
 
     ghost inverse = { λ s. record {
       role = s.role;
+      unit = s.unit;
       max_datagram_size = s.max_datagram_size;
       max_ack_delay = s.max_ack_delay;
       initial_rtt = s.initial_rtt;
@@ -114,7 +195,9 @@ fn default_window(max_datagram_size: u64) -> u64
 }
 
 impl Header {
-    ghost use Rattle.qa_base.specs.values.Settings.{AreInRange, settings_of, with_options};
+    ghost use Rattle.std.specs.Prelude.{◌≢◌};
+    ghost use Rattle.qa_base.specs.declared.header.Version.TheVariants.{One, Three};
+    ghost use Rattle.qa_base.specs.values.Settings.{AreInRange, IsSaidIn, early, granularity as granularity_of, in_version, settings_in, settings_of, with_options, choosing_options};
 
     /// The header of these values in version 1; a value of None is the default.
     ///
@@ -135,15 +218,38 @@ impl Header {
     ) -> Result<Header, RangeFault>
         ensures { result ≡ settings_of role max_datagram_size max_ack_delay initial_rtt initial_window }
     {
+        Header::in_unit(
+            TimeUnit::Microseconds,
+            role,
+            max_datagram_size,
+            max_ack_delay,
+            initial_rtt,
+            initial_window,
+        )
+    }
+
+    /// The same with times in this unit. In nanoseconds the ranges and defaults of times are a
+    /// thousand times as great, and the header is one of version 3.
+    pub fn in_unit(
+        unit: TimeUnit,
+        role: Role,
+        max_datagram_size: u64,
+        max_ack_delay: Option<u64>,
+        initial_rtt: Option<u64>,
+        initial_window: Option<u64>,
+    ) -> Result<Header, RangeFault>
+        ensures { result ≡ settings_in unit role max_datagram_size max_ack_delay initial_rtt initial_window }
+    {
+        let scale = unit.per_microsecond();
         if max_datagram_size < MIN_DATAGRAM_SIZE || MAX_PACKET_SIZE < max_datagram_size {
             return Err(RangeFault(Key::MaxDatagramSize));
         }
-        let max_ack_delay = max_ack_delay.unwrap_or(DEFAULT_MAX_ACK_DELAY);
-        if MAX_MAX_ACK_DELAY < max_ack_delay {
+        let max_ack_delay = max_ack_delay.unwrap_or(scale * DEFAULT_MAX_ACK_DELAY);
+        if scale * MAX_MAX_ACK_DELAY < max_ack_delay {
             return Err(RangeFault(Key::MaxAckDelay));
         }
-        let initial_rtt = initial_rtt.unwrap_or(DEFAULT_INITIAL_RTT);
-        if initial_rtt < 1 || MAX_INITIAL_RTT < initial_rtt {
+        let initial_rtt = initial_rtt.unwrap_or(scale * DEFAULT_INITIAL_RTT);
+        if initial_rtt < 1 || scale * MAX_INITIAL_RTT < initial_rtt {
             return Err(RangeFault(Key::InitialRtt));
         }
         let initial_window = initial_window.unwrap_or(default_window(max_datagram_size));
@@ -154,21 +260,40 @@ impl Header {
         }
         Ok(Header {
             role,
+            unit,
             max_datagram_size,
             max_ack_delay,
             initial_rtt,
             initial_window,
-            version: Version::One,
+            version: Version::in_unit(unit),
             options: Options::default(),
         })
     }
 
-    /// This header in version 2, with these options in place of its own.
+    /// This header with these options in place of its own: in version 2, or in version 3 where it is
+    /// of it already or version 2 cannot say them.
     ///
     /// Where an option is outside its range the fault names the first such, in the order of
-    /// `timer_late`, `report_slack_us` and `report_slack_bytes`.
+    /// `timer_late`, `report_slack_us`, `report_slack_bytes`, `packet_threshold` and
+    /// `timer_early_us`.
     pub fn with(self, options: Options) -> Result<Header, RangeFault>
         ensures { result ≡ with_options self options }
+    {
+        self.in_version(self.version.with(&options), options)
+    }
+
+    /// The same in version 3, whatever the options.
+    pub fn choosing(self, options: Options) -> Result<Header, RangeFault>
+        ensures { result ≡ choosing_options self options }
+    {
+        self.in_version(Version::Three, options)
+    }
+
+    /// This header with these options in this version, which can say them.
+    fn in_version(self, version: Version, options: Options) -> Result<Header, RangeFault>
+        requires later { version ≢ One }
+        requires said { IsSaidIn version self.unit options }
+        ensures { result ≡ in_version version self options }
     {
         if MAX_TIMER_LATE < options.timer_late.unwrap_or(0) {
             return Err(RangeFault(Key::TimerLateUs));
@@ -179,8 +304,16 @@ impl Header {
         if MAX_REPORT_SLACK_BYTES < options.report_slack_bytes {
             return Err(RangeFault(Key::ReportSlackBytes));
         }
+        if options.packet_threshold < MIN_PACKET_THRESHOLD
+            || MAX_PACKET_THRESHOLD < options.packet_threshold
+        {
+            return Err(RangeFault(Key::PacketThreshold));
+        }
+        if MAX_TIMER_EARLY_US < options.timer_early_us {
+            return Err(RangeFault(Key::TimerEarlyUs));
+        }
         Ok(Header {
-            version: Version::Two,
+            version,
             options,
             ..self
         })
@@ -193,6 +326,28 @@ impl Header {
         self.role
     }
 
+    /// The unit of the trace's times.
+    pub fn unit(&self) -> TimeUnit
+        ensures { result ≡ self.now.unit }
+    {
+        self.unit
+    }
+
+    /// `kGranularity` (RFC 9002, section 6.1.2), a millisecond in the unit of the trace.
+    pub fn granularity(&self) -> Ticks
+        ensures { result ≡ granularity_of self.now }
+    {
+        Ticks::of(self.unit.per_microsecond() * GRANULARITY_US)
+    }
+
+    /// How early a timer may be, in the unit of the trace: 0 to 10^12.
+    pub fn timer_early(&self) -> u64
+        ensures value { result ≡ early self.now }
+        ensures bound { result ≤ 1000000000000 }
+    {
+        self.unit.per_microsecond() * self.options.timer_early_us.min(MAX_TIMER_EARLY_US)
+    }
+
     /// The sender's maximum datagram size in bytes, 1200 to 65527 (RFC 9002, section 7.2).
     pub fn max_datagram_size(&self) -> u64
         ensures value { result ≡ self.now.max_datagram_size }
@@ -201,18 +356,22 @@ impl Header {
         self.max_datagram_size
     }
 
-    /// The peer's `max_ack_delay` in microseconds, at most 16383000 (RFC 9002, section 5.3).
+    /// The peer's `max_ack_delay`, at most 16383000 microseconds (RFC 9002, section 5.3), in the unit
+    /// of the trace.
     pub fn max_ack_delay(&self) -> u64
         ensures value { result ≡ self.now.max_ack_delay }
         ensures range { AreInRange self.now }
+        ensures most { result ≤ max_max_ack_delay_ns }
     {
         self.max_ack_delay
     }
 
-    /// The RTT in microseconds that stands before the first sample, 1 to 1000000000 (RFC 9002, section 6.2.2).
+    /// The RTT that stands before the first sample, 1 to 1000000000 microseconds (RFC 9002, section
+    /// 6.2.2), in the unit of the trace.
     pub fn initial_rtt(&self) -> u64
         ensures value { result ≡ self.now.initial_rtt }
         ensures range { AreInRange self.now }
+        ensures most { result ≤ max_initial_rtt_ns }
     {
         self.initial_rtt
     }
@@ -232,7 +391,7 @@ impl Header {
         self.version
     }
 
-    /// What version 2 asks; the default in version 1.
+    /// What is asked of the sender and of its reports; the default in version 1.
     pub fn options(&self) -> Options
         ensures value { result ≡ self.now.options }
         ensures range { AreInRange self.now }

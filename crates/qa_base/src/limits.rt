@@ -13,11 +13,20 @@ pub const MAX_MAX_ACK_DELAY: u64 = 16_383_000;
 /// The greatest initial RTT, 1,000 seconds, in microseconds.
 pub const MAX_INITIAL_RTT: u64 = 1_000_000_000;
 
+/// The least packet threshold (RFC 9002, section 6.1.1).
+pub const MIN_PACKET_THRESHOLD: u64 = 3;
+
+/// The greatest packet threshold, 2^16 - 1.
+pub const MAX_PACKET_THRESHOLD: u64 = 65535;
+
 /// The greatest initial window, 2^32 - 1 bytes.
 pub const MAX_INITIAL_WINDOW: u64 = 4_294_967_295;
 
 /// The greatest limit for how late a timer may be, 10^15 microseconds.
 pub const MAX_TIMER_LATE: u64 = 1_000_000_000_000_000;
+
+/// The greatest tolerance for how early a timer may be, 1,000 seconds, in microseconds.
+pub const MAX_TIMER_EARLY_US: u64 = 1_000_000_000;
 
 /// The greatest slack of reported times, 1,000 seconds, in microseconds.
 pub const MAX_REPORT_SLACK_US: u64 = 1_000_000_000;

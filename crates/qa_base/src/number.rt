@@ -6,13 +6,14 @@ ghost use Rattle.qa_base.specs.values.Limits.{max_time, max_packet_number, in_ra
 use std::alloc::{AllocError, Global};
 use std::marker::Model;
 
-/// A time or a span of time in whole microseconds, from 0 to 10^15 (about 31 years).
+/// A time or a span of time in the unit of its trace, from 0 to 10^15: 31 years of microseconds, or
+/// 11 days and 13 hours of nanoseconds.
 #[derive(Clone, Copy, Debug, PartialEq, Eq, PartialOrd, Ord)]
-pub struct Micros {
+pub struct Ticks {
     value: u64,
 }
 
-impl Model for Micros {
+impl Model for Ticks {
     ghost use Rattle.std.specs.Prelude.{ℕ, ◌≤◌};
     ghost use Rattle.qa_base.specs.values.Limits.{max_time};
 
@@ -25,30 +26,30 @@ impl Model for Micros {
     ghost inverse = { λ n. record { value = n } };
 }
 
-impl Micros {
-    /// The greatest time, 10^15 microseconds.
+impl Ticks {
+    /// The greatest time, 10^15.
     pub const MAX: u64 = 1_000_000_000_000_000;
 
-    /// This many microseconds, or None above 10^15.
-    pub fn new(value: u64) -> Option<Micros>
+    /// This many units, or None above 10^15.
+    pub fn new(value: u64) -> Option<Ticks>
         ensures { result ≡ in_range 0 max_time value }
     {
-        if value <= Micros::MAX {
-            Some(Micros { value })
+        if value <= Ticks::MAX {
+            Some(Ticks { value })
         } else {
             None
         }
     }
 
-    /// This many microseconds, which are known to be at most 10^15.
-    pub fn of(value: u64) -> Micros
+    /// This many units, which are known to be at most 10^15.
+    pub fn of(value: u64) -> Ticks
         requires { value ≤ max_time }
         ensures { result ≡ value }
     {
-        Micros { value }
+        Ticks { value }
     }
 
-    /// The number of microseconds.
+    /// How many units it is.
     pub fn get(self) -> u64
         ensures value { result ≡ self }
         ensures range { self ≤ max_time }

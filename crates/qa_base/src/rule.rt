@@ -33,7 +33,7 @@ impl Field {
     }
 }
 
-/// A rule that an event or the end of a trace breaks, V1 to V18. An event is judged by them in this order.
+/// A rule that an event or the end of a trace breaks, V1 to V19. An event is judged by them in this order.
 #[derive(Clone, Copy, Debug, PartialEq, Eq)]
 pub enum Rule {
     /// V1: the event's time is below that of the event before.
@@ -72,6 +72,8 @@ pub enum Rule {
     OwedAtEnd,
     /// V18: the event comes when a timer is late by more than the header's limit.
     TimerLate,
+    /// V19: the first other window that is reported behind persistent congestion is too great.
+    CollapseMissing,
 }
 
 impl Rule {
@@ -101,6 +103,7 @@ impl Rule {
             Rule::Metric(_) => "metric",
             Rule::OwedAtEnd => "owed-at-end",
             Rule::TimerLate => "timer-late",
+            Rule::CollapseMissing => "collapse-missing",
         }
     }
 
@@ -127,6 +130,7 @@ impl Rule {
             Rule::Metric(_) => 16,
             Rule::OwedAtEnd => 17,
             Rule::TimerLate => 18,
+            Rule::CollapseMissing => 19,
         }
     }
 
@@ -152,7 +156,8 @@ impl Rule {
             | Rule::ProbeOwed
             | Rule::NotConfirmed
             | Rule::OwedAtEnd
-            | Rule::TimerLate => None,
+            | Rule::TimerLate
+            | Rule::CollapseMissing => None,
         }
     }
 }

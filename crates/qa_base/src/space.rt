@@ -1,6 +1,6 @@
 //! The small choices that a line of a trace names by a string.
 ghost use Rattle.std.specs.Prelude.{◌≡◌};
-ghost use Rattle.qa_base.specs.values.Names.{role_name, role_named, space_name, space_named, leave_name, leave_named, kind_name, kind_named};
+ghost use Rattle.qa_base.specs.values.Names.{role_name, role_named, unit_name, unit_named, controller_name, controller_named, space_name, space_named, leave_name, leave_named, kind_name, kind_named};
 
 /// Which end of the connection the audited sender is.
 #[derive(Clone, Copy, PartialEq, Eq)]
@@ -29,6 +29,99 @@ impl Role {
             Role::Client => "client",
             Role::Server => "server",
         }
+    }
+}
+
+/// In what the times of a trace are.
+#[derive(Clone, Copy, PartialEq, Eq)]
+pub enum TimeUnit {
+    Microseconds,
+    Nanoseconds,
+}
+
+impl TimeUnit {
+    ghost use Rattle.std.specs.Prelude.{◌≤◌};
+    ghost use Rattle.qa_base.specs.values.Settings.{in_unit, per_microsecond as per_microsecond_of};
+
+    /// The unit of this name: `us` or `ns`; None for any other string.
+    pub fn named(text: &str) -> Option<TimeUnit>
+        ensures { result ≡ unit_named text.now }
+    {
+        match text {
+            "us" => Some(TimeUnit::Microseconds),
+            "ns" => Some(TimeUnit::Nanoseconds),
+            _ => None,
+        }
+    }
+
+    /// The unit's name, which `named` reads.
+    pub fn name(self) -> &'static str
+        ensures { result.now ≡ unit_name self }
+    {
+        match self {
+            TimeUnit::Microseconds => "us",
+            TimeUnit::Nanoseconds => "ns",
+        }
+    }
+
+    /// How many of the unit are a microsecond, 1 or 1000.
+    pub fn per_microsecond(self) -> u64
+        ensures value { result ≡ per_microsecond_of self }
+        ensures some { 1 ≤ result }
+        ensures few { result ≤ 1000 }
+    {
+        match self {
+            TimeUnit::Microseconds => 1,
+            TimeUnit::Nanoseconds => 1000,
+        }
+    }
+
+    /// So many microseconds, in this unit.
+    pub fn of_microseconds(self, microseconds: u64) -> u128
+        ensures { result ≡ in_unit self microseconds }
+    {
+        u128::from(self.per_microsecond()) * u128::from(microseconds)
+    }
+}
+
+/// By whose congestion window packets are judged.
+#[derive(Clone, Copy, PartialEq, Eq)]
+pub enum Controller {
+    /// That of NewReno (RFC 9002, section 7 and appendix B).
+    NewReno,
+    /// The one that the sender last reported, whatever its controller.
+    Reported,
+}
+
+impl Controller {
+    ghost use Rattle.qa_base.specs.values.Settings.{is_reported as is_reported_of};
+
+    /// The controller of this name: `newreno` or `reported`; None for any other string.
+    pub fn named(text: &str) -> Option<Controller>
+        ensures { result ≡ controller_named text.now }
+    {
+        match text {
+            "newreno" => Some(Controller::NewReno),
+            "reported" => Some(Controller::Reported),
+            _ => None,
+        }
+    }
+
+    /// The controller's name, which `named` reads.
+    pub fn name(self) -> &'static str
+        ensures { result.now ≡ controller_name self }
+    {
+        match self {
+            Controller::NewReno => "newreno",
+            Controller::Reported => "reported",
+        }
+    }
+
+    /// Whether the window is the one that the sender reports.
+    pub fn is_reported(self) -> bool
+        ensures { result ≡ is_reported_of self }
+    {
+        self == Controller::Reported
     }
 }
 

@@ -21,7 +21,7 @@ use Rattle.qa_sent.specs.declared.packet.SentPacket.{SentPacket}
 -- the estimate with the sample of an acknowledgment
 pub sampled_of : (c : Settings) (h : List Event) (time : ℕ) (space : Space) (ranges : List (ℕ × ℕ)) (delay : ℕ) (app_limited : Bool) (header : Settings) (confirmed : Bool) (ps : List SentPacket) (before : Estimate)
     → header ≡ c → confirmed ≡ is_confirmed h → ps ≡ acknowledged_by c (Ack time space ranges delay app_limited) h → before ≡ rtt c h
-    → updated before (sample_by time (limited_delay header.max_ack_delay confirmed delay) (greatest ranges) ps) ≡ sampled c (Ack time space ranges delay app_limited ∷ h)
+    → updated before (sample_by header.options.sample_eliciting_only time (limited_delay header.max_ack_delay confirmed delay) (greatest ranges) ps) ≡ sampled c (Ack time space ranges delay app_limited ∷ h)
 sampled_of c h time space ranges delay app_limited header confirmed ps before is_header is_confirmed_then are is =
     rw (is_header, is_confirmed_then, are, is) (ap (updated (rtt c h)) (sample_is c h time space ranges delay app_limited))
 

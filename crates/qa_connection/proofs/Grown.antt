@@ -43,7 +43,7 @@ packets_few [] = omega arith
 packets_few (Sent time space number size eliciting in_flight leave ∷ h) = omega (arith, packets_few h)
 packets_few (_ ∷ h) = omega (arith, packets_few h)
 
-newly_few : (e : Event) (h : List Event) → length (newly_acknowledged (e ∷ h)) ≤ length h
+pub newly_few : (e : Event) (h : List Event) → length (newly_acknowledged (e ∷ h)) ≤ length h
 newly_few e h =
     let part = length-filter (is_newly_acknowledged e h) (packets h) in
     let fewer = count_by-le-length (is_newly_acknowledged e h) (packets h) in

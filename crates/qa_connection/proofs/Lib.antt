@@ -3,6 +3,7 @@ pub mod Told
 pub mod Grown
 pub mod Entries
 pub mod Spent
+pub mod Reports
 pub mod Ended
 pub mod Timers
 pub mod Due

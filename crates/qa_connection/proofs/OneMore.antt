@@ -20,9 +20,10 @@ use Rattle.qa_base.specs.values.Events.{is_quiet, time_of}
 use Rattle.qa_base.specs.values.Settings.{AreInRange, Settings}
 use Rattle.qa_base.proofs.machine.Quiet.{is_pto-quiet, newly-quiet, none_passes, not_refreshed, owed-quiet, resets_count-quiet, rtt-quiet}
 use Rattle.qa_base.proofs.machine.Steps.{reno_after}
-use Rattle.qa_connection.specs.Changes.{acknowledged, counted, discarded, grown, probing, restarted, sent, with_collapse, with_hit, with_sample}
+use Rattle.qa_connection.specs.Changes.{acknowledged, counted, discarded, grown, probing, reported, restarted, sent, with_collapse, with_hit, with_sample}
 use Rattle.qa_connection.specs.Handshaking.{acknowledged_in, discarded_in, handshake_after, sent_in}
 use Rattle.qa_connection.specs.Known.{HasParts, IsMeasured, IsOf, IsProperRun, acknowledged_by}
+use Rattle.qa_connection.specs.Reporting.{acknowledging, collapsed_if, reported_after, reporting}
 use Rattle.qa_connection.specs.Spaces.{space_after}
 use Rattle.qa_connection.specs.Spending.{hit, spent}
 use Rattle.qa_connection.specs.Steps.{capped, last_sent}
@@ -31,10 +32,12 @@ use Rattle.qa_connection.specs.Timing as timers
 use Rattle.qa_connection.specs.declared.allowances.Allowances.{Allowances}
 use Rattle.qa_connection.specs.declared.connection.Connection.{Connection}
 use Rattle.qa_connection.specs.declared.handshake.HandshakeState.{HandshakeState}
+use Rattle.qa_connection.specs.declared.reported.ReportedWindow.{ReportedWindow}
 use Rattle.qa_connection.specs.declared.timer.TimerState.{TimerState}
 use Rattle.qa_connection.proofs.Ended.{rtt_of, sampled_of, validated_is}
 use Rattle.qa_connection.proofs.Entries.{entry_of}
 use Rattle.qa_connection.proofs.Grown.{reno_of}
+use Rattle.qa_connection.proofs.Reports.{reported_acked, reported_found, reported_is, reported_stays}
 use Rattle.qa_connection.proofs.Spent.{allowances_sent, allowances_stay, allowances_unhit}
 use Rattle.qa_connection.proofs.States.{spaces_acked, spaces_discarded, spaces_sent}
 use Rattle.qa_connection.proofs.Timers.{timer_fired, timer_probing, timer_restarted, timer_sent, timer_stays}
@@ -60,6 +63,7 @@ counted_is c e h k events run parts =
         handshake = parts.handshake;
         rtt = parts.rtt;
         reno = parts.reno;
+        reported = parts.reported;
         timer = parts.timer;
         allowances = parts.allowances;
         spaces = parts.spaces;
@@ -126,6 +130,7 @@ acked_is c h time space ranges delay app_limited old covers samples loses grows 
       handshake = rw (is_sampled, is_acknowledged) shakes;
       rtt = rtt_of c e h samples.header (is_persistent c (e ∷ h)) samples.rtt measured.header refl measured.rtt;
       reno = rw (is_sampled, is_acknowledged) (reno_of c e h old.header old.reno ps (last_sent (owed c (e ∷ h))) (is_persistent c (e ∷ h)) of.header of.reno are refl refl range run.fit.1 (omega (arith, long)));
+      reported = rw (is_sampled, is_acknowledged) (ap (λ (r : ReportedWindow). acknowledging ps (collapsed_if (is_persistent c (e ∷ h)) r)) of.reported ∙ reported_acked c h time space ranges delay app_limited ps are run.fit.1 (omega (arith, long)));
       timer = rw (is_sampled, is_acknowledged) (ap (timers.restarted time _) of.timer ∙ timer_restarted c e h _ refl resets some (λ s. some));
       allowances = rw (is_sampled, is_acknowledged) (ap (λ b. hit b old.allowances) entered ∙ (ap (hit _) of.allowances ∙ sym (allowances_stay c e h refl refl)));
       spaces = measured.spaces;
@@ -144,6 +149,7 @@ acked_old c h time space ranges delay app_limited old covers of largest is_large
       handshake = ap (acknowledged_in space) of.handshake;
       rtt = rw is_acknowledged at measured.rtt ∙ sym (rtt_stays c e h free);
       reno = of.reno ∙ sym (reno_stays c e h free (none_of (newly_acknowledged (e ∷ h)) none));
+      reported = of.reported ∙ sym (reported_stays c e h refl (none_of (newly_acknowledged (e ∷ h)) none) (not_persistent c (e ∷ h) free));
       timer = of.timer ∙ sym (timer_stays c e h refl (ap (λ b. b && is_validated c (e ∷ h)) none) none (λ s. none));
       allowances = of.allowances ∙ sym (allowances_unhit c e h _ refl refl refl free);
       spaces = spaces_acked h time space ranges delay app_limited old.spaces of.spaces;
@@ -162,6 +168,7 @@ sent_is c h p leave k of run =
       handshake = ap (sent_in p.space) of.handshake;
       rtt = of.rtt ∙ sym (rtt_stays c e h refl);
       reno = of.reno ∙ sym (reno_stays c e h refl (none_passes (packets h)));
+      reported = of.reported ∙ sym (reported_stays c e h refl (none_passes (packets h)) refl);
       timer = ap (λ (t : TimerState). record {
         pto_count = t.pto_count;
         last_set = if p.in_flight then Some p.time else t.last_set;
@@ -184,6 +191,7 @@ probing_is c h time space k of run =
       handshake = of.handshake;
       rtt = of.rtt ∙ sym (rtt_stays c e h refl);
       reno = of.reno ∙ sym (reno_stays c e h refl (none_passes (packets h)));
+      reported = of.reported ∙ sym (reported_stays c e h refl (none_passes (packets h)) refl);
       timer = ap (timers.probing space time) of.timer ∙ timer_probing c h time space run.run.0 run.timely.1;
       allowances = ap (λ (a : Allowances). record a { probe_spent = Some 0 }) of.allowances ∙ sym (allowances_unhit c e h _ refl refl refl refl);
       spaces = of.spaces;
@@ -207,6 +215,7 @@ timed_is c h time space k of run range =
       handshake = of.handshake;
       rtt = rtt_of c e h k.header (is_persistent c (e ∷ h)) k.rtt of.header refl of.rtt;
       reno = reno_of c e h k.header k.reno [] last (is_persistent c (e ∷ h)) of.header of.reno are refl refl range run.fit.1 (omega (arith, long));
+      reported = ap (collapsed_if (is_persistent c (e ∷ h))) of.reported ∙ reported_found c e h refl (none_passes (packets h));
       timer = ap (λ (t : TimerState). record t { last_set = Some time }) of.timer ∙ timer_fired c h time space;
       allowances = ap (λ b. hit b k.allowances) (entry_of c e h k.reno last of.reno refl) ∙ (ap (hit _) of.allowances ∙ sym (allowances_stay c e h refl refl));
       spaces = of.spaces;
@@ -222,6 +231,7 @@ discarded_is c h time space k of =
       handshake = ap (discarded_in space) of.handshake;
       rtt = of.rtt ∙ sym (rtt_stays c e h refl);
       reno = of.reno ∙ sym (reno_stays c e h refl (none_passes (packets h)));
+      reported = of.reported ∙ sym (reported_stays c e h refl (none_passes (packets h)) refl);
       timer = ap (timers.restarted time true) of.timer ∙ timer_restarted c e h true refl refl refl (λ s. refl);
       allowances = of.allowances ∙ sym (allowances_unhit c e h _ refl refl refl refl);
       spaces = spaces_discarded h time space k.spaces of.spaces;
@@ -231,9 +241,9 @@ discarded_is c h time space k of =
 
 quiet_is : (c : Settings) (e : Event) (h : List Event) → is_quiet e ≡ true → sets_timer (e ∷ h) ≡ acknowledges_new (e ∷ h) → ((s : Space) → answers_pto s (e ∷ h) ≡ acknowledges_new (e ∷ h))
     → probe_size (e ∷ h) ≡ 0 → is_recovery_packet (e ∷ h) ≡ false
-    → (k : Connection) → HasParts k c h → (shakes : HandshakeState) → shakes ≡ handshake_after (e ∷ h) → ((s : Space) → of_space s k.spaces ≡ space_after (e ∷ h) s)
-    → HasParts (record k { handshake = shakes }) c (e ∷ h)
-quiet_is c e h quiet sets answers probes recovers k of shakes handshake spaces =
+    → (k : Connection) → HasParts k c h → (shakes : HandshakeState) → shakes ≡ handshake_after (e ∷ h) → (reports : ReportedWindow) → reports ≡ reported_after c (e ∷ h)
+    → ((s : Space) → of_space s k.spaces ≡ space_after (e ∷ h) s) → HasParts (record k { handshake = shakes; reported = reports }) c (e ∷ h)
+quiet_is c e h quiet sets answers probes recovers k of shakes handshake reports reported spaces =
     let none : acknowledges_new (e ∷ h) ≡ false = ap is_some_packet (newly-quiet e h quiet) in
     let other = is_pto-quiet e h quiet in
     let free = owed-quiet c e h quiet in
@@ -242,6 +252,7 @@ quiet_is c e h quiet sets answers probes recovers k of shakes handshake spaces =
       handshake = handshake;
       rtt = of.rtt ∙ sym (rtt-quiet c e h quiet);
       reno = of.reno ∙ sym (reno_stays c e h free (newly-quiet e h quiet));
+      reported = reported;
       timer = of.timer ∙ sym (timer_stays c e h other (resets_count-quiet c e h quiet) (sets ∙ none) (λ s. answers s ∙ none));
       allowances = of.allowances ∙ sym (allowances_unhit c e h false other probes recovers free);
       spaces = spaces;
@@ -249,18 +260,23 @@ quiet_is c e h quiet sets answers probes recovers k of shakes handshake spaces =
 
 -- a Lost line
 pub lost_is : (c : Settings) (h : List Event) (time : ℕ) (space : Space) (ranges : List (ℕ × ℕ)) (k : Connection) → HasParts k c h → HasParts k c (Lost time space ranges ∷ h)
-lost_is c h time space ranges k of = quiet_is c (Lost time space ranges) h refl refl (λ s. refl) refl refl k of k.handshake of.handshake of.spaces
+lost_is c h time space ranges k of =
+    quiet_is c (Lost time space ranges) h refl refl (λ s. refl) refl refl k of k.handshake of.handshake k.reported (of.reported ∙ sym (reported_stays c (Lost time space ranges) h refl (none_passes (packets h)) refl)) of.spaces
 
 -- the handshake is confirmed
 pub confirmed_is : (c : Settings) (h : List Event) (time : ℕ) (k : Connection) → HasParts k c h → HasParts (record k { handshake = record k.handshake { confirmed = true } }) c (Confirmed time ∷ h)
 confirmed_is c h time k of =
-    quiet_is c (Confirmed time) h refl refl (λ s. refl) refl refl k of (record k.handshake { confirmed = true }) (ap (λ (x : HandshakeState). record x { confirmed = true }) of.handshake) of.spaces
+    quiet_is c (Confirmed time) h refl refl (λ s. refl) refl refl k of (record k.handshake { confirmed = true }) (ap (λ (x : HandshakeState). record x { confirmed = true }) of.handshake)
+    k.reported (of.reported ∙ sym (reported_stays c (Confirmed time) h refl (none_passes (packets h)) refl)) of.spaces
 
 -- keys of the Handshake space are there
 pub keys_are : (c : Settings) (h : List Event) (time : ℕ) (k : Connection) → HasParts k c h → HasParts (record k { handshake = record k.handshake { has_keys = true } }) c (Keys time ∷ h)
 keys_are c h time k of =
-    quiet_is c (Keys time) h refl refl (λ s. refl) refl refl k of (record k.handshake { has_keys = true }) (ap (λ (x : HandshakeState). record x { has_keys = true }) of.handshake) of.spaces
+    quiet_is c (Keys time) h refl refl (λ s. refl) refl refl k of (record k.handshake { has_keys = true }) (ap (λ (x : HandshakeState). record x { has_keys = true }) of.handshake)
+    k.reported (of.reported ∙ sym (reported_stays c (Keys time) h refl (none_passes (packets h)) refl)) of.spaces
 
 -- a report
-pub metrics_are : (c : Settings) (h : List Event) (time : ℕ) (values : MetricValues) (k : Connection) → HasParts k c h → HasParts k c (Metrics time values ∷ h)
-metrics_are c h time values k of = quiet_is c (Metrics time values) h refl refl (λ s. refl) refl refl k of k.handshake of.handshake of.spaces
+pub metrics_are : (c : Settings) (h : List Event) (time : ℕ) (values : MetricValues) (k : Connection) → HasParts k c h → HasParts (reported values.window k) c (Metrics time values ∷ h)
+metrics_are c h time values k of =
+    quiet_is c (Metrics time values) h refl refl (λ s. refl) refl refl k of k.handshake of.handshake
+    (reporting values.window k.reported) (ap (reporting values.window) of.reported ∙ reported_is c h time values values.window refl) of.spaces

@@ -9,7 +9,7 @@ use Rattle.qa_base.specs.declared.event.Event.TheVariants.{Ack}
 use Rattle.qa_base.specs.declared.space.Space.{Space}
 use Rattle.qa_base.specs.machine.Handshake.{is_confirmed}
 use Rattle.qa_base.specs.machine.Packets.{Packet, newly_acknowledged, acknowledges_new, is_some_packet, greatest}
-use Rattle.qa_base.specs.machine.Rtt.{Sample, sample_by, sample_of}
+use Rattle.qa_base.specs.machine.Rtt.{Sample, gives_sample, sample_by, sample_of}
 use Rattle.qa_base.specs.machine.Rtt as estimates
 use Rattle.qa_base.specs.values.Settings.{Settings}
 use Rattle.qa_connection.specs.Known.{acknowledged_by}
@@ -32,7 +32,7 @@ new_is c e h acknowledged are =
     let same : length acknowledged ≡ length new = ap length are ∙ (length-map (reverse new) (sent_of c h) ∙ length-reverse new) in
     ap (λ n. not (n == 0)) same ∙ some_is new
 
--- ---- the packet with a number, and whether one is ack-eliciting
+-- ---- the packet with a number, and whether one gives a sample
 
 same_time : (c : Settings) (h : List Event) (p : Option Packet) → option_map (λ (x : SentPacket). x.time) (option_map (sent_of c h) p) ≡ option_map (λ (x : Packet). x.time) p
 same_time c h None = refl
@@ -45,10 +45,10 @@ sent_at_is c h n ps =
     ap (λ (qs : List SentPacket). option_map (λ (p : SentPacket). p.time) (find (λ (p : SentPacket). p.number == n) qs)) (sym (map_turned (sent_of c h) (reverse ps)) ∙ ap (map (sent_of c h)) (reverse-reverse ps))
     ∙ (ap (option_map (λ (p : SentPacket). p.time)) (find_of_map (λ (p : SentPacket). p.number == n) (sent_of c h) test ps (each_value (λ p. test p ≡ test p) (λ p. refl) ps)) ∙ same_time c h (find test ps))
 
-pub eliciting_is : (c : Settings) (h : List Event) (ps : List Packet) → list_any (λ (p : SentPacket). p.eliciting) (map (sent_of c h) (reverse ps)) ≡ list_any (λ (p : Packet). p.eliciting) ps
-eliciting_is c h ps =
-    any_of_map (λ (p : SentPacket). p.eliciting) (sent_of c h) (λ (p : Packet). p.eliciting) (reverse ps) (each_value (λ (p : Packet). p.eliciting ≡ p.eliciting) (λ p. refl) (reverse ps))
-    ∙ any_turned (λ (p : Packet). p.eliciting) ps
+pub giving_is : (c : Settings) (h : List Event) (only : Bool) (n : ℕ) (ps : List Packet) → list_any (steps.gives_sample only n) (map (sent_of c h) (reverse ps)) ≡ list_any (gives_sample only n) ps
+giving_is c h only n ps =
+    any_of_map (steps.gives_sample only n) (sent_of c h) (gives_sample only n) (reverse ps) (each_value (λ (p : Packet). gives_sample only n p ≡ gives_sample only n p) (λ p. refl) (reverse ps))
+    ∙ any_turned (gives_sample only n) ps
 
 -- ---- the sample
 
@@ -56,15 +56,15 @@ at_is : (time delay : ℕ) (p : Option Packet) → sample_at time delay (option_
 at_is time delay None = refl
 at_is time delay (Some p) = refl
 
-sample_is_of : (c : Settings) (h : List Event) (time delay n : ℕ) (ps : List Packet)
-    → steps.sample_by time delay n (map (sent_of c h) (reverse ps)) ≡ (if list_any (λ (p : Packet). p.eliciting) ps then sample_by time delay (find (λ (p : Packet). p.number == n) ps) else None)
-sample_is_of c h time delay n ps =
-    ap (λ b. if b then sample_at time delay (sent_at n (map (sent_of c h) (reverse ps))) else None) (eliciting_is c h ps)
-    ∙ ap (λ (s : Option Sample). if list_any (λ (p : Packet). p.eliciting) ps then s else None) (ap (sample_at time delay) (sent_at_is c h n ps) ∙ at_is time delay (find (λ (p : Packet). p.number == n) ps))
+sample_is_of : (c : Settings) (h : List Event) (only : Bool) (time delay n : ℕ) (ps : List Packet)
+    → steps.sample_by only time delay n (map (sent_of c h) (reverse ps)) ≡ (if list_any (gives_sample only n) ps then sample_by time delay (find (λ (p : Packet). p.number == n) ps) else None)
+sample_is_of c h only time delay n ps =
+    ap (λ b. if b then sample_at time delay (sent_at n (map (sent_of c h) (reverse ps))) else None) (giving_is c h only n ps)
+    ∙ ap (λ (s : Option Sample). if list_any (gives_sample only n) ps then s else None) (ap (sample_at time delay) (sent_at_is c h n ps) ∙ at_is time delay (find (λ (p : Packet). p.number == n) ps))
 
 -- an acknowledgment gives the sample of the packets that it newly acknowledges
 pub sample_is : (c : Settings) (h : List Event) (time : ℕ) (space : Space) (ranges : List (ℕ × ℕ)) (delay : ℕ) (app_limited : Bool)
-    → steps.sample_by time (limited_delay c.max_ack_delay (is_confirmed h) delay) (greatest ranges) (acknowledged_by c (Ack time space ranges delay app_limited) h)
+    → steps.sample_by c.options.sample_eliciting_only time (limited_delay c.max_ack_delay (is_confirmed h) delay) (greatest ranges) (acknowledged_by c (Ack time space ranges delay app_limited) h)
     ≡ sample_of c (Ack time space ranges delay app_limited ∷ h)
 sample_is c h time space ranges delay app_limited =
-    sample_is_of c h time (estimates.limited_delay c h delay) (greatest ranges) (newly_acknowledged (Ack time space ranges delay app_limited ∷ h))
+    sample_is_of c h c.options.sample_eliciting_only time (estimates.limited_delay c h delay) (greatest ranges) (newly_acknowledged (Ack time space ranges delay app_limited ∷ h))

@@ -5,6 +5,7 @@ use Rattle.qa_base.specs.declared.space.Space.{Space}
 use Rattle.qa_base.specs.machine.Reno.{collapses, moved}
 use Rattle.qa_base.specs.machine.Rtt.{updated}
 use Rattle.qa_connection.specs.Handshaking.{acknowledged_in, discarded_in, is_validated, sent_in}
+use Rattle.qa_connection.specs.Reporting.{acknowledging, collapsed_if, reporting}
 use Rattle.qa_connection.specs.Spaces.{changed_in, with_discarded, with_eliciting, with_largest}
 use Rattle.qa_connection.specs.Spending.{hit, spent}
 use Rattle.qa_connection.specs.Steps.{capped, enters_at, grown_by, hits_at, limited_delay, refreshed_if, sample_by}
@@ -25,7 +26,7 @@ acknowledged space largest k = record k {
 -- an acknowledgment came of these packets, the largest number that it acknowledges, and the delay that it reports
 abbrev pub with_sample : ℕ → ℕ → ℕ → List SentPacket → Connection → Connection
 with_sample now delay largest ps k = record k {
-  rtt = updated k.rtt (sample_by now (limited_delay k.header.max_ack_delay k.handshake.confirmed delay) largest ps);
+  rtt = updated k.rtt (sample_by k.header.options.sample_eliciting_only now (limited_delay k.header.max_ack_delay k.handshake.confirmed delay) largest ps);
 }
 
 -- packets were found lost now, the last of which was sent at a time, where there are any
@@ -40,11 +41,15 @@ abbrev pub with_collapse : Bool → Connection → Connection
 with_collapse persistent k = record k {
   rtt = refreshed_if k.header.options.refresh_min_rtt persistent k.rtt;
   reno = fold (moved k.header.max_datagram_size) k.reno (collapses persistent);
+  reported = collapsed_if persistent k.reported;
 }
 
 -- these packets were acknowledged, by a sender that was limited or not
 abbrev pub grown : Bool → List SentPacket → Connection → Connection
-grown app_limited ps k = record k { reno = fold (grown_by k.header.max_datagram_size) k.reno (if app_limited then [] else ps) }
+grown app_limited ps k = record k {
+  reno = fold (grown_by k.header.max_datagram_size) k.reno (if app_limited then [] else ps);
+  reported = acknowledging ps k.reported;
+}
 
 -- something new was acknowledged now
 abbrev pub restarted : ℕ → Connection → Connection
@@ -84,6 +89,10 @@ discarded space now k = record k {
   timer = timers.restarted now true k.timer;
   spaces = changed_in space with_discarded k.spaces;
 }
+
+-- a window was reported, or none
+abbrev pub reported : Option ℕ → Connection → Connection
+reported window k = record k { reported = reporting window k.reported }
 
 -- one event more, at a time
 abbrev pub counted : ℕ → Connection → Connection

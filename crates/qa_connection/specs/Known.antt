@@ -12,6 +12,7 @@ use Rattle.qa_base.specs.machine.Timer as timers
 use Rattle.qa_base.specs.machine.Widths.{Fits, IsTimely}
 use Rattle.qa_base.specs.values.Settings.{Settings}
 use Rattle.qa_connection.specs.Handshaking.{handshake_after}
+use Rattle.qa_connection.specs.Reporting.{reported_after}
 use Rattle.qa_connection.specs.Spaces.{space_after}
 use Rattle.qa_connection.specs.Spending.{allowances_after}
 use Rattle.qa_connection.specs.Steps.{last_sent}
@@ -37,6 +38,7 @@ pub record HasParts (k : Connection) (c : Settings) (h : List Event) : Type 0 wh
   pub handshake : k.handshake ≡ handshake_after h
   pub rtt : k.rtt ≡ rtt c h
   pub reno : k.reno ≡ moves.reno c h
+  pub reported : k.reported ≡ reported_after c h
   pub timer : k.timer ≡ timer_after c h
   pub allowances : k.allowances ≡ allowances_after c h
   pub spaces : (s : Space) → of_space s k.spaces ≡ space_after h s

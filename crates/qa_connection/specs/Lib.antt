@@ -5,4 +5,5 @@ pub mod Timing
 pub mod Spending
 pub mod Spaces
 pub mod Steps
+pub mod Reporting
 pub mod Changes

@@ -1,5 +1,5 @@
 -- What one event makes of the values that are kept.
-use Rattle.std.specs.Prelude.{◌≤◌, ℕ, ◌-◌, ◌&&◌, ◌==◌, nat_le, min, fold, find, reverse, Bool, false, List, [], ◌∷◌, Option, Some, None, option_map, if◌then◌else◌}
+use Rattle.std.specs.Prelude.{◌≤◌, ℕ, ◌-◌, ◌&&◌, ◌||◌, not, ◌==◌, nat_le, min, fold, find, reverse, Bool, false, List, [], ◌∷◌, Option, Some, None, option_map, if◌then◌else◌}
 use Rattle.std.specs.List.{list_any}
 use Rattle.qa_base.specs.declared.event.Event.{Event}
 use Rattle.qa_base.specs.machine.Packets.{Packet}
@@ -26,9 +26,13 @@ abbrev pub sample_at : ℕ → ℕ → Option ℕ → Option Sample
 sample_at time delay None = None
 sample_at time delay (Some sent) = Some (record { latest_rtt = time - sent; ack_delay = delay; time = time })
 
+-- an ack-eliciting packet; where the sender samples no others, the one of this number
+abbrev pub gives_sample : Bool → ℕ → SentPacket → Bool
+gives_sample only number p = p.eliciting && (not only || p.number == number)
+
 -- the sample of an acknowledgment of these packets
-abbrev pub sample_by : ℕ → ℕ → ℕ → List SentPacket → Option Sample
-sample_by time delay number ps = if list_any (λ p. p.eliciting) ps then sample_at time delay (sent_at number ps) else None
+abbrev pub sample_by : Bool → ℕ → ℕ → ℕ → List SentPacket → Option Sample
+sample_by only time delay number ps = if list_any (gives_sample only number) ps then sample_at time delay (sent_at number ps) else None
 
 -- the estimate after an event, refreshed where the header asks for it and the event establishes persistent congestion (section 5.2)
 abbrev pub refreshed_if : Bool → Bool → Estimate → Estimate

@@ -5,7 +5,7 @@ ghost use Rattle.qa_connection.specs.Steps as steps;
 ghost use Rattle.qa_connection.specs.Steps.{IsDatagramSize};
 
 use qa_base::limits::MAX_PACKET_SIZE;
-use qa_base::{Header, Micros};
+use qa_base::{Header, Ticks};
 use qa_recovery::Reno;
 use qa_sent::SentPacket;
 
@@ -16,7 +16,7 @@ const MAX_WINDOW: u64 = 4_611_686_018_427_387_904;
 #[derive(Clone, Copy)]
 pub struct Losses {
     /// When the last packet was sent that it found lost, where it found one.
-    pub last_owed: Option<Micros>,
+    pub last_owed: Option<Ticks>,
     /// Whether they establish persistent congestion (section 7.6).
     pub is_persistent: bool,
 }

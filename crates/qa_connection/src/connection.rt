@@ -1,5 +1,6 @@
 //! What is kept of a connection beside the packets that were sent.
 ghost use Rattle.std.specs.Prelude.{◌≡◌, []};
+ghost use Rattle.qa_base.specs.machine.Window.{ssthresh_by, window_by};
 ghost use Rattle.qa_base.specs.values.Settings.{AreInRange};
 ghost use Rattle.qa_connection.specs.Changes as steps;
 ghost use Rattle.qa_connection.specs.Changes.{with_collapse, with_hit, with_sample};
@@ -8,10 +9,11 @@ ghost use Rattle.qa_connection.specs.Known.{IsOf};
 use crate::allowances::Allowances;
 use crate::congestion::Losses;
 use crate::handshake::HandshakeState;
+use crate::reported::ReportedWindow;
 use crate::spaces::SpaceState;
 use crate::timer::TimerState;
 use crate::{congestion, sampling, spaces};
-use qa_base::{Header, Leave, Micros, PacketNumber, PerSpace, Space};
+use qa_base::{Controller, Header, Leave, PacketNumber, PerSpace, Space, Ticks};
 use qa_recovery::{Reno, Rtt};
 use qa_sent::SentPacket;
 
@@ -24,13 +26,15 @@ pub struct Connection {
     /// How many events there were.
     pub events: u64,
     /// When the last event happened.
-    pub last_time: Option<Micros>,
+    pub last_time: Option<Ticks>,
     /// How far the handshake is.
     pub handshake: HandshakeState,
     /// The estimate of the round-trip time.
     pub rtt: Rtt,
-    /// The congestion window.
+    /// The congestion window of NewReno.
     pub reno: Reno,
+    /// The one that the sender reports.
+    pub reported: ReportedWindow,
     /// What is kept of the loss detection timer.
     pub timer: TimerState,
     /// What was sent past the congestion window.
@@ -51,9 +55,31 @@ impl Connection {
             handshake: HandshakeState::start(),
             rtt: sampling::start(&header),
             reno: congestion::start(&header),
+            reported: ReportedWindow::start(&header),
             timer: TimerState::start(),
             allowances: Allowances::start(),
             spaces: spaces::start(),
+        }
+    }
+
+    /// The congestion window by which packets are judged, in bytes: NewReno's or the reported one.
+    pub fn window(&self) -> u64
+        ensures { result ≡ window_by self.now.header.options.controller self.now.reno.window self.now.reported.window }
+    {
+        match self.header.options().controller {
+            Controller::NewReno => self.reno.window,
+            Controller::Reported => self.reported.window,
+        }
+    }
+
+    /// NewReno's slow start threshold, in bytes; None where there is none yet, and where the window is
+    /// the reported one.
+    pub fn ssthresh(&self) -> Option<u64>
+        ensures { result ≡ ssthresh_by self.now.header.options.controller self.now.reno.ssthresh }
+    {
+        match self.header.options().controller {
+            Controller::NewReno => self.reno.ssthresh,
+            Controller::Reported => None,
         }
     }
 
@@ -65,18 +91,19 @@ impl Connection {
         acknowledged: &[SentPacket],
         largest: PacketNumber,
         delay: u64,
-        now: Micros,
+        now: Ticks,
     )
         ensures { self.new ≡ with_sample now delay largest acknowledged.now self.old }
     {
         let delay = sampling::limited_delay(&self.header, self.handshake.confirmed, delay);
-        sampling::acknowledge(&mut self.rtt, acknowledged, largest, delay, now);
+        let only = self.header.options().sample_eliciting_only;
+        sampling::acknowledge(&mut self.rtt, acknowledged, largest, delay, now, only);
     }
 
     /// Packets were found lost, the last of which was sent at `last_sent`, where there are any (RFC
     /// 9002, B.6): the window falls, and a recovery packet may go out, where that was after
     /// recovery began.
-    fn hit(&mut self, last_sent: Option<Micros>, now: Micros)
+    fn hit(&mut self, last_sent: Option<Ticks>, now: Ticks)
         ensures { self.new ≡ with_hit now last_sent self.old }
     {
         let Some(last_sent) = last_sent else {
@@ -102,10 +129,11 @@ impl Connection {
             is_persistent,
             self.header.max_datagram_size(),
         );
+        self.reported.collapse(is_persistent);
     }
 
     /// Takes in what a detection found lost (B.8).
-    pub fn lose(&mut self, losses: Losses, now: Micros)
+    pub fn lose(&mut self, losses: Losses, now: Ticks)
         ensures value { self.new ≡ with_collapse losses.is_persistent (with_hit now losses.last_owed self.old) }
         ensures range { AreInRange self.old.header }
     {
@@ -114,10 +142,12 @@ impl Connection {
     }
 
     /// The window grows by the packets that an acknowledgment newly acknowledges, in the order of
-    /// sending, unless the sender was limited by less than the window (B.5; section 7.8).
+    /// sending, unless the sender was limited by less than the window (B.5; section 7.8). Their bytes
+    /// count in what a reported window may be, limited or not.
     pub fn grow(&mut self, acknowledged: &[SentPacket], app_limited: bool)
         ensures { self.new ≡ steps.grown app_limited acknowledged.now self.old }
     {
+        self.reported.acknowledge(acknowledged);
         if app_limited {
             return;
         }
@@ -170,7 +200,7 @@ impl Connection {
     }
 
     /// A probe timeout of a space (A.9): two datagrams of probes may go out, and one is due.
-    pub fn probe(&mut self, space: Space, now: Micros)
+    pub fn probe(&mut self, space: Space, now: Ticks)
         ensures { self.new ≡ steps.probing space now self.old }
     {
         self.timer.probe(space, now);
@@ -178,7 +208,7 @@ impl Connection {
     }
 
     /// The keys of a space were discarded (A.11).
-    pub fn discard(&mut self, space: Space, now: Micros)
+    pub fn discard(&mut self, space: Space, now: Ticks)
         ensures { self.new ≡ steps.discarded space now self.old }
     {
         self.spaces.of_mut(space).discarded = true;
@@ -188,15 +218,22 @@ impl Connection {
 
     /// Something new was acknowledged: the timer is set anew, no probe is due, and the PTO count is
     /// 0 from now on where the peer has validated the sender's address (A.7; section 6.2.1).
-    pub fn restart(&mut self, now: Micros)
+    pub fn restart(&mut self, now: Ticks)
         ensures { self.new ≡ steps.restarted now self.old }
     {
         let is_validated = self.handshake.is_validated(self.header.role());
         self.timer.restart(now, is_validated);
     }
 
+    /// The sender reported a window, or none.
+    pub fn report(&mut self, window: Option<u64>)
+        ensures { self.new ≡ steps.reported window self.old }
+    {
+        self.reported.report(window);
+    }
+
     /// One event more happened, at this time.
-    pub fn count(&mut self, now: Micros)
+    pub fn count(&mut self, now: Ticks)
         ensures { self.new ≡ steps.counted now self.old }
     {
         self.events = self.events.saturating_add(1);

@@ -1,16 +1,18 @@
 //! The deadline of the loss detection timer (RFC 9002, section 6.2, A.8).
-ghost use Rattle.std.specs.Prelude.{◌≡◌, ◌≤◌, ◌+◌, ◌*◌, ◌^◌, min, List, None, if◌then◌else◌};
+ghost use Rattle.std.specs.Prelude.{◌≡◌, ◌≤◌, ◌+◌, ◌*◌, ◌^◌, min, List, None, option_map, if◌then◌else◌};
 ghost use Rattle.std.specs.Option.{option_or};
 ghost use Rattle.qa_base.specs.declared.event.Event.{Event};
+ghost use Rattle.qa_base.specs.machine.Packets as packets;
 ghost use Rattle.qa_base.specs.machine.Timer as timers;
-ghost use Rattle.qa_base.specs.values.Settings.{Settings};
+ghost use Rattle.qa_base.specs.values.Settings.{Settings, granularity};
 ghost use Rattle.qa_connection.specs.Deadlines as deadlines;
 ghost use Rattle.qa_connection.specs.Deadlines.{AreOpen};
 ghost use Rattle.qa_connection.specs.Known.{IsOf, IsProperRun};
+ghost use Rattle.qa_base.specs.values.PerSpace.{of_space};
 
 use crate::connection::Connection;
 use crate::spaces::SpaceState;
-use qa_base::{Due, Micros, PacketNumber, PerSpace, Space, TimerKind};
+use qa_base::{Due, PacketNumber, PerSpace, Space, Ticks, TimerKind};
 use qa_recovery::Rtt;
 use qa_sent::SentPacket;
 
@@ -27,7 +29,7 @@ pub struct OpenInSpace {
 
 /// Whether the number is below the largest that was acknowledged.
 fn is_below_largest(number: PacketNumber, largest: Option<PacketNumber>) -> bool
-    ensures { result ≡ timers.is_below_largest number largest }
+    ensures { result ≡ packets.is_below_largest number largest }
 {
     match largest {
         None => false,
@@ -37,18 +39,19 @@ fn is_below_largest(number: PacketNumber, largest: Option<PacketNumber>) -> bool
 
 /// When the oldest packet of the space is old, where it is below the largest acknowledged number.
 fn loss_due(
+    granularity: Ticks,
     rtt: Rtt,
     largest: Option<PacketNumber>,
     space: Space,
     oldest: Option<SentPacket>,
 ) -> Option<Due>
-    ensures { result ≡ deadlines.loss_due rtt largest space oldest }
+    ensures { result ≡ deadlines.loss_due granularity rtt largest space oldest }
 {
     match oldest {
         Some(packet) if is_below_largest(packet.number, largest) => Some(Due {
             kind: TimerKind::Loss,
             space,
-            time: u128::from(packet.time.get() + rtt.loss_delay()),
+            time: u128::from(packet.time.get() + rtt.loss_delay(granularity)),
         }),
         _ => None,
     }
@@ -57,7 +60,7 @@ fn loss_due(
 // ---- probe timeouts
 
 /// A probe timeout of the space, so long after a time, where there is one.
-fn pto_at(space: Space, since: Option<Micros>, base: u64, count: u64) -> Option<Due>
+fn pto_at(space: Space, since: Option<Ticks>, base: u64, count: u64) -> Option<Due>
     requires base { base ≤ 6000000000000000 }
     ensures { result ≡ deadlines.pto_at space since base count }
 {
@@ -68,7 +71,7 @@ fn pto_at(space: Space, since: Option<Micros>, base: u64, count: u64) -> Option<
 fn pto_due(
     space: Space,
     awaits: bool,
-    last_eliciting: Option<Micros>,
+    last_eliciting: Option<Ticks>,
     base: u64,
     count: u64,
 ) -> Option<Due>
@@ -86,9 +89,11 @@ impl Connection {
     fn earliest_loss(&self, packets: &PerSpace<OpenInSpace>) -> Option<Due>
         ensures { result ≡ deadlines.earliest_loss self.now packets.now }
     {
+        let granularity = self.header.granularity();
         let spaces = &self.spaces;
         Due::earlier(
             loss_due(
+                granularity,
                 self.rtt,
                 spaces.initial.largest,
                 Space::Initial,
@@ -96,12 +101,19 @@ impl Connection {
             ),
             Due::earlier(
                 loss_due(
+                    granularity,
                     self.rtt,
                     spaces.handshake.largest,
                     Space::Handshake,
                     packets.handshake.oldest,
                 ),
-                loss_due(self.rtt, spaces.app.largest, Space::App, packets.app.oldest),
+                loss_due(
+                    granularity,
+                    self.rtt,
+                    spaces.app.largest,
+                    Space::App,
+                    packets.app.oldest,
+                ),
             ),
         )
     }
@@ -118,7 +130,7 @@ impl Connection {
             Space::App,
             awaits,
             self.spaces.app.last_eliciting,
-            self.rtt.pto_base() + self.header.max_ack_delay(),
+            self.rtt.pto_base(self.header.granularity()) + self.header.max_ack_delay(),
             self.timer.pto_count,
         )
     }
@@ -127,7 +139,7 @@ impl Connection {
     fn earliest_pto(&self, packets: &PerSpace<OpenInSpace>) -> Option<Due>
         ensures { result ≡ deadlines.earliest_pto self.now packets.now }
     {
-        let base = self.rtt.pto_base();
+        let base = self.rtt.pto_base(self.header.granularity());
         let spaces = &self.spaces;
         Due::earlier(
             pto_due(
@@ -165,9 +177,22 @@ impl Connection {
         pto_at(
             space,
             self.timer.last_set,
-            self.rtt.pto_base(),
+            self.rtt.pto_base(self.header.granularity()),
             self.timer.pto_count,
         )
+    }
+
+    /// When the oldest packet of a space is old, where it is below the largest acknowledged number of
+    /// the space.
+    pub fn loss_time(&self, space: Space, oldest: Option<SentPacket>) -> Option<u64>
+        ensures { result ≡ option_map (λ d. d.time) (deadlines.loss_due (granularity self.now.header) self.now.rtt (of_space space self.now.spaces).largest space oldest) }
+    {
+        match oldest {
+            Some(packet) if is_below_largest(packet.number, self.spaces.of(space).largest) => {
+                Some(packet.time.get() + self.rtt.loss_delay(self.header.granularity()))
+            }
+            _ => None,
+        }
     }
 
     /// What the loss detection timer is set for by the packets that are open: the first of them that

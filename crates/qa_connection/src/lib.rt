@@ -1,7 +1,7 @@
 //! What a sender keeps of a connection beside the packets that were sent (RFC 9002, A.3 and B.2): a
 //! few fields, so that an event takes as long as the packets that it acknowledges, and no longer.
 //!
-//! Times are in microseconds, sizes and windows in bytes. Nothing here takes memory.
+//! Times are in the unit of the trace, sizes and windows in bytes. Nothing here takes memory.
 #![tactic(auto)]
 
 mod allowances;
@@ -9,6 +9,7 @@ mod congestion;
 mod connection;
 mod deadline;
 mod handshake;
+mod reported;
 mod sampling;
 mod spaces;
 mod timer;
@@ -18,5 +19,6 @@ pub use congestion::Losses;
 pub use connection::Connection;
 pub use deadline::OpenInSpace;
 pub use handshake::HandshakeState;
+pub use reported::ReportedWindow;
 pub use spaces::SpaceState;
 pub use timer::TimerState;

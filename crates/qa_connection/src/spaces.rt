@@ -4,7 +4,7 @@ ghost use Rattle.qa_base.specs.declared.space.Space.{Space};
 ghost use Rattle.qa_connection.specs.Spaces as steps;
 ghost use Rattle.qa_base.specs.values.PerSpace.{of_space};
 
-use qa_base::{Micros, PacketNumber, PerSpace};
+use qa_base::{PacketNumber, PerSpace, Ticks};
 
 /// What is kept of a packet number space beside its packets.
 #[derive(Clone, Copy)]
@@ -15,7 +15,7 @@ pub struct SpaceState {
     pub largest: Option<PacketNumber>,
     /// When the last ack-eliciting packet was sent in it (A.3,
     /// `time_of_last_ack_eliciting_packet`).
-    pub last_eliciting: Option<Micros>,
+    pub last_eliciting: Option<Ticks>,
 }
 
 /// The greater of the two, where there are two.

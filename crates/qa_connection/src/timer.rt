@@ -2,7 +2,7 @@
 ghost use Rattle.std.specs.Prelude.{◌≡◌, Some};
 ghost use Rattle.qa_connection.specs.Timing as steps;
 
-use qa_base::{Micros, Space};
+use qa_base::{Space, Ticks};
 
 /// What is kept of the loss detection timer.
 #[derive(Clone, Copy)]
@@ -10,7 +10,7 @@ pub struct TimerState {
     /// The probe timeouts since the last event that set their count to 0 (RFC 9002, section 6.2.1).
     pub pto_count: u64,
     /// When the timer was last set.
-    pub last_set: Option<Micros>,
+    pub last_set: Option<Ticks>,
     /// The space in which a probe is due since the last probe timeout.
     pub probe_due: Option<Space>,
 }
@@ -39,7 +39,7 @@ impl TimerState {
     }
 
     /// A probe timeout of the space (A.9): a probe is due in it.
-    pub(crate) fn probe(&mut self, space: Space, now: Micros)
+    pub(crate) fn probe(&mut self, space: Space, now: Ticks)
         ensures { self.new ≡ steps.probing space now self.old }
     {
         self.pto_count = self.pto_count.saturating_add(1);
@@ -49,7 +49,7 @@ impl TimerState {
 
     /// It is set anew, and no probe is due. The PTO count is 0 from now on where the event `resets`
     /// it (section 6.2.1).
-    pub(crate) fn restart(&mut self, now: Micros, resets: bool)
+    pub(crate) fn restart(&mut self, now: Ticks, resets: bool)
         ensures { self.new ≡ steps.restarted now resets self.old }
     {
         self.last_set = Some(now);

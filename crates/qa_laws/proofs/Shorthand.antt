@@ -1,32 +1,48 @@
 -- Short forms of settings and events, for histories that are written out.
-use Rattle.std.specs.Prelude.{ℕ, List, Bool, true, false, Option}
+use Rattle.std.specs.Prelude.{ℕ, ◌*◌, List, Bool, true, false, Option}
 use Rattle.qa_base.specs.declared.event.Event.{Event}
 use Rattle.qa_base.specs.declared.event.Event.TheVariants.{Sent, Ack, Lost, Timer, Metrics}
 use Rattle.qa_base.specs.declared.space.TimerKind.TheVariants as kind
+use Rattle.qa_base.specs.declared.space.Controller.TheVariants.{Reported}
 use Rattle.qa_base.specs.declared.space.Leave.TheVariants as leave
 use Rattle.qa_base.specs.declared.space.Role.TheVariants as role
 use Rattle.qa_base.specs.declared.space.Space.{Space}
-use Rattle.qa_base.specs.declared.header.Version.TheVariants.{One, Two}
+use Rattle.qa_base.specs.declared.header.Options.{Options}
+use Rattle.qa_base.specs.declared.header.Version.TheVariants.{One, Two, Three}
+use Rattle.qa_base.specs.declared.space.TimeUnit.TheVariants.{Microseconds, Nanoseconds}
 use Rattle.qa_base.specs.values.Settings.{Settings, no_options}
 
 -- a client or a server with this datagram size and initial window, and the other defaults
 abbrev pub client : ℕ → ℕ → Settings
-client datagram window = record { role = role.Client; max_datagram_size = datagram; max_ack_delay = 25000; initial_rtt = 333000; initial_window = window; version = One; options = no_options }
+client datagram window = record { role = role.Client; unit = Microseconds; max_datagram_size = datagram; max_ack_delay = 25000; initial_rtt = 333000; initial_window = window; version = One; options = no_options }
 
 abbrev pub server : ℕ → ℕ → Settings
-server datagram window = record { role = role.Server; max_datagram_size = datagram; max_ack_delay = 25000; initial_rtt = 333000; initial_window = window; version = One; options = no_options }
+server datagram window = record { role = role.Server; unit = Microseconds; max_datagram_size = datagram; max_ack_delay = 25000; initial_rtt = 333000; initial_window = window; version = One; options = no_options }
 
 -- the same in version 2, with a limit for timers, a refresh of min_rtt and the slacks of reported times and bytes
 abbrev pub second_version : Settings → Option ℕ → Bool → ℕ → ℕ → Settings
 second_version s timer_late refresh_min_rtt report_slack_us report_slack_bytes = record {
   role = s.role;
+  unit = s.unit;
   max_datagram_size = s.max_datagram_size;
   max_ack_delay = s.max_ack_delay;
   initial_rtt = s.initial_rtt;
   initial_window = s.initial_window;
   version = Two;
-  options = record { timer_late = timer_late; refresh_min_rtt = refresh_min_rtt; report_slack_us = report_slack_us; report_slack_bytes = report_slack_bytes };
+  options = record no_options { timer_late = timer_late; refresh_min_rtt = refresh_min_rtt; report_slack_us = report_slack_us; report_slack_bytes = report_slack_bytes };
 }
+
+-- the same in version 3, with these options
+abbrev pub choosing : Settings → Options → Settings
+choosing s options = record s { version = Three; options = options }
+
+-- in version 3, by the window that the sender reports, with this slack of bytes
+abbrev pub reporting : Settings → ℕ → Settings
+reporting s report_slack_bytes = choosing s (record no_options { controller = Reported; report_slack_bytes = report_slack_bytes })
+
+-- in version 3, with each time in nanoseconds
+abbrev pub in_nanoseconds : Settings → Settings
+in_nanoseconds s = record s { unit = Nanoseconds; max_ack_delay = 1000 * s.max_ack_delay; initial_rtt = 1000 * s.initial_rtt; version = Three }
 
 -- ---- packets of a space and a number, sent at a time, with a size
 
@@ -36,6 +52,10 @@ sent space number time size = Sent time space number size true true leave.Window
 -- in flight, but not ack-eliciting
 abbrev pub padded : Space → ℕ → ℕ → ℕ → Event
 padded space number time size = Sent time space number size false true leave.Window
+
+-- so is this, and marked as a probe
+abbrev pub padded_probe : Space → ℕ → ℕ → ℕ → Event
+padded_probe space number time size = Sent time space number size false true leave.Probe
 
 -- not in flight
 abbrev pub bare : Space → ℕ → ℕ → ℕ → Event

@@ -2,8 +2,10 @@
 pub mod Deadlines
 pub mod anti_deadlock
 pub mod between
+pub mod collapse_missing
 pub mod declared
 pub mod fitting
+pub mod header
 pub mod handshake
 pub mod kept
 pub mod leave
@@ -12,9 +14,11 @@ pub mod metrics
 pub mod order
 pub mod persistent
 pub mod recovery_mark
+pub mod reported_window
 pub mod rtt
 pub mod rules
 pub mod second_version
 pub mod spaces
+pub mod third_version
 pub mod timer
 pub mod window

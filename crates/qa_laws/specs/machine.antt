@@ -6,5 +6,6 @@ pub mod Latest
 pub mod Oldest
 pub mod Fates
 pub mod Sums
+pub mod Alike
 pub mod Among
 pub mod Conduct

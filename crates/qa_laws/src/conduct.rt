@@ -1,8 +1,9 @@
 //! What a sender does in every run: what it declares lost, what it sends, and its window.
-ghost use Rattle.std.specs.Prelude.{◌≡◌, ◌≢◌, ◌≤◌, ◌<◌, ◌*◌, ◌++◌, ◌∷◌, [], List, ℕ, Bool, true, false, sum_by};
+ghost use Rattle.std.specs.Prelude.{◌≡◌, ◌≢◌, ◌≤◌, ◌<◌, ◌+◌, ◌*◌, ◌++◌, ◌∷◌, [], List, ℕ, Bool, true, false, Some, Contains, sum_by, unwrap_or};
 ghost use Rattle.std.specs.List.{AllByRecursion, list_any};
 ghost use Rattle.qa_base.specs.declared.event.Event.{Event};
 ghost use Rattle.qa_base.specs.declared.event.Event.TheVariants as events;
+ghost use Rattle.qa_base.specs.declared.event.MetricValues.{MetricValues};
 ghost use Rattle.qa_base.specs.declared.space.TimerKind.TheVariants as kinds;
 ghost use Rattle.qa_base.specs.declared.space.Leave.TheVariants as leaves;
 ghost use Rattle.qa_base.specs.declared.space.Space.{Space};
@@ -10,15 +11,21 @@ ghost use Rattle.qa_base.specs.declared.totals.Totals.{Totals};
 ghost use Rattle.qa_format.specs.declared.verdict.Verdict.TheVariants as verdicts;
 ghost use Rattle.qa_format.specs.format.Lines.{lines};
 ghost use Rattle.qa_format.specs.format.Reading.{reading};
-ghost use Rattle.qa_base.specs.machine.Loss.{bytes_in_flight, owed};
-ghost use Rattle.qa_base.specs.machine.Packets.{history_of};
+ghost use Rattle.qa_base.specs.machine.Breaches.{is_before, is_collapse_missing};
+ghost use Rattle.qa_base.specs.machine.Loss.{bytes_in_flight, is_persistent, owed};
+ghost use Rattle.qa_base.specs.machine.Packets.{Packet, history_of, largest_acknowledged, packets};
 ghost use Rattle.qa_base.specs.machine.Reno.{is_entry, reno};
+ghost use Rattle.qa_base.specs.machine.Estimates.{rtt};
+ghost use Rattle.qa_base.specs.machine.Rtt.{loss_delay};
 ghost use Rattle.qa_base.specs.machine.Rules.{IsRun};
-ghost use Rattle.qa_base.specs.values.Constants.{probe_datagrams};
+ghost use Rattle.qa_base.specs.machine.Timer.{Due, deadline};
+ghost use Rattle.qa_base.specs.machine.Window.{acknowledged_since_collapse, window, window_in};
+ghost use Rattle.qa_base.specs.values.Constants.{minimum_window, probe_datagrams};
 ghost use Rattle.qa_base.specs.values.Events.{is_named, time_of};
 ghost use Rattle.qa_format.specs.format.Proper.{IsProperEvent};
-ghost use Rattle.qa_base.specs.values.Settings.{Settings};
+ghost use Rattle.qa_base.specs.values.Settings.{Settings, AreInRange, granularity, is_reported};
 ghost use Rattle.qa_format.specs.verdicts.Verdict.{sayings, trace_of, verdict};
+ghost use Rattle.qa_laws.specs.machine.Oldest.{is_flying};
 ghost use Rattle.qa_laws.specs.machine.Conduct.{is_entered_by, HasMoment, IsAmong, IsConduct, IsLostRightly, IsSentAfter, NoCollapse, is_probe, is_pto_event, is_recovery, probe_bytes};
 
 /// In a run each number that a Lost line names is that of an in-flight packet of its space that was
@@ -38,16 +45,50 @@ pub fn loss_timers_find_losses()
         → owed c (events.Timer time kinds.Loss space ∷ h) ≢ [] }
 {}
 
+/// In a run a packet that is open and in flight, and below the largest acknowledged number of its space, is
+/// less than the packet threshold below it (RFC 9002, section 6.1.1): what is at the threshold is found at
+/// once.
+pub fn open_packets_are_near()
+    ensures { (c : Settings) (h : List Event) → IsRun c h → AllByRecursion IsProperEvent h → (p : Packet)
+        → Contains (packets h) p → is_flying c h p ≡ true
+        → (largest : ℕ) → largest_acknowledged h p.space ≡ Some largest → p.number < largest
+        → largest < p.number + c.options.packet_threshold }
+{}
+
+/// In a run a loss timer that goes off before its deadline, as the header may let it, finds only packets
+/// that were sent at one time, for which it was set: each is old at the deadline (RFC 9002, section 6.1.2). So
+/// it never establishes persistent congestion (section 7.6).
+pub fn early_timers_make_no_collapse()
+    ensures one_time { (c : Settings) (h : List Event) (time : ℕ) (space : Space)
+        → IsRun c (events.Timer time kinds.Loss space ∷ h) → AllByRecursion IsProperEvent h
+        → is_before time (deadline c h) ≡ true → (p q : Packet)
+        → Contains (owed c (events.Timer time kinds.Loss space ∷ h)) p
+        → Contains (owed c (events.Timer time kinds.Loss space ∷ h)) q → p.time ≡ q.time }
+    ensures calm { (c : Settings) (h : List Event) (time : ℕ) (space : Space)
+        → IsRun c (events.Timer time kinds.Loss space ∷ h) → AllByRecursion IsProperEvent h
+        → is_before time (deadline c h) ≡ true
+        → is_persistent c (events.Timer time kinds.Loss space ∷ h) ≡ false }
+    ensures old { (c : Settings) (h : List Event) (time : ℕ) (space : Space)
+        → IsRun c (events.Timer time kinds.Loss space ∷ h) → AllByRecursion IsProperEvent h
+        → is_before time (deadline c h) ≡ true → (p : Packet)
+        → Contains (owed c (events.Timer time kinds.Loss space ∷ h)) p → (due : Due) → deadline c h ≡ Some due
+        → p.time + loss_delay (granularity c) (rtt c h) ≡ due.time }
+{}
+
 /// In a run the bytes in flight are within the window behind an in-flight packet that is sent by leave
-/// of the window (RFC 9002, section 7). No in-flight packet is marked as a probe before the first probe
-/// timeout, and those of any stretch without one have the bytes of two datagrams at most (section 6.2.4).
-/// An in-flight packet that is marked for recovery has an entry into recovery before it, and of two
-/// such packets an entry stands between (section 7.3.2).
+/// of the window, be it NewReno's or the one last reported (RFC 9002, section 7); where the header lets the sender overshoot it, they were below
+/// the window before. No in-flight packet is marked as a probe before the first probe timeout, and
+/// those of any stretch without one have the bytes of two datagrams at most (section 6.2.4). An
+/// in-flight packet that is marked for recovery has an entry into recovery before it, and of two such
+/// packets an entry stands between (section 7.3.2).
 pub fn sends_have_leave()
     ensures within { (c : Settings) (h : List Event) (time : ℕ) (space : Space) (number size : ℕ) (eliciting : Bool)
-        → IsRun c (events.Sent time space number size eliciting true leaves.Window ∷ h)
+        → c.options.window_overshoot ≡ false → IsRun c (events.Sent time space number size eliciting true leaves.Window ∷ h)
         → bytes_in_flight c (events.Sent time space number size eliciting true leaves.Window ∷ h)
-        ≤ (reno c (events.Sent time space number size eliciting true leaves.Window ∷ h)).window }
+        ≤ window c (events.Sent time space number size eliciting true leaves.Window ∷ h) }
+    ensures below { (c : Settings) (h : List Event) (time : ℕ) (space : Space) (number size : ℕ) (eliciting : Bool)
+        → c.options.window_overshoot ≡ true → IsRun c (events.Sent time space number size eliciting true leaves.Window ∷ h)
+        → bytes_in_flight c h < window c h }
     ensures no_probe { (c : Settings) (h : List Event) → IsRun c h → list_any is_pto_event h ≡ false
         → list_any is_probe h ≡ false }
     ensures probes { (c : Settings) (between h : List Event) → IsRun c (between ++ h)
@@ -76,10 +117,44 @@ pub fn entries_are_losses()
         → is_entry c (e ∷ h) ≡ is_entered_by (reno c h).recovery_start_time (owed c (e ∷ h)) }
 {}
 
-/// An event that lowers the window found a loss (RFC 9002, sections 7.3.2 and 7.6.2).
+/// An event that lowers the window found a loss (RFC 9002, sections 7.3.2 and 7.6.2). Where the sender
+/// reports its window, the event is a report of the lower one.
 pub fn windows_fall_by_losses()
-    ensures { (c : Settings) (e : Event) (h : List Event)
-        → (reno c (e ∷ h)).window < (reno c h).window → owed c (e ∷ h) ≢ [] }
+    ensures own { (c : Settings) (e : Event) (h : List Event) → is_reported c.options.controller ≡ false
+        → window c (e ∷ h) < window c h → owed c (e ∷ h) ≢ [] }
+    ensures reported { (c : Settings) (e : Event) (h : List Event) → is_reported c.options.controller ≡ true
+        → window c (e ∷ h) < window c h → window_in e ≡ Some (window c (e ∷ h)) }
+{}
+
+/// Where the sender reports its window, that is the initial one before any report, and then the one that was
+/// last reported.
+pub fn reported_windows_are_reports()
+    ensures start { (c : Settings) → is_reported c.options.controller ≡ true → window c [] ≡ c.initial_window }
+    ensures after { (c : Settings) (e : Event) (h : List Event) → is_reported c.options.controller ≡ true
+        → window c (e ∷ h) ≡ unwrap_or (window_in e) (window c h) }
+{}
+
+/// In a run whose sender reports its window, the first other window that is reported behind persistent
+/// congestion is at most two datagrams, the bytes in flight that were newly acknowledged since, and the slack
+/// (RFC 9002, section 7.6.2).
+pub fn collapses_are_reported()
+    ensures { (c : Settings) (h : List Event) (time : ℕ) (values : MetricValues) (reported acknowledged : ℕ)
+        → is_reported c.options.controller ≡ true → IsRun c (events.Metrics time values ∷ h)
+        → acknowledged_since_collapse c h ≡ Some acknowledged → values.window ≡ Some reported
+        → reported ≢ window c h
+        → reported ≤ minimum_window c.max_datagram_size + c.options.report_slack_bytes + acknowledged }
+{}
+
+/// The window that NewReno has behind persistent congestion is at most two datagrams with the bytes in flight
+/// that were newly acknowledged since (RFC 9002, sections 7.6.2 and 7.3.1): what is asked of a reported window
+/// is no more than what appendix B does. So a report of NewReno's window is never refused for it.
+pub fn own_window_shows_collapses()
+    ensures bound { (c : Settings) (h : List Event) (acknowledged : ℕ) → AreInRange c
+        → acknowledged_since_collapse c h ≡ Some acknowledged
+        → (reno c h).window ≤ minimum_window c.max_datagram_size + acknowledged }
+    ensures admitted { (c : Settings) (h : List Event) (time : ℕ) (values : MetricValues) → AreInRange c
+        → values.window ≡ Some (reno c h).window
+        → is_collapse_missing c h (events.Metrics time values) ≡ false }
 {}
 
 /// Where bytes are accepted, their lines say a header and events of which each packet that is declared

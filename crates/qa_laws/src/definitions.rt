@@ -2,10 +2,13 @@
 ghost use Rattle.std.specs.Prelude.{◌≡◌, ◌≢◌, ◌≤◌, ◌++◌, ◌∷◌, ◌+◌, ◌-◌, ◌*◌, ◌&&◌, ◌↔◌, [], List, length, ℕ, Bool, true, false, not, Some, None, Ok, max, if◌then◌else◌};
 ghost use Rattle.qa_base.specs.declared.event.Event.{Event};
 ghost use Rattle.qa_base.specs.declared.event.Event.TheVariants as events;
+ghost use Rattle.qa_base.specs.declared.header.Version.{Version};
 ghost use Rattle.qa_base.specs.declared.header.Version.TheVariants as versions;
 ghost use Rattle.qa_format.specs.declared.line.Line.{Line};
 ghost use Rattle.qa_format.specs.declared.line.Line.TheVariants as line;
 ghost use Rattle.qa_base.specs.declared.rule.Rule.TheVariants as rules;
+ghost use Rattle.qa_base.specs.declared.space.TimerKind.{TimerKind};
+ghost use Rattle.qa_base.specs.declared.space.TimerKind.TheVariants as kinds;
 ghost use Rattle.qa_base.specs.declared.space.Leave.{Leave};
 ghost use Rattle.qa_base.specs.declared.space.Space.{Space};
 ghost use Rattle.qa_base.specs.declared.totals.Totals.{Totals};
@@ -13,28 +16,31 @@ ghost use Rattle.qa_format.specs.declared.verdict.Verdict.TheVariants as verdict
 ghost use Rattle.qa_base.specs.values.Events.{fits, is_quiet};
 ghost use Rattle.qa_format.specs.format.AnyOrder.{AreOf, AreOfHeader, text_of};
 ghost use Rattle.qa_format.specs.format.Lines.{has_lf, lines};
-ghost use Rattle.qa_base.specs.machine.Breaches.{is_timer_late};
+ghost use Rattle.qa_base.specs.machine.Breaches.{is_before, is_collapse_missing, is_timer_early, is_timer_late};
 ghost use Rattle.qa_base.specs.machine.Detection.{is_old};
 ghost use Rattle.qa_base.specs.machine.Estimates.{rtt, sampled};
 ghost use Rattle.qa_base.specs.machine.FirstVersion.{exact_tests, rtt_by_samples};
-ghost use Rattle.qa_base.specs.machine.Loss.{bytes_in_flight, owed};
+ghost use Rattle.qa_base.specs.machine.Loss.{bytes_in_flight, detection, owed};
 ghost use Rattle.qa_base.specs.machine.Numbers.{AreRanges, Names, NamesOnly, has_all, names_exactly};
 ghost use Rattle.qa_base.specs.machine.Order.{NumbersFall};
 ghost use Rattle.qa_base.specs.machine.Packets.{Packet, packets, is_discarded, newly_acknowledged};
 ghost use Rattle.qa_format.specs.format.Proper.{IsProperEvent, IsProperLine};
 ghost use Rattle.qa_format.specs.format.Reading.{reading};
-ghost use Rattle.qa_base.specs.machine.Reno.{moves, reno};
+ghost use Rattle.qa_base.specs.machine.Reno.{moves};
 ghost use Rattle.qa_base.specs.machine.Rtt.{Estimate, loss_delay};
 ghost use Rattle.qa_base.specs.machine.Metrics.{metric_tests};
-ghost use Rattle.qa_base.specs.machine.Rules.{first_broken, IsRun};
+ghost use Rattle.qa_base.specs.machine.Rules.{first_broken, IsComplete, IsRun};
 ghost use Rattle.qa_base.specs.machine.Slack.{with_slacks};
-ghost use Rattle.qa_base.specs.values.Constants.{granularity, minimum_window, time_threshold_divisor, time_threshold_parts};
+ghost use Rattle.qa_base.specs.machine.State.{totals};
+ghost use Rattle.qa_base.specs.values.Constants.{minimum_window, time_threshold_divisor, time_threshold_parts};
 ghost use Rattle.qa_base.specs.values.Limits.{max_packet_size};
-ghost use Rattle.qa_base.specs.values.Settings.{Settings, AreInRange, no_options};
-ghost use Rattle.qa_base.specs.machine.Timer.{pto_count};
+ghost use Rattle.qa_base.specs.values.Settings.{Settings, AreInRange, choosing_options, granularity, is_reported, no_options};
+ghost use Rattle.qa_base.specs.machine.Timer.{deadline, pto_count};
 ghost use Rattle.qa_format.specs.verdicts.Verdict.{Reading, IsFixed, IsTraceOfRun, verdict};
 ghost use Rattle.qa_format.specs.format.Written.{Pairs, written};
 ghost use Rattle.qa_base.specs.machine.Widths.{Fits, IsTimely, acknowledged_count};
+ghost use Rattle.qa_base.specs.machine.Window.{window};
+ghost use Rattle.qa_laws.specs.machine.Alike.{IsLooser, of_version};
 ghost use Rattle.std.specs.List.{AllByRecursion};
 
 /// No byte that follows changes a verdict that is fixed, whatever the reading of lines.
@@ -57,7 +63,7 @@ pub fn written_is_read()
 {}
 
 /// An object without white space that has the keys and values of an event is read as that event,
-/// in whatever order its keys stand, and so is that of a header of either version, where the values
+/// in whatever order its keys stand, and so is that of a header of each version, where the values
 /// are in their ranges. Keys that have their default may be left out. (The text may be longer than a
 /// line of a trace may be.)
 pub fn any_order_is_read()
@@ -119,11 +125,11 @@ pub fn ranges_name()
 /// A packet is old exactly when the loss delay has passed since it was sent. That the loss delay is
 /// rounded up changes nothing: so it is by the exact fraction 9/8 of the RTT, too.
 pub fn old_is_after_loss_delay()
-    ensures delay { (r : Estimate) (now : ℕ) (p : Packet) → (is_old r now p ≡ true)
-        ↔ (loss_delay r ≤ now - p.time) }
-    ensures exact { (r : Estimate) (now : ℕ) (p : Packet) → (is_old r now p ≡ true)
+    ensures delay { (c : Settings) (r : Estimate) (now : ℕ) (p : Packet) → (is_old c r now p ≡ true)
+        ↔ (loss_delay (granularity c) r ≤ now - p.time) }
+    ensures exact { (c : Settings) (r : Estimate) (now : ℕ) (p : Packet) → (is_old c r now p ≡ true)
         ↔ ((time_threshold_parts * max r.latest_rtt r.smoothed_rtt
-        ≤ time_threshold_divisor * (now - p.time)) × (granularity ≤ now - p.time)) }
+        ≤ time_threshold_divisor * (now - p.time)) × (granularity c ≤ now - p.time)) }
 {}
 
 /// In a run whose times are in their range the PTO count is at most 40: a timeout is not before its
@@ -133,13 +139,14 @@ pub fn pto_count_is_small()
         → pto_count c h ≤ 40 }
 {}
 
-/// The window is at least two datagrams, and at most the initial window and the greatest size of a
-/// packet for each that was acknowledged.
+/// Where the sender does not report its window, that is at least two datagrams (RFC 9002, section 7.2), and at
+/// most the initial window and the greatest size of a packet for each that was acknowledged.
 pub fn window_is_bounded()
-    ensures low { (c : Settings) (h : List Event) → AreInRange c
-        → minimum_window c.max_datagram_size ≤ (reno c h).window }
-    ensures high { (c : Settings) (h : List Event) → AreInRange c → AllByRecursion Fits h
-        → (reno c h).window ≤ c.initial_window + max_packet_size * acknowledged_count h }
+    ensures low { (c : Settings) (h : List Event) → is_reported c.options.controller ≡ false → AreInRange c
+        → minimum_window c.max_datagram_size ≤ window c h }
+    ensures high { (c : Settings) (h : List Event) → is_reported c.options.controller ≡ false → AreInRange c
+        → AllByRecursion Fits h
+        → window c h ≤ c.initial_window + max_packet_size * acknowledged_count h }
 {}
 
 /// The bytes in flight are at most the greatest size of a packet for each event.
@@ -149,8 +156,9 @@ pub fn bytes_in_flight_are_bounded()
 {}
 
 /// A header that asks for no refresh has the RTT of its samples, one without a limit has no event that
-/// shows a late timer, and one without slack compares reported values exactly. So it is with each header of
-/// version 1 that is read: it has no options.
+/// shows a late timer, one without a reported window has none that shows no collapse, and one without slack
+/// besides compares reported values exactly. So it is with each header of version 1 that is read: it has no
+/// options.
 pub fn first_version_asks_no_more()
     ensures rtt { (c : Settings) (h : List Event) → c.options.refresh_min_rtt ≡ false
         → rtt c h ≡ rtt_by_samples c h }
@@ -160,10 +168,50 @@ pub fn first_version_asks_no_more()
         → is_timer_late c h e ≡ false }
     ensures late { (c : Settings) (h : List Event) (e : Event) → c.options.timer_late ≡ None
         → first_broken c h e ≢ Some rules.TimerLate }
-    ensures metrics { (c : Settings) (h : List Event) (e : Event) → c.options.report_slack_us ≡ 0
-        → c.options.report_slack_bytes ≡ 0 → metric_tests c h e ≡ exact_tests c h e }
+    ensures collapses { (c : Settings) (h : List Event) (e : Event) → is_reported c.options.controller ≡ false
+        → is_collapse_missing c h e ≡ false }
+    ensures missing { (c : Settings) (h : List Event) (e : Event) → is_reported c.options.controller ≡ false
+        → first_broken c h e ≢ Some rules.CollapseMissing }
+    ensures metrics { (c : Settings) (h : List Event) (e : Event) → is_reported c.options.controller ≡ false
+        → c.options.report_slack_us ≡ 0 → c.options.report_slack_bytes ≡ 0
+        → metric_tests c h e ≡ exact_tests c h e }
     ensures read { (l : List ℕ) (c : Settings) → reading l ≡ Ok (line.Header c)
         → c.version ≡ versions.One → c.options ≡ no_options }
+{}
+
+/// Where a timer may not be early, a loss timer looks for losses when it goes off, and none goes off
+/// before its deadline.
+pub fn no_tolerance_changes_nothing()
+    ensures detection { (c : Settings) (h : List Event) (time : ℕ) (space : Space) → c.options.timer_early_us ≡ 0
+        → detection c (events.Timer time kinds.Loss space ∷ h) ≡ Some (space, time) }
+    ensures timers { (c : Settings) (h : List Event) (time : ℕ) (kind : TimerKind) (space : Space) → c.options.timer_early_us ≡ 0
+        → is_timer_early c h (events.Timer time kind space) ≡ is_before time (deadline c h) }
+{}
+
+/// No rule asks for the version of a header: headers that differ in it alone refuse the same events by the
+/// same rules, with the same totals, and have the same complete runs. So a header that is made one of
+/// version 3 with the options that it had, as with none of them, asks what it asked.
+pub fn version_asks_nothing()
+    ensures broken { (c : Settings) (version : Version) (h : List Event) (e : Event)
+        → first_broken (of_version c version) h e ≡ first_broken c h e }
+    ensures totals { (c : Settings) (version : Version) (h : List Event)
+        → totals (of_version c version) h ≡ totals c h }
+    ensures runs { (c : Settings) (version : Version) (h : List Event)
+        → IsRun (of_version c version) h ↔ IsRun c h }
+    ensures complete { (c : Settings) (version : Version) (h : List Event)
+        → IsComplete (of_version c version) h ↔ IsComplete c h }
+    ensures chosen { (s c : Settings) (h : List Event) (e : Event) → choosing_options s s.options ≡ Ok c
+        → first_broken c h e ≡ first_broken s h e }
+{}
+
+/// A run of events that lines can say is a run, and owes the same losses at its end, under a header that
+/// tolerates no less: no limit for late timers or no lesser one, no lesser slacks, timers that may be as early
+/// or earlier, and a window that may be overshot, be it so before or not. (Lines say no packet without bytes:
+/// that one alone would fit a window that is full, and not overshoot it.)
+pub fn tolerance_admits_more()
+    ensures runs { (c d : Settings) (h : List Event) → IsLooser c d → AllByRecursion Fits h
+        → IsRun c h → IsRun d h }
+    ensures owed { (c d : Settings) (h : List Event) → IsLooser c d → IsRun c h → owed d h ≡ owed c h }
 {}
 
 /// A run is a run of the same events under a header with greater slacks and all else equal.

@@ -10,15 +10,15 @@ ghost use Rattle.qa_base.specs.declared.space.Space.TheVariants as spaces;
 ghost use Rattle.qa_base.specs.machine.Breaches.{has_at_or_above};
 ghost use Rattle.qa_base.specs.machine.Kept.{is_kept, kept_count, numbers_of, runs};
 ghost use Rattle.qa_base.specs.machine.Estimates.{sampled};
-ghost use Rattle.qa_base.specs.machine.Detection.{detection, is_past_threshold};
-ghost use Rattle.qa_base.specs.machine.Loss.{bytes_in_flight, is_open, is_owed, is_persistent, owed};
-ghost use Rattle.qa_base.specs.machine.Packets.{Packet, packet_of, packets, greatest, is_acknowledged, is_discarded, is_declared_lost, is_newly_acknowledged, is_of, is_some_packet, largest_acknowledged, newly_acknowledged, packets_of};
+ghost use Rattle.qa_base.specs.machine.Detection.{is_past_threshold};
+ghost use Rattle.qa_base.specs.machine.Loss.{bytes_in_flight, is_open, is_owed, is_persistent, owed, detection};
+ghost use Rattle.qa_base.specs.machine.Packets.{Packet, packet_of, packets, greatest, is_acknowledged, is_discarded, is_declared_lost, is_newly_acknowledged, is_of, is_some_packet, largest_acknowledged, newly_acknowledged, packets_of, is_below_largest};
 ghost use Rattle.qa_base.specs.machine.Reno.{latest_sent};
 ghost use Rattle.qa_base.specs.machine.Rtt.{Estimate, persistent_after};
 ghost use Rattle.qa_base.specs.machine.Rules.{IsRun};
-ghost use Rattle.qa_base.specs.machine.Timer.{awaits_acknowledgment, is_below_largest, loss_due};
+ghost use Rattle.qa_base.specs.machine.Timer.{awaits_acknowledgment, loss_due};
 ghost use Rattle.qa_base.specs.values.Events.{acknowledges, is_quiet, is_space};
-ghost use Rattle.qa_base.specs.values.Settings.{Settings};
+ghost use Rattle.qa_base.specs.values.Settings.{Settings, granularity};
 ghost use Rattle.qa_laws.specs.machine.Among.{counts_as_end, finds_apart, is_persistent_among};
 ghost use Rattle.qa_laws.specs.machine.Fates.{fate, fate_next, is_unacknowledged};
 ghost use Rattle.qa_laws.specs.machine.Latest.{first_if_numbered, is_first_at_or_above, time_of_first};
@@ -49,14 +49,14 @@ pub fn lower_numbers_are_earlier()
 /// Where a packet is past a threshold, so is one with a lower number that was sent no later. So it
 /// is in a run with each packet of its space that has a lower number (RFC 9002, section 6.1).
 pub fn past_threshold_falls()
-    ensures any { (r : Estimate) (now : ℕ) (largest : Option ℕ) (p q : Packet) → q.number ≤ p.number
+    ensures any { (c : Settings) (r : Estimate) (now : ℕ) (largest : Option ℕ) (p q : Packet) → q.number ≤ p.number
         → q.time ≤ p.time
-        → is_past_threshold r now largest p ≡ true → is_past_threshold r now largest q ≡ true }
+        → is_past_threshold c r now largest p ≡ true → is_past_threshold c r now largest q ≡ true }
     ensures in_run { (c : Settings) (h : List Event) → IsRun c h
         → (r : Estimate) (now : ℕ) (largest : Option ℕ) (p q : Packet)
         → Contains (packets h) p → Contains (packets h) q → is_of p.space q ≡ true
         → q.number ≤ p.number
-        → is_past_threshold r now largest p ≡ true → is_past_threshold r now largest q ≡ true }
+        → is_past_threshold c r now largest p ≡ true → is_past_threshold c r now largest q ≡ true }
 {}
 
 /// In a run a packet that is not open is not open after one more event, and the packets declared
@@ -104,20 +104,20 @@ pub fn fronts_stay()
 /// (RFC 9002, A.10).
 pub fn losses_are_a_front()
     ensures late { (c : Settings) (e : Event) (h : List Event) → IsRun c (e ∷ h)
-        → (s : Space) (now : ℕ) → detection (e ∷ h) ≡ Some (s, now)
+        → (s : Space) (now : ℕ) → detection c (e ∷ h) ≡ Some (s, now)
         → (front rest : List Packet) → reverse (packets h) ≡ front ++ rest → NoneFlies c h s front
         → reverse (owed c (e ∷ h))
-        ≡ take_while (is_past_threshold (sampled c (e ∷ h)) now (largest_acknowledged (e ∷ h) s)) (filter (is_asked (e ∷ h) s) rest) }
+        ≡ take_while (is_past_threshold c (sampled c (e ∷ h)) now (largest_acknowledged (e ∷ h) s)) (filter (is_asked (e ∷ h) s) rest) }
     ensures passed { (c : Settings) (e : Event) (h : List Event) → IsRun c (e ∷ h)
-        → (s : Space) (now : ℕ) → detection (e ∷ h) ≡ Some (s, now)
+        → (s : Space) (now : ℕ) → detection c (e ∷ h) ≡ Some (s, now)
         → (front rest : List Packet) → reverse (packets h) ≡ front ++ rest → NoneFlies c h s front
         → reverse (owed c (e ∷ h))
-        ≡ filter (is_asked (e ∷ h) s) (take_while (is_passed (e ∷ h) s (is_past_threshold (sampled c (e ∷ h)) now (largest_acknowledged (e ∷ h) s))) rest) }
+        ≡ filter (is_asked (e ∷ h) s) (take_while (is_passed (e ∷ h) s (is_past_threshold c (sampled c (e ∷ h)) now (largest_acknowledged (e ∷ h) s))) rest) }
     ensures after { (c : Settings) (e : Event) (h : List Event) → IsRun c (e ∷ h)
-        → (s : Space) (now : ℕ) → detection (e ∷ h) ≡ Some (s, now)
+        → (s : Space) (now : ℕ) → detection c (e ∷ h) ≡ Some (s, now)
         → (front rest : List Packet) → reverse (packets h) ≡ front ++ rest → NoneFlies c h s front
         → NoneFlies c (e ∷ h) s (front
-        ++ take_while (is_passed (e ∷ h) s (is_past_threshold (sampled c (e ∷ h)) now (largest_acknowledged (e ∷ h) s))) rest) }
+        ++ take_while (is_passed (e ∷ h) s (is_past_threshold c (sampled c (e ∷ h)) now (largest_acknowledged (e ∷ h) s))) rest) }
 {}
 
 /// In a run one more event adds the packet that it sends to a sum over the open packets, and takes
@@ -144,7 +144,7 @@ pub fn closed_are_forgotten()
     ensures persistent { (c : Settings) (e : Event) (h : List Event) → IsRun c (e ∷ h)
         → (gone kept : List Packet) → reverse (packets h) ≡ gone ++ kept → AreClosed c h gone
         → is_persistent c (e ∷ h)
-        ≡ finds_apart (is_acknowledged (e ∷ h)) (counts_as_end c (e ∷ h)) (persistent_after (sampled c (e ∷ h)) c.max_ack_delay) None kept }
+        ≡ finds_apart (is_acknowledged (e ∷ h)) (counts_as_end c (e ∷ h)) (persistent_after (granularity c) (sampled c (e ∷ h)) c.max_ack_delay) None kept }
     ensures among { (c : Settings) (e : Event) (h : List Event) → IsRun c (e ∷ h)
         → (kept gone : List Packet) → packets h ≡ kept ++ gone → AreClosed c h gone
         → is_persistent c (e ∷ h) ≡ is_persistent_among c (e ∷ h) kept }
@@ -196,7 +196,7 @@ pub fn sums_by_space()
 /// is of its space. Of packets of one space the bytes are those of that space, and no other has any.
 pub fn closed_are_of_one_space()
     ensures owed { (c : Settings) (h : List Event) (s : Space) (now : ℕ)
-        → detection h ≡ Some (s, now) → AreOf s (owed c h) }
+        → detection c h ≡ Some (s, now) → AreOf s (owed c h) }
     ensures sizes { (c : Settings) (h : List Event)
         → sum_by bytes (owed c h) ≡ sum_by (λ p. p.size) (owed c h) }
     ensures newly { (h : List Event) (time : ℕ) (space : Space) (ranges : List (ℕ

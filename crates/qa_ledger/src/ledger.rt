@@ -17,7 +17,7 @@ use thiserror::Error;
 /// Why a ledger does not admit an event.
 #[derive(Clone, Copy, Debug, PartialEq, Eq, Error)]
 pub enum LedgerFault {
-    /// The event breaks this rule, the first of V1 to V16 and V18 that it breaks. The ledger is as it
+    /// The event breaks this rule, the first of V1 to V16, V18 and V19 that it breaks. The ledger is as it
     /// was.
     #[error("{0}")]
     Broken(Rule),

@@ -7,32 +7,35 @@ ghost use Rattle.qa_base.specs.values.Settings.{Settings};
 ghost use Rattle.qa_ledger.specs.Tests.{totals_of};
 
 use crate::state::State;
-use qa_base::{Event, Field, MetricValues, Options, Rule, Totals};
-use qa_recovery::{Reno, Rtt};
+use qa_base::{Event, Field, Header, MetricValues, Rule, Totals};
+use qa_recovery::Rtt;
 
 /// Whether a value is reported that differs by more than the slack from the machine's, which may have
 /// none.
-fn differs(slack: u64, reported: Option<u64>, own: Option<u64>) -> bool
+fn differs(slack: u128, reported: Option<u64>, own: Option<u64>) -> bool
     ensures { result ≡ metrics.differs slack reported own }
 {
     match (reported, own) {
         (None, _) => false,
         (Some(_), None) => true,
-        (Some(reported), Some(own)) => slack < reported.abs_diff(own),
+        (Some(reported), Some(own)) => slack < u128::from(reported.abs_diff(own)),
     }
 }
 
 /// The first of the reported values that differs from the machine's by more than the header's slack,
-/// of bytes or of times, as a rule that is broken.
-fn metric_rule(options: Options, values: &MetricValues, totals: &Totals) -> Option<Rule>
-    ensures { result ≡ rules.first_of (metrics.tests options values.now totals.now) }
+/// of bytes or of times, as a rule that is broken. The window and `ssthresh` are compared where they
+/// are NewReno's.
+fn metric_rule(header: Header, values: &MetricValues, totals: &Totals) -> Option<Rule>
+    ensures { result ≡ rules.first_of (metrics.tests header values.now totals.now) }
 {
-    let bytes = options.report_slack_bytes;
-    let times = options.report_slack_us;
-    if differs(bytes, values.window, Some(totals.window)) {
+    let options = header.options();
+    let bytes = u128::from(options.report_slack_bytes);
+    let times = header.unit().of_microseconds(options.report_slack_us);
+    let chosen = options.controller.is_reported();
+    if !chosen && differs(bytes, values.window, Some(totals.window)) {
         return Some(Rule::Metric(Field::Window));
     }
-    if differs(bytes, values.ssthresh, totals.ssthresh) {
+    if !chosen && differs(bytes, values.ssthresh, totals.ssthresh) {
         return Some(Rule::Metric(Field::Ssthresh));
     }
     if differs(bytes, values.bytes_in_flight, Some(totals.bytes_in_flight)) {
@@ -53,15 +56,23 @@ fn metric_rule(options: Options, values: &MetricValues, totals: &Totals) -> Opti
     None
 }
 
-/// The totals by their parts: how many events there were, the window, the RTT, the bytes in flight, the
-/// PTO count and how many packets are owed.
-pub fn totals_by(events: u64, reno: Reno, rtt: Rtt, bytes: u64, count: u64, owed: u64) -> Totals
-    ensures { result ≡ totals_of events reno rtt bytes count owed }
+/// The totals by their parts: how many events there were, the window and `ssthresh`, the RTT, the bytes
+/// in flight, the PTO count and how many packets are owed.
+pub fn totals_by(
+    events: u64,
+    window: u64,
+    ssthresh: Option<u64>,
+    rtt: Rtt,
+    bytes: u64,
+    count: u64,
+    owed: u64,
+) -> Totals
+    ensures { result ≡ totals_of events window ssthresh rtt bytes count owed }
 {
     Totals {
         events,
-        window: reno.window,
-        ssthresh: reno.ssthresh,
+        window,
+        ssthresh,
         bytes_in_flight: bytes,
         latest_rtt: rtt.latest_rtt.get(),
         min_rtt: rtt.min_rtt.get(),
@@ -78,7 +89,7 @@ pub fn metrics_rule<S: State>(state: &S, event: &Event) -> Option<Rule>
         → result ≡ rules.first_of (metrics.metric_tests c h event.now) }
 {
     match event {
-        Event::Metrics { values, .. } => metric_rule(state.options(), values, &state.totals()),
+        Event::Metrics { values, .. } => metric_rule(state.header(), values, &state.totals()),
         _ => None,
     }
 }

@@ -4,12 +4,13 @@ ghost use Rattle.std.specs.Option.{ForSome};
 ghost use Rattle.qa_base.specs.declared.event.Event.{Event as AnEvent};
 ghost use Rattle.qa_base.specs.machine.Breaches as breaches;
 ghost use Rattle.qa_base.specs.machine.Rules as rules;
+ghost use Rattle.qa_base.specs.machine.Window as windows;
 ghost use Rattle.qa_base.specs.values.Settings.{Settings};
 ghost use Rattle.qa_ledger.specs.Tests.{deadline_at as deadline_at_of};
 
 use crate::metrics::metrics_rule;
 use crate::state::State;
-use qa_base::constants::PROBE_DATAGRAMS;
+use qa_base::constants::{PROBE_DATAGRAMS, minimum_window};
 use qa_base::{Due, Event, Leave, Rule, Space, TimerKind};
 
 /// V1: the event is earlier than the one before it.
@@ -99,6 +100,18 @@ fn widened(spent: Option<u64>) -> Option<u128>
     Some(u128::from(spent?))
 }
 
+/// Whether so many bytes more are past the window; where the sender may overshoot it, whether the
+/// bytes fill it without them.
+fn is_past(overshoot: bool, window: u64, bytes: u64, size: u64) -> bool
+    ensures { result ≡ breaches.is_past overshoot window bytes size }
+{
+    if overshoot {
+        window <= bytes
+    } else {
+        u128::from(window) < u128::from(bytes) + u128::from(size)
+    }
+}
+
 /// V7: a packet takes the bytes in flight past the congestion window.
 fn is_past_window<S: State>(state: &S, event: &Event) -> bool
     ensures { (c : Settings) (h : List AnEvent) → S.tells state.now c h
@@ -110,7 +123,12 @@ fn is_past_window<S: State>(state: &S, event: &Event) -> bool
             in_flight: true,
             leave: Leave::Window,
             ..
-        } => u128::from(state.window()) < u128::from(state.bytes_in_flight()) + u128::from(*size),
+        } => is_past(
+            state.header().options().window_overshoot,
+            state.window(),
+            state.bytes_in_flight(),
+            *size,
+        ),
         _ => false,
     }
 }
@@ -205,22 +223,26 @@ fn is_timer_other(event: &Event, due: &Option<Due>) -> bool
 }
 
 /// Whether the timer is set for later.
-fn is_before(time: u64, due: &Option<Due>) -> bool
+fn is_before(time: u128, due: &Option<Due>) -> bool
     ensures { result ≡ breaches.is_before time due.now }
 {
     match due {
         None => false,
-        Some(due) => u128::from(time) < due.time,
+        Some(due) => time < due.time,
     }
 }
 
-/// V13: a timer fires that is set for later.
-fn is_timer_early(event: &Event, due: &Option<Due>) -> bool
-    ensures { (c : Settings) (h : List AnEvent) → due.now ≡ deadline_at_of c h event.now
+/// V13: a timer fires that is set for later, by more than it may be early.
+fn is_timer_early<S: State>(state: &S, event: &Event, due: &Option<Due>) -> bool
+    ensures { (c : Settings) (h : List AnEvent) → S.tells state.now c h
+        → due.now ≡ deadline_at_of c h event.now
         → result ≡ breaches.is_timer_early c h event.now }
 {
     match event {
-        Event::Timer { time, .. } => is_before(time.get(), due),
+        Event::Timer { time, .. } => {
+            let latest = u128::from(time.get()) + u128::from(state.header().timer_early());
+            is_before(latest, due)
+        }
         _ => false,
     }
 }
@@ -261,7 +283,53 @@ fn is_timer_late<S: State>(state: &S, event: &Event) -> bool
     state.is_late(event.time())
 }
 
-/// The first rule that the event breaks after these events, V1 to V16 and V18 in their order.
+/// The window that the event reports, where it is another than the one before.
+fn other_window<S: State>(state: &S, event: &Event) -> Option<u64>
+    ensures { (c : Settings) (h : List AnEvent) → S.tells state.now c h
+        → result ≡ windows.other_window c h event.now }
+{
+    match event {
+        Event::Metrics { values, .. } => {
+            let reported = values.window?;
+            if reported == state.reported_window() {
+                None
+            } else {
+                Some(reported)
+            }
+        }
+        _ => None,
+    }
+}
+
+/// Whether a window is above the least one with what was acknowledged since persistent congestion.
+fn is_above_collapse(least: u64, window: Option<u64>, acknowledged: Option<u64>) -> bool
+    ensures { result ≡ breaches.is_above_collapse least window acknowledged }
+{
+    match (window, acknowledged) {
+        (Some(window), Some(acknowledged)) => {
+            u128::from(least) + u128::from(acknowledged) < u128::from(window)
+        }
+        _ => false,
+    }
+}
+
+/// V19: persistent congestion was established, and the first other window that is reported since is
+/// too great, by more than the header's slack.
+fn is_collapse_missing<S: State>(state: &S, event: &Event) -> bool
+    ensures { (c : Settings) (h : List AnEvent) → S.tells state.now c h
+        → result ≡ breaches.is_collapse_missing c h event.now }
+{
+    let options = state.header().options();
+    let least = minimum_window(state.max_datagram_size()) + options.report_slack_bytes;
+    options.controller.is_reported()
+        && is_above_collapse(
+            least,
+            other_window(state, event),
+            state.acknowledged_since_collapse(),
+        )
+}
+
+/// The first rule that the event breaks after these events, V1 to V16, V18 and V19 in their order.
 #[tactic(auto, unfolding(qa_base::specs::machine::Rules::first_broken))]
 pub fn first_broken<S: State>(state: &S, event: &Event) -> Option<Rule>
     ensures { (c : Settings) (h : List AnEvent) → S.tells state.now c h
@@ -304,7 +372,7 @@ pub fn first_broken<S: State>(state: &S, event: &Event) -> Option<Rule>
     if is_timer_other(event, &due) {
         return Some(Rule::TimerOther);
     }
-    if is_timer_early(event, &due) {
+    if is_timer_early(state, event, &due) {
         return Some(Rule::TimerEarly);
     }
     if is_probe_owed(state, event) {
@@ -318,6 +386,9 @@ pub fn first_broken<S: State>(state: &S, event: &Event) -> Option<Rule>
     }
     if is_timer_late(state, event) {
         return Some(Rule::TimerLate);
+    }
+    if is_collapse_missing(state, event) {
+        return Some(Rule::CollapseMissing);
     }
     None
 }

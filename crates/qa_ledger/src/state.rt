@@ -9,13 +9,13 @@ ghost use Rattle.qa_base.specs.machine.Leave as leaves;
 ghost use Rattle.qa_base.specs.machine.Loss as loss;
 ghost use Rattle.qa_base.specs.machine.Numbers as tests;
 ghost use Rattle.qa_base.specs.machine.Packets as packets;
-ghost use Rattle.qa_base.specs.machine.Reno as windows;
+ghost use Rattle.qa_base.specs.machine.Window as windows;
 ghost use Rattle.qa_base.specs.machine.State as state;
 ghost use Rattle.qa_base.specs.machine.Timer as timers;
 ghost use Rattle.qa_base.specs.values.Limits.{max_packet_size};
 ghost use Rattle.qa_base.specs.values.Settings.{Settings};
 
-use qa_base::{Due, Micros, Options, PacketNumber, Space, Span, Totals};
+use qa_base::{Due, Header, PacketNumber, Space, Span, Ticks, Totals};
 
 /// The state of the machine after a header and some events, as the rules ask for it. Each answer is
 /// what the definitions say of those events, and takes no memory.
@@ -32,13 +32,13 @@ pub trait State {
             → result ≡ c.max_datagram_size }
         ensures bound { result ≤ max_packet_size };
 
-    /// What the header asks beside the machine of version 1: limits and slack.
-    fn options(&self) -> Options
+    /// The header: the unit of times, limits and slack, and what the sender chooses.
+    fn header(&self) -> Header
         ensures value { (c : Settings) (h : List AnEvent) → tells self.now c h
-            → result ≡ c.options };
+            → result ≡ c };
 
     /// The time of the last event; None before any.
-    fn last_time(&self) -> Option<Micros>
+    fn last_time(&self) -> Option<Ticks>
         ensures { (c : Settings) (h : List AnEvent) → tells self.now c h
             → result ≡ timers.time_of_moment h };
 
@@ -72,10 +72,22 @@ pub trait State {
         ensures { (c : Settings) (h : List AnEvent) → tells self.now c h
             → result ≡ tests.has_all (breaches.numbers (packets.packets_of h space)) ranges.now };
 
-    /// The congestion window in bytes (RFC 9002, section 7).
+    /// The congestion window in bytes (RFC 9002, section 7): NewReno's, or the one that was reported.
     fn window(&self) -> u64
         ensures { (c : Settings) (h : List AnEvent) → tells self.now c h
-            → result ≡ (windows.reno c h).window };
+            → result ≡ windows.window c h };
+
+    /// The window in bytes that the sender last reported; the header's before any report.
+    fn reported_window(&self) -> u64
+        ensures { (c : Settings) (h : List AnEvent) → tells self.now c h
+            → result ≡ windows.reported_window c h };
+
+    /// The bytes in flight that were newly acknowledged since persistent congestion was last
+    /// established; None without it, or where another window was reported since (RFC 9002, section
+    /// 7.6.2).
+    fn acknowledged_since_collapse(&self) -> Option<u64>
+        ensures { (c : Settings) (h : List AnEvent) → tells self.now c h
+            → result ≡ windows.acknowledged_since_collapse c h };
 
     /// The bytes in flight (RFC 9002, B.2).
     fn bytes_in_flight(&self) -> u64
@@ -100,7 +112,7 @@ pub trait State {
             → result ≡ timers.deadline c h };
 
     /// Whether the next event, at this time, shows that the timer was too late, by the header's limit.
-    fn is_late(&self, time: Micros) -> bool
+    fn is_late(&self, time: Ticks) -> bool
         ensures { (c : Settings) (h : List AnEvent) → tells self.now c h
             → result ≡ breaches.is_late_by c h time c.options.timer_late };
 

@@ -11,3 +11,5 @@ pub mod Late
 pub mod Filtered
 pub mod Sound
 pub mod Counted
+pub mod Thirds
+pub mod Reports

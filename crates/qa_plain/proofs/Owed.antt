@@ -6,8 +6,8 @@ use Rattle.std.specs.Prelude.{if◌then◌else◌, nat_lt}
 use Rattle.qa_base.specs.declared.event.Event.{Event}
 use Rattle.qa_base.specs.declared.space.Space.{Space}
 use Rattle.qa_base.specs.machine.Estimates.{sampled}
-use Rattle.qa_base.specs.machine.Detection.{is_found, is_found_at, found_at, detection, are_ends}
-use Rattle.qa_base.specs.machine.Loss.{is_owed, owed, is_persistent}
+use Rattle.qa_base.specs.machine.Detection.{is_found, is_found_at, found_at, are_ends}
+use Rattle.qa_base.specs.machine.Loss.{detection, is_owed, owed, is_persistent}
 use Rattle.qa_base.specs.machine.Packets.{Packet, packets, is_of, is_some_packet}
 use Rattle.qa_base.specs.machine.Rtt.{Estimate}
 use Rattle.qa_base.specs.values.Settings.{Settings}
@@ -28,25 +28,26 @@ none : (ps : List Packet) → [] ≡ filter (λ p. false) ps
 none [] = refl
 none (p ∷ ps) = none ps
 
-found_is : (c : Settings) (h : List Event) (d : Option (Space × ℕ)) → found_at (sampled c h) h d ≡ filter (λ p. is_found_at (sampled c h) h p d) (packets h)
+found_is : (c : Settings) (h : List Event) (d : Option (Space × ℕ)) → found_at c (sampled c h) h d ≡ filter (λ p. is_found_at c (sampled c h) h p d) (packets h)
 found_is c h None = none (packets h)
-found_is c h (Some d) = both (is_found (sampled c h) h d.1 d.0) (is_of d.0) (packets h)
+found_is c h (Some d) = both (is_found c (sampled c h) h d.1 d.0) (is_of d.0) (packets h)
 
 pub owed_is : (c : Settings) (h : List Event) → owed c h ≡ filter (is_owed c h) (packets h)
-owed_is c h = found_is c h (detection h)
+owed_is c h = found_is c h (detection c h)
 
 -- ---- by what is seen
 
-found_where : (c : Settings) (h : List Event) (p : Packet) (d : Option (Space × ℕ)) → is_found_where h (sampled c h) (largest_there h d) p d ≡ is_found_at (sampled c h) h p d
+found_where : (c : Settings) (h : List Event) (p : Packet) (d : Option (Space × ℕ)) → is_found_where c h (sampled c h) (largest_there h d) p d ≡ is_found_at c (sampled c h) h p d
 found_where c h p None = refl
 found_where c h p (Some d) = refl
 
 pub found_by_is : (c : Settings) (h : List Event) (look : Seen) (p : Packet) → IsLook c h look → is_found_by h look p ≡ is_owed c h p
 found_by_is c h look p is =
-    ap (λ (r : Estimate). is_found_where h r look.largest p look.detection) is.0
-    ∙ (ap (λ (largest : Option ℕ). is_found_where h (sampled c h) largest p look.detection) is.2
-    ∙ (ap (λ (d : Option (Space × ℕ)). is_found_where h (sampled c h) (largest_there h (detection h)) p d) is.1
-    ∙ found_where c h p (detection h)))
+    ap (λ (header : Settings). is_found_where header h look.rtt look.largest p look.detection) is.3
+    ∙ (ap (λ (r : Estimate). is_found_where c h r look.largest p look.detection) is.0
+    ∙ (ap (λ (largest : Option ℕ). is_found_where c h (sampled c h) largest p look.detection) is.2
+    ∙ (ap (λ (d : Option (Space × ℕ)). is_found_where c h (sampled c h) (largest_there h (detection c h)) p d) is.1
+    ∙ found_where c h p (detection c h))))
 
 each_found : (c : Settings) (h : List Event) (look : Seen) (ps : List Packet) → IsLook c h look → filter (is_owed c h) ps ≡ filter (is_found_by h look) ps
 each_found c h look [] is = refl

@@ -1,12 +1,12 @@
 -- The estimate by that before a refresh.
-use Rattle.std.proofs.Common.{◌≡◌, List, [], ◌∷◌, Bool, true, false, ◌&&◌, refl}
+use Rattle.std.proofs.Common.{◌≡◌, ℕ, List, [], ◌∷◌, Bool, true, false, ◌&&◌, refl}
 use Rattle.std.specs.Prelude.{if◌then◌else◌}
 use Rattle.qa_base.specs.declared.event.Event.{Event}
 use Rattle.qa_base.specs.machine.Detection.{is_persistent_by}
 use Rattle.qa_base.specs.machine.Estimates.{rtt, sampled, refreshed_by}
 use Rattle.qa_base.specs.machine.Loss.{is_persistent}
 use Rattle.qa_base.specs.machine.Rtt.{Estimate, pto_base, refreshed, loss_delay}
-use Rattle.qa_base.specs.values.Settings.{Settings}
+use Rattle.qa_base.specs.values.Settings.{Settings, granularity}
 
 refreshed_by_is : (asked : Bool) (c : Settings) (h : List Event) (r : Estimate) → refreshed_by asked c h r ≡ (if asked && is_persistent_by r c h then refreshed r else r)
 refreshed_by_is true c h r = refl
@@ -25,16 +25,16 @@ rtt_unasked c h unasked = rw (rtt_is c h, unasked) refl
 
 -- ---- what timers read of it is not refreshed
 
-delay_if : (b : Bool) (r : Estimate) → loss_delay (if b then refreshed r else r) ≡ loss_delay r
-delay_if true r = refl
-delay_if false r = refl
+delay_if : (g : ℕ) (b : Bool) (r : Estimate) → loss_delay g (if b then refreshed r else r) ≡ loss_delay g r
+delay_if g true r = refl
+delay_if g false r = refl
 
-base_if : (b : Bool) (r : Estimate) → pto_base (if b then refreshed r else r) ≡ pto_base r
-base_if true r = refl
-base_if false r = refl
+base_if : (g : ℕ) (b : Bool) (r : Estimate) → pto_base g (if b then refreshed r else r) ≡ pto_base g r
+base_if g true r = refl
+base_if g false r = refl
 
-pub same_loss_delay : (c : Settings) (h : List Event) → loss_delay (rtt c h) ≡ loss_delay (sampled c h)
-same_loss_delay c h = rw (rtt_is c h) (delay_if (c.options.refresh_min_rtt && is_persistent c h) (sampled c h))
+pub same_loss_delay : (c : Settings) (h : List Event) → loss_delay (granularity c) (rtt c h) ≡ loss_delay (granularity c) (sampled c h)
+same_loss_delay c h = rw (rtt_is c h) (delay_if (granularity c) (c.options.refresh_min_rtt && is_persistent c h) (sampled c h))
 
-pub same_pto_base : (c : Settings) (h : List Event) → pto_base (rtt c h) ≡ pto_base (sampled c h)
-same_pto_base c h = rw (rtt_is c h) (base_if (c.options.refresh_min_rtt && is_persistent c h) (sampled c h))
+pub same_pto_base : (c : Settings) (h : List Event) → pto_base (granularity c) (rtt c h) ≡ pto_base (granularity c) (sampled c h)
+same_pto_base c h = rw (rtt_is c h) (base_if (granularity c) (c.options.refresh_min_rtt && is_persistent c h) (sampled c h))

@@ -9,11 +9,11 @@ ghost use Rattle.qa_plain.specs.Looks.{IsLook, found_in};
 use crate::losses::{Look, found_of};
 use crate::packet::{Packet, packet_of};
 use crate::settled::is_acknowledged;
-use qa_base::{Event, Header, Micros};
+use qa_base::{Event, Header, Ticks};
 use qa_recovery::Rtt;
 
 /// Whether the packet was sent after the first sample.
-fn is_after(first: Option<Micros>, packet: Packet) -> bool
+fn is_after(first: Option<Ticks>, packet: Packet) -> bool
     ensures { result ≡ detections.is_after first packet }
 {
     match first {
@@ -52,11 +52,11 @@ pub fn is_acknowledged_between(events: &[Event], first: Packet, second: Packet) 
 fn are_ends(header: &Header, events: &[Event], rtt: Rtt, first: Packet, second: Packet) -> bool
     ensures { result ≡ detections.are_ends rtt header.now (history_of events.now) first second }
 {
-    let delay = Micros::of(header.max_ack_delay());
+    let delay = Ticks::of(header.max_ack_delay());
     let apart = second.time.get().saturating_sub(first.time.get());
     is_end(rtt, first)
         && is_end(rtt, second)
-        && rtt.persistent_after(delay) < apart
+        && rtt.persistent_after(header.granularity(), delay) < apart
         && !is_acknowledged_between(events, first, second)
 }
 

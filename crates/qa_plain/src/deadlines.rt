@@ -1,39 +1,20 @@
 //! The deadline of the loss detection timer (RFC 9002, section 6.2, A.8).
-ghost use Rattle.std.specs.Prelude.{◌≡◌, ◌∷◌, ◌≤◌, ◌<◌, ◌^◌, ◌*◌, ◌+◌, Some, None, Option, filter, map, min, unwrap_or, if◌then◌else◌};
+ghost use Rattle.std.specs.Prelude.{◌≡◌, ◌∷◌, ◌≤◌, ◌<◌, ◌^◌, ◌*◌, ◌+◌, Some, None, Option, filter, map, if◌then◌else◌};
 ghost use Rattle.std.specs.List.{list_any};
 ghost use Rattle.qa_base.specs.declared.event.Event.{Event};
 ghost use Rattle.qa_base.specs.machine.Handshake as handshake;
+ghost use Rattle.qa_base.specs.machine.Packets as packets;
 ghost use Rattle.qa_base.specs.machine.Packets.{history_of, packets_of};
 ghost use Rattle.qa_plain.specs.Looks.{IsLook};
 ghost use Rattle.qa_base.specs.machine.Timer as timers;
 ghost use Rattle.qa_base.specs.declared.space.Space.TheVariants as spaces;
-ghost use Rattle.qa_base.specs.values.Limits.{max_time, max_max_ack_delay};
+ghost use Rattle.qa_base.specs.values.Limits.{max_time, max_max_ack_delay_ns};
 
 use crate::handshake::{has_keys, is_confirmed, is_validated};
 use crate::losses::{Look, is_open};
-use crate::packet::{Packet, packet_in};
+use crate::packet::{Packet, is_below_largest, packet_in, sooner};
 use crate::settled::{acknowledges_new, largest_acknowledged};
-use qa_base::{Due, Event, Header, Micros, Space, TimerKind};
-
-/// The earlier of the two times.
-fn sooner(least: Option<Micros>, time: Micros) -> Micros
-    ensures { result ≡ min time (unwrap_or least time) }
-{
-    match least {
-        None => time,
-        Some(least) => time.min(least),
-    }
-}
-
-/// Whether the number is below the largest that was acknowledged.
-fn is_below_largest(number: u64, largest: Option<u64>) -> bool
-    ensures { result ≡ timers.is_below_largest number largest }
-{
-    match largest {
-        None => false,
-        Some(largest) => number < largest,
-    }
-}
+use qa_base::{Due, Event, Header, Space, Ticks, TimerKind};
 
 /// Whether the packet is lost once it is old: open, in flight, below the largest acknowledged
 /// number of its space.
@@ -50,9 +31,9 @@ fn awaits_loss(header: &Header, events: &[Event], look: Look, packet: Packet) ->
 }
 
 /// When the first such packet of the space was sent.
-fn first_awaiting(header: &Header, events: &[Event], look: Look, space: Space) -> Option<Micros>
+fn first_awaiting(header: &Header, events: &[Event], look: Look, space: Space) -> Option<Ticks>
     requires seen { IsLook header.now (history_of events.now) look }
-    ensures { result ≡ timers.least_of (map (λ p. p.time) (filter (timers.awaits_loss header.now (history_of events.now)) (packets_of (history_of events.now) space))) }
+    ensures { result ≡ packets.least_of (map (λ p. p.time) (filter (timers.awaits_loss header.now (history_of events.now)) (packets_of (history_of events.now) space))) }
 {
     let mut least = None;
     for (place, event) in events.iter().enumerate() {
@@ -75,7 +56,7 @@ fn loss_due(header: &Header, events: &[Event], look: Look, space: Space) -> Opti
     Some(Due {
         kind: TimerKind::Loss,
         space,
-        time: u128::from(sent.get() + look.rtt.loss_delay()),
+        time: u128::from(sent.get() + look.rtt.loss_delay(header.granularity())),
     })
 }
 
@@ -110,7 +91,7 @@ fn some_awaits(header: &Header, events: &[Event], look: Look, space: Space) -> b
 }
 
 /// The time of the last ack-eliciting packet of the space, open or not.
-pub fn last_eliciting(events: &[Event], space: Space) -> Option<Micros>
+pub fn last_eliciting(events: &[Event], space: Space) -> Option<Ticks>
     ensures { result ≡ timers.last_eliciting (history_of events.now) space }
 {
     let mut last = None;
@@ -138,14 +119,14 @@ fn pto_due(
     requires seen { IsLook header.now (history_of events.now) look }
     requires counted { count ≡ timers.pto_count header.now (history_of events.now) }
     requires few { count ≤ 40 }
-    requires delay { peer_delay ≤ max_max_ack_delay }
+    requires delay { peer_delay ≤ max_max_ack_delay_ns }
     ensures { result ≡ timers.pto_due header.now (history_of events.now) peer_delay space }
 {
     if !some_awaits(header, events, look, space) {
         return None;
     }
     let sent = last_eliciting(events, space)?;
-    let timeout = look.rtt.pto_base() + peer_delay;
+    let timeout = look.rtt.pto_base(header.granularity()) + peer_delay;
     Some(Due::probe_timeout(space, sent, timeout, count))
 }
 
@@ -197,7 +178,7 @@ fn sets_timer(before: &[Event], event: &Event) -> bool
 }
 
 /// When the timer was last set.
-pub fn last_set(events: &[Event]) -> Option<Micros>
+pub fn last_set(events: &[Event]) -> Option<Ticks>
     ensures { result ≡ timers.last_set (history_of events.now) }
 {
     let mut last = None;
@@ -226,7 +207,7 @@ fn anti_deadlock(header: &Header, events: &[Event], look: Look, count: u64) -> O
         Space::Initial
     };
     let set = last_set(events)?;
-    Some(Due::probe_timeout(space, set, look.rtt.pto_base(), count))
+    Some(Due::probe_timeout(space, set, look.rtt.pto_base(header.granularity()), count))
 }
 
 /// What the timer is set for by packets: one that will be old, else a probe timeout.

@@ -5,7 +5,7 @@ ghost use Rattle.qa_base.specs.machine.Packets.{history_of};
 ghost use Rattle.qa_base.specs.machine.Timer as timers;
 
 use crate::questions::{deadline, packet_deadline};
-use qa_base::{Due, Event, Header, Micros};
+use qa_base::{Due, Event, Header, Ticks};
 
 /// Whether an event, the last of those after it, leaves the deadline as it was.
 fn keeps_deadline(header: &Header, before: &[Event], after: &[Event]) -> bool
@@ -19,11 +19,11 @@ fn keeps_deadline(header: &Header, before: &[Event], after: &[Event]) -> bool
 /// The time since which the timer is set as it is, that of the event that made it so; 0 before any.
 ///
 /// Asks for a PTO count of at most 40 after each of the events.
-pub fn set_since(header: &Header, events: &[Event]) -> Micros
+pub fn set_since(header: &Header, events: &[Event]) -> Ticks
     requires counted { (n : ℕ) → timers.pto_count header.now (history_of (take n events.now)) ≤ 40 }
     ensures { result ≡ timers.set_since header.now (history_of events.now) }
 {
-    let mut since = Micros::of(0);
+    let mut since = Ticks::of(0);
     for (place, event) in events.iter().enumerate() {
         if !keeps_deadline(header, &events[..place], &events[..place + 1]) {
             since = event.time();
@@ -37,14 +37,14 @@ pub fn set_since(header: &Header, events: &[Event]) -> Micros
 ///
 /// That time takes the deadline after each event, so it is asked only past the deadline itself.
 #[tactic(auto, using(crate::proofs::Late::late_is))]
-fn is_past_due(header: &Header, events: &[Event], limit: u64, time: Micros) -> bool
+fn is_past_due(header: &Header, events: &[Event], limit: u128, time: Ticks) -> bool
     requires counted { (n : ℕ) → timers.pto_count header.now (history_of (take n events.now)) ≤ 40 }
     ensures { result ≡ breaches.is_past_due limit (timers.set_since header.now (history_of events.now)) time (timers.packet_deadline header.now (history_of events.now)) }
 {
-    let last = time.get().saturating_sub(limit);
+    let last = u128::from(time.get()).saturating_sub(limit);
     match packet_deadline(header, events) {
         None => false,
-        Some(due) => due.time < u128::from(last) && set_since(header, events).get() < last,
+        Some(due) => due.time < last && u128::from(set_since(header, events).get()) < last,
     }
 }
 
@@ -53,12 +53,15 @@ fn is_past_due(header: &Header, events: &[Event], limit: u64, time: Micros) -> b
 /// which the timer is set where that is later.
 ///
 /// Asks for a PTO count of at most 40 after each of the events.
-pub fn is_late(header: &Header, events: &[Event], time: Micros) -> bool
+pub fn is_late(header: &Header, events: &[Event], time: Ticks) -> bool
     requires counted { (n : ℕ) → timers.pto_count header.now (history_of (take n events.now)) ≤ 40 }
     ensures { result ≡ breaches.is_late_by header.now (history_of events.now) time header.now.options.timer_late }
 {
     match header.options().timer_late {
         None => false,
-        Some(limit) => is_past_due(header, events, limit, time),
+        Some(limit) => {
+            let limit = header.unit().of_microseconds(limit);
+            is_past_due(header, events, limit, time)
+        }
     }
 }

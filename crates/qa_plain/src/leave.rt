@@ -18,7 +18,7 @@ use crate::sampling::start;
 use crate::settled::acknowledges_new;
 use crate::timer::is_discard;
 use crate::window::{last_owed, reno_after};
-use qa_base::{Event, Header, Leave, Micros, Space};
+use qa_base::{Event, Header, Leave, Space, Ticks};
 use qa_recovery::Reno;
 
 /// The size of the in-flight packet marked as a probe that the event sent.
@@ -139,7 +139,7 @@ pub fn is_probe_due(events: &[Event]) -> bool
 }
 
 /// Whether a loss enters recovery, of packets the last of which was sent then.
-fn enters(reno: Reno, last: Option<Micros>) -> bool
+fn enters(reno: Reno, last: Option<Ticks>) -> bool
     ensures { result ≡ words.entry_by reno.recovery_start_time last }
 {
     match last {

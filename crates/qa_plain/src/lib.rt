@@ -8,7 +8,7 @@
 //! fewer than 2^32, `deadline` and `packet_deadline` for a PTO count of at most 40, `set_since` and
 //! `is_late` for such a count after each event, and the others for nothing.
 //!
-//! Times are in microseconds, sizes and windows in bytes.
+//! Times are in the unit of the trace, sizes and windows in bytes.
 #![tactic(auto)]
 
 mod congestion;
@@ -22,6 +22,7 @@ mod losses;
 mod named;
 mod packet;
 mod questions;
+mod reported;
 mod sampling;
 mod settled;
 mod timer;
@@ -37,6 +38,7 @@ pub use packet::{Packet, packet_of};
 pub use questions::{
     bytes_in_flight, deadline, is_owed, names_owed, owed_count, owes, owes_in, packet_deadline,
 };
+pub use reported::{acknowledged_since_collapse, reported_window};
 pub use settled::{
     is_acknowledged, is_declared_lost, is_discarded, is_newly_acknowledged, largest_acknowledged,
 };

@@ -6,16 +6,16 @@ ghost use Rattle.qa_base.specs.machine.Estimates as estimates;
 ghost use Rattle.qa_base.specs.machine.Loss as loss;
 ghost use Rattle.qa_base.specs.machine.Packets as packets;
 ghost use Rattle.qa_base.specs.machine.Packets.{history_of};
+ghost use Rattle.qa_base.specs.values.Settings.{early};
 ghost use Rattle.qa_plain.specs.Listed.{listed};
 ghost use Rattle.qa_plain.specs.Looks.{IsLook, is_found_by, largest_there as largest_there_of};
 ghost use Rattle.std.specs.List.{list_any};
 
-use crate::packet::{Packet, packet_of};
+use crate::packet::{Packet, is_below_largest, packet_in, packet_of, sooner};
 use crate::settled::{
     acknowledges_new, is_acknowledged, is_declared_lost, is_discarded, largest_acknowledged,
 };
-use qa_base::constants::PACKET_THRESHOLD;
-use qa_base::{Event, Header, Micros, Space, TimerKind};
+use qa_base::{Event, Header, Space, Ticks, TimerKind};
 use qa_recovery::Rtt;
 use std::marker::Model;
 
@@ -24,10 +24,12 @@ use std::marker::Model;
 pub struct Look {
     /// The estimate of the round-trip time with the last event's sample, before a refresh.
     pub rtt: Rtt,
-    /// Where and when the last event looks for losses.
-    pub detection: Option<(Space, Micros)>,
+    /// Where, and as of when, the last event looks for losses.
+    pub detection: Option<(Space, u64)>,
     /// The largest number that was acknowledged there.
     pub largest: Option<u64>,
+    /// The header.
+    pub header: Header,
 }
 
 impl Model for Look {
@@ -35,28 +37,35 @@ impl Model for Look {
 
     ghost Value = { Seen };
 
-    ghost view = { λ l. record { rtt = l.rtt; detection = l.detection; largest = l.largest } };
+    ghost view = { λ l. record { rtt = l.rtt; detection = l.detection; largest = l.largest; header = l.header } };
 
-    ghost inverse = { λ l. record { rtt = l.rtt; detection = l.detection; largest = l.largest } };
+    ghost inverse = { λ l. record { rtt = l.rtt; detection = l.detection; largest = l.largest; header = l.header } };
 }
 
 /// Whether the loss delay has passed since the packet was sent (RFC 9002, section 6.1.2).
-fn is_old(rtt: Rtt, now: Micros, packet: Packet) -> bool
-    ensures { result ≡ detections.is_old rtt now packet }
+fn is_old(header: &Header, rtt: Rtt, now: u64, packet: Packet) -> bool
+    ensures { result ≡ detections.is_old header.now rtt now packet }
 {
-    rtt.loss_delay() <= now.get().saturating_sub(packet.time.get())
+    rtt.loss_delay(header.granularity()) <= now.saturating_sub(packet.time.get())
 }
 
-/// Whether the packet is below the largest acknowledged number, by the packet threshold or for long
-/// enough.
-fn is_past_threshold(rtt: Rtt, now: Micros, largest: Option<u64>, packet: Packet) -> bool
-    ensures { result ≡ detections.is_past_threshold rtt now largest packet }
+/// Whether the packet is below the largest acknowledged number, by the sender's packet threshold or
+/// for long enough.
+fn is_past_threshold(
+    header: &Header,
+    rtt: Rtt,
+    now: u64,
+    largest: Option<u64>,
+    packet: Packet,
+) -> bool
+    ensures { result ≡ detections.is_past_threshold header.now rtt now largest packet }
 {
     match largest {
         None => false,
         Some(largest) => {
             packet.number.get() < largest
-                && (PACKET_THRESHOLD <= largest - packet.number.get() || is_old(rtt, now, packet))
+                && (header.options().packet_threshold <= largest - packet.number.get()
+                    || is_old(header, rtt, now, packet))
         }
     }
 }
@@ -68,14 +77,56 @@ pub fn is_unsettled(events: &[Event], packet: Packet) -> bool
     !is_acknowledged(events, packet) && !is_declared_lost(events, packet)
 }
 
-/// Where and when an event looks for losses.
-pub fn detection_by(before: &[Event], event: &Event) -> Option<(Space, Micros)>
-    ensures { result ≡ detections.detection (event.now ∷ history_of before.now) }
+/// Whether a loss timer is set for the packet: in flight, neither acknowledged nor declared lost, and
+/// below the largest acknowledged number.
+fn awaits_timer(events: &[Event], packet: Packet) -> bool
+    ensures { result ≡ detections.awaits_timer (history_of events.now) packet }
+{
+    packet.in_flight
+        && is_unsettled(events, packet)
+        && is_below_largest(
+            packet.number.get(),
+            largest_acknowledged(events, packet.space),
+        )
+}
+
+/// When the first such packet of the space was sent.
+pub fn first_awaiting(events: &[Event], space: Space) -> Option<Ticks>
+    ensures { result ≡ detections.first_awaiting (history_of events.now) space }
+{
+    let mut least = None;
+    for (place, event) in events.iter().enumerate() {
+        if let Some(packet) = packet_in(space, place, event) {
+            if awaits_timer(events, packet) {
+                least = Some(sooner(least, packet.time));
+            }
+        }
+    }
+    least
+}
+
+/// As of when a loss timer looks for losses.
+fn looks_at(header: &Header, before: &[Event], rtt: Rtt, time: Ticks, space: Space) -> u64
+    ensures { result ≡ detections.looks_at (early header.now) time (detections.old_at header.now rtt (history_of before.now) space) }
+{
+    match first_awaiting(before, space) {
+        None => time.get(),
+        Some(sent) => {
+            let due = sent.get() + rtt.loss_delay(header.granularity());
+            let latest = time.get() + header.timer_early();
+            time.get().max(due.min(latest))
+        }
+    }
+}
+
+/// Where, and as of when, an event looks for losses.
+fn detection_by(header: &Header, before: &[Event], event: &Event, rtt: Rtt) -> Option<(Space, u64)>
+    ensures { result ≡ detections.detection_by header.now rtt (event.now ∷ history_of before.now) }
 {
     match event {
         Event::Ack { time, space, .. } => {
             if acknowledges_new(before, event) {
-                Some((*space, *time))
+                Some((*space, time.get()))
             } else {
                 None
             }
@@ -84,24 +135,24 @@ pub fn detection_by(before: &[Event], event: &Event) -> Option<(Space, Micros)>
             time,
             kind: TimerKind::Loss,
             space,
-        } => Some((*space, *time)),
+        } => Some((*space, looks_at(header, before, rtt, *time, *space))),
         _ => None,
     }
 }
 
-/// Where and when the last event looks for losses.
-pub fn detection(events: &[Event]) -> Option<(Space, Micros)>
-    ensures { result ≡ detections.detection (history_of events.now) }
+/// Where, and as of when, the last event looks for losses.
+fn detection(header: &Header, events: &[Event], rtt: Rtt) -> Option<(Space, u64)>
+    ensures { result ≡ detections.detection_by header.now rtt (history_of events.now) }
 {
     let (event, before) = events.split_last()?;
-    detection_by(before, event)
+    detection_by(header, before, event, rtt)
 }
 
 /// The largest number that was acknowledged where the last event looks for losses.
-fn largest_there(events: &[Event]) -> Option<u64>
-    ensures { result ≡ largest_there_of (history_of events.now) (detections.detection (history_of events.now)) }
+fn largest_there(events: &[Event], detection: Option<(Space, u64)>) -> Option<u64>
+    ensures { result ≡ largest_there_of (history_of events.now) detection }
 {
-    let (space, _) = detection(events)?;
+    let (space, _) = detection?;
     largest_acknowledged(events, space)
 }
 
@@ -110,25 +161,28 @@ pub fn look_at(header: &Header, events: &[Event], rtt: Rtt) -> Look
     requires known { rtt ≡ estimates.sampled header.now (history_of events.now) }
     ensures { IsLook header.now (history_of events.now) result }
 {
+    let detection = detection(header, events, rtt);
     Look {
         rtt,
-        detection: detection(events),
-        largest: largest_there(events),
+        detection,
+        largest: largest_there(events, detection),
+        header: *header,
     }
 }
 
 /// Whether the packet is past a threshold and unsettled, the cheaper test first.
 #[tactic(auto, using(crate::proofs::Owed::and_turned))]
 fn is_late_open(
+    header: &Header,
     events: &[Event],
     rtt: Rtt,
     largest: Option<u64>,
-    now: Micros,
+    now: u64,
     packet: Packet,
 ) -> bool
-    ensures { result ≡ (detections.is_unsettled (history_of events.now) packet && detections.is_past_threshold rtt now largest packet) }
+    ensures { result ≡ (detections.is_unsettled (history_of events.now) packet && detections.is_past_threshold header.now rtt now largest packet) }
 {
-    is_past_threshold(rtt, now, largest, packet) && is_unsettled(events, packet)
+    is_past_threshold(header, rtt, now, largest, packet) && is_unsettled(events, packet)
 }
 
 /// Whether by what is known the last event found the packet lost.
@@ -140,7 +194,7 @@ pub fn is_found(events: &[Event], look: Look, packet: Packet) -> bool
         Some((space, now)) => {
             space == packet.space
                 && packet.in_flight
-                && is_late_open(events, look.rtt, look.largest, now, packet)
+                && is_late_open(&look.header, events, look.rtt, look.largest, now, packet)
         }
     }
 }

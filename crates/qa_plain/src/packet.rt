@@ -1,9 +1,9 @@
 //! Packets, as the events tell them that sent them.
-ghost use Rattle.std.specs.Prelude.{◌≡◌, filter};
+ghost use Rattle.std.specs.Prelude.{◌≡◌, filter, min, unwrap_or};
 ghost use Rattle.qa_base.specs.machine.Packets as packets;
 ghost use Rattle.qa_plain.specs.Listed.{listed};
 
-use qa_base::{Event, Leave, Micros, PacketNumber, Space};
+use qa_base::{Event, Leave, PacketNumber, Space, Ticks};
 use std::marker::Model;
 
 /// A packet, as the event tells it that sent it (RFC 9002, A.1).
@@ -12,7 +12,7 @@ pub struct Packet {
     /// How many events stand before the one that sent it.
     pub place: usize,
     /// When it was sent.
-    pub time: Micros,
+    pub time: Ticks,
     /// Its packet number space.
     pub space: Space,
     /// Its number in that space.
@@ -90,5 +90,25 @@ pub fn packet_in(space: Space, place: usize, event: &Event) -> Option<Packet>
     match packet_of(place, event) {
         Some(packet) if space == packet.space => Some(packet),
         _ => None,
+    }
+}
+
+/// The earlier of the two times.
+pub fn sooner(least: Option<Ticks>, time: Ticks) -> Ticks
+    ensures { result ≡ min time (unwrap_or least time) }
+{
+    match least {
+        None => time,
+        Some(least) => time.min(least),
+    }
+}
+
+/// Whether the number is below the largest that was acknowledged.
+pub fn is_below_largest(number: u64, largest: Option<u64>) -> bool
+    ensures { result ≡ packets.is_below_largest number largest }
+{
+    match largest {
+        None => false,
+        Some(largest) => number < largest,
     }
 }

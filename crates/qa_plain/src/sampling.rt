@@ -7,7 +7,7 @@ ghost use Rattle.qa_base.specs.machine.Rtt as estimates;
 use crate::handshake::is_confirmed;
 use crate::packet::{Packet, packet_of};
 use crate::settled::is_newly_acknowledged;
-use qa_base::{Event, Header, Micros};
+use qa_base::{Event, Header, Ticks};
 use qa_recovery::Rtt;
 use std::marker::Model;
 
@@ -15,11 +15,11 @@ use std::marker::Model;
 #[derive(Clone, Copy)]
 pub struct Sample {
     /// How long the packet with the largest acknowledged number took.
-    pub latest_rtt: Micros,
+    pub latest_rtt: Ticks,
     /// The peer's delay, limited.
     pub ack_delay: u64,
     /// When the acknowledgment came.
-    pub time: Micros,
+    pub time: Ticks,
 }
 
 impl Model for Sample {
@@ -32,14 +32,21 @@ impl Model for Sample {
     ghost inverse = { λ s. record { latest_rtt = s.latest_rtt; ack_delay = s.ack_delay; time = s.time } };
 }
 
-/// Whether the event newly acknowledges an ack-eliciting packet.
-pub fn acknowledges_eliciting(before: &[Event], event: &Event) -> bool
-    ensures { result ≡ list_any (λ p. p.eliciting) (newly_acknowledged (event.now ∷ history_of before.now)) }
+/// Whether the packet is ack-eliciting; where the sender samples no others, and has the largest number.
+fn gives_sample(only: bool, largest: u64, packet: Packet) -> bool
+    ensures { result ≡ estimates.gives_sample only largest packet }
+{
+    packet.eliciting && (!only || packet.number.get() == largest)
+}
+
+/// Whether the event newly acknowledges a packet for which there is a sample.
+pub fn acknowledges_sampled(before: &[Event], event: &Event, only: bool, largest: u64) -> bool
+    ensures { result ≡ list_any (estimates.gives_sample only largest) (newly_acknowledged (event.now ∷ history_of before.now)) }
 {
     let mut found = false;
     for (place, earlier) in before.iter().enumerate() {
         if let Some(packet) = packet_of(place, earlier) {
-            if is_newly_acknowledged(before, event, packet) && packet.eliciting {
+            if is_newly_acknowledged(before, event, packet) && gives_sample(only, largest, packet) {
                 found = true;
             }
         }
@@ -74,12 +81,12 @@ fn limited_delay(header: &Header, before: &[Event], delay: u64) -> u64
 }
 
 /// The sample by the packet with the largest acknowledged number, where it is newly acknowledged.
-fn sample_by(time: Micros, delay: u64, packet: Option<Packet>) -> Option<Sample>
+fn sample_by(time: Ticks, delay: u64, packet: Option<Packet>) -> Option<Sample>
     ensures { result ≡ estimates.sample_by time delay packet }
 {
     let sent = packet?.time;
     Some(Sample {
-        latest_rtt: Micros::of(time.get().saturating_sub(sent.get())),
+        latest_rtt: Ticks::of(time.get().saturating_sub(sent.get())),
         ack_delay: delay,
         time,
     })
@@ -96,10 +103,12 @@ pub fn sample_of(header: &Header, before: &[Event], event: &Event) -> Option<Sam
             delay,
             ..
         } => {
-            if !acknowledges_eliciting(before, event) {
+            let largest = ranges.greatest().get();
+            let only = header.options().sample_eliciting_only;
+            if !acknowledges_sampled(before, event, only, largest) {
                 return None;
             }
-            let packet = newly_numbered(before, event, ranges.greatest().get());
+            let packet = newly_numbered(before, event, largest);
             sample_by(*time, limited_delay(header, before, *delay), packet)
         }
         _ => None,
@@ -124,5 +133,5 @@ pub fn updated(rtt: Rtt, sample: Option<Sample>) -> Rtt
 pub fn start(header: &Header) -> Rtt
     ensures { result ≡ estimates.start header.now.initial_rtt }
 {
-    Rtt::start(Micros::of(header.initial_rtt()))
+    Rtt::start(Ticks::of(header.initial_rtt()))
 }

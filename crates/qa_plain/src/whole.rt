@@ -13,10 +13,10 @@ use crate::handshake::is_confirmed;
 use crate::lateness::is_late;
 use crate::leave::{is_probe_due, probe_spent, recovery_spent};
 use crate::questions::{deadline, names_owed, owes, owes_in};
+use crate::reported::{acknowledged_since_collapse, reported_window};
 use crate::settled::is_discarded;
-use crate::totals::{bytes_in_flight, totals};
-use crate::window::reno;
-use qa_base::{Due, Event, Header, Micros, Options, PacketNumber, Space, Span, Totals};
+use crate::totals::{bytes_in_flight, totals, window};
+use qa_base::{Due, Event, Header, PacketNumber, Space, Span, Ticks, Totals};
 use qa_ledger::{Ledger, LedgerFault, State, first_broken};
 use qa_ranges::SentNumbers;
 use std::alloc::{AllocError, Global};
@@ -148,11 +148,11 @@ impl State for Whole {
         self.header.max_datagram_size()
     }
 
-    fn options(&self) -> Options {
-        self.header.options()
+    fn header(&self) -> Header {
+        self.header
     }
 
-    fn last_time(&self) -> Option<Micros> {
+    fn last_time(&self) -> Option<Ticks> {
         Some(self.events.last()?.time())
     }
 
@@ -181,7 +181,15 @@ impl State for Whole {
     }
 
     fn window(&self) -> u64 {
-        reno(&self.header, &self.events).window
+        window(&self.header, &self.events)
+    }
+
+    fn reported_window(&self) -> u64 {
+        reported_window(&self.header, &self.events)
+    }
+
+    fn acknowledged_since_collapse(&self) -> Option<u64> {
+        acknowledged_since_collapse(&self.header, &self.events)
     }
 
     fn bytes_in_flight(&self) -> u64 {
@@ -201,7 +209,7 @@ impl State for Whole {
         deadline(&self.header, &self.events)
     }
 
-    fn is_late(&self, time: Micros) -> bool {
+    fn is_late(&self, time: Ticks) -> bool {
         is_late(&self.header, &self.events, time)
     }
 

@@ -17,11 +17,11 @@ use crate::losses::{Look, found_of};
 use crate::packet::packet_of;
 use crate::sampling::start;
 use crate::settled::is_newly_acknowledged;
-use qa_base::{Event, Header, Micros};
+use qa_base::{Event, Header, Ticks};
 use qa_recovery::Reno;
 
 /// The later of the two times.
-fn later(last: Option<Micros>, time: Micros) -> Micros
+fn later(last: Option<Ticks>, time: Ticks) -> Ticks
     ensures { result ≡ max time (unwrap_or last 0) }
 {
     match last {
@@ -31,7 +31,7 @@ fn later(last: Option<Micros>, time: Micros) -> Micros
 }
 
 /// When the last of the packets was sent that the last event found lost.
-pub fn last_owed(header: &Header, events: &[Event], look: Look) -> Option<Micros>
+pub fn last_owed(header: &Header, events: &[Event], look: Look) -> Option<Ticks>
     requires seen { IsLook header.now (history_of events.now) look }
     ensures { result ≡ last_sending (loss.owed header.now (history_of events.now)) }
 {
@@ -45,7 +45,7 @@ pub fn last_owed(header: &Header, events: &[Event], look: Look) -> Option<Micros
 }
 
 /// The window after a loss, of packets the last of which was sent then.
-fn hit_by(header: &Header, reno: Reno, last: Option<Micros>, now: Micros) -> Reno
+fn hit_by(header: &Header, reno: Reno, last: Option<Ticks>, now: Ticks) -> Reno
     requires low { minimum_window header.now.max_datagram_size ≤ reno.window }
     ensures value { result ≡ fold (steps.moved header.now.max_datagram_size) reno (hits_at now last) }
     ensures low { minimum_window header.now.max_datagram_size ≤ result.window }
@@ -74,7 +74,7 @@ fn collapsed(header: &Header, reno: Reno, persistent: bool) -> Reno
 
 /// The window after a packet of this size was acknowledged.
 #[tactic(auto, using(qa_base::proofs::machine::WindowBound::grown_little))]
-fn grow_by(header: &Header, reno: Reno, size: u64, sent: Micros) -> Reno
+fn grow_by(header: &Header, reno: Reno, size: u64, sent: Ticks) -> Reno
     requires low { minimum_window header.now.max_datagram_size ≤ reno.window }
     requires high { reno.window ≤ 2 ^ 62 }
     requires size_low { 1 ≤ size }

@@ -5,7 +5,7 @@ ghost use Rattle.qa_quick.specs.Found.{SaysLine};
 
 use crate::found::Found;
 use qa_base::limits::MAX_PACKET_SIZE;
-use qa_base::{Event, Leave, LineKind, Micros, PacketNumber};
+use qa_base::{Event, Leave, LineKind, PacketNumber, Ticks};
 use qa_format::Line;
 
 /// Whether a packet may have these values: it has bytes, and is in flight if it is ack-eliciting.
@@ -18,10 +18,10 @@ fn packet_fits(size: u64, eliciting: bool, in_flight: bool) -> bool
 
 impl Found {
     /// The time that was found, where it is in its range.
-    fn micros(&self) -> Option<Micros>
+    fn micros(&self) -> Option<Ticks>
         ensures { IfSome result (λ time. (self.now.time ≡ Some time) × (time ≤ max_time)) }
     {
-        Micros::new(self.time?)
+        Ticks::new(self.time?)
     }
 
     /// A packet that was sent, where its keys were found.

@@ -6,12 +6,16 @@ ghost use Rattle.std.specs.Prelude.{◌≡◌, option_map, false, Ok, Err};
 ghost use Rattle.std.specs.Result.{result_map_both};
 ghost use Rattle.serde_json.specs.View.{view};
 ghost use Rattle.qa_format.specs.format.Keys as keys;
+ghost use Rattle.qa_base.specs.values.Constants.{default_packet_threshold};
 ghost use Rattle.qa_base.specs.values.Limits.{max_packet_number, max_packet_size};
-ghost use Rattle.qa_base.specs.values.Names.{role_named, discarded_named, leave_named, kind_named};
+ghost use Rattle.qa_base.specs.values.Names.{role_named, unit_named, controller_named, discarded_named, leave_named, kind_named};
 ghost use Rattle.qa_format.specs.format.Tables as tables;
 
+use qa_base::constants::DEFAULT_PACKET_THRESHOLD;
 use qa_base::limits::MAX_PACKET_SIZE;
-use qa_base::{Field, Key, Leave, Micros, PacketNumber, Role, Space, TimerKind};
+use qa_base::{
+    Controller, Field, Key, Leave, PacketNumber, Role, Space, Ticks, TimeUnit, TimerKind,
+};
 use qa_format::Fault;
 use serde_json::Value;
 
@@ -146,11 +150,11 @@ pub fn boolean_or_false(key: Key, object: &Value) -> Result<bool, Fault>
 // ---- the keys of the tables
 
 /// The key `time`.
-pub fn time(object: &Value) -> Result<Micros, Fault>
+pub fn time(object: &Value) -> Result<Ticks, Fault>
     ensures { result ≡ tables.time (view object.now) }
 {
     let time = required_integer(Key::Time, object)?;
-    Micros::new(time).ok_or(Fault::OutOfRange(Key::Time))
+    Ticks::new(time).ok_or(Fault::OutOfRange(Key::Time))
 }
 
 /// The key `space`.
@@ -177,6 +181,40 @@ pub fn role(object: &Value) -> Result<Role, Fault>
 {
     let name = required_string(Key::Role, object)?;
     Role::named(name).ok_or(Fault::OutOfRange(Key::Role))
+}
+
+/// The key `unit`, which is `us` where it is absent.
+pub fn unit(object: &Value) -> Result<TimeUnit, Fault>
+    ensures { result ≡ keys.optional (keys.string_among unit_named) TimeUnit.Microseconds Key.Unit (view object.now) }
+{
+    match present(Key::Unit, object) {
+        None => Ok(TimeUnit::Microseconds),
+        Some(value) => TimeUnit::named(string(Key::Unit, value)?).ok_or(Fault::OutOfRange(
+            Key::Unit,
+        )),
+    }
+}
+
+/// The key `window` of a header, which is `newreno` where it is absent.
+pub fn controller(object: &Value) -> Result<Controller, Fault>
+    ensures { result ≡ keys.optional (keys.string_among controller_named) Controller.NewReno Key.Window (view object.now) }
+{
+    match present(Key::Window, object) {
+        None => Ok(Controller::NewReno),
+        Some(value) => Controller::named(string(Key::Window, value)?).ok_or(Fault::OutOfRange(
+            Key::Window,
+        )),
+    }
+}
+
+/// The key `packet_threshold`, which is 3 where it is absent.
+pub fn packet_threshold(object: &Value) -> Result<u64, Fault>
+    ensures { result ≡ keys.optional keys.integer default_packet_threshold Key.PacketThreshold (view object.now) }
+{
+    match present(Key::PacketThreshold, object) {
+        None => Ok(DEFAULT_PACKET_THRESHOLD),
+        Some(value) => integer(Key::PacketThreshold, value),
+    }
 }
 
 /// The key `kind`.

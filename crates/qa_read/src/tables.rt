@@ -1,5 +1,5 @@
 //! The keys of each kind of line, read in the order of their table, and what the line then says.
-ghost use Rattle.std.specs.Prelude.{◌≡◌, false, IfOk};
+ghost use Rattle.std.specs.Prelude.{◌≡◌, IfOk};
 ghost use Rattle.serde_json.specs.View.{view};
 ghost use Rattle.qa_format.specs.format.Keys as keys;
 ghost use Rattle.qa_format.specs.format.Tables as tables;
@@ -10,8 +10,8 @@ use crate::fields;
 use crate::fields::both;
 use crate::ranges::ranges;
 use qa_base::{
-    Event, Field, Header, Key, Leave, MetricValues, Micros, Options, PacketNumber, RangeFault,
-    Role, Space, Spans, TimerKind, Version,
+    Controller, Event, Field, Header, Key, Leave, MetricValues, Options, PacketNumber, RangeFault,
+    Role, Space, Spans, Ticks, TimeUnit, TimerKind, Version,
 };
 use qa_format::Fault;
 use serde_json::Value;
@@ -19,11 +19,27 @@ use std::alloc::{AllocError, Global};
 
 // ---- the header
 
-/// What stands at the keys of a header: version and role, the greatest datagram size and delay,
-/// and the RTT and the window that it begins with.
+/// The unit of a header's times, and by whose window packets are judged. In another version than 3
+/// their keys are looked at no more than any key that no table has.
+fn unit_and_window(object: &Value) -> Result<(TimeUnit, Controller), Fault>
+    ensures { result ≡ tables.unit_and_window (view object.now) }
+{
+    match fields::required_integer(Key::Version, object) {
+        Ok(version) if version == Version::Three.number() => {
+            both(fields::unit(object), fields::controller(object))
+        }
+        _ => Ok((TimeUnit::Microseconds, Controller::NewReno)),
+    }
+}
+
+/// What stands at the keys of a header: version and role, the unit and whose window it is, the
+/// greatest datagram size and delay, and the RTT and the window that it begins with.
 type HeaderFields = (
     (u64, Role),
-    ((u64, Option<u64>), (Option<u64>, Option<u64>)),
+    (
+        (TimeUnit, Controller),
+        ((u64, Option<u64>), (Option<u64>, Option<u64>)),
+    ),
 );
 
 fn header_fields(object: &Value) -> Result<HeaderFields, Fault>
@@ -41,14 +57,17 @@ fn header_fields(object: &Value) -> Result<HeaderFields, Fault>
         fields::optional_integer(Key::InitialRtt, object),
         fields::optional_integer(Key::InitialWindow, object),
     );
-    both(named, both(most, initial))
+    let numbers = both(most, initial);
+    let timed = both(unit_and_window(object), numbers);
+    both(named, timed)
 }
 
-/// What stands at the keys that only version 2 has, the first two and the slack.
-fn option_fields(object: &Value) -> Result<((Option<u64>, bool), (u64, u64)), Fault>
-    ensures { result ≡ keys.both
-        (keys.both (keys.if_present keys.integer Key.TimerLateUs (view object.now)) (keys.optional keys.boolean false Key.RefreshMinRtt (view object.now)))
-        (keys.both (keys.optional keys.integer 0 Key.ReportSlackUs (view object.now)) (keys.optional keys.integer 0 Key.ReportSlackBytes (view object.now))) }
+/// What stands at the keys of the options that versions 2 and 3 have: the limit and the refresh, and
+/// the slack of times and of bytes.
+type OptionFields = ((Option<u64>, bool), (u64, u64));
+
+fn option_fields(object: &Value) -> Result<OptionFields, Fault>
+    ensures { result ≡ tables.option_fields (view object.now) }
 {
     let machine = both(
         fields::optional_integer(Key::TimerLateUs, object),
@@ -61,9 +80,27 @@ fn option_fields(object: &Value) -> Result<((Option<u64>, bool), (u64, u64)), Fa
     both(machine, slack)
 }
 
-/// The same as options.
-fn option_values(object: &Value) -> Result<Options, Fault>
-    ensures { result ≡ tables.option_values (view object.now) }
+/// What stands at the keys of the options that only version 3 has: those of the window and the
+/// samples, and the packet threshold and how early timers may be.
+type ChoiceFields = ((bool, bool), (u64, u64));
+
+fn choice_fields(object: &Value) -> Result<ChoiceFields, Fault>
+    ensures { result ≡ tables.choice_fields (view object.now) }
+{
+    let flags = both(
+        fields::boolean_or_false(Key::WindowOvershoot, object),
+        fields::boolean_or_false(Key::SampleElicitingOnly, object),
+    );
+    let numbers = both(
+        fields::packet_threshold(object),
+        fields::integer_or_zero(Key::TimerEarlyUs, object),
+    );
+    both(flags, numbers)
+}
+
+/// The options of a header of version 2.
+fn second_options(object: &Value) -> Result<Options, Fault>
+    ensures { result ≡ tables.second_options (view object.now) }
 {
     let (machine, slack) = option_fields(object)?;
     let (timer_late, refresh_min_rtt) = machine;
@@ -73,16 +110,47 @@ fn option_values(object: &Value) -> Result<Options, Fault>
         refresh_min_rtt,
         report_slack_us,
         report_slack_bytes,
+        ..Options::default()
     })
 }
 
-/// The options of a header. In another version than 2 their keys are looked at no more than any key
-/// that no table has.
+/// What stands at the keys of all options of version 3.
+fn third_fields(object: &Value) -> Result<(OptionFields, ChoiceFields), Fault>
+    ensures { result ≡ keys.both (tables.option_fields (view object.now)) (tables.choice_fields (view object.now)) }
+{
+    both(option_fields(object), choice_fields(object))
+}
+
+/// The options of a header of version 3, but for whose window it is.
+fn third_options(object: &Value) -> Result<Options, Fault>
+    ensures { result ≡ tables.third_options (view object.now) }
+{
+    let ((machine, slack), (flags, numbers)) = third_fields(object)?;
+    let (timer_late, refresh_min_rtt) = machine;
+    let (report_slack_us, report_slack_bytes) = slack;
+    let (window_overshoot, sample_eliciting_only) = flags;
+    let (packet_threshold, timer_early_us) = numbers;
+    Ok(Options {
+        timer_late,
+        refresh_min_rtt,
+        report_slack_us,
+        report_slack_bytes,
+        window_overshoot,
+        sample_eliciting_only,
+        packet_threshold,
+        timer_early_us,
+        ..Options::default()
+    })
+}
+
+/// The options of a header. A key that its version has not is looked at no more than any key that no
+/// table has.
 fn options(object: &Value) -> Result<Options, Fault>
     ensures { result ≡ tables.options (view object.now) }
 {
     match fields::required_integer(Key::Version, object) {
-        Ok(version) if version == Version::Two.number() => option_values(object),
+        Ok(version) if version == Version::Two.number() => second_options(object),
+        Ok(version) if version == Version::Three.number() => third_options(object),
         _ => Ok(Options::default()),
     }
 }
@@ -107,6 +175,9 @@ fn of_version(version: u64, options: Options, header: Header) -> Result<Header, 
     if version == Version::Two.number() {
         return out_of_range(header.with(options));
     }
+    if version == Version::Three.number() {
+        return out_of_range(header.choosing(options));
+    }
     Err(Fault::Version)
 }
 
@@ -123,26 +194,28 @@ pub fn header_of(object: &Value) -> Result<Header, Fault>
     ensures { result ≡ tables.header_of (view object.now) }
 {
     let (fields, options) = header_values(object)?;
-    let ((version, role), (most, initial)) = fields;
+    let ((version, role), ((unit, controller), (most, initial))) = fields;
     let (max_datagram_size, max_ack_delay) = most;
     let (initial_rtt, initial_window) = initial;
-    let header = Header::new(
+    let header = Header::in_unit(
+        unit,
         role,
         max_datagram_size,
         max_ack_delay,
         initial_rtt,
         initial_window,
     );
+    let options = Options {
+        controller,
+        ..options
+    };
     of_version(version, options, out_of_range(header)?)
 }
 
 // ---- packets
 
 /// What stands at the keys of a sent line, in the order of their table.
-type SentFields = (
-    Micros,
-    (Space, (PacketNumber, (u64, (bool, (bool, Leave))))),
-);
+type SentFields = (Ticks, (Space, (PacketNumber, (u64, (bool, (bool, Leave))))));
 
 fn sent_fields(object: &Value) -> Result<SentFields, Fault>
     ensures { result ≡ tables.sent_fields (view object.now) }
@@ -179,7 +252,7 @@ pub fn sent_of(object: &Value) -> Result<Event, LineFault>
 }
 
 /// What stands at the keys of an ack line, in the order of their table.
-type AckFields = (Micros, (Space, (Spans, (u64, bool))));
+type AckFields = (Ticks, (Space, (Spans, (u64, bool))));
 
 fn ack_fields(alloc: Global, object: &Value) -> Result<Result<AckFields, Fault>, AllocError>
     ensures { IfOk result (λ fields. fields ≡ tables.ack_fields (view object.now)) }
@@ -210,7 +283,7 @@ pub fn ack_of(alloc: Global, object: &Value) -> Result<Event, LineFault>
 }
 
 /// What stands at the keys of a lost line, in the order of their table.
-type LostFields = (Micros, (Space, Spans));
+type LostFields = (Ticks, (Space, Spans));
 
 fn lost_fields(alloc: Global, object: &Value) -> Result<Result<LostFields, Fault>, AllocError>
     ensures { IfOk result (λ fields. fields ≡ tables.lost_fields (view object.now)) }
@@ -236,7 +309,7 @@ pub fn lost_of(alloc: Global, object: &Value) -> Result<Event, LineFault>
 // ---- the timer and the handshake
 
 /// What stands at the keys of a timer line, in the order of their table.
-type TimerFields = (Micros, (TimerKind, Space));
+type TimerFields = (Ticks, (TimerKind, Space));
 
 fn timer_fields(object: &Value) -> Result<TimerFields, Fault>
     ensures { result ≡ tables.timer_fields (view object.now) }

@@ -8,6 +8,6 @@
 mod reno;
 mod rtt;
 
-pub use qa_base::Micros;
+pub use qa_base::Ticks;
 pub use reno::Reno;
 pub use rtt::Rtt;

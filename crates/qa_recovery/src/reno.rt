@@ -3,7 +3,7 @@ ghost use Rattle.std.specs.Prelude.{◌≡◌, ◌≤◌, ◌^◌};
 ghost use Rattle.qa_base.specs.machine.Reno as steps;
 ghost use Rattle.qa_base.specs.values.Limits.{min_datagram_size, max_packet_size, max_initial_window};
 
-use qa_base::Micros;
+use qa_base::Ticks;
 use qa_base::constants::{LOSS_REDUCTION_DIVISOR, minimum_window};
 use std::marker::Model;
 
@@ -18,7 +18,7 @@ pub struct Reno {
     /// The slow start threshold in bytes, where there is one.
     pub ssthresh: Option<u64>,
     /// When recovery began, where the sender is in recovery: packets sent later are not.
-    pub recovery_start_time: Option<Micros>,
+    pub recovery_start_time: Option<Ticks>,
 }
 
 impl Model for Reno {
@@ -48,7 +48,7 @@ impl Reno {
 
     /// Whether a packet that was sent then was sent after recovery began, or there is no recovery
     /// (RFC 9002, B.5).
-    pub fn is_outside_recovery(&self, sent: Micros) -> bool
+    pub fn is_outside_recovery(&self, sent: Ticks) -> bool
         ensures { result ≡ steps.is_outside_recovery self.now.recovery_start_time sent }
     {
         match self.recovery_start_time {
@@ -63,7 +63,7 @@ impl Reno {
     /// Where that packet was sent after recovery began, or there is no recovery, this enters
     /// recovery and returns true: `ssthresh` is half the window, and the window is that, but at
     /// least two datagrams. Else nothing changes and it returns false.
-    pub fn hit(&mut self, last_sent: Micros, now: Micros, max_datagram_size: u64) -> bool
+    pub fn hit(&mut self, last_sent: Ticks, now: Ticks, max_datagram_size: u64) -> bool
         requires datagram_low { min_datagram_size ≤ max_datagram_size }
         requires datagram_high { max_datagram_size ≤ max_packet_size }
         ensures entered { result ≡ steps.is_outside_recovery self.old.recovery_start_time last_sent }
@@ -102,7 +102,7 @@ impl Reno {
     /// A packet that was sent at recovery's beginning or before changes nothing. Below the threshold
     /// the window grows by the packet's size (section 7.3.1), and else by its part of a datagram
     /// for each window, rounded down (7.3.3).
-    pub fn grow(&mut self, size: u64, sent: Micros, max_datagram_size: u64)
+    pub fn grow(&mut self, size: u64, sent: Ticks, max_datagram_size: u64)
         requires window_low { 1 ≤ self.old.window }
         requires window_high { self.old.window ≤ 2 ^ 62 }
         requires datagram_low { min_datagram_size ≤ max_datagram_size }

@@ -4,29 +4,29 @@ ghost use Rattle.qa_base.specs.values.Constants.{persistent_congestion_threshold
 ghost use Rattle.qa_base.specs.values.Limits.{max_time};
 ghost use Rattle.qa_base.specs.machine.Rtt as estimates;
 
-use qa_base::Micros;
+use qa_base::Ticks;
 use qa_base::constants::{
-    GRANULARITY, PERSISTENT_CONGESTION_THRESHOLD, TIME_THRESHOLD_DIVISOR, TIME_THRESHOLD_PARTS,
+    PERSISTENT_CONGESTION_THRESHOLD, TIME_THRESHOLD_DIVISOR, TIME_THRESHOLD_PARTS,
 };
 use std::marker::Model;
 
-/// What a sender knows of the round-trip time. All times are in microseconds.
+/// What a sender knows of the round-trip time. All times are in the unit of the trace.
 #[derive(Clone, Copy, Debug, PartialEq, Eq)]
 pub struct Rtt {
     /// The latest sample; 0 before the first.
-    pub latest_rtt: Micros,
+    pub latest_rtt: Ticks,
     /// The least sample; 0 before the first.
-    pub min_rtt: Micros,
+    pub min_rtt: Ticks,
     /// The smoothed round-trip time.
-    pub smoothed_rtt: Micros,
+    pub smoothed_rtt: Ticks,
     /// The variation of the round-trip time.
-    pub rttvar: Micros,
+    pub rttvar: Ticks,
     /// When the first sample was taken.
-    pub first_rtt_sample: Option<Micros>,
+    pub first_rtt_sample: Option<Ticks>,
 }
 
 impl Model for Rtt {
-    ghost use Rattle.qa_base.specs.machine.Rtt.{Estimate};
+    ghost use Rattle.qa_base.specs.machine.Rtt.{Estimate, loss_delay as loss_delay_of};
 
     ghost Value = { Estimate };
 
@@ -50,26 +50,26 @@ impl Model for Rtt {
 impl Rtt {
     /// The estimate before the first sample: the initial RTT, and half of it as its variation
     /// (RFC 9002, section 5.3).
-    pub fn start(initial_rtt: Micros) -> Rtt
+    pub fn start(initial_rtt: Ticks) -> Rtt
         ensures { result ≡ estimates.start initial_rtt }
     {
-        let none = Micros::of(0);
+        let none = Ticks::of(0);
         Rtt {
             latest_rtt: none,
             min_rtt: none,
             smoothed_rtt: initial_rtt,
-            rttvar: Micros::of(initial_rtt.get() / 2),
+            rttvar: Ticks::of(initial_rtt.get() / 2),
             first_rtt_sample: None,
         }
     }
 
     /// Takes a sample (RFC 9002, sections 5.2 and 5.3, in the order of A.7): `latest_rtt` is the
     /// time that the packet with the largest acknowledged number took, `ack_delay` the peer's delay
-    /// in microseconds, already limited, and `now` the time of the acknowledgment.
+    /// in the same unit, already limited, and `now` the time of the acknowledgment.
     ///
     /// The delay is taken off the sample unless that leaves less than `min_rtt`. `rttvar` is
     /// computed by the smoothed RTT before the sample.
-    pub fn sample(&mut self, latest_rtt: Micros, ack_delay: u64, now: Micros)
+    pub fn sample(&mut self, latest_rtt: Ticks, ack_delay: u64, now: Ticks)
         ensures { self.new ≡ estimates.with_sample self.old latest_rtt ack_delay now }
     {
         if self.first_rtt_sample.is_none() {
@@ -77,7 +77,7 @@ impl Rtt {
                 latest_rtt,
                 min_rtt: latest_rtt,
                 smoothed_rtt: latest_rtt,
-                rttvar: Micros::of(latest_rtt.get() / 2),
+                rttvar: Ticks::of(latest_rtt.get() / 2),
                 first_rtt_sample: Some(now),
             };
             return;
@@ -88,8 +88,8 @@ impl Rtt {
         *self = Rtt {
             latest_rtt,
             min_rtt,
-            smoothed_rtt: Micros::of((7 * smoothed_rtt + adjusted_rtt) / 8),
-            rttvar: Micros::of((3 * self.rttvar.get() + smoothed_rtt.abs_diff(adjusted_rtt)) / 4),
+            smoothed_rtt: Ticks::of((7 * smoothed_rtt + adjusted_rtt) / 8),
+            rttvar: Ticks::of((3 * self.rttvar.get() + smoothed_rtt.abs_diff(adjusted_rtt)) / 4),
             first_rtt_sample: self.first_rtt_sample,
         };
     }
@@ -104,33 +104,33 @@ impl Rtt {
 
     /// How long after it was sent a packet below the largest acknowledged number is lost: the time
     /// threshold of the greater of the latest and the smoothed RTT, rounded up, and the granularity
-    /// at least, in microseconds (RFC 9002, section 6.1.2).
-    pub fn loss_delay(&self) -> u64
-        ensures value { result ≡ estimates.loss_delay self.now }
+    /// at least, in the unit of the trace (RFC 9002, section 6.1.2).
+    pub fn loss_delay(&self, granularity: Ticks) -> u64
+        ensures value { result ≡ estimates.loss_delay granularity self.now }
         ensures bound { result ≤ time_threshold_parts * max_time / time_threshold_divisor }
     {
         let rtt = self.latest_rtt.get().max(self.smoothed_rtt.get());
         let parts = TIME_THRESHOLD_PARTS * rtt + (TIME_THRESHOLD_DIVISOR - 1);
-        (parts / TIME_THRESHOLD_DIVISOR).max(GRANULARITY)
+        (parts / TIME_THRESHOLD_DIVISOR).max(granularity.get())
     }
 
-    /// The probe timeout before the peer's delay and the backoff, in microseconds: the smoothed
+    /// The probe timeout before the peer's delay and the backoff, in the unit: the smoothed
     /// RTT, and four times `rttvar` or the granularity (RFC 9002, section 6.2.1).
-    pub fn pto_base(&self) -> u64
-        ensures value { result ≡ estimates.pto_base self.now }
+    pub fn pto_base(&self, granularity: Ticks) -> u64
+        ensures value { result ≡ estimates.pto_base granularity self.now }
         ensures bound { result ≤ 5 * max_time }
     {
-        self.smoothed_rtt.get() + (4 * self.rttvar.get()).max(GRANULARITY)
+        self.smoothed_rtt.get() + (4 * self.rttvar.get()).max(granularity.get())
     }
 
-    /// How far apart in microseconds two lost packets have to be sent for persistent congestion,
+    /// How far apart in the unit two lost packets have to be sent for persistent congestion,
     /// with the peer's `max_ack_delay`: more than three times that and the probe timeout's base
     /// (RFC 9002, section 7.6.1).
-    pub fn persistent_after(&self, max_ack_delay: Micros) -> u64
-        ensures value { result ≡ estimates.persistent_after self.now max_ack_delay }
+    pub fn persistent_after(&self, granularity: Ticks, max_ack_delay: Ticks) -> u64
+        ensures value { result ≡ estimates.persistent_after granularity self.now max_ack_delay }
         ensures bound { result ≤ persistent_congestion_threshold * (6 * max_time) }
     {
-        PERSISTENT_CONGESTION_THRESHOLD * (self.pto_base() + max_ack_delay.get())
+        PERSISTENT_CONGESTION_THRESHOLD * (self.pto_base(granularity) + max_ack_delay.get())
     }
 }
 

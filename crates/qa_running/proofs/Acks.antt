@@ -9,7 +9,7 @@ use Rattle.qa_base.specs.machine.Numbers.{Names}
 use Rattle.qa_base.specs.machine.Packets.{Packet, is_of, packet_of, packets}
 use Rattle.qa_base.specs.machine.Rtt.{Estimate, persistent_after}
 use Rattle.qa_base.specs.machine.Rules.{IsRun}
-use Rattle.qa_base.specs.values.Settings.{Settings}
+use Rattle.qa_base.specs.values.Settings.{Settings, granularity}
 use Rattle.qa_ranges.specs.Runs as runs
 use Rattle.qa_ranges.specs.Sent.{AreSent, BySpace, runs_in}
 use Rattle.qa_running.proofs.Losses.{persistent_is_held, not_persistent_unsampled}
@@ -42,11 +42,11 @@ pub unsampled : (c : Settings) (h : List Event) → IsRun c h → (r : Estimate)
 unsampled c h run r is none = sym (not_persistent_unsampled c h run (ap (λ (x : Estimate). x.first_rtt_sample) (sym is) ∙ none))
 
 pub persists : (c : Settings) (h : List Event) → IsRun c h → (r : Estimate) → r ≡ sampled c h → (first : ℕ) → r.first_rtt_sample ≡ Some first
-    → (held : Held) → StandsFor held c h → (limit delay : ℕ) → limit ≡ persistent_after r delay → delay ≡ c.max_ack_delay
+    → (held : Held) → StandsFor held c h → (limit delay : ℕ) → limit ≡ persistent_after (granularity c) r delay → delay ≡ c.max_ack_delay
     → (result : Bool) → result ≡ are_apart limit first None held.packets → result ≡ is_persistent c h
 persists c h run r is first taken held stands limit delay limit_is delay_is result found =
     found
-    ∙ (ap (λ n. are_apart n first None held.packets) (limit_is ∙ (ap (persistent_after r) delay_is ∙ ap (λ (x : Estimate). persistent_after x c.max_ack_delay) is))
+    ∙ (ap (λ n. are_apart n first None held.packets) (limit_is ∙ (ap (persistent_after (granularity c) r) delay_is ∙ ap (λ (x : Estimate). persistent_after (granularity c) x c.max_ack_delay) is))
     ∙ sym (persistent_is_held c h run first (ap (λ (x : Estimate). x.first_rtt_sample) (sym is) ∙ taken) held stands))
 
 -- ---- what the steps of an acknowledgment ask

@@ -10,13 +10,13 @@ use Rattle.qa_base.specs.declared.space.TimerKind.TheVariants.{Loss}
 use Rattle.qa_base.specs.declared.space.Leave.{Leave}
 use Rattle.qa_base.specs.declared.space.Space.{Space}
 use Rattle.qa_base.specs.machine.Breaches.{is_loss_owed}
-use Rattle.qa_base.specs.machine.Detection.{detection, found_at, is_found_at}
-use Rattle.qa_base.specs.machine.Estimates.{sampled}
-use Rattle.qa_base.specs.machine.Loss.{is_owed as owes, owed}
+use Rattle.qa_base.specs.machine.Detection.{found_at, is_found_at, looks_at, old_at}
+use Rattle.qa_base.specs.machine.Estimates.{sampled, rtt}
+use Rattle.qa_base.specs.machine.Loss.{is_owed as owes, owed, detection}
 use Rattle.qa_base.specs.machine.Packets.{Packet, packets, acknowledges_new, is_acknowledged as covers, is_discarded, is_declared_lost, is_newly_acknowledged, is_some_packet, newly_acknowledged}
 use Rattle.qa_base.specs.machine.Rules.{IsRun}
 use Rattle.qa_base.specs.values.Events.{acknowledges, declares_lost, discards}
-use Rattle.qa_base.specs.values.Settings.{Settings}
+use Rattle.qa_base.specs.values.Settings.{Settings, early}
 use Rattle.qa_base.proofs.machine.Quiet.{not_followed}
 use Rattle.qa_base.proofs.machine.RunLaws.{all_hold}
 use Rattle.qa_laws.proofs.machine.Courses.{in_order}
@@ -134,7 +134,7 @@ some_by_length (p ∷ ps) = sym (lt-ltb 0 (length (p ∷ ps)) (omega arith))
 nothing_found : (c : Settings) (h : List Event) (time : ℕ) (space : Space) (ranges : List (ℕ × ℕ)) (delay : ℕ) (app_limited : Bool)
     → acknowledges_new (Ack time space ranges delay app_limited ∷ h) ≡ false → (p : Packet) → owes c (Ack time space ranges delay app_limited ∷ h) p ≡ false
 nothing_found c h time space ranges delay app_limited none p =
-    ap (λ b. is_found_at (sampled c (Ack time space ranges delay app_limited ∷ h)) (Ack time space ranges delay app_limited ∷ h) p (if◌then◌else◌ {A = Option (Space × ℕ)} b (Some (space, time)) None)) none
+    ap (λ b. is_found_at c (sampled c (Ack time space ranges delay app_limited ∷ h)) (Ack time space ranges delay app_limited ∷ h) p (if◌then◌else◌ {A = Option (Space × ℕ)} b (Some (space, time)) None)) none
 
 between_by : (cov los was own gone : Bool) → was ≡ false → own ≡ false → fate_by cov los false gone ≡ fate_by cov (was || los) own gone
 between_by cov los was own gone not_was not_own = rw (not_was, not_own) refl
@@ -143,7 +143,7 @@ between_by cov los was own gone not_was not_own = rw (not_was, not_own) refl
 pub nothing_owed : (c : Settings) (h : List Event) (time : ℕ) (space : Space) (ranges : List (ℕ × ℕ)) (delay : ℕ) (app_limited : Bool)
     → acknowledges_new (Ack time space ranges delay app_limited ∷ h) ≡ false → owed c (Ack time space ranges delay app_limited ∷ h) ≡ []
 nothing_owed c h time space ranges delay app_limited none =
-    ap (λ b. found_at (sampled c (Ack time space ranges delay app_limited ∷ h)) (Ack time space ranges delay app_limited ∷ h) (if◌then◌else◌ {A = Option (Space × ℕ)} b (Some (space, time)) None)) none
+    ap (λ b. found_at c (sampled c (Ack time space ranges delay app_limited ∷ h)) (Ack time space ranges delay app_limited ∷ h) (if◌then◌else◌ {A = Option (Space × ℕ)} b (Some (space, time)) None)) none
 
 -- in a run, after an acknowledgment of nothing new, the packets that it names are covered, and the packets held stand for the history
 pub stands_covered : (c : Settings) (h : List Event) (time : ℕ) (space : Space) (ranges : List (ℕ × ℕ)) (delay : ℕ) (app_limited : Bool)
@@ -170,7 +170,7 @@ stands_acknowledged c h time space ranges delay app_limited run some l threshold
     let e = Ack time space ranges delay app_limited in
     let holds = all_hold c h e run.1 in
     let step : SentPacket → SentPacket = λ q. found_by space l (covered_by space ranges q) in
-    let at : detection (e ∷ h) ≡ Some (space, time) = ap (λ b. if◌then◌else◌ {A = Option (Space × ℕ)} b (Some (space, time)) None) some in
+    let at : detection c (e ∷ h) ≡ Some (space, time) = ap (λ b. if◌then◌else◌ {A = Option (Space × ℕ)} b (Some (space, time)) None) some in
     stands_after c e h run refl step (λ p has.
     let not_was = none_owes c h holds.loss_owed p has in
     ap (found_by space l) (covered_told c h time space ranges delay app_limited holds.space_gone p not_was)
@@ -183,7 +183,7 @@ stands_acknowledged c h time space ranges delay app_limited run some l threshold
 
 -- in a run, after a loss timer, the packets of its space that are late are owed
 pub stands_loss_timer : (c : Settings) (h : List Event) (time : ℕ) (space : Space) → IsRun c (Timer time Loss space ∷ h)
-    → (l : Thresholds) → AreThresholdsAt c (Timer time Loss space ∷ h) space time l
+    → (l : Thresholds) → AreThresholdsAt c (Timer time Loss space ∷ h) space (looks_at (early c) time (old_at c (rtt c h) h space)) l
     → (old new : Held) → StandsFor old c h → new ≡ replaced (found_by space l) old → StandsFor new c (Timer time Loss space ∷ h)
 stands_loss_timer c h time space run l thresholds old new stands is =
     let e = Timer time Loss space in
@@ -191,7 +191,7 @@ stands_loss_timer c h time space run l thresholds old new stands is =
     stands_after c e h run refl (found_by space l) (λ p has.
     let not_was = none_owes c h holds.loss_owed p has in
     ap (λ b. found_by space l (told (fate_by (covers h p) (is_declared_lost h p) b (is_discarded h p.space)) p)) not_was
-    ∙ found_told c e h run space time refl refl l thresholds p has not_was refl) old new stands (ap (λ (k : Held). k.dropped) is) (ap (λ (k : Held). k.packets) is)
+    ∙ found_told c e h run space (looks_at (early c) time (old_at c (rtt c h) h space)) refl refl l thresholds p has not_was refl) old new stands (ap (λ (k : Held). k.dropped) is) (ap (λ (k : Held). k.packets) is)
 
 -- ---- a Lost line, and a discard
 

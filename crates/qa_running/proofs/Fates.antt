@@ -6,9 +6,9 @@ use Rattle.qa_base.specs.declared.event.Event.{Event}
 use Rattle.qa_base.specs.declared.event.Event.TheVariants.{Ack, Lost, Discard}
 use Rattle.qa_base.specs.declared.space.Space.{Space}
 use Rattle.qa_base.specs.declared.space.Space.TheVariants.{Initial, Handshake, App}
-use Rattle.qa_base.specs.machine.Detection.{detection, is_found, is_found_at, is_past_threshold}
+use Rattle.qa_base.specs.machine.Detection.{is_found, is_found_at, is_past_threshold}
 use Rattle.qa_base.specs.machine.Estimates.{sampled}
-use Rattle.qa_base.specs.machine.Loss.{is_open as opens, is_owed as owes}
+use Rattle.qa_base.specs.machine.Loss.{is_open as opens, is_owed as owes, detection}
 use Rattle.qa_base.specs.machine.Packets.{Packet, packets, is_acknowledged as covers, is_discarded, is_declared_lost, is_newly_acknowledged, is_of, largest_acknowledged}
 use Rattle.qa_base.specs.machine.Rtt.{Estimate}
 use Rattle.qa_base.specs.machine.Rules.{IsRun}
@@ -84,11 +84,11 @@ owed_by false los false true free there = refl
 owed_by false true false false free there = refl
 owed_by false false false false free there = refl
 
-found_there : (c : Settings) (e : Event) (h : List Event) → IsRun c (e ∷ h) → (p : Packet) (d : Option (Space × ℕ)) → detection (e ∷ h) ≡ d → is_found_at (sampled c (e ∷ h)) (e ∷ h) p d ≡ true
+found_there : (c : Settings) (e : Event) (h : List Event) → IsRun c (e ∷ h) → (p : Packet) (d : Option (Space × ℕ)) → detection c (e ∷ h) ≡ d → is_found_at c (sampled c (e ∷ h)) (e ∷ h) p d ≡ true
     → is_discarded h p.space ≡ false
 found_there c e h run p None at is = cc
 found_there c e h run p (Some (s, now)) at is =
-    let of_space = is_space_is s p.space (and_parts (is_of s p) (is_found (sampled c (e ∷ h)) (e ∷ h) now s p) is).0 in
+    let of_space = is_space_is s p.space (and_parts (is_of s p) (is_found c (sampled c (e ∷ h)) (e ∷ h) now s p) is).0 in
     subst (λ (t : Space). is_discarded h t ≡ false) of_space (space_of_detection c e h run s now at)
 
 not_discarded : (c : Settings) (e : Event) (h : List Event) (p : Packet) → owes c (e ∷ h) p ≡ true → discards p.space e ≡ false
@@ -98,11 +98,11 @@ not_discarded c _ h p is = refl
 -- in a run the space of a packet that is owed was not discarded
 pub owed_there : (c : Settings) (h : List Event) → IsRun c h → (p : Packet) → owes c h p ≡ true → is_discarded h p.space ≡ false
 owed_there c [] run p is = cc
-owed_there c (e ∷ h) run p is = or_from (discards p.space e) (is_discarded h p.space) (not_discarded c e h p is) (found_there c e h run p (detection (e ∷ h)) refl is)
+owed_there c (e ∷ h) run p is = or_from (discards p.space e) (is_discarded h p.space) (not_discarded c e h p is) (found_there c e h run p (detection c (e ∷ h)) refl is)
 
 -- in a run it is kept as owed where it is owed
 pub is_owed_told : (c : Settings) (h : List Event) → IsRun c h → (p : Packet) → is_owed (fate c h p) ≡ owes c h p
-is_owed_told c h run p = owed_by (covers h p) (is_declared_lost h p) (owes c h p) (is_discarded h p.space) (found_unsettled c h p (detection h)) (owed_there c h run p)
+is_owed_told c h run p = owed_by (covers h p) (is_declared_lost h p) (owes c h p) (is_discarded h p.space) (found_unsettled c h p (detection c h)) (owed_there c h run p)
 
 -- ---- what one more event makes of it
 
@@ -210,18 +210,19 @@ found_if true true false false false false p there = refl
 found_if true false false false late false p there = refl
 found_if false flies cov los late gone p there = refl
 
-same_late : (r : Estimate) (now : ℕ) (largest : Option ℕ) (f : Fate) (p : Packet) → is_past_threshold r now largest (packet_at (told f p)) ≡ is_past_threshold r now largest p
-same_late r now None f p = refl
-same_late r now (Some n) f p = refl
+same_late : (c : Settings) (r : Estimate) (now : ℕ) (largest : Option ℕ) (f : Fate) (p : Packet) → is_past_threshold c r now largest (packet_at (told f p)) ≡ is_past_threshold c r now largest p
+same_late c r now None f p = refl
+same_late c r now (Some n) f p = refl
 
 -- a detection asks of it whether it is late, as it asks of the packet of the history
 pub late_told : (c : Settings) (g : List Event) (s : Space) (now : ℕ) (l : Thresholds) → AreThresholdsAt c g s now l → (f : Fate) (p : Packet)
-    → is_past_threshold_by l (told f p) ≡ is_past_threshold (sampled c g) now (largest_acknowledged g s) p
+    → is_past_threshold_by l (told f p) ≡ is_past_threshold c (sampled c g) now (largest_acknowledged g s) p
 late_told c g s now l is f p =
-    same_late l.rtt l.now l.largest f p
-    ∙ (ap (λ r. is_past_threshold r l.now l.largest p) is.rtt_is
-    ∙ (ap (λ n. is_past_threshold (sampled c g) n l.largest p) is.now_is
-    ∙ ap (λ o. is_past_threshold (sampled c g) now o p) is.largest_is))
+    same_late l.header l.rtt l.now l.largest f p
+    ∙ (ap (λ k. is_past_threshold k l.rtt l.now l.largest p) is.header_is
+    ∙ (ap (λ r. is_past_threshold c r l.now l.largest p) is.rtt_is
+    ∙ (ap (λ n. is_past_threshold c (sampled c g) n l.largest p) is.now_is
+    ∙ ap (λ o. is_past_threshold c (sampled c g) now o p) is.largest_is)))
 
 free_by : (was los : Bool) → was ≡ false → los ≡ (was || los)
 free_by was los not_was = rw not_was refl
@@ -234,19 +235,19 @@ found_tests of flies cov los late gone cov_now los_now own_now p there covers_is
     rw (owes_is, covers_is, loses_is) (found_if of flies cov los late gone p there)
 
 -- in a run a detection finds it lost, where it is of the space, open, in flight and late
-pub found_told : (c : Settings) (e : Event) (h : List Event) → IsRun c (e ∷ h) → (s : Space) (now : ℕ) → detection (e ∷ h) ≡ Some (s, now) → discards s e ≡ false
+pub found_told : (c : Settings) (e : Event) (h : List Event) → IsRun c (e ∷ h) → (s : Space) (now : ℕ) → detection c (e ∷ h) ≡ Some (s, now) → discards s e ≡ false
     → (l : Thresholds) → AreThresholdsAt c (e ∷ h) s now l → (p : Packet) → Contains (packets h) p → owes c h p ≡ false → discards p.space e ≡ false
     → found_by s l (told (between c e h p) p) ≡ sent_of c (e ∷ h) p
 found_told c e h run s now at none l thresholds p has not_was no_disc =
     let g = e ∷ h in
-    let late = is_past_threshold (sampled c g) now (largest_acknowledged g s) p in
+    let late = is_past_threshold c (sampled c g) now (largest_acknowledged g s) p in
     let gone_is : is_discarded g p.space ≡ is_discarded h p.space = ap (λ b. b || is_discarded h p.space) no_disc in
     ap (λ b. if is_flying s (told (between c e h p) p) && b then with_fate Owed (told (between c e h p) p) else told (between c e h p) p) (late_told c g s now l thresholds (between c e h p) p)
     ∙ (found_tests (is_of s p) p.in_flight (acknowledges p.space p.number e || covers h p) (is_declared_lost h p) late (is_discarded h p.space) (covers g p) (is_declared_lost g p) (owes c g p) p
     (λ same. there_of h s p.space (space_of_detection c e h run s now at) (space_turned p.space s ∙ same))
     (covered_after e h p has)
     (lost_is_owed c e h run p has ∙ sym (free_by (owes c h p) (is_declared_lost h p) not_was))
-    (ap (is_found_at (sampled c g) g p) at)
+    (ap (is_found_at c (sampled c g) g p) at)
     ∙ ap (λ b. told (fate_by (covers g p) (is_declared_lost g p) (owes c g p) b) p) (sym gone_is))
 
 -- ---- what is newly acknowledged

@@ -10,16 +10,16 @@ use Rattle.std.specs.Prelude.{if◌then◌else◌, nat_le, nat_lt, ◌==◌}
 use Rattle.qa_base.specs.declared.event.Event.{Event}
 use Rattle.qa_base.specs.declared.space.Space.{Space}
 use Rattle.qa_base.specs.machine.Breaches.{numbers}
-use Rattle.qa_base.specs.machine.Detection.{detection, found_at, is_after, is_end as ends, is_found, is_found_at}
+use Rattle.qa_base.specs.machine.Detection.{found_at, is_after, is_end as ends, is_found, is_found_at}
 use Rattle.qa_base.specs.machine.Estimates.{sampled}
-use Rattle.qa_base.specs.machine.Loss.{is_owed as owes, is_persistent, owed}
+use Rattle.qa_base.specs.machine.Loss.{is_owed as owes, is_persistent, owed, detection}
 use Rattle.qa_base.specs.machine.Numbers.{has_all, has_next, has_range, is_in, names_exactly}
 use Rattle.qa_base.specs.machine.Packets.{Packet, packets, is_acknowledged as covers, is_of, is_some_packet}
 use Rattle.qa_base.specs.machine.Reno.{latest_sent}
 use Rattle.qa_base.specs.machine.Rtt.{persistent_after}
 use Rattle.qa_base.specs.machine.Rules.{IsRun}
 use Rattle.qa_base.specs.values.Events.{is_named, is_space}
-use Rattle.qa_base.specs.values.Settings.{Settings}
+use Rattle.qa_base.specs.values.Settings.{Settings, granularity}
 use Rattle.qa_laws.proofs.machine.Forward.{persistent_is_forward}
 use Rattle.qa_laws.proofs.machine.Pairs.{each_weaker, none_left, of_each, part_of_part, part_turned, turned}
 use Rattle.qa_laws.proofs.machine.Samples.{latest_owed}
@@ -39,14 +39,14 @@ use Rattle.qa_sent.specs.declared.packet.SentPacket.{SentPacket}
 
 -- ---- the packets that are owed
 
-found_part : (c : Settings) (h : List Event) (d : Option (Space × ℕ)) → filter (λ p. is_found_at (sampled c h) h p d) (packets h) ≡ found_at (sampled c h) h d
+found_part : (c : Settings) (h : List Event) (d : Option (Space × ℕ)) → filter (λ p. is_found_at c (sampled c h) h p d) (packets h) ≡ found_at c (sampled c h) h d
 found_part c h None = none_left (λ p. false) (packets h) (of_each (λ p. false ≡ false) (packets h) (λ p has. refl))
-found_part c h (Some (s, now)) = part_of_part (is_of s) (is_found (sampled c h) h now s) (packets h)
+found_part c h (Some (s, now)) = part_of_part (is_of s) (is_found c (sampled c h) h now s) (packets h)
 
 -- they stand among the packets that are held, in the order of sending
 pub owed_of_kept : (held : Held) (c : Settings) (h : List Event) (stands : StandsFor held c h) → reverse (owed c h) ≡ filter (owes c h) stands.kept
 owed_of_kept held c h stands =
-    ap reverse (sym (found_part c h (detection h)))
+    ap reverse (sym (found_part c h (detection c h)))
     ∙ (sym (part_turned (owes c h) (packets h))
     ∙ (ap (filter (owes c h)) stands.parts
     ∙ (filter-append (owes c h) stands.gone stands.kept
@@ -182,9 +182,9 @@ apart_told c h run first taken limit began (p ∷ ps) =
 
 -- in a run the last event establishes persistent congestion exactly where a walk over the packets held finds it, where there is a sample
 pub persistent_is_held : (c : Settings) (h : List Event) → IsRun c h → (first : ℕ) → (sampled c h).first_rtt_sample ≡ Some first → (held : Held) → StandsFor held c h
-    → is_persistent c h ≡ are_apart (persistent_after (sampled c h) c.max_ack_delay) first None held.packets
+    → is_persistent c h ≡ are_apart (persistent_after (granularity c) (sampled c h) c.max_ack_delay) first None held.packets
 persistent_is_held c h run first taken held stands =
-    let limit = persistent_after (sampled c h) c.max_ack_delay in
+    let limit = persistent_after (granularity c) (sampled c h) c.max_ack_delay in
     persistent_is_forward c h run
     ∙ (ap (finds_apart (covers h) (counts_as_end c h) limit None) stands.parts
     ∙ (front_dropped (covers h) (counts_as_end c h) limit stands.gone stands.kept
@@ -200,5 +200,5 @@ counts_not c h unsampled p =
 pub not_persistent_unsampled : (c : Settings) (h : List Event) → IsRun c h → (sampled c h).first_rtt_sample ≡ None → is_persistent c h ≡ false
 not_persistent_unsampled c h run unsampled =
     persistent_is_forward c h run
-    ∙ none_found (covers h) (counts_as_end c h) (persistent_after (sampled c h) c.max_ack_delay) (reverse (packets h))
+    ∙ none_found (covers h) (counts_as_end c h) (persistent_after (granularity c) (sampled c h) c.max_ack_delay) (reverse (packets h))
     (each_value (λ p. counts_as_end c h p ≡ false) (counts_not c h unsampled) (reverse (packets h)))

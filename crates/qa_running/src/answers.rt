@@ -7,13 +7,13 @@ ghost use Rattle.qa_connection.specs.Deadlines.{AreOpen, IsOpenIn};
 ghost use Rattle.qa_running.specs.Standing.{StandsFor};
 
 use crate::running::Running;
-use qa_base::{Due, Micros, Options, PacketNumber, PerSpace, Space, Span, Totals};
+use qa_base::{Due, Header, PacketNumber, PerSpace, Space, Span, Ticks, Totals};
 use qa_connection::OpenInSpace;
 use qa_ledger::State;
 use qa_sent::SentPackets;
 
 /// What the timer asks of the open packets of a space.
-fn open_in(packets: &SentPackets, space: Space) -> OpenInSpace
+pub(crate) fn open_in(packets: &SentPackets, space: Space) -> OpenInSpace
     ensures { (c : Settings) (h : List AnEvent) → IsRun c h → StandsFor packets.now c h
         → IsOpenIn result c h space }
 {
@@ -40,15 +40,15 @@ impl State for Running {
 
     ghost tells = { Answers };
 
-    fn options(&self) -> Options {
-        self.machine.connection.header.options()
+    fn header(&self) -> Header {
+        self.machine.connection.header
     }
 
     fn max_datagram_size(&self) -> u64 {
         self.machine.connection.header.max_datagram_size()
     }
 
-    fn last_time(&self) -> Option<Micros> {
+    fn last_time(&self) -> Option<Ticks> {
         self.machine.connection.last_time
     }
 
@@ -77,8 +77,17 @@ impl State for Running {
         self.machine.numbers.were_sent(space, ranges)
     }
 
+    #[tactic(auto, using(crate::proofs::Answered::window_kept))]
     fn window(&self) -> u64 {
-        self.machine.connection.reno.window
+        self.machine.connection.window()
+    }
+
+    fn reported_window(&self) -> u64 {
+        self.machine.connection.reported.window
+    }
+
+    fn acknowledged_since_collapse(&self) -> Option<u64> {
+        self.machine.connection.reported.acknowledged
     }
 
     fn bytes_in_flight(&self) -> u64 {
@@ -108,7 +117,7 @@ impl State for Running {
         self.machine.connection.handshake.confirmed
     }
 
-    fn is_late(&self, time: Micros) -> bool {
+    fn is_late(&self, time: Ticks) -> bool {
         match self.machine.connection.header.options().timer_late {
             None => false,
             Some(limit) => {
@@ -116,6 +125,7 @@ impl State for Running {
                     .machine
                     .connection
                     .packet_deadline(&open_packets(&self.machine.packets));
+                let limit = self.header().unit().of_microseconds(limit);
                 self.machine.watch.is_past_due(due, limit, time)
             }
         }

@@ -3,9 +3,9 @@ ghost use Rattle.std.specs.Prelude.{◌≡◌, ◌≤◌, ◌<◌, ◌+◌, [], 
 ghost use Rattle.std.specs.List.{AllByRecursion};
 ghost use Rattle.qa_base.specs.declared.event.Event.{Event as AnEvent};
 ghost use Rattle.qa_base.specs.declared.event.Event.TheVariants as events;
-ghost use Rattle.qa_base.specs.declared.event.MetricValues.{MetricValues};
 ghost use Rattle.qa_base.specs.declared.space.TimerKind.TheVariants.{Loss, Pto};
 ghost use Rattle.qa_base.specs.declared.space.Space.{Space as ASpace};
+ghost use Rattle.qa_base.specs.machine.Detection.{looks_at as looks_at_of};
 ghost use Rattle.qa_base.specs.machine.Loss as loss;
 ghost use Rattle.qa_base.specs.machine.Rules.{IsRun};
 ghost use Rattle.qa_base.specs.values.Events.{fits, time_of};
@@ -26,8 +26,9 @@ ghost use Rattle.qa_sent.specs.Held.{IsBefore};
 ghost use Rattle.qa_sent.specs.Owing.{NoneOwed};
 ghost use Rattle.qa_sent.specs.declared.fate.Fate.TheVariants.{Open};
 
+use crate::answers::open_in;
 use crate::watch::TimerWatch;
-use qa_base::{Event, Header, Leave, Micros, Space, Span, Spans, TimerKind};
+use qa_base::{Event, Header, Leave, MetricValues, Space, Span, Spans, Ticks, TimerKind};
 use qa_connection::{Connection, Losses};
 use qa_ranges::{Ranges, SentNumbers};
 use qa_sent::{Fate, SentPacket, SentPackets, Thresholds};
@@ -65,7 +66,7 @@ impl Machine {
     pub(crate) fn on_ack(
         &mut self,
         alloc: Global,
-        time: Micros,
+        time: Ticks,
         space: Space,
         ranges: &Spans,
         delay: u64,
@@ -85,7 +86,7 @@ impl Machine {
             return Ok(());
         }
         self.connection.sample(&acknowledged, largest, delay, time);
-        self.find_losses(space, time);
+        self.find_losses(space, time.get(), time);
         self.connection.grow(&acknowledged, app_limited);
         self.connection.restart(time);
         self.finish(time);
@@ -111,17 +112,21 @@ impl Machine {
     }
 
     /// The loss timer of a space fired (A.9). Nothing may be owed.
-    pub(crate) fn on_loss_timer(&mut self, time: Micros, space: Space)
+    pub(crate) fn on_loss_timer(&mut self, time: Ticks, space: Space)
         requires { NoneOwed self.old.packets.packets }
         ensures { Follows self.old self.new (events.Timer time Loss space) }
     {
+        let early = self.connection.header.timer_early();
+        let open = open_in(&self.packets, space);
+        let due = self.connection.loss_time(space, open.oldest);
+        let looked = looks_at(early, time, due);
         self.connection.timer.last_set = Some(time);
-        self.find_losses(space, time);
+        self.find_losses(space, looked, time);
         self.finish(time);
     }
 
     /// A probe timeout of a space (A.9).
-    pub(crate) fn on_probe_timeout(&mut self, time: Micros, space: Space)
+    pub(crate) fn on_probe_timeout(&mut self, time: Ticks, space: Space)
         ensures { Follows self.old self.new (events.Timer time Pto space) }
     {
         self.connection.probe(space, time);
@@ -129,7 +134,7 @@ impl Machine {
     }
 
     /// What is owed was declared lost (A.10).
-    pub(crate) fn on_lost(&mut self, time: Micros)
+    pub(crate) fn on_lost(&mut self, time: Ticks)
         ensures { (space : ASpace) (ranges : List (ℕ × ℕ))
             → Follows self.old self.new (events.Lost time space ranges) }
     {
@@ -138,7 +143,7 @@ impl Machine {
     }
 
     /// The keys of a space were discarded (A.11 and B.9). Nothing may be owed.
-    pub(crate) fn on_discard(&mut self, time: Micros, space: Space)
+    pub(crate) fn on_discard(&mut self, time: Ticks, space: Space)
         requires { NoneOwed self.old.packets.packets }
         ensures { Follows self.old self.new (events.Discard time space) }
     {
@@ -148,7 +153,7 @@ impl Machine {
     }
 
     /// The handshake was confirmed (RFC 9001, section 4.1.2).
-    pub(crate) fn on_confirmed(&mut self, time: Micros)
+    pub(crate) fn on_confirmed(&mut self, time: Ticks)
         ensures { Follows self.old self.new (events.Confirmed time) }
     {
         self.connection.handshake.confirmed = true;
@@ -156,7 +161,7 @@ impl Machine {
     }
 
     /// The keys of the Handshake space are there.
-    pub(crate) fn on_keys(&mut self, time: Micros)
+    pub(crate) fn on_keys(&mut self, time: Ticks)
         ensures { Follows self.old self.new (events.Keys time) }
     {
         self.connection.handshake.has_keys = true;
@@ -164,9 +169,10 @@ impl Machine {
     }
 
     /// The sender reported its own state.
-    pub(crate) fn on_metrics(&mut self, time: Micros)
-        ensures { (values : MetricValues) → Follows self.old self.new (events.Metrics time values) }
+    pub(crate) fn on_metrics(&mut self, time: Ticks, values: &MetricValues)
+        ensures { Follows self.old self.new (events.Metrics time values.now) }
     {
+        self.connection.report(values.window);
         self.finish(time);
     }
 
@@ -240,29 +246,28 @@ impl Machine {
                 self.on_keys(*time);
                 Ok(())
             }
-            Event::Metrics { time, .. } => {
-                self.on_metrics(*time);
+            Event::Metrics { time, values } => {
+                self.on_metrics(*time, values);
                 Ok(())
             }
         }
     }
 
-    /// Looks for losses in a space, and takes in what they mean for the window (A.10 and B.8).
-    /// Nothing may be owed before.
-    fn find_losses(&mut self, space: Space, now: Micros)
+    /// Looks for losses in a space as of a time, and takes in what they mean for the window, now (A.10
+    /// and B.8). Nothing may be owed before.
+    fn find_losses(&mut self, space: Space, looked: u64, now: Ticks)
         requires { NoneOwed self.old.packets.packets }
         ensures packets { (c : Settings) (h : List AnEvent) → IsMeasured self.old.connection c h
-            → StandsOnceFound self.old.packets c h space now
-            → StandsFor self.new.packets c h }
+            → StandsOnceFound self.old.packets c h space looked → StandsFor self.new.packets c h }
         ensures connection { (c : Settings) (h : List AnEvent) → IsRun c h
-            → IsMeasured self.old.connection c h → StandsOnceFound self.old.packets c h space now
+            → IsMeasured self.old.connection c h → StandsOnceFound self.old.packets c h space looked
             → self.new.connection
             ≡ with_collapse (loss.is_persistent c h) (with_hit now (last_sent (loss.owed c h)) self.old.connection) }
         ensures range { AreInRange self.old.connection.header }
         ensures numbers { self.new.numbers ≡ self.old.numbers }
         ensures watch { self.new.watch ≡ self.old.watch }
     {
-        let thresholds = thresholds(&self.connection, space, now);
+        let thresholds = thresholds(&self.connection, space, looked);
         self.packets.detect(space, &thresholds);
         let losses = losses(&self.packets, &self.connection);
         self.connection.lose(losses, now);
@@ -270,7 +275,7 @@ impl Machine {
 
     /// Ends an event that happened now: it is counted, packets that are of no more use are dropped,
     /// and the timer is set (A.8).
-    fn finish(&mut self, now: Micros)
+    fn finish(&mut self, now: Ticks)
         ensures { (c : Settings) (e : AnEvent) (h : List AnEvent) → now ≡ time_of e
             → IsProperRun c (e ∷ h) → self.old.connection.events ≡ length h
             → HasParts self.old.connection c (e ∷ h) → StandsFor self.old.packets c (e ∷ h)
@@ -311,12 +316,25 @@ fn named(
     packets.newly_acknowledged(space, in_order.as_slice())
 }
 
-/// By what the event tells which packets of the space are past a threshold.
-fn thresholds(connection: &Connection, space: Space, now: Micros) -> Thresholds
+/// As of when a loss timer looks for losses that goes off at a time: when it is due, if that is later,
+/// but no later than it may be early.
+fn looks_at(early: u64, time: Ticks, due: Option<u64>) -> u64
+    requires { early ≤ 1000000000000 }
+    ensures { result ≡ looks_at_of early time due }
+{
+    match due {
+        None => time.get(),
+        Some(due) => time.get().max(due.min(time.get() + early)),
+    }
+}
+
+/// By what the event tells which packets of the space are past a threshold, as of a time.
+fn thresholds(connection: &Connection, space: Space, now: u64) -> Thresholds
     ensures { (c : Settings) (h : List AnEvent) → IsMeasured connection.now c h
         → AreThresholdsAt c h space now result }
 {
     Thresholds {
+        header: connection.header,
         rtt: connection.rtt,
         now,
         largest: connection.spaces.of(space).largest,
@@ -342,9 +360,10 @@ fn is_persistent(packets: &SentPackets, connection: &Connection) -> bool
     match connection.rtt.first_rtt_sample {
         None => false,
         Some(first) => {
-            let limit = connection
-                .rtt
-                .persistent_after(Micros::of(connection.header.max_ack_delay()));
+            let limit = connection.rtt.persistent_after(
+                connection.header.granularity(),
+                Ticks::of(connection.header.max_ack_delay()),
+            );
             packets.is_persistent(limit, first)
         }
     }

@@ -85,7 +85,8 @@ impl Running {
         let connection = &self.machine.connection;
         totals_by(
             connection.events,
-            connection.reno,
+            connection.window(),
+            connection.ssthresh(),
             connection.rtt,
             self.machine.packets.bytes_in_flight(),
             connection.timer.pto_count,

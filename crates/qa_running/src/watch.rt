@@ -10,7 +10,7 @@ ghost use Rattle.qa_running.specs.Standing.{StandsFor};
 ghost use Rattle.qa_running.specs.Watch.{IsWatched};
 
 use crate::answers::open_packets;
-use qa_base::{Due, Micros};
+use qa_base::{Due, Ticks};
 use qa_connection::Connection;
 use qa_sent::SentPackets;
 
@@ -21,17 +21,17 @@ pub(crate) struct TimerWatch {
     /// What it is set for; None where it is not set.
     pub(crate) due: Option<Due>,
     /// The time of the event that set it so; 0 before any event.
-    pub(crate) since: Micros,
+    pub(crate) since: Ticks,
 }
 
-/// Whether a time is past a deadline by more than a limit in microseconds, counted from the time
+/// Whether a time is past a deadline by more than a limit, counted from the time
 /// since which the timer is set so where that is later.
 #[tactic(auto, using(crate::proofs::Watching::late_is))]
-fn is_past(due: Due, since: Micros, limit: u64, time: Micros) -> bool
+fn is_past(due: Due, since: Ticks, limit: u128, time: Ticks) -> bool
     ensures { result ≡ breaches.is_past_due limit since time (Some due) }
 {
     let from = due.time.max(u128::from(since.get()));
-    u128::from(limit) < u128::from(time.get()).saturating_sub(from)
+    limit < u128::from(time.get()).saturating_sub(from)
 }
 
 impl TimerWatch {
@@ -42,12 +42,12 @@ impl TimerWatch {
     {
         TimerWatch {
             due: None,
-            since: Micros::of(0),
+            since: Ticks::of(0),
         }
     }
 
     /// Notes what the timer is set for after an event that happened now.
-    fn set(&mut self, due: Option<Due>, now: Micros)
+    fn set(&mut self, due: Option<Due>, now: Ticks)
         ensures due { self.new.due ≡ due }
         ensures since { self.new.since
             ≡ (if timers.is_same_due self.old.due due then self.old.since else now) }
@@ -64,7 +64,7 @@ impl TimerWatch {
 
     /// Takes in an event that happened now, by what is kept of the connection and the packets after
     /// it. Nothing is asked of them, and nothing changes, where the header has no limit.
-    pub(crate) fn follow(&mut self, connection: &Connection, packets: &SentPackets, now: Micros)
+    pub(crate) fn follow(&mut self, connection: &Connection, packets: &SentPackets, now: Ticks)
         ensures { (c : Settings) (e : AnEvent) (h : List AnEvent) → IsOf connection.now c (e ∷ h)
             → IsProperRun c (e ∷ h) → StandsFor packets.now c (e ∷ h)
             → now ≡ events.time_of e → IsWatched self.old c h → IsWatched self.new c (e ∷ h) }
@@ -74,9 +74,9 @@ impl TimerWatch {
         }
     }
 
-    /// Whether a time is past a deadline by more than a limit in microseconds, where there is a
+    /// Whether a time is past a deadline by more than a limit, where there is a
     /// deadline; counted from when the timer was set so, where that is later.
-    pub(crate) fn is_past_due(&self, due: Option<Due>, limit: u64, time: Micros) -> bool
+    pub(crate) fn is_past_due(&self, due: Option<Due>, limit: u128, time: Ticks) -> bool
         ensures { result ≡ breaches.is_past_due limit self.now.since time due }
     {
         match due {

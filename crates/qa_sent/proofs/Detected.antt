@@ -9,6 +9,7 @@ use Rattle.qa_base.specs.machine.Detection.{is_past_threshold, is_old}
 use Rattle.qa_base.specs.machine.Packets.{Packet}
 use Rattle.qa_base.specs.machine.Rtt.{Estimate, loss_delay}
 use Rattle.qa_base.specs.values.Events.{is_space}
+use Rattle.qa_base.specs.values.Settings.{Settings, granularity}
 use Rattle.qa_sent.specs.Detection.{IsEnd, lost_in}
 use Rattle.qa_sent.specs.Lanes.{awaiting_count}
 use Rattle.qa_sent.specs.Fates.{flight_bytes, is_flying, is_open, is_owed, is_unacknowledged, is_waiting}
@@ -104,24 +105,24 @@ found_alike s l t out p = alike_if t (is_flying s p && is_past_threshold_by l p)
 -- ---- thresholds falls
 
 -- what was sent no later is no less old
-earlier_is_old : (r : Estimate) (now : ℕ) (p q : Packet) → q.time ≤ p.time → is_old r now p ≡ true → is_old r now q ≡ true
-earlier_is_old r now p q earlier old =
-    let waited = leb-true (loss_delay r) (now - p.time) old in
-    le-leb (loss_delay r) (now - q.time) (omega (arith, earlier, waited))
+earlier_is_old : (c : Settings) (r : Estimate) (now : ℕ) (p q : Packet) → q.time ≤ p.time → is_old c r now p ≡ true → is_old c r now q ≡ true
+earlier_is_old c r now p q earlier old =
+    let waited = leb-true (loss_delay (granularity c) r) (now - p.time) old in
+    le-leb (loss_delay (granularity c) r) (now - q.time) (omega (arith, earlier, waited))
 
 -- of two packets, if the one with the higher number, sent no earlier, is late, so is the other
-earlier_is_past_threshold : (r : Estimate) (now : ℕ) (largest : Option ℕ) (p q : Packet) → q.number ≤ p.number → q.time ≤ p.time
-    → is_past_threshold r now largest p ≡ true → is_past_threshold r now largest q ≡ true
-earlier_is_past_threshold r now None p q lower earlier late = cc
-earlier_is_past_threshold r now (Some largest) p q lower earlier late =
-    let both = and_parts (nat_lt p.number largest) (nat_le 3 (largest - p.number) || is_old r now p) late in
+earlier_is_past_threshold : (c : Settings) (r : Estimate) (now : ℕ) (largest : Option ℕ) (p q : Packet) → q.number ≤ p.number → q.time ≤ p.time
+    → is_past_threshold c r now largest p ≡ true → is_past_threshold c r now largest q ≡ true
+earlier_is_past_threshold c r now None p q lower earlier late = cc
+earlier_is_past_threshold c r now (Some largest) p q lower earlier late =
+    let both = and_parts (nat_lt p.number largest) (nat_le c.options.packet_threshold (largest - p.number) || is_old c r now p) late in
     let below = ltb-true p.number largest both.0 in
-    and_from (nat_lt q.number largest) (nat_le 3 (largest - q.number) || is_old r now q)
+    and_from (nat_lt q.number largest) (nat_le c.options.packet_threshold (largest - q.number) || is_old c r now q)
     (lt-ltb q.number largest (omega (arith, below, lower)))
-    (elim (or_cases (nat_le 3 (largest - p.number)) (is_old r now p) both.1) [
-      | inl far ↦ (let three = leb-true 3 (largest - p.number) far in
-          or_left (nat_le 3 (largest - q.number)) (is_old r now q) (le-leb 3 (largest - q.number) (omega (arith, three, lower))))
-      | inr old ↦ or_right (nat_le 3 (largest - q.number)) (is_old r now q) (earlier_is_old r now p q earlier old)
+    (elim (or_cases (nat_le c.options.packet_threshold (largest - p.number)) (is_old c r now p) both.1) [
+      | inl far ↦ (let three = leb-true c.options.packet_threshold (largest - p.number) far in
+          or_left (nat_le c.options.packet_threshold (largest - q.number)) (is_old c r now q) (le-leb c.options.packet_threshold (largest - q.number) (omega (arith, three, lower))))
+      | inr old ↦ or_right (nat_le c.options.packet_threshold (largest - q.number)) (is_old c r now q) (earlier_is_old c r now p q earlier old)
     ])
 
 -- behind a packet of the space that is not late none is found
@@ -132,7 +133,7 @@ not_behind s l p q before here not_late =
     let there : is_space s q.space ≡ true = flies_here s q both.0 in
     let together : is_space q.space p.space ≡ true = subst (λ (x : Space). is_space x p.space ≡ true) (space_is s q.space there) here in
     let lower = before.number together in
-    both_ways (is_past_threshold_by l p) not_late (earlier_is_past_threshold l.rtt l.now l.largest (packet_at q) (packet_at p) (omega (arith, lower)) before.time both.1)))
+    both_ways (is_past_threshold_by l p) not_late (earlier_is_past_threshold l.header l.rtt l.now l.largest (packet_at q) (packet_at p) (omega (arith, lower)) before.time both.1)))
 
 off_right : (a : Bool) → (a && false) ≡ false
 off_right true = refl

@@ -6,6 +6,7 @@ use Rattle.qa_base.specs.machine.Detection.{is_past_threshold}
 use Rattle.qa_base.specs.machine.Packets.{Packet}
 use Rattle.qa_base.specs.machine.Rtt.{Estimate}
 use Rattle.qa_base.specs.values.Events.{is_named}
+use Rattle.qa_base.specs.values.Settings.{Settings}
 use Rattle.qa_sent.specs.Fates.{is_closed, is_flying, is_owed, is_waiting}
 use Rattle.qa_sent.specs.Held.{Held}
 use Rattle.qa_sent.specs.declared.fate.Fate.{Fate}
@@ -30,8 +31,10 @@ covered_by s ranges p = if is_waiting s p && is_named ranges p.number then with_
 
 -- ---- detection (RFC 9002, A.10)
 
--- by what a detection tells which packets are past a threshold: the estimate, its time and the largest acknowledged number of its space
+-- by what a detection tells which packets are past a threshold: the header, the estimate, as of when it looks, and the largest
+-- acknowledged number of its space
 pub record Thresholds : Type 0 where
+  pub header : Settings
   pub rtt : Estimate
   pub now : ℕ
   pub largest : Option ℕ
@@ -50,7 +53,7 @@ packet_at p = record {
 }
 
 abbrev pub is_past_threshold_by : Thresholds → SentPacket → Bool
-is_past_threshold_by l p = is_past_threshold l.rtt l.now l.largest (packet_at p)
+is_past_threshold_by l p = is_past_threshold l.header l.rtt l.now l.largest (packet_at p)
 
 -- a detection in the space finds those past a threshold of the packets that are open and in flight
 abbrev pub found_by : Space → Thresholds → SentPacket → SentPacket

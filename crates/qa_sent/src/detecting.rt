@@ -1,7 +1,6 @@
 //! Detection of losses (RFC 9002, section 6.1, A.10): a walk along the packets of a space.
 ghost use Rattle.std.specs.Prelude.{◌≡◌, ◌≤◌, ◌<◌, ◌+◌, ◌-◌, ℕ, false, true, count_by, drop, length, map, nat_le, slice_index_or, slice_set};
 ghost use Rattle.qa_base.specs.machine.Detection.{is_old};
-ghost use Rattle.qa_base.specs.values.Constants.{packet_threshold};
 ghost use Rattle.qa_sent.specs.Detection.{IsEnd, IsPassed, lost_in};
 ghost use Rattle.qa_sent.specs.Fates.{is_owed};
 ghost use Rattle.qa_sent.specs.Held.{AreLosses, AreOrdered, IsIndexed, IsLane};
@@ -14,8 +13,7 @@ use crate::fate::Fate;
 use crate::lane::Lane;
 use crate::packet::SentPacket;
 use crate::packets::Losses;
-use qa_base::constants::PACKET_THRESHOLD;
-use qa_base::{Micros, PacketNumber, Space};
+use qa_base::{Header, PacketNumber, Space};
 use qa_recovery::Rtt;
 use std::collections::VecDeque;
 use std::marker::Model;
@@ -26,10 +24,12 @@ use std::marker::Model;
 /// By what a detection tells which packets are past a threshold.
 #[derive(Clone, Copy)]
 pub struct Thresholds {
+    /// The header, for the packet threshold and the granularity.
+    pub header: Header,
     /// The estimate of the round-trip time.
     pub rtt: Rtt,
-    /// The time of the detection.
-    pub now: Micros,
+    /// As of when it looks.
+    pub now: u64,
     /// The largest acknowledged number of the space, if there is one.
     pub largest: Option<PacketNumber>,
 }
@@ -39,9 +39,9 @@ impl Model for Thresholds {
 
     ghost Value = { steps.Thresholds };
 
-    ghost view = { λ l. record { rtt = l.rtt; now = l.now; largest = l.largest } };
+    ghost view = { λ l. record { header = l.header; rtt = l.rtt; now = l.now; largest = l.largest } };
 
-    ghost inverse = { λ l. record { rtt = l.rtt; now = l.now; largest = l.largest } };
+    ghost inverse = { λ l. record { header = l.header; rtt = l.rtt; now = l.now; largest = l.largest } };
 }
 
 impl Thresholds {
@@ -55,26 +55,26 @@ impl Thresholds {
             Some(largest) => {
                 let number = packet.number.get();
                 number < largest.get()
-                    && (is_far_below(number, largest.get()) || self.is_old(packet))
+                    && (is_far_below(self.header, number, largest.get()) || self.is_old(packet))
             }
         }
     }
 
     /// Whether the packet was sent as long ago as the loss delay.
     fn is_old(&self, packet: &SentPacket) -> bool
-        ensures { result ≡ is_old self.entry.now.rtt self.entry.now.now (packet_at packet.now) }
+        ensures { result ≡ is_old self.entry.now.header self.entry.now.rtt self.entry.now.now (packet_at packet.now) }
     {
-        let age = self.now.get().saturating_sub(packet.time.get());
-        self.rtt.loss_delay() <= age
+        let age = self.now.saturating_sub(packet.time.get());
+        self.rtt.loss_delay(self.header.granularity()) <= age
     }
 }
 
 /// Whether a number lies below the largest acknowledged one by the packet threshold or more.
-pub(crate) fn is_far_below(number: u64, largest: u64) -> bool
+pub(crate) fn is_far_below(header: Header, number: u64, largest: u64) -> bool
     requires { number ≤ largest }
-    ensures { result ≡ nat_le packet_threshold (largest - number) }
+    ensures { result ≡ nat_le header.options.packet_threshold (largest - number) }
 {
-    PACKET_THRESHOLD <= largest - number
+    header.options().packet_threshold <= largest - number
 }
 
 /// Looks for losses in the space of the lane, and raises its `next` to where the walk ends.

@@ -5,12 +5,12 @@ ghost use Rattle.qa_sent.specs.declared.packet.SentPacket.{SentPacket};
 
 use crate::fate::Fate;
 use crate::packet::SentPacket;
-use qa_base::Micros;
+use qa_base::Ticks;
 use std::collections::VecDeque;
 use std::ops::Range;
 
 /// When the last of the packets in this part was sent that are owed.
-pub(crate) fn last_owed_in(packets: &VecDeque<SentPacket>, part: Range<usize>) -> Option<Micros>
+pub(crate) fn last_owed_in(packets: &VecDeque<SentPacket>, part: Range<usize>) -> Option<Ticks>
     requires order { part.start ≤ part.end }
     requires within { part.end ≤ length packets.now.items }
     ensures { result ≡ walks.last_owed None (slice_range packets.now.items part.start part.end) }
@@ -29,13 +29,13 @@ pub(crate) fn are_apart_in(
     packets: &VecDeque<SentPacket>,
     part: Range<usize>,
     limit: u64,
-    first: Micros,
+    first: Ticks,
 ) -> bool
     requires order { part.start ≤ part.end }
     requires within { part.end ≤ length packets.now.items }
     ensures { result ≡ walks.are_apart limit first None (slice_range packets.now.items part.start part.end) }
 {
-    let mut began: Option<Micros> = None;
+    let mut began: Option<Ticks> = None;
     for packet in packets.range(part) {
         if is_far(packet, limit, first, &mut began) {
             return true;
@@ -49,8 +49,8 @@ pub(crate) fn are_apart_in(
 pub(crate) fn is_far(
     packet: &SentPacket,
     limit: u64,
-    first: Micros,
-    began: &mut Option<Micros>,
+    first: Ticks,
+    began: &mut Option<Ticks>,
 ) -> bool
     ensures { (ps : List SentPacket)
         → walks.are_apart limit first began.old (packet.now ∷ ps)
@@ -74,7 +74,7 @@ pub(crate) fn is_far(
 
 /// Whether the packet is owed and can be an end of persistent congestion: ack-eliciting, and sent
 /// after the first sample.
-pub(crate) fn is_end(packet: &SentPacket, first: Micros) -> bool
+pub(crate) fn is_end(packet: &SentPacket, first: Ticks) -> bool
     ensures { result ≡ walks.is_end first packet.now }
 {
     packet.is_owed() && packet.eliciting && first < packet.time

@@ -1,12 +1,12 @@
 //! A packet as it is kept.
 use crate::fate::Fate;
-use qa_base::{Micros, PacketNumber, Space};
+use qa_base::{PacketNumber, Space, Ticks};
 
 /// A packet that was sent, and what became of it (RFC 9002, A.1.1).
 #[derive(Clone, Copy)]
 pub struct SentPacket {
     /// When it was sent.
-    pub time: Micros,
+    pub time: Ticks,
     /// Its packet number space.
     pub space: Space,
     /// Its number in that space.

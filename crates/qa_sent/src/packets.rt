@@ -26,7 +26,7 @@ use crate::naming::are_next;
 use crate::owing::{are_apart_in, last_owed_in};
 use crate::packet::SentPacket;
 use crate::pushing::{add, are_before};
-use qa_base::{Micros, PerSpace, Space, Span};
+use qa_base::{PerSpace, Space, Span, Ticks};
 use std::alloc::{AllocError, Global};
 use std::collections::VecDeque;
 use std::marker::Model;
@@ -188,7 +188,7 @@ impl SentPackets {
 
     /// When the last of the packets was sent that are owed, by which a congestion controller tells
     /// whether they stand in recovery (RFC 9002, B.8). None where nothing is owed.
-    pub fn last_owed(&self) -> Option<Micros>
+    pub fn last_owed(&self) -> Option<Ticks>
         ensures { result ≡ walks.last_owed None self.now.packets }
     {
         if self.losses.count == 0 {
@@ -199,8 +199,8 @@ impl SentPackets {
 
     /// Whether the losses that are owed establish persistent congestion (RFC 9002, section 7.6):
     /// two of them are ack-eliciting and were sent after the first RTT sample, at `first`, more
-    /// than `limit` microseconds apart, and nothing that was sent between them was acknowledged.
-    pub fn is_persistent(&self, limit: u64, first: Micros) -> bool
+    /// than `limit` apart, and nothing that was sent between them was acknowledged.
+    pub fn is_persistent(&self, limit: u64, first: Ticks) -> bool
         ensures { result ≡ walks.are_apart limit first None self.now.packets }
     {
         if self.losses.count == 0 {

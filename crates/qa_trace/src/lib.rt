@@ -6,8 +6,8 @@
 
 pub use qa_base::limits::MAX_LINE_LENGTH;
 pub use qa_base::{
-    Event, Field, Header, Key, Leave, LineKind, MetricValues, Micros, PacketNumber, RangeFault,
-    Role, Space, Span, Spans, TimerKind,
+    Event, Field, Header, Key, Leave, LineKind, MetricValues, Options, PacketNumber, RangeFault,
+    Role, Space, Span, Spans, Ticks, TimeUnit, TimerKind,
 };
 pub use qa_format::{Fault, Line};
 pub use qa_read::{LineFault, read_line};

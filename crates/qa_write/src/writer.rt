@@ -11,11 +11,11 @@ ghost use Rattle.qa_base.specs.declared.key.Key.TheVariants as key;
 ghost use Rattle.qa_format.specs.format.Reading.{reading};
 ghost use Rattle.qa_base.specs.values.Settings.{AreInRange};
 ghost use Rattle.qa_format.specs.format.Written.{written, line_fits, object_of, header_pairs, event_pairs, integer_pairs, integer_pair, integer, string, boolean};
-ghost use Rattle.qa_write.specs.Members.{with, with_settings, with_options, event_members};
+ghost use Rattle.qa_write.specs.Members.{with, with_settings, with_options, with_third, event_members};
 
 use qa_base::{
-    Event, Field, Header, Key, Leave, LineKind, MetricValues, Micros, PacketNumber, Space, Span,
-    Spans, TimerKind, Version,
+    Event, Field, Header, Key, Leave, LineKind, MetricValues, PacketNumber, Space, Span, Spans,
+    Ticks, TimerKind, Version,
 };
 use qa_format::Line;
 use serde_json::{Map, Value, json};
@@ -62,6 +62,7 @@ fn header_object(alloc: Global, header: &Header) -> Result<Value, AllocError>
     put_settings(&mut map, alloc, header)?;
     put_options(&mut map, alloc, header)?;
     put_text(&mut map, alloc, Key::Role, header.role().name())?;
+    put_third(&mut map, alloc, header)?;
     report(
         &mut map,
         alloc,
@@ -87,7 +88,7 @@ fn put_settings(
     put_integer(map, alloc, Key::MaxDatagramSize, header.max_datagram_size())
 }
 
-/// Puts the options that a header of version 2 always says.
+/// Puts the options that headers of versions 2 and 3 always say.
 fn put_options(
     map: &mut Map<String, Value>,
     alloc: Global,
@@ -108,6 +109,28 @@ fn put_options(
         options.report_slack_bytes,
     )?;
     put_integer(map, alloc, Key::ReportSlackUs, options.report_slack_us)
+}
+
+/// Puts the unit and the options that only a header of version 3 says.
+fn put_third(map: &mut Map<String, Value>, alloc: Global, header: &Header) -> Result<(), AllocError>
+    ensures { OnOk result (members_view map.new.entries
+        ≡ with_third header.now.version header.now (members_view map.old.entries)) }
+{
+    if header.version() != Version::Three {
+        return Ok(());
+    }
+    let options = header.options();
+    put_integer(map, alloc, Key::PacketThreshold, options.packet_threshold)?;
+    put_flag(
+        map,
+        alloc,
+        Key::SampleElicitingOnly,
+        options.sample_eliciting_only,
+    )?;
+    put_integer(map, alloc, Key::TimerEarlyUs, options.timer_early_us)?;
+    put_text(map, alloc, Key::Unit, header.unit().name())?;
+    put_text(map, alloc, Key::Window, options.controller.name())?;
+    put_flag(map, alloc, Key::WindowOvershoot, options.window_overshoot)
 }
 
 /// Puts a text at a key.
@@ -196,7 +219,7 @@ fn event_object(alloc: Global, event: &Event) -> Result<Value, AllocError>
 }
 
 /// What each event says: its kind and its time.
-fn event_map(alloc: Global, kind: LineKind, time: Micros) -> Result<Map<String, Value>, AllocError>
+fn event_map(alloc: Global, kind: LineKind, time: Ticks) -> Result<Map<String, Value>, AllocError>
     ensures members { IfOk result (λ map. members_view map.entries ≡ event_members kind time) }
     ensures in_time { OnOk result (time ≤ max_time) }
 {
@@ -219,7 +242,7 @@ struct Packet {
 /// The object of a packet that was sent.
 fn sent_object(
     alloc: Global,
-    time: Micros,
+    time: Ticks,
     space: Space,
     packet: Packet,
 ) -> Result<Value, AllocError>
@@ -242,7 +265,7 @@ fn sent_object(
 /// The object of an acknowledgment.
 fn ack_object(
     alloc: Global,
-    time: Micros,
+    time: Ticks,
     space: Space,
     ranges: &Spans,
     delay: u64,
@@ -264,7 +287,7 @@ fn ack_object(
 /// The object of packets that were declared lost.
 fn lost_object(
     alloc: Global,
-    time: Micros,
+    time: Ticks,
     space: Space,
     ranges: &Spans,
 ) -> Result<Value, AllocError>
@@ -313,7 +336,7 @@ fn pair_of(alloc: Global, range: Span) -> Result<Value, AllocError>
 /// The object of a timer that fired.
 fn timer_object(
     alloc: Global,
-    time: Micros,
+    time: Ticks,
     kind: TimerKind,
     space: Space,
 ) -> Result<Value, AllocError>
@@ -328,7 +351,7 @@ fn timer_object(
 }
 
 /// The object of keys that were discarded.
-fn discard_object(alloc: Global, time: Micros, space: Space) -> Result<Value, AllocError>
+fn discard_object(alloc: Global, time: Ticks, space: Space) -> Result<Value, AllocError>
     ensures object { IfOk result (λ v. view v
         ≡ object_of (event_pairs (Event.Discard time space))) }
     ensures in_time { OnOk result (time ≤ max_time) }
@@ -339,7 +362,7 @@ fn discard_object(alloc: Global, time: Micros, space: Space) -> Result<Value, Al
 }
 
 /// The object of a handshake that was confirmed.
-fn confirmed_object(alloc: Global, time: Micros) -> Result<Value, AllocError>
+fn confirmed_object(alloc: Global, time: Ticks) -> Result<Value, AllocError>
     ensures object { IfOk result (λ v. view v ≡ object_of (event_pairs (Event.Confirmed time))) }
     ensures in_time { OnOk result (time ≤ max_time) }
 {
@@ -348,7 +371,7 @@ fn confirmed_object(alloc: Global, time: Micros) -> Result<Value, AllocError>
 }
 
 /// The object of Handshake keys that are there.
-fn keys_object(alloc: Global, time: Micros) -> Result<Value, AllocError>
+fn keys_object(alloc: Global, time: Ticks) -> Result<Value, AllocError>
     ensures object { IfOk result (λ v. view v ≡ object_of (event_pairs (Event.Keys time))) }
     ensures in_time { OnOk result (time ≤ max_time) }
 {
@@ -357,7 +380,7 @@ fn keys_object(alloc: Global, time: Micros) -> Result<Value, AllocError>
 }
 
 /// The object of a sender's report, with the values that it reports.
-fn metrics_object(alloc: Global, time: Micros, values: &MetricValues) -> Result<Value, AllocError>
+fn metrics_object(alloc: Global, time: Ticks, values: &MetricValues) -> Result<Value, AllocError>
     ensures object { IfOk result (λ v. view v
         ≡ object_of (event_pairs (Event.Metrics time values.now))) }
     ensures in_time { OnOk result (time ≤ max_time) }

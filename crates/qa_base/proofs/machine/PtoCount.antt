@@ -1,5 +1,5 @@
 -- The PTO count of a run is at most 40.
-use Rattle.std.proofs.Common.{◌≡◌, ◌+◌, ◌*◌, ◌^◌, ◌≤◌, ◌<◌, ℕ, List, [], ◌∷◌, Bool, true, false, Option, Some, None, option_map, is_none, refl, arith, inl, inr, ◌⊎◌}
+use Rattle.std.proofs.Common.{◌≡◌, ◌+◌, ◌*◌, ◌^◌, ◌≤◌, ◌<◌, ℕ, min, List, [], ◌∷◌, Bool, true, false, Option, Some, None, option_map, is_none, refl, arith, inl, inr, ◌⊎◌}
 use Rattle.std.proofs.Math.Nat.{mul-le-mul_right}
 use Rattle.std.proofs.Math.Pow.{pow_mono}
 use Rattle.std.proofs.lemmas.Bool.{and_parts, ltb-false, ltb-true, cases_Bool, not-false}
@@ -8,6 +8,8 @@ use Rattle.std.specs.Option.{option_or}
 use Rattle.std.specs.Prelude.{if◌then◌else◌, nat_le, nat_lt}
 use Rattle.qa_base.specs.declared.event.Event.{Event}
 use Rattle.qa_base.specs.declared.event.Event.TheVariants.{Timer}
+use Rattle.qa_base.specs.declared.space.TimeUnit.{TimeUnit}
+use Rattle.qa_base.specs.declared.space.TimeUnit.TheVariants.{Microseconds, Nanoseconds}
 use Rattle.qa_base.specs.declared.space.TimerKind.TheVariants.{Loss, Pto}
 use Rattle.qa_base.specs.declared.space.Space.{Space}
 use Rattle.qa_base.specs.declared.space.Space.TheVariants.{Initial, Handshake, App}
@@ -18,7 +20,7 @@ use Rattle.qa_base.specs.values.Limits.{max_time}
 use Rattle.qa_base.specs.machine.Estimates.{rtt}
 use Rattle.qa_base.specs.machine.Rtt.{Estimate, pto_base}
 use Rattle.qa_base.specs.machine.Rules.{IsRun, first_broken}
-use Rattle.qa_base.specs.values.Settings.{Settings}
+use Rattle.qa_base.specs.values.Settings.{Settings, early, granularity, per_microsecond}
 use Rattle.qa_base.specs.machine.Timer.{Due, is_kind, earlier, loss_due, earliest_loss, pto_due, earliest_pto, anti_deadlock, deadline, pto_count, is_pto, resets_count, last_eliciting, last_set}
 use Rattle.qa_base.proofs.machine.RunLaws.{all_hold}
 use Rattle.qa_base.specs.machine.Widths.{IsTimely}
@@ -56,21 +58,32 @@ far_pto : (n : ℕ) (s : Space) (base : ℕ) (sent : Option ℕ) → 1000 ≤ ba
 far_pto n s base None most = tt
 far_pto n s base (Some t) most = λ is. long n t base most
 
-base_is_long : (r : Estimate) (delay : ℕ) → 1000 ≤ pto_base r + delay
-base_is_long r delay = omega arith
+unit_is_some : (u : TimeUnit) → 1 ≤ per_microsecond u
+unit_is_some Microseconds = omega arith
+unit_is_some Nanoseconds = omega arith
+
+in_unit_is_small : (u : TimeUnit) (n : ℕ) → n ≤ 1000000000 → per_microsecond u * n ≤ 1000000000000
+in_unit_is_small Microseconds n most = omega (arith, most)
+in_unit_is_small Nanoseconds n most = omega (arith, most)
+
+early_is_small : (c : Settings) → early c ≤ 1000000000000
+early_is_small c = in_unit_is_small c.unit (min c.options.timer_early_us 1000000000) (omega arith)
+
+base_is_long : (c : Settings) (r : Estimate) (delay : ℕ) → 1000 ≤ pto_base (granularity c) r + delay
+base_is_long c r delay = let some = unit_is_some c.unit in omega (arith, some)
 
 far_space : (c : Settings) (h : List Event) (delay : ℕ) (s : Space) (b : Bool)
-    → IsFar (pto_count c h) (if b then option_map (λ sent. record { kind = Pto; space = s; time = sent + (pto_base (rtt c h) + delay) * 2 ^ pto_count c h }) (last_eliciting h s) else None)
-far_space c h delay s true = far_pto (pto_count c h) s (pto_base (rtt c h) + delay) (last_eliciting h s) (base_is_long (rtt c h) delay)
+    → IsFar (pto_count c h) (if b then option_map (λ sent. record { kind = Pto; space = s; time = sent + (pto_base (granularity c) (rtt c h) + delay) * 2 ^ pto_count c h }) (last_eliciting h s) else None)
+far_space c h delay s true = far_pto (pto_count c h) s (pto_base (granularity c) (rtt c h) + delay) (last_eliciting h s) (base_is_long c (rtt c h) delay)
 far_space c h delay s false = tt
 
 far_pto_due : (c : Settings) (h : List Event) (delay : ℕ) (s : Space) → IsFar (pto_count c h) (pto_due c h delay s)
 far_pto_due c h delay s = far_space c h delay s _
 
 far_anti : (c : Settings) (h : List Event) (b : Bool) (s : Space)
-    → IsFar (pto_count c h) (if b then None else option_map (λ set. record { kind = Pto; space = s; time = set + pto_base (rtt c h) * 2 ^ pto_count c h }) (last_set h))
+    → IsFar (pto_count c h) (if b then None else option_map (λ set. record { kind = Pto; space = s; time = set + pto_base (granularity c) (rtt c h) * 2 ^ pto_count c h }) (last_set h))
 far_anti c h true s = tt
-far_anti c h false s = far_pto (pto_count c h) s (pto_base (rtt c h)) (last_set h) (omega arith)
+far_anti c h false s = far_pto (pto_count c h) s (pto_base (granularity c) (rtt c h)) (last_set h) (let most = base_is_long c (rtt c h) 0 in omega (arith, most))
 
 far_deadline : (c : Settings) (h : List Event) → IsFar (pto_count c h) (deadline c h)
 far_deadline c h =
@@ -86,13 +99,13 @@ or_more n m = elim (cases_Bool (nat_lt n m)) [
   | inr is ↦ inr (ltb-false n m is)
 ]
 
-few_doublings : (n time : ℕ) → 1000 * 2 ^ n ≤ time → time ≤ max_time → n < 40
+few_doublings : (n time : ℕ) → 1000 * 2 ^ n ≤ time → time ≤ max_time + 1000000000000 → n < 40
 few_doublings n time far late = elim (or_more n 40) [
   | inl less ↦ less
   | inr most ↦ (let more : 2 ^ 40 ≤ 2 ^ n = pow_mono most in absurd (omega (arith, more, far, late)))
 ]
 
-by_due : (n time : ℕ) (space : Space) (due : Option Due) → is_none due ≡ false → is_other Pto space due ≡ false → is_before time due ≡ false → IsFar n due → time ≤ max_time → n < 40
+by_due : (n time : ℕ) (space : Space) (due : Option Due) → is_none due ≡ false → is_other Pto space due ≡ false → is_before time due ≡ false → IsFar n due → time ≤ max_time + 1000000000000 → n < 40
 by_due n time space None some same late far in_time = cc
 by_due n time space (Some due) some same late far in_time =
     let both = and_parts (is_kind Pto due.kind) (is_space space due.space) (not-false _ same) in
@@ -108,7 +121,8 @@ counted false false n bound most = omega arith
 pto_in_time : (c : Settings) (e : Event) (h : List Event) → first_broken c h e ≡ None → IsTimely e → is_pto (e ∷ h) ≡ true → pto_count c h < 40
 pto_in_time c (Timer time Pto space) h allowed timely is =
     let holds = all_hold c h (Timer time Pto space) allowed in
-    by_due (pto_count c h) time space (deadline c h) holds.timer_not_set holds.timer_other holds.timer_early (far_deadline c h) timely
+    let soon = early_is_small c in
+    by_due (pto_count c h) (time + early c) space (deadline c h) holds.timer_not_set holds.timer_other holds.timer_early (far_deadline c h) (omega (arith, soon, timely))
 pto_in_time c (Timer time Loss space) h allowed timely is = cc
 pto_in_time c _ h allowed timely is = cc
 

@@ -10,9 +10,9 @@ use Rattle.qa_base.specs.declared.event.Event.TheVariants.{Sent, Ack, Lost, Time
 use Rattle.qa_base.specs.declared.space.Space.{Space}
 use Rattle.qa_base.specs.declared.space.Leave.{Leave}
 use Rattle.qa_base.specs.values.Events.{is_quiet}
-use Rattle.qa_base.specs.machine.Detection.{is_found, is_found_at, found_at, detection, is_persistent_by}
+use Rattle.qa_base.specs.machine.Detection.{is_found, is_found_at, found_at, is_persistent_by}
 use Rattle.qa_base.specs.machine.Estimates.{refreshed_by, rtt, sampled}
-use Rattle.qa_base.specs.machine.Loss.{is_owed, owed, flight_size, bytes_in_flight}
+use Rattle.qa_base.specs.machine.Loss.{is_owed, owed, flight_size, bytes_in_flight, detection}
 use Rattle.qa_base.specs.machine.Moments.{since}
 use Rattle.qa_base.specs.machine.Packets.{Packet, packets, newly_acknowledged, is_followed_by, is_discarded, is_of, is_acknowledged, is_declared_lost}
 use Rattle.qa_base.specs.machine.Reno.{moves, moves_of_last}
@@ -130,12 +130,12 @@ no_detection : (ps : List Packet) → AllByRecursion (λ p. false ≡ false) ps
 no_detection [] = tt
 no_detection (p ∷ ps) = (refl, no_detection ps)
 
-not_found : (r : Estimate) (h : List Event) (d : Option (Space × ℕ)) → found_at r h d ≡ [] → AllByRecursion (λ p. is_found_at r h p d ≡ false) (packets h)
-not_found r h None none = no_detection (packets h)
-not_found r h (Some d) none = nothing_found (is_found r h d.1 d.0) (is_of d.0) (packets h) none
+not_found : (c : Settings) (r : Estimate) (h : List Event) (d : Option (Space × ℕ)) → found_at c r h d ≡ [] → AllByRecursion (λ p. is_found_at c r h p d ≡ false) (packets h)
+not_found c r h None none = no_detection (packets h)
+not_found c r h (Some d) none = nothing_found (is_found c r h d.1 d.0) (is_of d.0) (packets h) none
 
 pub not_owed : (c : Settings) (h : List Event) → owed c h ≡ [] → AllByRecursion (λ p. is_owed c h p ≡ false) (packets h)
-not_owed c h none = not_found (sampled c h) h (detection h) none
+not_owed c h none = not_found c (sampled c h) h (detection c h) none
 
 pub same_sum : (f g : Packet → ℕ) (ps : List Packet) → AllByRecursion (λ p. f p ≡ g p) ps → sum_by f ps ≡ sum_by g ps
 same_sum f g [] same = refl

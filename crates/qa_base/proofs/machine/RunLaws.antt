@@ -1,6 +1,6 @@
 -- Laws of every run.
-use Rattle.std.proofs.Common.{ℕ, ◌&&◌, ◌-◌, ◌*◌, ◌/◌, max, ◌↔◌, ◌+◌, ◌≤◌, arith, ◌≡◌, ◌∙◌, List, [], ◌∷◌, ◌++◌, length, Bool, true, false, ◌||◌, Option, Some, None, refl, sym}
-use Rattle.std.proofs.lemmas.Bool.{leb-false, leb-true, le-leb, and_parts, and_from}
+use Rattle.std.proofs.Common.{ℕ, ◌-◌, ◌*◌, ◌/◌, max, ◌↔◌, ◌+◌, ◌≤◌, arith, ◌≡◌, ◌∙◌, List, [], ◌∷◌, ◌++◌, length, Bool, true, false, ◌||◌, Option, Some, None, refl, sym}
+use Rattle.std.proofs.lemmas.Bool.{leb-false, leb-true, le-leb}
 use Rattle.std.specs.List.{filter, list_any, AllByRecursion}
 use Rattle.std.specs.Prelude.{nat_le, if◌then◌else◌}
 use Rattle.qa_base.specs.declared.event.Event.{Event}
@@ -12,7 +12,7 @@ use Rattle.qa_base.specs.machine.Rules.{broken, first_of, first_broken, IsRun}
 use Rattle.qa_base.specs.machine.Breaches.{is_time_back, is_loss_owed, is_loss_not_owed, is_other_loss_set, is_space_gone, is_number_not_higher, is_past_window, is_past_probe, is_past_recovery, is_ack_unsent, is_timer_not_set, is_timer_other, is_timer_early, is_probe_owed, is_not_confirmed}
 use Rattle.qa_base.specs.machine.Detection.{is_old}
 use Rattle.qa_base.specs.machine.Rtt.{Estimate, loss_delay}
-use Rattle.qa_base.specs.values.Settings.{Settings}
+use Rattle.qa_base.specs.values.Settings.{Settings, granularity}
 
 -- a prefix of a run is a run
 pub prefix_of_run : (c : Settings) (more h : List Event) → IsRun c (more ++ h) → IsRun c h
@@ -139,20 +139,20 @@ newly_acknowledged_fall c e h run = falls_in_part (is_newly_acknowledged e h) (p
 
 -- ---- when a packet is old
 
-after_delay : (m age : ℕ) → max ((9 * m + 7) / 8) 1000 ≤ age → (9 * m ≤ 8 * age) × (1000 ≤ age)
-after_delay m age waited = (omega arith, omega arith)
+after_delay : (least m age : ℕ) → max ((9 * m + 7) / 8) least ≤ age → (9 * m ≤ 8 * age) × (least ≤ age)
+after_delay least m age waited = (omega arith, omega arith)
 
-delay_after : (m age : ℕ) → (9 * m ≤ 8 * age) × (1000 ≤ age) → max ((9 * m + 7) / 8) 1000 ≤ age
-delay_after m age (fraction, granularity) = omega (arith, fraction, granularity)
+delay_after : (least m age : ℕ) → (9 * m ≤ 8 * age) × (least ≤ age) → max ((9 * m + 7) / 8) least ≤ age
+delay_after least m age (fraction, grain) = omega (arith, fraction, grain)
 
 -- a packet is old exactly when the loss delay has passed since it was sent
-pub old_is_after_loss_delay : (r : Estimate) (now : ℕ) (p : Packet) → (is_old r now p ≡ true) ↔ (loss_delay r ≤ now - p.time)
-old_is_after_loss_delay r now p = (leb-true (loss_delay r) (now - p.time), le-leb (loss_delay r) (now - p.time))
+pub old_is_after_loss_delay : (c : Settings) (r : Estimate) (now : ℕ) (p : Packet) → (is_old c r now p ≡ true) ↔ (loss_delay (granularity c) r ≤ now - p.time)
+old_is_after_loss_delay c r now p = (leb-true (loss_delay (granularity c) r) (now - p.time), le-leb (loss_delay (granularity c) r) (now - p.time))
 
 -- rounding up changes nothing: so many parts of the RTT have passed, and the granularity
-pub old_is_exact : (r : Estimate) (now : ℕ) (p : Packet)
-    → (is_old r now p ≡ true) ↔ ((9 * max r.latest_rtt r.smoothed_rtt ≤ 8 * (now - p.time)) × (1000 ≤ now - p.time))
-old_is_exact r now p =
-    let delay = old_is_after_loss_delay r now p in
+pub old_is_exact : (c : Settings) (r : Estimate) (now : ℕ) (p : Packet)
+    → (is_old c r now p ≡ true) ↔ ((9 * max r.latest_rtt r.smoothed_rtt ≤ 8 * (now - p.time)) × (granularity c ≤ now - p.time))
+old_is_exact c r now p =
+    let delay = old_is_after_loss_delay c r now p in
     let m = max r.latest_rtt r.smoothed_rtt in
-    (λ old. after_delay m (now - p.time) (delay.0 old), λ exact. delay.1 (delay_after m (now - p.time) exact))
+    (λ old. after_delay (granularity c) m (now - p.time) (delay.0 old), λ exact. delay.1 (delay_after (granularity c) m (now - p.time) exact))

@@ -104,7 +104,7 @@ grown_little d r size sent some low =
 
 -- ---- the moves of one event
 
-abbrev IsSized : Packet → Type 0
+abbrev pub IsSized : Packet → Type 0
 IsSized p = p.size ≤ 65527
 
 pub each_append : {X : Type 0} (P : X → Type 0) (xs ys : List X) → AllByRecursion P xs → AllByRecursion P ys → AllByRecursion P (xs ++ ys)
@@ -138,7 +138,7 @@ weight_turned (p ∷ ps) =
     let rest = weight_turned ps in
     ap (sum_by weight) mapped ∙ (parts ∙ (omega (arith, rest)))
 
-length_part : (kept : Packet → Bool) (ps : List Packet) → length (filter kept ps) ≤ length ps
+pub length_part : (kept : Packet → Bool) (ps : List Packet) → length (filter kept ps) ≤ length ps
 length_part kept ps = omega (arith, length-filter kept ps, count_by-le-length kept ps)
 
 small_hits : (now : ℕ) (ps : List Packet) → AllByRecursion IsSmall (hits now ps) × (sum_by weight (hits now ps) ≡ 0)
@@ -223,9 +223,18 @@ sized_one (Sent time space number size eliciting in_flight leave) n fit =
     ((leb-true size 65527 both.1), tt)
 sized_one _ n fit = tt
 
-sized : (h : List Event) → AllByRecursion Fits h → AllByRecursion IsSized (packets h)
+pub sized : (h : List Event) → AllByRecursion Fits h → AllByRecursion IsSized (packets h)
 sized [] fit = tt
 sized (e ∷ h) fit = each_append IsSized (packet_of (length h) e) (packets h) (sized_one e (length h) fit.0) (sized h fit.1)
+
+-- the packets that an event newly acknowledges were not acknowledged before
+pub newly_counted : (e : Event) (h : List Event) → length (newly_acknowledged (e ∷ h)) + acknowledged_count h ≤ acknowledged_count (e ∷ h)
+newly_counted e h =
+    let new : length (newly_acknowledged (e ∷ h)) ≡ count_by (is_newly_acknowledged e h) (packets h) = length-filter (is_newly_acknowledged e h) (packets h) in
+    let more = covered_more e h (packets h) (behind_tests (length h) (packets h) (placed h)) in
+    let onto : count_by (is_acknowledged (e ∷ h)) (packets (e ∷ h)) ≡ count_by (is_acknowledged (e ∷ h)) (packet_of (length h) e) + count_by (is_acknowledged (e ∷ h)) (packets h) =
+    sum_by-append (λ q. cond (is_acknowledged (e ∷ h) q) 1 0) (packet_of (length h) e) (packets h) in
+    omega (arith, new, more, onto)
 
 between : (c : Settings) (h : List Event) → AreInRange c → AllByRecursion Fits h → IsBetween c.max_datagram_size (c.initial_window + 65527 * acknowledged_count h) (reno c h)
 between c [] range fit = record { low = range.window_low; high = omega arith }
@@ -239,21 +248,25 @@ between c (e ∷ h) range fit =
     let moved_on = all_moves d most (reno c h) (moves_of_last c (e ∷ h)) (omega arith) (omega arith) small.0 before in
     let here : IsBetween d (most + sum_by weight (moves_of_last c (e ∷ h))) (reno c (e ∷ h)) = rw (reno_after c e h) moved_on in
     let heavy = small.1 in
-    let new : length (newly_acknowledged (e ∷ h)) ≡ count_by (is_newly_acknowledged e h) (packets h) = length-filter (is_newly_acknowledged e h) (packets h) in
-    let more = covered_more e h (packets h) (behind_tests (length h) (packets h) (placed h)) in
-    let onto : count_by (is_acknowledged (e ∷ h)) (packets (e ∷ h)) ≡ count_by (is_acknowledged (e ∷ h)) (packet_of (length h) e) + count_by (is_acknowledged (e ∷ h)) (packets h) =
-    sum_by-append (λ q. cond (is_acknowledged (e ∷ h) q) 1 0) (packet_of (length h) e) (packets h) in
+    let more = newly_counted e h in
     let high = here.high in
-    record { low = here.low; high = omega (arith, high, heavy, new, more, onto) }
+    record { low = here.low; high = omega (arith, high, heavy, more) }
 
 -- it is at most where it began and a packet's greatest size for each that was acknowledged
 pub window_high : (c : Settings) (h : List Event) → AreInRange c → AllByRecursion Fits h → (reno c h).window ≤ c.initial_window + 65527 * acknowledged_count h
 window_high c h range fit = (between c h range fit).high
 
-packets_few : (h : List Event) → length (packets h) ≤ length h
+pub packets_few : (h : List Event) → length (packets h) ≤ length h
 packets_few [] = omega arith
 packets_few (Sent time space number size eliciting in_flight leave ∷ h) = omega (arith, packets_few h)
 packets_few (_ ∷ h) = omega (arith, packets_few h)
+
+-- no more are acknowledged than there are events
+pub acknowledged_few : (h : List Event) → acknowledged_count h ≤ length h
+acknowledged_few h =
+    let counted : acknowledged_count h ≤ length (packets h) = count_by-le-length (is_acknowledged h) (packets h) in
+    let fewer = packets_few h in
+    omega (arith, counted, fewer)
 
 -- the window of fewer than 2^32 events
 pub window_bound : (c : Settings) (h : List Event) → AreInRange c → AllByRecursion Fits h → length h < 2 ^ 32 → (2 * c.max_datagram_size ≤ (reno c h).window) × ((reno c h).window ≤ 2 ^ 60)
@@ -261,9 +274,8 @@ window_bound c h range fit few =
     let is = between c h range fit in
     let low = is.low in let high = is.high in
     let window_high = range.window_high in
-    let counted : acknowledged_count h ≤ length (packets h) = count_by-le-length (is_acknowledged h) (packets h) in
-    let fewer = packets_few h in
-    (low, (omega (arith, high, counted, fewer, few, window_high)))
+    let fewer = acknowledged_few h in
+    (low, (omega (arith, high, fewer, few, window_high)))
 
 onto_fits : (h events : List Event) → AllByRecursion Fits h → AllByRecursion Fits events → AllByRecursion Fits (fold (λ (h : List Event) e. e ∷ h) h events)
 onto_fits h [] a b = a

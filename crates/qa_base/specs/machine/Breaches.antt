@@ -16,9 +16,9 @@ use Rattle.qa_base.specs.machine.Leave.{probe_spent, recovery_spent, is_probe_du
 use Rattle.qa_base.specs.machine.Loss.{owed, bytes_in_flight}
 use Rattle.qa_base.specs.machine.Numbers.{has_all, names_exactly}
 use Rattle.qa_base.specs.machine.Packets.{Packet, packets_of, is_of, is_discarded, is_some_packet}
-use Rattle.qa_base.specs.machine.Reno.{reno}
-use Rattle.qa_base.specs.values.Constants.{probe_datagrams}
-use Rattle.qa_base.specs.values.Settings.{Settings}
+use Rattle.qa_base.specs.machine.Window.{window, other_window, acknowledged_since_collapse}
+use Rattle.qa_base.specs.values.Constants.{minimum_window, probe_datagrams}
+use Rattle.qa_base.specs.values.Settings.{Settings, early, in_unit, is_reported}
 use Rattle.qa_base.specs.machine.Timer.{Due, deadline, packet_deadline, set_since, is_kind}
 
 -- ---- any event
@@ -75,9 +75,14 @@ abbrev pub is_number_not_higher : List Event → Event → Bool
 is_number_not_higher h (Sent time space number size eliciting in_flight leave) = has_at_or_above space number h
 is_number_not_higher h _ = false
 
+-- so many bytes more are past the window; where the sender may overshoot it, where the bytes fill it without them
+abbrev pub is_past : Bool → ℕ → ℕ → ℕ → Bool
+is_past true window bytes size = nat_le window bytes
+is_past false window bytes size = nat_lt window (bytes + size)
+
 -- V7: it takes the bytes in flight past the congestion window (RFC 9002, section 7)
 abbrev pub is_past_window : Settings → List Event → Event → Bool
-is_past_window c h (Sent time space number size eliciting in_flight Window) = in_flight && nat_lt (reno c h).window (bytes_in_flight c h + size)
+is_past_window c h (Sent time space number size eliciting in_flight Window) = in_flight && is_past c.options.window_overshoot (window c h) (bytes_in_flight c h) size
 is_past_window c h _ = false
 
 -- more than an allowance with what was spent of it, or there is none
@@ -122,9 +127,9 @@ abbrev pub is_before : ℕ → Option Due → Bool
 is_before time None = false
 is_before time (Some due) = nat_lt time due.time
 
--- V13: it is set for later
+-- V13: it is set for later, by more than a timer may be early
 abbrev pub is_timer_early : Settings → List Event → Event → Bool
-is_timer_early c h (Timer time kind space) = is_before time (deadline c h)
+is_timer_early c h (Timer time kind space) = is_before (time + early c) (deadline c h)
 is_timer_early c h _ = false
 
 -- V14: the probe of the last probe timeout is due (RFC 9002, section 6.2.4)
@@ -148,8 +153,20 @@ is_past_due limit since time (Some due) = nat_lt (max due.time since + limit) ti
 
 abbrev pub is_late_by : Settings → List Event → ℕ → Option ℕ → Bool
 is_late_by c h time None = false
-is_late_by c h time (Some limit) = is_past_due limit (set_since c h) time (packet_deadline c h)
+is_late_by c h time (Some limit) = is_past_due (in_unit c.unit limit) (set_since c h) time (packet_deadline c h)
 
 -- V18: a timer that is set for packets should have fired before it, by the header's limit
 abbrev pub is_timer_late : Settings → List Event → Event → Bool
 is_timer_late c h e = is_late_by c h (time_of e) c.options.timer_late
+
+-- a window that is above the least one with what was acknowledged since a collapse
+abbrev pub is_above_collapse : ℕ → Option ℕ → Option ℕ → Bool
+is_above_collapse least (Some reported) (Some acknowledged) = nat_lt (least + acknowledged) reported
+is_above_collapse least _ _ = false
+
+-- V19: persistent congestion was established, and the first other window that is reported since is above two datagrams with what was
+-- acknowledged since, by more than the slack (RFC 9002, section 7.6.2)
+abbrev pub is_collapse_missing : Settings → List Event → Event → Bool
+is_collapse_missing c h e =
+    is_reported c.options.controller
+    && is_above_collapse (minimum_window c.max_datagram_size + c.options.report_slack_bytes) (other_window c h e) (acknowledged_since_collapse c h)

@@ -7,9 +7,8 @@ use Rattle.qa_base.specs.declared.space.Space.{Space}
 use Rattle.qa_base.specs.declared.space.Space.TheVariants.{Initial, Handshake, App}
 use Rattle.qa_base.specs.machine.Loss.{is_open, is_owed}
 use Rattle.qa_base.specs.machine.Numbers.{is_in}
-use Rattle.qa_base.specs.machine.Packets.{Packet, packets, packets_of}
+use Rattle.qa_base.specs.machine.Packets.{Packet, packets, packets_of, least_of}
 use Rattle.qa_base.specs.values.Settings.{Settings}
-use Rattle.qa_base.specs.machine.Timer.{least_of}
 
 -- open, or owed as lost, so that its Lost line is still to come
 abbrev pub is_kept : Settings → List Event → Packet → Bool

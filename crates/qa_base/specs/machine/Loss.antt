@@ -1,21 +1,26 @@
 -- Which packets are owed as lost, which are open, the bytes in flight, and persistent congestion.
 --
 -- `c` are the settings of the header, `h` is the history.
-use Rattle.std.specs.Prelude.{ℕ, ◌&&◌, not, Bool, List, sum_by, if◌then◌else◌}
+use Rattle.std.specs.Prelude.{ℕ, ◌&&◌, not, Bool, List, Option, sum_by, if◌then◌else◌}
 use Rattle.qa_base.specs.declared.event.Event.{Event}
-use Rattle.qa_base.specs.machine.Detection.{owed_by, is_owed_by, is_unsettled, is_persistent_by}
+use Rattle.qa_base.specs.declared.space.Space.{Space}
+use Rattle.qa_base.specs.machine.Detection.{detection_by, owed_by, is_owed_by, is_unsettled, is_persistent_by}
 use Rattle.qa_base.specs.machine.Estimates.{sampled}
 use Rattle.qa_base.specs.machine.Packets.{Packet, packets, is_discarded}
 use Rattle.qa_base.specs.values.Settings.{Settings}
 
 -- ---- losses (RFC 9002, section 6.1, A.10)
 
+-- where, and as of when, the last event looks for losses
+abbrev pub detection : Settings → List Event → Option (Space × ℕ)
+detection c h = detection_by c (sampled c h) h
+
 -- the packets that the last event found lost; the next has to declare them
 abbrev pub owed : Settings → List Event → List Packet
-owed c h = owed_by (sampled c h) h
+owed c h = owed_by c (sampled c h) h
 
 abbrev pub is_owed : Settings → List Event → Packet → Bool
-is_owed c h p = is_owed_by (sampled c h) h p
+is_owed c h p = is_owed_by c (sampled c h) h p
 
 -- ---- bytes in flight (RFC 9002, B.4, B.9)
 

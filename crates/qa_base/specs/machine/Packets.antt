@@ -2,7 +2,7 @@
 --
 -- A history lists its latest event first: one more event is `e ∷ h`, and what stood before an event is the rest of the
 -- list behind it.
-use Rattle.std.specs.Prelude.{ℕ, ◌&&◌, ◌||◌, not, nat_lt, max, Bool, true, false, unwrap_or, flat_map, List, [], ◌∷◌, ◌++◌, fold, length, filter, Option, Some, None, if◌then◌else◌}
+use Rattle.std.specs.Prelude.{ℕ, ◌&&◌, ◌||◌, not, nat_lt, min, max, Bool, true, false, unwrap_or, flat_map, List, [], ◌∷◌, ◌++◌, fold, length, filter, Option, Some, None, if◌then◌else◌}
 use Rattle.std.specs.List.{list_any}
 use Rattle.qa_base.specs.declared.event.Event.{Event}
 use Rattle.qa_base.specs.declared.event.Event.TheVariants.{Sent, Ack}
@@ -109,3 +109,12 @@ greatest_of (n ∷ ns) = Some (max n (unwrap_or (greatest_of ns) n))
 -- the largest number that was ever acknowledged in the space
 abbrev pub largest_acknowledged : List Event → Space → Option ℕ
 largest_acknowledged h s = greatest_of (flat_map (greatest_in s) h)
+
+abbrev pub is_below_largest : ℕ → Option ℕ → Bool
+is_below_largest number None = false
+is_below_largest number (Some largest) = nat_lt number largest
+
+-- the least of some numbers
+abbrev pub least_of : List ℕ → Option ℕ
+least_of [] = None
+least_of (n ∷ ns) = Some (min n (unwrap_or (least_of ns) n))

@@ -1,13 +1,13 @@
 -- Samples of the round-trip time, and the estimate that they make (RFC 9002, section 5).
 --
 -- `c` are the settings of the header, `h` is the history.
-use Rattle.std.specs.Prelude.{ℕ, ◌+◌, ◌-◌, ◌*◌, ◌/◌, ◌==◌, nat_le, min, max, List, ◌∷◌, find, Option, Some, None, if◌then◌else◌}
+use Rattle.std.specs.Prelude.{ℕ, ◌+◌, ◌-◌, ◌*◌, ◌/◌, ◌==◌, ◌&&◌, ◌||◌, not, nat_le, min, max, Bool, List, ◌∷◌, find, Option, Some, None, if◌then◌else◌}
 use Rattle.std.specs.List.{list_any}
 use Rattle.qa_base.specs.declared.event.Event.{Event}
 use Rattle.qa_base.specs.declared.event.Event.TheVariants.{Ack}
 use Rattle.qa_base.specs.machine.Packets.{Packet, newly_acknowledged, greatest}
 use Rattle.qa_base.specs.machine.Handshake.{is_confirmed}
-use Rattle.qa_base.specs.values.Constants.{granularity, persistent_congestion_threshold, time_threshold_parts, time_threshold_divisor}
+use Rattle.qa_base.specs.values.Constants.{persistent_congestion_threshold, time_threshold_parts, time_threshold_divisor}
 use Rattle.qa_base.specs.values.Settings.{Settings}
 
 -- ---- samples (RFC 9002, section 5.1)
@@ -26,11 +26,16 @@ abbrev pub sample_by : ℕ → ℕ → Option Packet → Option Sample
 sample_by time delay None = None
 sample_by time delay (Some p) = Some (record { latest_rtt = time - p.time; ack_delay = delay; time = time })
 
--- the sample of the last event: it acknowledges, and newly both the packet with its largest number and an ack-eliciting one
+-- an ack-eliciting packet; where the sender samples no others, the one with the largest number
+abbrev pub gives_sample : Bool → ℕ → Packet → Bool
+gives_sample only largest p = p.eliciting && (not only || p.number == largest)
+
+-- the sample of the last event: it acknowledges, and newly both the packet with its largest number and an ack-eliciting one,
+-- which is the same where the sender samples no others
 abbrev pub sample_of : Settings → List Event → Option Sample
 sample_of c (Ack time space ranges delay app_limited ∷ before) =
     let new = newly_acknowledged (Ack time space ranges delay app_limited ∷ before) in
-    if list_any (λ p. p.eliciting) new
+    if list_any (gives_sample c.options.sample_eliciting_only (greatest ranges)) new
     then sample_by time (limited_delay c before delay) (find (λ p. p.number == greatest ranges) new)
     else None
 sample_of c _ = None
@@ -100,7 +105,7 @@ refreshed r = record {
   first_rtt_sample = r.first_rtt_sample;
 }
 
--- ---- what is computed from it
+-- ---- what is computed from it, with the granularity of timers
 
 -- n / d, rounded up
 abbrev pub divided_up : ℕ → ℕ → ℕ
@@ -108,13 +113,13 @@ divided_up n d = (n + (d - 1)) / d
 
 -- how long after it was sent a packet is old: the time threshold of the RTT, rounded up, and the granularity at least
 -- (RFC 9002, section 6.1.2)
-abbrev pub loss_delay : Estimate → ℕ
-loss_delay r = max (divided_up (time_threshold_parts * max r.latest_rtt r.smoothed_rtt) time_threshold_divisor) granularity
+abbrev pub loss_delay : ℕ → Estimate → ℕ
+loss_delay granularity r = max (divided_up (time_threshold_parts * max r.latest_rtt r.smoothed_rtt) time_threshold_divisor) granularity
 
 -- the probe timeout before the peer's delay and the backoff (RFC 9002, section 6.2.1)
-abbrev pub pto_base : Estimate → ℕ
-pto_base r = r.smoothed_rtt + max (4 * r.rttvar) granularity
+abbrev pub pto_base : ℕ → Estimate → ℕ
+pto_base granularity r = r.smoothed_rtt + max (4 * r.rttvar) granularity
 
 -- the duration of persistent congestion (RFC 9002, section 7.6.1)
-abbrev pub persistent_after : Estimate → ℕ → ℕ
-persistent_after r max_ack_delay = persistent_congestion_threshold * (pto_base r + max_ack_delay)
+abbrev pub persistent_after : ℕ → Estimate → ℕ → ℕ
+persistent_after granularity r max_ack_delay = persistent_congestion_threshold * (pto_base granularity r + max_ack_delay)

@@ -6,15 +6,15 @@ use Rattle.qa_base.specs.declared.event.Event.{Event}
 use Rattle.qa_base.specs.declared.totals.Totals.{Totals}
 use Rattle.qa_base.specs.machine.Estimates.{rtt}
 use Rattle.qa_base.specs.machine.Loss.{bytes_in_flight, owed}
-use Rattle.qa_base.specs.machine.Reno.{reno}
+use Rattle.qa_base.specs.machine.Window.{window, ssthresh}
 use Rattle.qa_base.specs.values.Settings.{Settings}
 use Rattle.qa_base.specs.machine.Timer.{pto_count}
 
 abbrev pub totals : Settings → List Event → Totals
 totals c h = record {
   events = length h;
-  window = (reno c h).window;
-  ssthresh = (reno c h).ssthresh;
+  window = window c h;
+  ssthresh = ssthresh c h;
   bytes_in_flight = bytes_in_flight c h;
   latest_rtt = (rtt c h).latest_rtt;
   min_rtt = (rtt c h).min_rtt;

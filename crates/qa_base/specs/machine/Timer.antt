@@ -1,7 +1,7 @@
 -- The loss detection timer (RFC 9002, section 6.2, A.8).
 --
 -- `c` are the settings of the header, `h` is the history.
-use Rattle.std.specs.Prelude.{ℕ, ◌+◌, ◌*◌, ◌^◌, ◌==◌, ◌&&◌, nat_le, nat_lt, min, count_by, Bool, true, false, List, [], ◌∷◌, filter, find, map, unwrap_or, Option, Some, None, option_map, option_and_then, if◌then◌else◌}
+use Rattle.std.specs.Prelude.{ℕ, ◌+◌, ◌*◌, ◌^◌, ◌==◌, ◌&&◌, nat_le, count_by, Bool, true, false, List, [], ◌∷◌, filter, find, map, Option, Some, None, option_map, option_and_then, if◌then◌else◌}
 use Rattle.std.specs.List.{list_any}
 use Rattle.std.specs.Option.{option_or}
 use Rattle.qa_base.specs.declared.event.Event.{Event}
@@ -15,9 +15,9 @@ use Rattle.qa_base.specs.machine.Handshake.{is_confirmed, is_validated, has_keys
 use Rattle.qa_base.specs.machine.Estimates.{rtt}
 use Rattle.qa_base.specs.machine.Loss.{is_open}
 use Rattle.qa_base.specs.machine.Moments.{moments, since}
-use Rattle.qa_base.specs.machine.Packets.{Packet, packets_of, acknowledges_new, largest_acknowledged}
+use Rattle.qa_base.specs.machine.Packets.{Packet, packets_of, acknowledges_new, is_below_largest, largest_acknowledged, least_of}
 use Rattle.qa_base.specs.machine.Rtt.{loss_delay, pto_base}
-use Rattle.qa_base.specs.values.Settings.{Settings}
+use Rattle.qa_base.specs.values.Settings.{Settings, granularity}
 
 -- ---- the PTO count (section 6.2.1)
 
@@ -49,14 +49,6 @@ earlier None later = later
 earlier (Some due) None = Some due
 earlier (Some due) (Some later) = if nat_le due.time later.time then Some due else Some later
 
-abbrev pub least_of : List ℕ → Option ℕ
-least_of [] = None
-least_of (n ∷ ns) = Some (min n (unwrap_or (least_of ns) n))
-
-abbrev pub is_below_largest : ℕ → Option ℕ → Bool
-is_below_largest number None = false
-is_below_largest number (Some largest) = nat_lt number largest
-
 -- an open in-flight packet below the largest acknowledged number of its space, which is lost when it is old
 abbrev pub awaits_loss : Settings → List Event → Packet → Bool
 awaits_loss c h p = p.in_flight && is_open c h p && is_below_largest p.number (largest_acknowledged h p.space)
@@ -64,7 +56,7 @@ awaits_loss c h p = p.in_flight && is_open c h p && is_below_largest p.number (l
 -- the time at which the first packet of the space is old
 abbrev pub loss_due : Settings → List Event → Space → Option Due
 loss_due c h s =
-    option_map (λ sent. record { kind = Loss; space = s; time = sent + loss_delay (rtt c h) })
+    option_map (λ sent. record { kind = Loss; space = s; time = sent + loss_delay (granularity c) (rtt c h) })
     (least_of (map (λ p. p.time) (filter (awaits_loss c h) (packets_of h s))))
 
 abbrev pub earliest_loss : Settings → List Event → Option Due
@@ -82,7 +74,7 @@ last_eliciting h s = option_map (λ p. p.time) (find (λ p. p.eliciting) (packet
 abbrev pub pto_due : Settings → List Event → ℕ → Space → Option Due
 pto_due c h peer_delay s =
     if list_any (awaits_acknowledgment c h) (packets_of h s)
-    then option_map (λ sent. record { kind = Pto; space = s; time = sent + (pto_base (rtt c h) + peer_delay) * 2 ^ pto_count c h }) (last_eliciting h s)
+    then option_map (λ sent. record { kind = Pto; space = s; time = sent + (pto_base (granularity c) (rtt c h) + peer_delay) * 2 ^ pto_count c h }) (last_eliciting h s)
     else None
 
 -- application data counts once the handshake is confirmed
@@ -114,7 +106,7 @@ anti_deadlock c h =
     else option_map (λ set. record {
       kind = Pto;
       space = if has_keys h then Handshake else Initial;
-      time = set + pto_base (rtt c h) * 2 ^ pto_count c h;
+      time = set + pto_base (granularity c) (rtt c h) * 2 ^ pto_count c h;
     }) (last_set h)
 
 -- what the timer is set for: the first of these that there is

@@ -3,9 +3,9 @@ use Rattle.std.specs.Prelude.{ℕ, ◌*◌}
 
 -- ---- loss detection (A.2)
 
--- kPacketThreshold: a packet this many numbers below an acknowledged one is lost (section 6.1.1)
-abbrev pub packet_threshold : ℕ
-packet_threshold = 3
+-- kPacketThreshold where a header names none: a packet this many numbers below an acknowledged one is lost (section 6.1.1)
+abbrev pub default_packet_threshold : ℕ
+default_packet_threshold = 3
 
 -- kTimeThreshold is 9/8 of the RTT (section 6.1.2): so many parts, and into how many the RTT is divided
 abbrev pub time_threshold_parts : ℕ
@@ -15,8 +15,8 @@ abbrev pub time_threshold_divisor : ℕ
 time_threshold_divisor = 8
 
 -- kGranularity, a millisecond (section 6.1.2)
-abbrev pub granularity : ℕ
-granularity = 1000
+abbrev pub granularity_us : ℕ
+granularity_us = 1000
 
 -- kInitialRtt (section 6.2.2)
 abbrev pub default_initial_rtt : ℕ

@@ -3,7 +3,7 @@ use Rattle.std.specs.Prelude.{ℕ, List, [], ◌∷◌, ◌++◌, codes, decimal
 use Rattle.qa_base.specs.declared.key.Key.{Key}
 use Rattle.qa_base.specs.declared.key.Key.TheVariants as key
 use Rattle.qa_base.specs.declared.header.Version.{Version}
-use Rattle.qa_base.specs.declared.header.Version.TheVariants.{One, Two}
+use Rattle.qa_base.specs.declared.header.Version.TheVariants.{One, Two, Three}
 use Rattle.qa_base.specs.declared.line_kind.LineKind.{LineKind}
 use Rattle.qa_base.specs.declared.line_kind.LineKind.TheVariants as kinds
 use Rattle.qa_base.specs.declared.rule.Field.{Field}
@@ -14,6 +14,10 @@ use Rattle.qa_base.specs.declared.space.Role.{Role}
 use Rattle.qa_base.specs.declared.space.Role.TheVariants.{Client, Server}
 use Rattle.qa_base.specs.declared.space.Space.{Space}
 use Rattle.qa_base.specs.declared.space.Space.TheVariants.{Initial, Handshake, App}
+use Rattle.qa_base.specs.declared.space.TimeUnit.{TimeUnit}
+use Rattle.qa_base.specs.declared.space.TimeUnit.TheVariants.{Microseconds, Nanoseconds}
+use Rattle.qa_base.specs.declared.space.Controller.{Controller}
+use Rattle.qa_base.specs.declared.space.Controller.TheVariants.{NewReno, Reported}
 use Rattle.qa_base.specs.declared.space.TimerKind.{TimerKind}
 use Rattle.qa_base.specs.declared.space.TimerKind.TheVariants.{Loss, Pto}
 use Rattle.qa_base.specs.declared.space.Leave.{Leave}
@@ -34,6 +38,8 @@ abbrev pub key_name : Key → List ℕ
 key_name key.Event = codes "event"
 key_name key.Version = codes "version"
 key_name key.Role = codes "role"
+key_name key.Unit = codes "unit"
+key_name key.Window = codes "window"
 key_name key.MaxDatagramSize = codes "max_datagram_size"
 key_name key.MaxAckDelay = codes "max_ack_delay"
 key_name key.InitialRtt = codes "initial_rtt"
@@ -42,6 +48,10 @@ key_name key.TimerLateUs = codes "timer_late_us"
 key_name key.RefreshMinRtt = codes "refresh_min_rtt"
 key_name key.ReportSlackUs = codes "report_slack_us"
 key_name key.ReportSlackBytes = codes "report_slack_bytes"
+key_name key.WindowOvershoot = codes "window_overshoot"
+key_name key.SampleElicitingOnly = codes "sample_eliciting_only"
+key_name key.PacketThreshold = codes "packet_threshold"
+key_name key.TimerEarlyUs = codes "timer_early_us"
 key_name key.Time = codes "time"
 key_name key.Space = codes "space"
 key_name key.Number = codes "number"
@@ -73,10 +83,19 @@ line_kind_name kinds.Metrics = codes "metrics"
 abbrev pub version_number : Version → ℕ
 version_number One = 1
 version_number Two = 2
+version_number Three = 3
 
 abbrev pub role_name : Role → List ℕ
 role_name Client = codes "client"
 role_name Server = codes "server"
+
+abbrev pub unit_name : TimeUnit → List ℕ
+unit_name Microseconds = codes "us"
+unit_name Nanoseconds = codes "ns"
+
+abbrev pub controller_name : Controller → List ℕ
+controller_name NewReno = codes "newreno"
+controller_name Reported = codes "reported"
 
 abbrev pub space_name : Space → List ℕ
 space_name Initial = codes "initial"
@@ -112,6 +131,12 @@ line_kind_named =
 abbrev pub role_named : List ℕ → Option Role
 role_named = named (with_names role_name (Client ∷ Server ∷ []))
 
+abbrev pub unit_named : List ℕ → Option TimeUnit
+unit_named = named (with_names unit_name (Microseconds ∷ Nanoseconds ∷ []))
+
+abbrev pub controller_named : List ℕ → Option Controller
+controller_named = named (with_names controller_name (NewReno ∷ Reported ∷ []))
+
 abbrev pub space_named : List ℕ → Option Space
 space_named = named (with_names space_name (Initial ∷ Handshake ∷ App ∷ []))
 
@@ -146,6 +171,7 @@ rule_name rule.NotConfirmed = codes "not-confirmed"
 rule_name (rule.Metric f) = codes "metric"
 rule_name rule.OwedAtEnd = codes "owed-at-end"
 rule_name rule.TimerLate = codes "timer-late"
+rule_name rule.CollapseMissing = codes "collapse-missing"
 
 abbrev pub rule_number : Rule → ℕ
 rule_number rule.TimeBack = 1
@@ -166,6 +192,7 @@ rule_number rule.NotConfirmed = 15
 rule_number (rule.Metric f) = 16
 rule_number rule.OwedAtEnd = 17
 rule_number rule.TimerLate = 18
+rule_number rule.CollapseMissing = 19
 
 -- the reported value that differs, of a metric
 abbrev pub field_of : Rule → Option Field

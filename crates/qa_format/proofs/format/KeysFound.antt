@@ -21,16 +21,20 @@ use Rattle.qa_base.specs.declared.space.Leave.TheVariants as leaves
 use Rattle.qa_base.specs.declared.space.Role.{Role}
 use Rattle.qa_base.specs.declared.space.Space.{Space}
 use Rattle.qa_base.specs.declared.space.Space.TheVariants.{Initial, Handshake, App}
+use Rattle.qa_base.specs.declared.space.Controller.{Controller}
+use Rattle.qa_base.specs.declared.space.Controller.TheVariants.{NewReno}
+use Rattle.qa_base.specs.declared.space.TimeUnit.{TimeUnit}
+use Rattle.qa_base.specs.declared.space.TimeUnit.TheVariants.{Microseconds}
 use Rattle.qa_base.specs.values.Events.{is_space}
 use Rattle.qa_base.specs.values.Limits.{max_time, max_packet_number, max_packet_size}
-use Rattle.qa_base.specs.values.Names.{key_name, role_name, role_named, space_name, space_named, discarded_named, leave_name, leave_named, kind_name, kind_named}
+use Rattle.qa_base.specs.values.Names.{key_name, role_name, role_named, unit_name, controller_name, unit_named, controller_named, space_name, space_named, discarded_named, leave_name, leave_named, kind_name, kind_named}
 use Rattle.qa_format.specs.format.Proper.{IsProperEvent}
 use Rattle.qa_base.specs.values.Settings.{Settings, no_options}
 use Rattle.qa_format.specs.format.Keys.{◌>>=◌, both, Kind, read_or, integer, integer_from, string, string_among, boolean, ranges, required, optional}
 use Rattle.qa_format.specs.format.Reading.{reader_named, object_says}
-use Rattle.qa_format.specs.format.Tables.{time, space, version, header_fields, option_values, options_for, options, settings, of_version, header_of, sent_fields, sent_of, ack_fields, ack_of, lost_fields, lost_of, timer_fields, timer_of, discard_fields, discard_of, confirmed_of, keys_of, metric_values, metrics_of}
+use Rattle.qa_format.specs.format.Tables.{time, space, version, unit_and_window_for, unit_and_window, header_fields, option_fields, choice_fields, second_options, third_options, options_for, options, settings, of_version, header_of, sent_fields, sent_of, ack_fields, ack_of, lost_fields, lost_of, timer_fields, timer_of, discard_fields, discard_of, confirmed_of, keys_of, metric_values, metrics_of}
 use Rattle.qa_format.specs.format.Written as written
-use Rattle.qa_format.proofs.format.KeysWritten.{required_reads, optional_reads, both_reads, integer_from_reads, role_reads, space_reads, leave_reads, kind_reads, ranges_read, present_integer_reads}
+use Rattle.qa_format.proofs.format.KeysWritten.{required_reads, optional_reads, both_reads, integer_from_reads, role_reads, unit_reads, controller_reads, space_reads, leave_reads, kind_reads, ranges_read, present_integer_reads}
 
 -- ---- several keys
 
@@ -63,9 +67,56 @@ ranges_stand d rs at reads = required_reads ranges key.Ranges d (json.array (wri
 version_found : (d : Data) (n : ℕ) → get (codes "version") d ≡ Some (written.integer n) → version d ≡ Ok n
 version_found d n at = required_reads integer key.Version d (written.integer n) n at refl refl
 
+-- versions 1 and 2 have no keys for the unit and for whose window it is
+pub first_unit_found : (d : Data) → get (codes "version") d ≡ Some (written.integer 1) → unit_and_window d ≡ Ok (Microseconds, NewReno)
+first_unit_found d at = ap (λ r. unit_and_window_for r d) (version_found d 1 at)
+
+pub second_unit_found : (d : Data) → get (codes "version") d ≡ Some (written.integer 2) → unit_and_window d ≡ Ok (Microseconds, NewReno)
+second_unit_found d at = ap (λ r. unit_and_window_for r d) (version_found d 2 at)
+
+-- those of version 3 are the values that are there, with their defaults
+pub third_unit_found : (d : Data) (u : Option TimeUnit) (w : Option Controller) → get (codes "version") d ≡ Some (written.integer 3)
+    → get (codes "unit") d ≡ option_map (λ v. written.string (unit_name v)) u → get (codes "window") d ≡ option_map (λ v. written.string (controller_name v)) w
+    → unit_and_window d ≡ Ok (unwrap_or u Microseconds, unwrap_or w NewReno)
+third_unit_found d u w at_version at_unit at_window =
+    ap (λ r. unit_and_window_for r d) (version_found d 3 at_version)
+    ∙ both_reads _ _ (unwrap_or u Microseconds) (unwrap_or w NewReno)
+    (optional_found (string_among unit_named) Microseconds key.Unit d (λ v. written.string (unit_name v)) u at_unit (λ v. refl) (unit_reads key.Unit))
+    (optional_found (string_among controller_named) NewReno key.Window d (λ v. written.string (controller_name v)) w at_window (λ v. refl) (controller_reads key.Window))
+
 -- version 1 has no options
 pub first_options_found : (d : Data) → get (codes "version") d ≡ Some (written.integer 1) → options d ≡ Ok no_options
 first_options_found d at = ap (λ r. options_for r d) (version_found d 1 at)
+
+-- the values of options that are there, with their defaults
+option_fields_found : (d : Data) (limit : Option ℕ) (refresh : Option Bool) (slack_us slack_bytes : Option ℕ)
+    → get (codes "timer_late_us") d ≡ option_map written.integer limit
+    → get (codes "refresh_min_rtt") d ≡ option_map written.boolean refresh
+    → get (codes "report_slack_us") d ≡ option_map written.integer slack_us
+    → get (codes "report_slack_bytes") d ≡ option_map written.integer slack_bytes
+    → option_fields d ≡ Ok ((limit, unwrap_or refresh false), (unwrap_or slack_us 0, unwrap_or slack_bytes 0))
+option_fields_found d limit refresh slack_us slack_bytes at_limit at_refresh at_slack_us at_slack_bytes =
+    let timers = both_reads _ _ limit (unwrap_or refresh false) (present_integer_reads key.TimerLateUs d limit at_limit)
+    (optional_found boolean false key.RefreshMinRtt d written.boolean refresh at_refresh (λ b. refl) (λ b. refl)) in
+    let slacks = both_reads _ _ (unwrap_or slack_us 0) (unwrap_or slack_bytes 0)
+    (optional_found integer 0 key.ReportSlackUs d written.integer slack_us at_slack_us (λ n. refl) (λ n. refl))
+    (optional_found integer 0 key.ReportSlackBytes d written.integer slack_bytes at_slack_bytes (λ n. refl) (λ n. refl)) in
+    both_reads _ _ _ _ timers slacks
+
+choice_fields_found : (d : Data) (overshoot eliciting : Option Bool) (threshold early : Option ℕ)
+    → get (codes "window_overshoot") d ≡ option_map written.boolean overshoot
+    → get (codes "sample_eliciting_only") d ≡ option_map written.boolean eliciting
+    → get (codes "packet_threshold") d ≡ option_map written.integer threshold
+    → get (codes "timer_early_us") d ≡ option_map written.integer early
+    → choice_fields d ≡ Ok ((unwrap_or overshoot false, unwrap_or eliciting false), (unwrap_or threshold 3, unwrap_or early 0))
+choice_fields_found d overshoot eliciting threshold early at_overshoot at_eliciting at_threshold at_early =
+    let flags = both_reads _ _ (unwrap_or overshoot false) (unwrap_or eliciting false)
+    (optional_found boolean false key.WindowOvershoot d written.boolean overshoot at_overshoot (λ b. refl) (λ b. refl))
+    (optional_found boolean false key.SampleElicitingOnly d written.boolean eliciting at_eliciting (λ b. refl) (λ b. refl)) in
+    let numbers = both_reads _ _ (unwrap_or threshold 3) (unwrap_or early 0)
+    (optional_found integer 3 key.PacketThreshold d written.integer threshold at_threshold (λ n. refl) (λ n. refl))
+    (optional_found integer 0 key.TimerEarlyUs d written.integer early at_early (λ n. refl) (λ n. refl)) in
+    both_reads _ _ _ _ flags numbers
 
 -- the options of version 2 are the values that are there, with their defaults
 pub second_options_found : (d : Data) (limit : Option ℕ) (refresh : Option Bool) (slack_us slack_bytes : Option ℕ)
@@ -74,31 +125,57 @@ pub second_options_found : (d : Data) (limit : Option ℕ) (refresh : Option Boo
     → get (codes "refresh_min_rtt") d ≡ option_map written.boolean refresh
     → get (codes "report_slack_us") d ≡ option_map written.integer slack_us
     → get (codes "report_slack_bytes") d ≡ option_map written.integer slack_bytes
-    → options d ≡ Ok (record { timer_late = limit; refresh_min_rtt = unwrap_or refresh false; report_slack_us = unwrap_or slack_us 0; report_slack_bytes = unwrap_or slack_bytes 0 })
+    → options d ≡ Ok (record no_options { timer_late = limit; refresh_min_rtt = unwrap_or refresh false; report_slack_us = unwrap_or slack_us 0; report_slack_bytes = unwrap_or slack_bytes 0 })
 second_options_found d limit refresh slack_us slack_bytes at_version at_limit at_refresh at_slack_us at_slack_bytes =
-    let timers = both_reads _ _ limit (unwrap_or refresh false) (present_integer_reads key.TimerLateUs d limit at_limit)
-    (optional_found boolean false key.RefreshMinRtt d written.boolean refresh at_refresh (λ b. refl) (λ b. refl)) in
-    let slacks = both_reads _ _ (unwrap_or slack_us 0) (unwrap_or slack_bytes 0)
-    (optional_found integer 0 key.ReportSlackUs d written.integer slack_us at_slack_us (λ n. refl) (λ n. refl))
-    (optional_found integer 0 key.ReportSlackBytes d written.integer slack_bytes at_slack_bytes (λ n. refl) (λ n. refl)) in
-    let second : options d ≡ option_values d = ap (λ r. options_for r d) (version_found d 2 at_version) in
-    second ∙ then_reads _ _ ((limit, unwrap_or refresh false), (unwrap_or slack_us 0, unwrap_or slack_bytes 0)) _ (both_reads _ _ _ _ timers slacks) refl
+    let second : options d ≡ second_options d = ap (λ r. options_for r d) (version_found d 2 at_version) in
+    let fields = option_fields_found d limit refresh slack_us slack_bytes at_limit at_refresh at_slack_us at_slack_bytes in
+    second ∙ then_reads _ _ ((limit, unwrap_or refresh false), (unwrap_or slack_us 0, unwrap_or slack_bytes 0)) _ fields refl
+
+-- and so are those of version 3
+pub third_options_found : (d : Data) (limit : Option ℕ) (refresh : Option Bool) (slack_us slack_bytes : Option ℕ) (overshoot eliciting : Option Bool) (threshold early : Option ℕ)
+    → get (codes "version") d ≡ Some (written.integer 3)
+    → get (codes "timer_late_us") d ≡ option_map written.integer limit
+    → get (codes "refresh_min_rtt") d ≡ option_map written.boolean refresh
+    → get (codes "report_slack_us") d ≡ option_map written.integer slack_us
+    → get (codes "report_slack_bytes") d ≡ option_map written.integer slack_bytes
+    → get (codes "window_overshoot") d ≡ option_map written.boolean overshoot
+    → get (codes "sample_eliciting_only") d ≡ option_map written.boolean eliciting
+    → get (codes "packet_threshold") d ≡ option_map written.integer threshold
+    → get (codes "timer_early_us") d ≡ option_map written.integer early
+    → options d ≡ Ok (record no_options {
+      timer_late = limit;
+      refresh_min_rtt = unwrap_or refresh false;
+      report_slack_us = unwrap_or slack_us 0;
+      report_slack_bytes = unwrap_or slack_bytes 0;
+      window_overshoot = unwrap_or overshoot false;
+      sample_eliciting_only = unwrap_or eliciting false;
+      packet_threshold = unwrap_or threshold 3;
+      timer_early_us = unwrap_or early 0;
+    })
+third_options_found d limit refresh slack_us slack_bytes overshoot eliciting threshold early at_version at_limit at_refresh at_slack_us at_slack_bytes at_overshoot at_eliciting at_threshold at_early =
+    let third : options d ≡ third_options d = ap (λ r. options_for r d) (version_found d 3 at_version) in
+    let asked = option_fields_found d limit refresh slack_us slack_bytes at_limit at_refresh at_slack_us at_slack_bytes in
+    let chosen = choice_fields_found d overshoot eliciting threshold early at_overshoot at_eliciting at_threshold at_early in
+    third ∙ then_reads _ _
+    (((limit, unwrap_or refresh false), (unwrap_or slack_us 0, unwrap_or slack_bytes 0)), ((unwrap_or overshoot false, unwrap_or eliciting false), (unwrap_or threshold 3, unwrap_or early 0)))
+    _ (both_reads _ _ _ _ asked chosen) refl
 
 -- the settings are those of the values that are there, with their defaults, in the version of this number with these options
-pub header_found : (ms : Members) (n : ℕ) (asked : Options) (role : Role) (max_datagram_size : ℕ) (max_ack_delay initial_rtt initial_window : Option ℕ) (s t : Settings)
+pub header_found : (ms : Members) (n : ℕ) (asked : Options) (role : Role) (times : TimeUnit) (who : Controller) (max_datagram_size : ℕ) (max_ack_delay initial_rtt initial_window : Option ℕ) (s t : Settings)
     → get_member (codes "event") ms ≡ Some (written.string (codes "header"))
     → get_member (codes "version") ms ≡ Some (written.integer n)
     → get_member (codes "role") ms ≡ Some (written.string (role_name role))
+    → unit_and_window (object ms) ≡ Ok (times, who)
     → get_member (codes "max_datagram_size") ms ≡ Some (written.integer max_datagram_size)
     → get_member (codes "max_ack_delay") ms ≡ option_map written.integer max_ack_delay
     → get_member (codes "initial_rtt") ms ≡ option_map written.integer initial_rtt
     → get_member (codes "initial_window") ms ≡ option_map written.integer initial_window
     → options (object ms) ≡ Ok asked
-    → settings role max_datagram_size max_ack_delay initial_rtt initial_window ≡ Ok s
-    → of_version n asked s ≡ Ok t
+    → settings times role max_datagram_size max_ack_delay initial_rtt initial_window ≡ Ok s
+    → of_version n (record asked { controller = who }) s ≡ Ok t
     → object_says reader_named (object ms) ≡ Ok (line.Header t)
 unfolding object_says header_of
-header_found ms n asked role max_datagram_size max_ack_delay initial_rtt initial_window s t named at_version at_role at_size at_delay at_rtt at_window asks are of =
+header_found ms n asked role times who max_datagram_size max_ack_delay initial_rtt initial_window s t named at_version at_role at_unit at_size at_delay at_rtt at_window asks are of =
     let d = object ms in
     let firsts = both_reads _ _ n role (version_found d n at_version)
     (required_reads (string_among role_named) key.Role d (written.string (role_name role)) role at_role refl (role_reads key.Role role)) in
@@ -106,10 +183,10 @@ header_found ms n asked role max_datagram_size max_ack_delay initial_rtt initial
     (required_reads integer key.MaxDatagramSize d (written.integer max_datagram_size) max_datagram_size at_size refl refl)
     (present_integer_reads key.MaxAckDelay d max_ack_delay at_delay) in
     let starts = both_reads _ _ initial_rtt initial_window (present_integer_reads key.InitialRtt d initial_rtt at_rtt) (present_integer_reads key.InitialWindow d initial_window at_window) in
-    let fields = both_reads _ _ _ _ firsts (both_reads _ _ _ _ sizes starts) in
+    let fields = both_reads _ _ _ _ firsts (both_reads _ _ _ _ at_unit (both_reads _ _ _ _ sizes starts)) in
     let says : header_of d ≡ Ok t = then_reads (both (header_fields d) (options d)) _
-    (((n, role), ((max_datagram_size, max_ack_delay), (initial_rtt, initial_window))), asked) _ (both_reads _ _ _ _ fields asks)
-    (then_reads (settings role max_datagram_size max_ack_delay initial_rtt initial_window) (of_version n asked) s t are of) in
+    (((n, role), ((times, who), ((max_datagram_size, max_ack_delay), (initial_rtt, initial_window)))), asked) _ (both_reads _ _ _ _ fields asks)
+    (then_reads (settings times role max_datagram_size max_ack_delay initial_rtt initial_window) (of_version n (record asked { controller = who })) s t are of) in
     then_reads (required string key.Event d) _ (codes "header") (line.Header t) (named_found d (codes "header") named) (ap (λ r. r >>= λ u. Ok (line.Header u)) says)
 
 -- ---- packets

@@ -21,10 +21,14 @@ use Rattle.qa_base.specs.declared.space.Role.{Role}
 use Rattle.qa_base.specs.declared.space.Role.TheVariants.{Client, Server}
 use Rattle.qa_base.specs.declared.space.Space.{Space}
 use Rattle.qa_base.specs.declared.space.Space.TheVariants.{Initial, Handshake, App}
+use Rattle.qa_base.specs.declared.space.Controller.{Controller}
+use Rattle.qa_base.specs.declared.space.Controller.TheVariants.{NewReno, Reported}
+use Rattle.qa_base.specs.declared.space.TimeUnit.{TimeUnit}
+use Rattle.qa_base.specs.declared.space.TimeUnit.TheVariants.{Microseconds, Nanoseconds}
 use Rattle.qa_base.specs.values.Events.{has_ranges}
 use Rattle.qa_format.specs.format.Keys.{◌>>=◌, both, Kind, ranged, integer, integer_from, string_among, pairs_of, is_range, ranges, present, required, read_or, optional, if_present}
 use Rattle.qa_base.specs.values.Limits.{max_packet_number}
-use Rattle.qa_base.specs.values.Names.{key_name, field_name, role_name, role_named, space_name, space_named, leave_name, leave_named, kind_name, kind_named}
+use Rattle.qa_base.specs.values.Names.{key_name, field_name, role_name, role_named, unit_name, controller_name, unit_named, controller_named, space_name, space_named, leave_name, leave_named, kind_name, kind_named}
 use Rattle.qa_format.specs.format.Proper.{IsRange, IsWord}
 pub use Rattle.qa_format.specs.format.Simple.{IsKept}
 use Rattle.qa_format.specs.format.Simple.{is_ascii, AreSimple, HaveSimple, IsBefore}
@@ -54,6 +58,14 @@ integer_from_reads lo hi k n low high = ap (λ b. ranged k (cond b (Some n) None
 pub role_reads : (k : Key) (r : Role) → string_among role_named k (written.string (role_name r)) ≡ Ok r
 role_reads k Client = refl
 role_reads k Server = refl
+
+pub unit_reads : (k : Key) (u : TimeUnit) → string_among unit_named k (written.string (unit_name u)) ≡ Ok u
+unit_reads k Microseconds = refl
+unit_reads k Nanoseconds = refl
+
+pub controller_reads : (k : Key) (w : Controller) → string_among controller_named k (written.string (controller_name w)) ≡ Ok w
+controller_reads k NewReno = refl
+controller_reads k Reported = refl
 
 pub space_reads : (k : Key) (s : Space) → string_among space_named k (written.string (space_name s)) ≡ Ok s
 space_reads k Initial = refl
@@ -135,6 +147,14 @@ boolean_is_kept b = record { simple = tt; shallow = omega arith }
 pub role_is_kept : (r : Role) → IsKept (written.string (role_name r))
 role_is_kept Client = string_is_kept _ refl
 role_is_kept Server = string_is_kept _ refl
+
+pub unit_is_kept : (u : TimeUnit) → IsKept (written.string (unit_name u))
+unit_is_kept Microseconds = string_is_kept _ refl
+unit_is_kept Nanoseconds = string_is_kept _ refl
+
+pub controller_is_kept : (w : Controller) → IsKept (written.string (controller_name w))
+controller_is_kept NewReno = string_is_kept _ refl
+controller_is_kept Reported = string_is_kept _ refl
 
 pub space_is_kept : (s : Space) → IsKept (written.string (space_name s))
 space_is_kept Initial = string_is_kept _ refl

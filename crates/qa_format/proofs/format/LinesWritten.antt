@@ -1,8 +1,8 @@
 -- A line that was written is one line, and is read as itself.
-use Rattle.std.proofs.Common.{◌≡◌, ◌∙◌, ℕ, ◌≤◌, ◌*◌, List, [], ◌∷◌, ◌++◌, Bool, false, Option, Some, None, Ok, refl, ap, ap₂, append_assoc, Less, ◌&&◌, ◌||◌, not, arith, subst, sym}
-use Rattle.std.proofs.lemmas.Bool.{and_parts, leb-true, or_from, le-ltb}
+use Rattle.std.proofs.Common.{◌≡◌, ◌∙◌, ℕ, ◌≤◌, ◌*◌, List, [], ◌∷◌, ◌++◌, Bool, true, false, Option, Some, None, Ok, refl, ap, ap₂, append_assoc, Less, ◌&&◌, ◌||◌, not, arith, subst, sym}
+use Rattle.std.proofs.lemmas.Bool.{and_parts, eqb-true, leb-true, or_from, le-ltb}
 use Rattle.std.specs.Option.{ForSome}
-use Rattle.std.specs.Prelude.{nat_lt, nat_le, codes, option_map, unwrap_or}
+use Rattle.std.specs.Prelude.{◌==◌, nat_lt, nat_le, codes, option_map, unwrap_or}
 use Rattle.std.specs.Cmp.Lexicographic.{slice_cmp}
 use Rattle.std.specs.Ordering.{nat_cmp}
 use Rattle.serde_json.specs.Data.{Data, depth}
@@ -13,8 +13,9 @@ use Rattle.qa_base.specs.declared.event.Event.TheVariants.{Sent, Ack, Lost, Time
 use Rattle.qa_base.specs.declared.event.MetricValues.{MetricValues}
 use Rattle.qa_base.specs.declared.key.Key.{Key}
 use Rattle.qa_base.specs.declared.key.Key.TheVariants as key
+use Rattle.qa_base.specs.declared.header.Options.{Options}
 use Rattle.qa_base.specs.declared.header.Version.{Version}
-use Rattle.qa_base.specs.declared.header.Version.TheVariants.{One, Two}
+use Rattle.qa_base.specs.declared.header.Version.TheVariants.{One, Two, Three}
 use Rattle.qa_format.specs.declared.line.Line.{Line}
 use Rattle.qa_format.specs.declared.line.Line.TheVariants as line
 use Rattle.qa_base.specs.declared.line_kind.LineKind.TheVariants as kinds
@@ -22,20 +23,25 @@ use Rattle.qa_base.specs.declared.rule.Field.TheVariants.{Window, Ssthresh, Byte
 use Rattle.qa_base.specs.declared.space.TimerKind.{TimerKind}
 use Rattle.qa_base.specs.declared.space.Leave.{Leave}
 use Rattle.qa_base.specs.declared.space.Space.{Space}
+use Rattle.qa_base.specs.declared.space.Controller.{Controller}
+use Rattle.qa_base.specs.declared.space.Controller.TheVariants.{NewReno, Reported}
+use Rattle.qa_base.specs.declared.space.TimeUnit.{TimeUnit}
+use Rattle.qa_base.specs.declared.space.TimeUnit.TheVariants.{Microseconds}
+use Rattle.qa_base.proofs.Units.{unit_high}
 use Rattle.qa_format.specs.format.Keys.{◌>>=◌}
 use Rattle.qa_format.specs.format.Lines.{has_lf}
-use Rattle.qa_base.specs.values.Limits.{max_time, max_packet_size, max_timer_late, max_report_slack_us, max_report_slack_bytes}
-use Rattle.qa_base.specs.values.Names.{line_kind_name, space_name}
+use Rattle.qa_base.specs.values.Limits.{max_time, max_packet_size, max_timer_late, max_report_slack_us, max_report_slack_bytes, min_packet_threshold, max_packet_threshold, max_timer_early_us}
+use Rattle.qa_base.specs.values.Names.{line_kind_name, role_name, unit_name, controller_name, space_name}
 use Rattle.qa_format.specs.format.Proper.{IsProperEvent, IsProperLine}
 use Rattle.qa_format.specs.format.Reading.{reader_named, object_says, json_of, reading_by, reading}
-use Rattle.qa_base.specs.values.Settings.{Settings, AreInRange, is_outside, no_options}
+use Rattle.qa_base.specs.values.Settings.{Settings, AreInRange, in_unit, is_outside, no_options, version_in, is_reported}
 use Rattle.qa_format.specs.format.Tables.{settings, of_version}
 use Rattle.qa_format.specs.format.Written as written
-use Rattle.qa_format.specs.format.Written.{Pairs, reported, limit_pairs, header_pairs, event_pairs, members, object_of, written as text_of}
+use Rattle.qa_format.specs.format.Written.{Pairs, reported, header_pairs, event_pairs, members, object_of, written as text_of}
 use Rattle.qa_format.proofs.format.Compact.{IsSimple, read-compact_text, is_utf8-compact_text}
 use Rattle.qa_format.proofs.format.OneLine.{has_lf-compact_text}
-use Rattle.qa_format.proofs.format.KeysFound.{header_found, first_options_found, second_options_found, sent_found, ack_found, lost_found, timer_found, discard_found, confirmed_found, keys_found, metrics_found}
-use Rattle.qa_format.proofs.format.KeysWritten.{past_reported, reported_stands, past_last, last_stands, IsKept, integer_is_kept, string_is_kept, boolean_is_kept, role_is_kept, space_is_kept, leave_is_kept, kind_is_kept, ranges_are_kept, Follow, none_follow, follow, follow_reported, follow_last}
+use Rattle.qa_format.proofs.format.KeysFound.{header_found, first_unit_found, second_unit_found, third_unit_found, first_options_found, second_options_found, third_options_found, sent_found, ack_found, lost_found, timer_found, discard_found, confirmed_found, keys_found, metrics_found}
+use Rattle.qa_format.proofs.format.KeysWritten.{past_reported, reported_stands, past_last, last_stands, IsKept, integer_is_kept, string_is_kept, boolean_is_kept, role_is_kept, unit_is_kept, controller_is_kept, space_is_kept, leave_is_kept, kind_is_kept, ranges_are_kept, Follow, none_follow, follow, follow_reported, follow_last}
 
 -- ---- a report of the sender's state
 
@@ -165,49 +171,74 @@ event_found t v = past_reported (codes "event") BytesInFlight v.bytes_in_flight 
 inside : (lo hi n : ℕ) → lo ≤ n → n ≤ hi → is_outside lo hi n ≡ false
 inside lo hi n low high = or_from (nat_lt n lo) (nat_lt hi n) (le-ltb n lo low) (le-ltb hi n high)
 
--- these values in version 1
-abbrev pub first : Settings → Settings
-first s = record {
+-- these values in the first version that says their unit, with no options
+abbrev pub started : Settings → Settings
+started s = record {
   role = s.role;
+  unit = s.unit;
   max_datagram_size = s.max_datagram_size;
   max_ack_delay = s.max_ack_delay;
   initial_rtt = s.initial_rtt;
   initial_window = s.initial_window;
-  version = One;
+  version = version_in s.unit;
   options = no_options;
 }
 
 -- values in their ranges pass the test of ranges
-pub settings_read : (s : Settings) → AreInRange s → settings s.role s.max_datagram_size (Some s.max_ack_delay) (Some s.initial_rtt) (Some s.initial_window) ≡ Ok (first s)
+pub settings_read : (s : Settings) → AreInRange s → settings s.unit s.role s.max_datagram_size (Some s.max_ack_delay) (Some s.initial_rtt) (Some s.initial_window) ≡ Ok (started s)
 settings_read s are = rw (
   inside 1200 65527 s.max_datagram_size are.datagram_low are.datagram_high,
-  inside 0 16383000 s.max_ack_delay (omega arith) are.delay_high,
-  inside 1 1000000000 s.initial_rtt are.rtt_low are.rtt_high,
+  inside 0 (in_unit s.unit 16383000) s.max_ack_delay (omega arith) are.delay_high,
+  inside 1 (in_unit s.unit 1000000000) s.initial_rtt are.rtt_low are.rtt_high,
   inside (2 * s.max_datagram_size) 4294967295 s.initial_window are.window_low are.window_high,
 ) refl
 
--- these values with these options in version 2
-abbrev pub second : Settings → Option ℕ → Bool → ℕ → ℕ → Settings
-second s limit refresh slack_us slack_bytes = record {
+-- these values in this unit and this version, with these options
+abbrev saying : Settings → TimeUnit → Version → Options → Settings
+saying s unit version options = record {
   role = s.role;
+  unit = unit;
   max_datagram_size = s.max_datagram_size;
   max_ack_delay = s.max_ack_delay;
   initial_rtt = s.initial_rtt;
   initial_window = s.initial_window;
-  version = Two;
-  options = record { timer_late = limit; refresh_min_rtt = refresh; report_slack_us = slack_us; report_slack_bytes = slack_bytes };
+  version = version;
+  options = options;
 }
+
+-- these values in version 1
+abbrev pub first : Settings → Settings
+first s = saying s Microseconds One no_options
+
+-- these values with these options in version 2
+abbrev pub second : Settings → Option ℕ → Bool → ℕ → ℕ → Settings
+second s limit refresh slack_us slack_bytes =
+    saying s Microseconds Two (record no_options { timer_late = limit; refresh_min_rtt = refresh; report_slack_us = slack_us; report_slack_bytes = slack_bytes })
+
+-- these values with this limit in version 3
+abbrev pub third : Settings → Option ℕ → Settings
+third s limit = saying s s.unit Three (record s.options { timer_late = limit })
 
 limit_is : (limit : Option ℕ) (hi : ℕ) → ForSome limit (λ n. n ≤ hi) → unwrap_or limit 0 ≤ hi
 limit_is None hi high = omega arith
 limit_is (Some n) hi high = high n refl
 
 -- options in their ranges pass the test of ranges
-pub options_pass : (s : Settings) → AreInRange s → of_version 2 s.options (first s) ≡ Ok (second s s.options.timer_late s.options.refresh_min_rtt s.options.report_slack_us s.options.report_slack_bytes)
-options_pass s are = rw (
-  inside 0 max_timer_late (unwrap_or s.options.timer_late 0) (omega arith) (limit_is s.options.timer_late max_timer_late are.late_high),
+pub options_pass : (s : Settings) (limit : Option ℕ) (refresh : Bool) (slack_us slack_bytes : ℕ) → AreInRange (second s limit refresh slack_us slack_bytes)
+    → of_version 2 (second s limit refresh slack_us slack_bytes).options (first s) ≡ Ok (second s limit refresh slack_us slack_bytes)
+options_pass s limit refresh slack_us slack_bytes are = rw (
+  inside 0 max_timer_late (unwrap_or limit 0) (omega arith) (limit_is limit max_timer_late are.late_high),
+  inside 0 max_report_slack_us slack_us (omega arith) are.slack_us_high,
+  inside 0 max_report_slack_bytes slack_bytes (omega arith) are.slack_bytes_high,
+) refl
+
+pub third_options_pass : (s : Settings) (limit : Option ℕ) → AreInRange (third s limit) → of_version 3 (third s limit).options (started s) ≡ Ok (third s limit)
+third_options_pass s limit are = rw (
+  inside 0 max_timer_late (unwrap_or limit 0) (omega arith) (limit_is limit max_timer_late are.late_high),
   inside 0 max_report_slack_us s.options.report_slack_us (omega arith) are.slack_us_high,
   inside 0 max_report_slack_bytes s.options.report_slack_bytes (omega arith) are.slack_bytes_high,
+  inside min_packet_threshold max_packet_threshold s.options.packet_threshold are.threshold_low are.threshold_high,
+  inside 0 max_timer_early_us s.options.timer_early_us (omega arith) are.early_high,
 ) refl
 
 -- the limit is there or not, and the version stands behind it
@@ -221,35 +252,72 @@ pub version_at : (s : Settings) (limit : Option ℕ) (refresh : Bool) (slack_us 
 version_at s None refresh slack_us slack_bytes = refl
 version_at s (Some n) refresh slack_us slack_bytes = refl
 
+-- the same in version 3, and what stands behind the limit there
+pub third_limit_at : (s : Settings) (limit : Option ℕ) → get (codes "timer_late_us") (object_of (header_pairs (third s limit))) ≡ option_map written.integer limit
+third_limit_at s None = refl
+third_limit_at s (Some n) = refl
+
+pub third_unit_at : (s : Settings) (limit : Option ℕ) → get (codes "unit") (object_of (header_pairs (third s limit))) ≡ Some (written.string (unit_name s.unit))
+third_unit_at s None = refl
+third_unit_at s (Some n) = refl
+
+pub third_version_at : (s : Settings) (limit : Option ℕ) → get (codes "version") (object_of (header_pairs (third s limit))) ≡ Some (written.integer 3)
+third_version_at s None = refl
+third_version_at s (Some n) = refl
+
+pub third_window_at : (s : Settings) (limit : Option ℕ)
+    → get (codes "window") (object_of (header_pairs (third s limit))) ≡ Some (written.string (controller_name s.options.controller))
+third_window_at s None = refl
+third_window_at s (Some n) = refl
+
+pub third_overshoot_at : (s : Settings) (limit : Option ℕ)
+    → get (codes "window_overshoot") (object_of (header_pairs (third s limit))) ≡ Some (written.boolean s.options.window_overshoot)
+third_overshoot_at s None = refl
+third_overshoot_at s (Some n) = refl
+
+-- these options, with others for those that version 2 has not
+abbrev asking : Options → Controller → Bool → Bool → ℕ → ℕ → Options
+asking o who overshoot only threshold early = record {
+  timer_late = o.timer_late;
+  refresh_min_rtt = o.refresh_min_rtt;
+  report_slack_us = o.report_slack_us;
+  report_slack_bytes = o.report_slack_bytes;
+  controller = who;
+  window_overshoot = overshoot;
+  sample_eliciting_only = only;
+  packet_threshold = threshold;
+  timer_early_us = early;
+}
+
+-- options that version 2 can say have the default for those that it has not
+second_options_are : (o : Options) (who : Controller) (overshoot only : Bool) (threshold early : ℕ)
+    → (not (is_reported who) && not overshoot && not only && threshold == 3 && early == 0) ≡ true → asking o NewReno false false 3 0 ≡ asking o who overshoot only threshold early
+second_options_are o Reported overshoot only threshold early says = cc
+second_options_are o NewReno true only threshold early says = cc
+second_options_are o NewReno false true threshold early says = cc
+second_options_are o NewReno false false threshold early says =
+    let parts = and_parts (threshold == 3) (early == 0) says in
+    ap₂ (asking o NewReno false false) (sym (eqb-true threshold 3 parts.0)) (sym (eqb-true early 0 parts.1))
+
 -- what holds of headers as they are written in their version holds of all in their ranges
-pub of_either : (P : Settings → Type 0) (s : Settings) (v : Version) → s.version ≡ v → AreInRange s
-    → (AreInRange s → P (first s))
+pub of_each : (P : Settings → Type 0) (s : Settings) (v : Version) → s.version ≡ v → AreInRange s
+    → (AreInRange (first s) → P (first s))
     → ((limit : Option ℕ) (refresh : Bool) (slack_us slack_bytes : ℕ) → AreInRange (second s limit refresh slack_us slack_bytes) → P (second s limit refresh slack_us slack_bytes))
+    → ((limit : Option ℕ) → AreInRange (third s limit) → P (third s limit))
     → P s
-of_either P s One is are of_first of_second =
-    let none : s.options ≡ no_options = are.first_version is in
-    let same : first s ≡ s = ap₂ (λ v o. record {
-      role = s.role;
-      max_datagram_size = s.max_datagram_size;
-      max_ack_delay = s.max_ack_delay;
-      initial_rtt = s.initial_rtt;
-      initial_window = s.initial_window;
-      version = v;
-      options = o;
-    }) (sym is) (sym none) in
-    subst P same (of_first are)
-of_either P s Two is are of_first of_second =
+of_each P s One is are of_first of_second of_third =
+    let said = rw is at are.said in
+    let same : first s ≡ s = ap₂ (saying s Microseconds) (sym is) (sym said.1) ∙ ap (λ u. saying s u s.version s.options) (sym said.0) in
+    subst P same (of_first (subst AreInRange (sym same) are))
+of_each P s Two is are of_first of_second of_third =
     let o = s.options in
-    let same : second s o.timer_late o.refresh_min_rtt o.report_slack_us o.report_slack_bytes ≡ s = ap (λ v. record {
-      role = s.role;
-      max_datagram_size = s.max_datagram_size;
-      max_ack_delay = s.max_ack_delay;
-      initial_rtt = s.initial_rtt;
-      initial_window = s.initial_window;
-      version = v;
-      options = s.options;
-    }) (sym is) in
+    let said = rw is at are.said in
+    let asked = second_options_are o o.controller o.window_overshoot o.sample_eliciting_only o.packet_threshold o.timer_early_us said.1 in
+    let same : second s o.timer_late o.refresh_min_rtt o.report_slack_us o.report_slack_bytes ≡ s = ap₂ (saying s Microseconds) (sym is) asked ∙ ap (λ u. saying s u s.version s.options) (sym said.0) in
     subst P same (of_second o.timer_late o.refresh_min_rtt o.report_slack_us o.report_slack_bytes (subst AreInRange (sym same) are))
+of_each P s Three is are of_first of_second of_third =
+    let same : third s s.options.timer_late ≡ s = ap (λ v. saying s s.unit v s.options) (sym is) in
+    subst P same (of_third s.options.timer_late (subst AreInRange (sym same) are))
 
 -- ---- keys rise, and values can be written and read
 
@@ -304,7 +372,7 @@ metrics_follow t v proper =
     (follow_reported _ Ssthresh v.ssthresh _ refl refl words.1
     (follow _ key.Time _ _ refl refl (time_is_kept t proper.in_time) (follow_last _ Window v.window refl refl words.0))))))))
 
--- the keys that both versions have up to max_datagram_size
+-- the keys that each version has up to max_datagram_size
 header_begins : (s : Settings) (ps : Pairs) → AreInRange s → Follow (codes "max_datagram_size") ps
     → Follow [] (
     (key.Event, written.string (line_kind_name kinds.Header))
@@ -315,32 +383,83 @@ header_begins : (s : Settings) (ps : Pairs) → AreInRange s → Follow (codes "
     ∷ ps)
 header_begins s ps are more =
     follow _ key.Event _ _ refl refl (string_is_kept _ refl)
-    (follow _ key.InitialRtt _ _ refl refl (integer_is_kept s.initial_rtt (omega (arith, are.rtt_high)))
+    (follow _ key.InitialRtt _ _ refl refl (integer_is_kept s.initial_rtt (let high = unit_high s.unit s.initial_rtt 1000000000 are.rtt_high in omega (arith, high)))
     (follow _ key.InitialWindow _ _ refl refl (integer_is_kept s.initial_window (omega (arith, are.window_high)))
-    (follow _ key.MaxAckDelay _ _ refl refl (integer_is_kept s.max_ack_delay (omega (arith, are.delay_high)))
+    (follow _ key.MaxAckDelay _ _ refl refl (integer_is_kept s.max_ack_delay (let high = unit_high s.unit s.max_ack_delay 16383000 are.delay_high in omega (arith, high)))
     (follow _ key.MaxDatagramSize _ _ refl refl (integer_is_kept s.max_datagram_size (omega (arith, are.datagram_high))) more))))
 
 version_follows : (j : List ℕ) (n : ℕ) → slice_cmp nat_cmp j (codes "version") ≡ Less → n ≤ 2 → Follow j ((key.Version, written.integer n) ∷ [])
 version_follows j n less small = follow j key.Version (written.integer n) [] less refl (integer_is_kept n (omega (arith, small))) (none_follow (codes "version"))
 
-pub first_follows : (s : Settings) → AreInRange s → Follow [] (header_pairs (first s))
-first_follows s are = header_begins s _ are (follow _ key.Role _ _ refl refl (role_is_kept s.role) (version_follows _ 1 refl (omega arith)))
+pub first_follows : (s : Settings) → AreInRange (first s) → Follow [] (header_pairs (first s))
+first_follows s are = header_begins (first s) _ are (follow _ key.Role _ _ refl refl (role_is_kept s.role) (version_follows _ 1 refl (omega arith)))
 
-limit_follows : (limit : Option ℕ) → ForSome limit (λ n. n ≤ max_timer_late) → Follow (codes "role") (limit_pairs limit ++ (key.Version, written.integer 2) ∷ [])
-limit_follows None high = version_follows _ 2 refl (omega arith)
-limit_follows (Some n) high = follow _ key.TimerLateUs _ _ refl refl (integer_is_kept n (let small = high n refl in omega (arith, small))) (version_follows _ 2 refl (omega arith))
+second_goes_on : (s : Settings) (limit : Option ℕ) (refresh : Bool) (slack_us slack_bytes : ℕ) (ps : Pairs) → AreInRange (second s limit refresh slack_us slack_bytes)
+    → Follow (codes "role") ps
+    → Follow (codes "max_datagram_size") (
+    (key.RefreshMinRtt, written.boolean refresh)
+    ∷ (key.ReportSlackBytes, written.integer slack_bytes)
+    ∷ (key.ReportSlackUs, written.integer slack_us)
+    ∷ (key.Role, written.string (role_name s.role))
+    ∷ ps)
+second_goes_on s limit refresh slack_us slack_bytes ps are more =
+    follow _ key.RefreshMinRtt _ _ refl refl (boolean_is_kept refresh)
+    (follow _ key.ReportSlackBytes _ _ refl refl (integer_is_kept slack_bytes (omega (arith, are.slack_bytes_high)))
+    (follow _ key.ReportSlackUs _ _ refl refl (integer_is_kept slack_us (omega (arith, are.slack_us_high))) (follow _ key.Role _ _ refl refl (role_is_kept s.role) more)))
 
 pub second_follows : (s : Settings) (limit : Option ℕ) (refresh : Bool) (slack_us slack_bytes : ℕ) → AreInRange (second s limit refresh slack_us slack_bytes)
     → Follow [] (header_pairs (second s limit refresh slack_us slack_bytes))
-second_follows s limit refresh slack_us slack_bytes are =
-    header_begins (second s limit refresh slack_us slack_bytes) _ are
-    (follow _ key.RefreshMinRtt _ _ refl refl (boolean_is_kept refresh)
-    (follow _ key.ReportSlackBytes _ _ refl refl (integer_is_kept slack_bytes (omega (arith, are.slack_bytes_high)))
-    (follow _ key.ReportSlackUs _ _ refl refl (integer_is_kept slack_us (omega (arith, are.slack_us_high)))
-    (follow _ key.Role _ _ refl refl (role_is_kept s.role) (limit_follows limit are.late_high)))))
+second_follows s None refresh slack_us slack_bytes are =
+    header_begins (second s None refresh slack_us slack_bytes) _ are (second_goes_on s None refresh slack_us slack_bytes _ are (version_follows _ 2 refl (omega arith)))
+second_follows s (Some n) refresh slack_us slack_bytes are =
+    let high = are.late_high n refl in
+    header_begins (second s (Some n) refresh slack_us slack_bytes) _ are
+    (second_goes_on s (Some n) refresh slack_us slack_bytes _ are
+    (follow _ key.TimerLateUs _ _ refl refl (integer_is_kept n (omega (arith, high))) (version_follows _ 2 refl (omega arith))))
+
+-- the keys of version 3 behind the limit
+third_ends : (s : Settings) (j : List ℕ) → slice_cmp nat_cmp j (codes "unit") ≡ Less
+    → Follow j (
+    (key.Unit, written.string (unit_name s.unit))
+    ∷ (key.Version, written.integer 3)
+    ∷ (key.Window, written.string (controller_name s.options.controller))
+    ∷ (key.WindowOvershoot, written.boolean s.options.window_overshoot)
+    ∷ [])
+third_ends s j less =
+    follow j key.Unit _ _ less refl (unit_is_kept s.unit)
+    (follow _ key.Version _ _ refl refl (integer_is_kept 3 (omega arith))
+    (follow _ key.Window _ _ refl refl (controller_is_kept s.options.controller)
+    (follow _ key.WindowOvershoot _ _ refl refl (boolean_is_kept s.options.window_overshoot) (none_follow (codes "window_overshoot")))))
+
+-- and those from the first option on
+third_goes_on : (s : Settings) (limit : Option ℕ) (ps : Pairs) → AreInRange (third s limit) → Follow (codes "timer_early_us") ps
+    → Follow (codes "max_datagram_size") (
+    (key.PacketThreshold, written.integer s.options.packet_threshold)
+    ∷ (key.RefreshMinRtt, written.boolean s.options.refresh_min_rtt)
+    ∷ (key.ReportSlackBytes, written.integer s.options.report_slack_bytes)
+    ∷ (key.ReportSlackUs, written.integer s.options.report_slack_us)
+    ∷ (key.Role, written.string (role_name s.role))
+    ∷ (key.SampleElicitingOnly, written.boolean s.options.sample_eliciting_only)
+    ∷ (key.TimerEarlyUs, written.integer s.options.timer_early_us)
+    ∷ ps)
+third_goes_on s limit ps are more =
+    follow _ key.PacketThreshold _ _ refl refl (integer_is_kept s.options.packet_threshold (omega (arith, are.threshold_high)))
+    (follow _ key.RefreshMinRtt _ _ refl refl (boolean_is_kept s.options.refresh_min_rtt)
+    (follow _ key.ReportSlackBytes _ _ refl refl (integer_is_kept s.options.report_slack_bytes (omega (arith, are.slack_bytes_high)))
+    (follow _ key.ReportSlackUs _ _ refl refl (integer_is_kept s.options.report_slack_us (omega (arith, are.slack_us_high)))
+    (follow _ key.Role _ _ refl refl (role_is_kept s.role)
+    (follow _ key.SampleElicitingOnly _ _ refl refl (boolean_is_kept s.options.sample_eliciting_only)
+    (follow _ key.TimerEarlyUs _ _ refl refl (integer_is_kept s.options.timer_early_us (omega (arith, are.early_high))) more))))))
+
+pub third_follows : (s : Settings) (limit : Option ℕ) → AreInRange (third s limit) → Follow [] (header_pairs (third s limit))
+third_follows s None are = header_begins (third s None) _ are (third_goes_on s None _ are (third_ends s _ refl))
+third_follows s (Some n) are =
+    let high = are.late_high n refl in
+    header_begins (third s (Some n)) _ are
+    (third_goes_on s (Some n) _ are (follow _ key.TimerLateUs _ _ refl refl (integer_is_kept n (omega (arith, high))) (third_ends s _ refl)))
 
 header_follows : (s : Settings) → AreInRange s → Follow [] (header_pairs s)
-header_follows s are = of_either (λ t. Follow [] (header_pairs t)) s s.version refl are (first_follows s) (second_follows s)
+header_follows s are = of_each (λ t. Follow [] (header_pairs t)) s s.version refl are (first_follows s) (second_follows s) (third_follows s)
 
 -- ---- the line
 
@@ -382,23 +501,38 @@ event_is_said (Keys t) proper = keys_found _ t refl refl proper
 event_is_said (Metrics t v) proper = ap (λ ps. object_says reader_named (object_of ps)) (metrics_pairs_are t v) ∙ metrics_are_said t v proper
 
 -- the object of a header says the header
-first_is_said : (s : Settings) → AreInRange s → object_says reader_named (object_of (header_pairs (first s))) ≡ Ok (line.Header (first s))
+first_is_said : (s : Settings) → AreInRange (first s) → object_says reader_named (object_of (header_pairs (first s))) ≡ Ok (line.Header (first s))
 first_is_said s are =
-    header_found (members (header_pairs (first s))) 1 no_options s.role s.max_datagram_size (Some s.max_ack_delay) (Some s.initial_rtt) (Some s.initial_window) (first s) (first s)
-    refl refl refl refl refl refl refl (first_options_found (object_of (header_pairs (first s))) refl) (settings_read s are) refl
+    let d = object_of (header_pairs (first s)) in
+    header_found (members (header_pairs (first s))) 1 no_options s.role Microseconds NewReno s.max_datagram_size (Some s.max_ack_delay) (Some s.initial_rtt) (Some s.initial_window) (first s) (first s)
+    refl refl refl (first_unit_found d refl) refl refl refl refl (first_options_found d refl) (settings_read (first s) are) refl
 
 second_is_said : (s : Settings) (limit : Option ℕ) (refresh : Bool) (slack_us slack_bytes : ℕ) → AreInRange (second s limit refresh slack_us slack_bytes)
     → object_says reader_named (object_of (header_pairs (second s limit refresh slack_us slack_bytes))) ≡ Ok (line.Header (second s limit refresh slack_us slack_bytes))
 second_is_said s limit refresh slack_us slack_bytes are =
     let t = second s limit refresh slack_us slack_bytes in
+    let d = object_of (header_pairs t) in
     let at_version = version_at s limit refresh slack_us slack_bytes in
-    let asked = second_options_found (object_of (header_pairs t)) limit (Some refresh) (Some slack_us) (Some slack_bytes) at_version
-    (limit_at s limit refresh slack_us slack_bytes) refl refl refl in
-    header_found (members (header_pairs t)) 2 t.options s.role s.max_datagram_size (Some s.max_ack_delay) (Some s.initial_rtt) (Some s.initial_window) (first s) t
-    refl at_version refl refl refl refl refl asked (settings_read t are) (options_pass t are)
+    let asked = second_options_found d limit (Some refresh) (Some slack_us) (Some slack_bytes) at_version (limit_at s limit refresh slack_us slack_bytes) refl refl refl in
+    header_found (members (header_pairs t)) 2 t.options s.role Microseconds NewReno s.max_datagram_size (Some s.max_ack_delay) (Some s.initial_rtt) (Some s.initial_window) (first s) t
+    refl at_version refl (second_unit_found d at_version) refl refl refl refl asked (settings_read t are) (options_pass s limit refresh slack_us slack_bytes are)
+
+third_is_said : (s : Settings) (limit : Option ℕ) → AreInRange (third s limit)
+    → object_says reader_named (object_of (header_pairs (third s limit))) ≡ Ok (line.Header (third s limit))
+third_is_said s limit are =
+    let t = third s limit in
+    let d = object_of (header_pairs t) in
+    let o = s.options in
+    let at_version = third_version_at s limit in
+    let asked = third_options_found d limit (Some o.refresh_min_rtt) (Some o.report_slack_us) (Some o.report_slack_bytes)
+    (Some o.window_overshoot) (Some o.sample_eliciting_only) (Some o.packet_threshold) (Some o.timer_early_us)
+    at_version (third_limit_at s limit) refl refl refl (third_overshoot_at s limit) refl refl refl in
+    header_found (members (header_pairs t)) 3 (record t.options { controller = NewReno }) s.role s.unit s.options.controller s.max_datagram_size (Some s.max_ack_delay) (Some s.initial_rtt) (Some s.initial_window) (started s) t
+    refl at_version refl (third_unit_found d (Some s.unit) (Some s.options.controller) at_version (third_unit_at s limit) (third_window_at s limit)) refl refl refl refl asked (settings_read t are) (third_options_pass s limit are)
 
 header_is_said : (s : Settings) → AreInRange s → object_says reader_named (object_of (header_pairs s)) ≡ Ok (line.Header s)
-header_is_said s are = of_either (λ t. object_says reader_named (object_of (header_pairs t)) ≡ Ok (line.Header t)) s s.version refl are (first_is_said s) (second_is_said s)
+header_is_said s are =
+    of_each (λ t. object_says reader_named (object_of (header_pairs t)) ≡ Ok (line.Header t)) s s.version refl are (first_is_said s) (second_is_said s) (third_is_said s)
 
 -- what was written is read as itself
 pub written_reads : (x : Line) → IsProperLine x → reading (text_of x) ≡ Ok x

@@ -19,20 +19,24 @@ use Rattle.qa_format.specs.declared.line.Line.TheVariants as line
 use Rattle.qa_base.specs.declared.space.Leave.{Leave}
 use Rattle.qa_base.specs.declared.space.Leave.TheVariants.{Window}
 use Rattle.qa_base.specs.values.Constants.{default_initial_rtt, default_max_ack_delay}
-use Rattle.qa_base.specs.values.Names.{key_name, role_name, leave_name, leave_named}
+use Rattle.qa_base.specs.values.Names.{key_name, role_name, unit_name, controller_name, unit_named, controller_named, leave_name, leave_named}
 use Rattle.qa_format.specs.format.Proper.{IsProperEvent}
-use Rattle.qa_base.specs.values.Settings.{Settings, AreInRange, default_window, no_options}
+use Rattle.qa_base.specs.declared.space.Controller.{Controller}
+use Rattle.qa_base.specs.declared.space.Controller.TheVariants.{NewReno}
+use Rattle.qa_base.specs.declared.space.TimeUnit.{TimeUnit}
+use Rattle.qa_base.specs.declared.space.TimeUnit.TheVariants.{Microseconds}
+use Rattle.qa_base.specs.values.Settings.{Settings, AreInRange, in_unit, default_window, no_options}
 use Rattle.qa_format.specs.format.AnyOrder.{IsAmong, AreOfLine, event_defaults, AreOf, header_defaults, AreOfHeader, text_of}
 use Rattle.qa_format.specs.format.Keys.{◌>>=◌, string_among}
 use Rattle.qa_format.specs.format.Reading.{reader_named, object_says, reading_by, reading}
 use Rattle.qa_format.specs.format.Simple.{IsBefore, HaveSimple, IsKept, AreKept, put_all}
-use Rattle.qa_format.specs.format.Tables.{options, settings, of_version}
+use Rattle.qa_format.specs.format.Tables.{unit_and_window, options, settings, of_version}
 use Rattle.qa_format.specs.format.Written as written
 use Rattle.qa_format.specs.format.Written.{Pairs, header_pairs, event_pairs, members}
 use Rattle.qa_format.proofs.format.AnyOrder.{json_of-members, get_put, get_put_other}
-use Rattle.qa_format.proofs.format.KeysFound.{header_found, first_options_found, second_options_found, sent_found, ack_found, lost_found, timer_found, discard_found, confirmed_found, keys_found, metrics_found}
-use Rattle.qa_format.proofs.format.KeysWritten.{leave_reads, Follow}
-use Rattle.qa_format.proofs.format.LinesWritten.{first, second, of_either, settings_read, options_pass, limit_at, version_at, first_follows, second_follows, event_follows, metrics_pairs_are, event_found, time_found, window_found, ssthresh_found, bytes_in_flight_found, latest_rtt_found, min_rtt_found, smoothed_rtt_found, rttvar_found}
+use Rattle.qa_format.proofs.format.KeysFound.{header_found, first_unit_found, second_unit_found, third_unit_found, first_options_found, second_options_found, third_options_found, sent_found, ack_found, lost_found, timer_found, discard_found, confirmed_found, keys_found, metrics_found}
+use Rattle.qa_format.proofs.format.KeysWritten.{unit_reads, controller_reads, leave_reads, Follow}
+use Rattle.qa_format.proofs.format.LinesWritten.{started, first, second, third, of_each, settings_read, options_pass, third_options_pass, limit_at, version_at, third_limit_at, third_unit_at, third_window_at, third_version_at, third_overshoot_at, first_follows, second_follows, third_follows, event_follows, metrics_pairs_are, event_found, time_found, window_found, ssthresh_found, bytes_in_flight_found, latest_rtt_found, min_rtt_found, smoothed_rtt_found, rttvar_found}
 use Rattle.qa_format.proofs.format.PlainTexts.{key_is_ascii}
 
 -- ---- texts
@@ -217,21 +221,53 @@ same_leave : (l m : Leave) → leave_data l ≡ leave_data m → l ≡ m
 same_leave l m e =
     let both : Ok l ≡ Ok m = sym (leave_reads key.Leave l) ∙ ap (string_among leave_named key.Leave) e ∙ leave_reads key.Leave m in cc
 
+abbrev unit_data : TimeUnit → Data
+unit_data u = written.string (unit_name u)
+
+same_unit : (u v : TimeUnit) → unit_data u ≡ unit_data v → u ≡ v
+same_unit u v e =
+    let both : Ok u ≡ Ok v = sym (unit_reads key.Unit u) ∙ ap (string_among unit_named key.Unit) e ∙ unit_reads key.Unit v in cc
+
+abbrev controller_data : Controller → Data
+controller_data w = written.string (controller_name w)
+
+same_controller : (v w : Controller) → controller_data v ≡ controller_data w → v ≡ w
+same_controller v w e =
+    let both : Ok v ≡ Ok w = sym (controller_reads key.Window v) ∙ ap (string_among controller_named key.Window) e ∙ controller_reads key.Window w in cc
+
 events_rise : Rise (members event_defaults)
 events_rise = ((refl, (refl, tt)), ((refl, tt), (tt, tt)))
 
-header_rises : (size : ℕ) → Rise (members (header_defaults size))
-header_rises size = (
-  (refl, (refl, (refl, (refl, (refl, tt))))),
+header_rises : (unit : TimeUnit) (size : ℕ) → Rise (members (header_defaults unit size))
+header_rises unit size = (
+  (refl, (refl, (refl, (refl, (refl, (refl, (refl, (refl, (refl, (refl, (refl, tt))))))))))),
   (
-    (refl, (refl, (refl, (refl, tt)))),
+    (refl, (refl, (refl, (refl, (refl, (refl, (refl, (refl, (refl, (refl, tt)))))))))),
     (
-      (refl, (refl, (refl, tt))),
+      (refl, (refl, (refl, (refl, (refl, (refl, (refl, (refl, (refl, tt))))))))),
       (
-        (refl, (refl, tt)),
+        (refl, (refl, (refl, (refl, (refl, (refl, (refl, (refl, tt)))))))),
         (
-          (refl, tt),
-          (tt, tt),
+          (refl, (refl, (refl, (refl, (refl, (refl, (refl, tt))))))),
+          (
+            (refl, (refl, (refl, (refl, (refl, (refl, tt)))))),
+            (
+              (refl, (refl, (refl, (refl, (refl, tt))))),
+              (
+                (refl, (refl, (refl, (refl, tt)))),
+                (
+                  (refl, (refl, (refl, tt))),
+                  (
+                    (refl, (refl, tt)),
+                    (
+                      (refl, tt),
+                      (tt, tt),
+                    ),
+                  ),
+                ),
+              ),
+            ),
+          ),
         ),
       ),
     ),
@@ -241,54 +277,58 @@ header_rises size = (
 -- ---- headers
 
 settings_given : (s : Settings) (delay rtt window : Option ℕ) → AreInRange s
-    → unwrap_or delay default_max_ack_delay ≡ s.max_ack_delay
-    → unwrap_or rtt default_initial_rtt ≡ s.initial_rtt
+    → unwrap_or delay (in_unit s.unit default_max_ack_delay) ≡ s.max_ack_delay
+    → unwrap_or rtt (in_unit s.unit default_initial_rtt) ≡ s.initial_rtt
     → unwrap_or window (default_window s.max_datagram_size) ≡ s.initial_window
-    → settings s.role s.max_datagram_size delay rtt window ≡ Ok (first s)
+    → settings s.unit s.role s.max_datagram_size delay rtt window ≡ Ok (started s)
 settings_given s delay rtt window are delays rtts windows = rw (delays, rtts, windows) (settings_read s are)
 
--- the line's own pairs are those of a header in the version of this number with these options
-header_given : (s : Settings) (n : ℕ) (o : Options) (t : Settings) (own ps : Pairs) → AreInRange s → Follow [] own → AreOfLine own (header_defaults s.max_datagram_size) ps
+-- the line's own pairs are those of a header in the version of this number
+header_given : (t : Settings) (n : ℕ) (own ps : Pairs) → AreInRange t → Follow [] own → AreOfLine own (header_defaults t.unit t.max_datagram_size) ps
     → get_member (codes "event") (members own) ≡ Some (written.string (codes "header"))
     → get_member (codes "version") (members own) ≡ Some (written.integer n)
-    → get_member (codes "role") (members own) ≡ Some (written.string (role_name s.role))
-    → get_member (codes "max_datagram_size") (members own) ≡ Some (written.integer s.max_datagram_size)
-    → get_member (codes "max_ack_delay") (members own) ≡ Some (written.integer s.max_ack_delay)
-    → get_member (codes "initial_rtt") (members own) ≡ Some (written.integer s.initial_rtt)
-    → get_member (codes "initial_window") (members own) ≡ Some (written.integer s.initial_window)
-    → options (object (put_all no_members (members ps))) ≡ Ok o
-    → of_version n o (first s) ≡ Ok t
+    → get_member (codes "role") (members own) ≡ Some (written.string (role_name t.role))
+    → get_member (codes "max_datagram_size") (members own) ≡ Some (written.integer t.max_datagram_size)
+    → get_member (codes "max_ack_delay") (members own) ≡ Some (written.integer t.max_ack_delay)
+    → get_member (codes "initial_rtt") (members own) ≡ Some (written.integer t.initial_rtt)
+    → get_member (codes "initial_window") (members own) ≡ Some (written.integer t.initial_window)
+    → unit_and_window (object (put_all no_members (members ps))) ≡ Ok (t.unit, t.options.controller)
+    → options (object (put_all no_members (members ps))) ≡ Ok (record t.options { controller = NewReno })
+    → of_version n t.options (started t) ≡ Ok t
     → reading (text_of ps) ≡ Ok (line.Header t)
-header_given s n o t own ps in_range follows are named at_version at_role at_size at_delay at_rtt at_window asks of =
-    let defaults = header_defaults s.max_datagram_size in
-    let rise = header_rises s.max_datagram_size in
+header_given t n own ps in_range follows are named at_version at_role at_size at_delay at_rtt at_window times asks of =
+    let defaults = header_defaults t.unit t.max_datagram_size in
+    let rise = header_rises t.unit t.max_datagram_size in
     let at = required_given own defaults ps follows rise are in
     let integer_at = optional_given own defaults ps follows rise are written.integer in
-    let delay = integer_at default_max_ack_delay (codes "max_ack_delay") s.max_ack_delay same_integer at_delay refl in
-    let rtt = integer_at default_initial_rtt (codes "initial_rtt") s.initial_rtt same_integer at_rtt refl in
-    let window = integer_at (default_window s.max_datagram_size) (codes "initial_window") s.initial_window same_integer at_window refl in
+    let delay = integer_at (in_unit t.unit default_max_ack_delay) (codes "max_ack_delay") t.max_ack_delay same_integer at_delay refl in
+    let rtt = integer_at (in_unit t.unit default_initial_rtt) (codes "initial_rtt") t.initial_rtt same_integer at_rtt refl in
+    let window = integer_at (default_window t.max_datagram_size) (codes "initial_window") t.initial_window same_integer at_window refl in
     text_reads own defaults ps follows rise are (line.Header t)
-    (header_found (put_all no_members (members ps)) n o s.role s.max_datagram_size delay.0 rtt.0 window.0 (first s) t
+    (header_found (put_all no_members (members ps)) n (record t.options { controller = NewReno }) t.role t.unit t.options.controller t.max_datagram_size delay.0 rtt.0 window.0 (started t) t
     (at (codes "event") _ named refl)
     (at (codes "version") _ at_version refl)
     (at (codes "role") _ at_role refl)
+    times
     (at (codes "max_datagram_size") _ at_size refl)
-    delay.1 rtt.1 window.1 asks (settings_given s delay.0 rtt.0 window.0 in_range delay.2 rtt.2 window.2) of)
+    delay.1 rtt.1 window.1 asks (settings_given t delay.0 rtt.0 window.0 in_range delay.2 rtt.2 window.2) of)
 
-first_order_reads : (s : Settings) (ps : Pairs) → AreInRange s → AreOfHeader (first s) ps → reading (text_of ps) ≡ Ok (line.Header (first s))
+first_order_reads : (s : Settings) (ps : Pairs) → AreInRange (first s) → AreOfHeader (first s) ps → reading (text_of ps) ≡ Ok (line.Header (first s))
 first_order_reads s ps in_range are =
     let own = header_pairs (first s) in
+    let d = object (put_all no_members (members ps)) in
     let follows = first_follows s in_range in
-    let at_version = required_given own (header_defaults s.max_datagram_size) ps follows (header_rises s.max_datagram_size) are (codes "version") (written.integer 1) refl refl in
-    header_given s 1 no_options (first s) own ps in_range follows are refl refl refl refl refl refl refl
-    (first_options_found (object (put_all no_members (members ps))) at_version) refl
+    let rise = header_rises Microseconds s.max_datagram_size in
+    let at_version = required_given own (header_defaults Microseconds s.max_datagram_size) ps follows rise are (codes "version") (written.integer 1) refl refl in
+    header_given (first s) 1 own ps in_range follows are refl refl refl refl refl refl refl (first_unit_found d at_version) (first_options_found d at_version) refl
 
 options_given : (limit : Option ℕ) (refresh : Option Bool) (slack_us slack_bytes : Option ℕ) (o : Options)
     → limit ≡ o.timer_late
     → unwrap_or refresh no_options.refresh_min_rtt ≡ o.refresh_min_rtt
     → unwrap_or slack_us no_options.report_slack_us ≡ o.report_slack_us
     → unwrap_or slack_bytes no_options.report_slack_bytes ≡ o.report_slack_bytes
-    → record { timer_late = limit; refresh_min_rtt = unwrap_or refresh false; report_slack_us = unwrap_or slack_us 0; report_slack_bytes = unwrap_or slack_bytes 0 } ≡ o
+    → record no_options { timer_late = limit; refresh_min_rtt = unwrap_or refresh false; report_slack_us = unwrap_or slack_us 0; report_slack_bytes = unwrap_or slack_bytes 0 }
+    ≡ record no_options { timer_late = o.timer_late; refresh_min_rtt = o.refresh_min_rtt; report_slack_us = o.report_slack_us; report_slack_bytes = o.report_slack_bytes }
 options_given limit refresh slack_us slack_bytes o limits refreshes times bytes = rw (limits, refreshes, times, bytes) refl
 
 second_order_reads : (s : Settings) (ps : Pairs) (limit : Option ℕ) (refresh : Bool) (slack_us slack_bytes : ℕ) → AreInRange (second s limit refresh slack_us slack_bytes)
@@ -297,24 +337,80 @@ second_order_reads : (s : Settings) (ps : Pairs) (limit : Option ℕ) (refresh :
 second_order_reads s ps limit refresh slack_us slack_bytes in_range are =
     let t = second s limit refresh slack_us slack_bytes in
     let own = header_pairs t in
-    let defaults = header_defaults s.max_datagram_size in
+    let d = object (put_all no_members (members ps)) in
+    let defaults = header_defaults Microseconds s.max_datagram_size in
     let follows = second_follows s limit refresh slack_us slack_bytes in_range in
-    let rise = header_rises s.max_datagram_size in
+    let rise = header_rises Microseconds s.max_datagram_size in
     let own_version = version_at s limit refresh slack_us slack_bytes in
     let at_version = required_given own defaults ps follows rise are (codes "version") (written.integer 2) own_version refl in
     let at_limit = reported_given own defaults ps follows rise are (codes "timer_late_us") limit (limit_at s limit refresh slack_us slack_bytes) refl in
     let refreshes = optional_given own defaults ps follows rise are written.boolean no_options.refresh_min_rtt (codes "refresh_min_rtt") refresh same_boolean refl refl in
     let times = optional_given own defaults ps follows rise are written.integer no_options.report_slack_us (codes "report_slack_us") slack_us same_integer refl refl in
     let bytes = optional_given own defaults ps follows rise are written.integer no_options.report_slack_bytes (codes "report_slack_bytes") slack_bytes same_integer refl refl in
-    let asks : options (object (put_all no_members (members ps))) ≡ Ok t.options =
-    second_options_found (object (put_all no_members (members ps))) limit refreshes.0 times.0 bytes.0 at_version at_limit refreshes.1 times.1 bytes.1
+    let asks : options d ≡ Ok t.options =
+    second_options_found d limit refreshes.0 times.0 bytes.0 at_version at_limit refreshes.1 times.1 bytes.1
     ∙ ap (λ o. Ok o) (options_given limit refreshes.0 times.0 bytes.0 t.options refl refreshes.2 times.2 bytes.2) in
-    header_given t 2 t.options t own ps in_range follows are refl own_version refl refl refl refl refl asks (options_pass t in_range)
+    header_given t 2 own ps in_range follows are refl own_version refl refl refl refl refl (second_unit_found d at_version) asks (options_pass s limit refresh slack_us slack_bytes in_range)
+
+third_options_given : (limit : Option ℕ) (refresh : Option Bool) (slack_us slack_bytes : Option ℕ) (overshoot eliciting : Option Bool) (threshold early : Option ℕ) (o : Options)
+    → limit ≡ o.timer_late
+    → unwrap_or refresh no_options.refresh_min_rtt ≡ o.refresh_min_rtt
+    → unwrap_or slack_us no_options.report_slack_us ≡ o.report_slack_us
+    → unwrap_or slack_bytes no_options.report_slack_bytes ≡ o.report_slack_bytes
+    → unwrap_or overshoot no_options.window_overshoot ≡ o.window_overshoot
+    → unwrap_or eliciting no_options.sample_eliciting_only ≡ o.sample_eliciting_only
+    → unwrap_or threshold no_options.packet_threshold ≡ o.packet_threshold
+    → unwrap_or early no_options.timer_early_us ≡ o.timer_early_us
+    → record no_options {
+      timer_late = limit;
+      refresh_min_rtt = unwrap_or refresh false;
+      report_slack_us = unwrap_or slack_us 0;
+      report_slack_bytes = unwrap_or slack_bytes 0;
+      window_overshoot = unwrap_or overshoot false;
+      sample_eliciting_only = unwrap_or eliciting false;
+      packet_threshold = unwrap_or threshold 3;
+      timer_early_us = unwrap_or early 0;
+    } ≡ record o { controller = NewReno }
+third_options_given limit refresh slack_us slack_bytes overshoot eliciting threshold early o limits refreshes times bytes overshoots samples thresholds earlies =
+    rw (limits, refreshes, times, bytes, overshoots, samples, thresholds, earlies) refl
+
+third_order_reads : (s : Settings) (ps : Pairs) (limit : Option ℕ) → AreInRange (third s limit) → AreOfHeader (third s limit) ps
+    → reading (text_of ps) ≡ Ok (line.Header (third s limit))
+third_order_reads s ps limit in_range are =
+    let t = third s limit in
+    let o = s.options in
+    let own = header_pairs t in
+    let d = object (put_all no_members (members ps)) in
+    let defaults = header_defaults s.unit s.max_datagram_size in
+    let follows = third_follows s limit in_range in
+    let rise = header_rises s.unit s.max_datagram_size in
+    let own_version = third_version_at s limit in
+    let at_version = required_given own defaults ps follows rise are (codes "version") (written.integer 3) own_version refl in
+    let at_limit = reported_given own defaults ps follows rise are (codes "timer_late_us") limit (third_limit_at s limit) refl in
+    let integer_at = optional_given own defaults ps follows rise are written.integer in
+    let boolean_at = optional_given own defaults ps follows rise are written.boolean in
+    let units = optional_given own defaults ps follows rise are unit_data Microseconds (codes "unit") s.unit same_unit (third_unit_at s limit) refl in
+    let windows = optional_given own defaults ps follows rise are controller_data NewReno (codes "window") o.controller same_controller (third_window_at s limit) refl in
+    let refreshes = boolean_at no_options.refresh_min_rtt (codes "refresh_min_rtt") o.refresh_min_rtt same_boolean refl refl in
+    let times = integer_at no_options.report_slack_us (codes "report_slack_us") o.report_slack_us same_integer refl refl in
+    let bytes = integer_at no_options.report_slack_bytes (codes "report_slack_bytes") o.report_slack_bytes same_integer refl refl in
+    let overshoots = boolean_at no_options.window_overshoot (codes "window_overshoot") o.window_overshoot same_boolean (third_overshoot_at s limit) refl in
+    let samples = boolean_at no_options.sample_eliciting_only (codes "sample_eliciting_only") o.sample_eliciting_only same_boolean refl refl in
+    let thresholds = integer_at no_options.packet_threshold (codes "packet_threshold") o.packet_threshold same_integer refl refl in
+    let earlies = integer_at no_options.timer_early_us (codes "timer_early_us") o.timer_early_us same_integer refl refl in
+    let clocks : unit_and_window d ≡ Ok (s.unit, o.controller) = third_unit_found d units.0 windows.0 at_version units.1 windows.1 ∙ ap₂ (λ u w. Ok (u, w)) units.2 windows.2 in
+    let asks : options d ≡ Ok (record t.options { controller = NewReno }) =
+    third_options_found d limit refreshes.0 times.0 bytes.0 overshoots.0 samples.0 thresholds.0 earlies.0
+    at_version at_limit refreshes.1 times.1 bytes.1 overshoots.1 samples.1 thresholds.1 earlies.1
+    ∙ ap (λ p. Ok p) (third_options_given limit refreshes.0 times.0 bytes.0 overshoots.0 samples.0 thresholds.0 earlies.0 t.options
+    refl refreshes.2 times.2 bytes.2 overshoots.2 samples.2 thresholds.2 earlies.2) in
+    header_given t 3 own ps in_range follows are refl own_version refl refl refl refl refl clocks asks (third_options_pass s limit in_range)
 
 -- a header is read from its keys and values in any order, and with or without its defaults
 pub header_order_reads : (s : Settings) (ps : Pairs) → AreInRange s → AreOfHeader s ps → reading (text_of ps) ≡ Ok (line.Header s)
 header_order_reads s ps in_range =
-    of_either (λ t. AreOfHeader t ps → reading (text_of ps) ≡ Ok (line.Header t)) s s.version refl in_range (first_order_reads s ps) (second_order_reads s ps)
+    of_each (λ t. AreOfHeader t ps → reading (text_of ps) ≡ Ok (line.Header t)) s s.version refl in_range (first_order_reads s ps) (second_order_reads s ps)
+    (third_order_reads s ps)
 
 -- ---- events
 

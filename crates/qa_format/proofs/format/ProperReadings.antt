@@ -17,22 +17,25 @@ use Rattle.qa_format.specs.declared.fault.Fault.TheVariants.{NotJson, NotObject,
 use Rattle.qa_base.specs.declared.key.RangeFault.{RangeFault}
 use Rattle.qa_base.specs.declared.key.Key.TheVariants as key
 use Rattle.qa_base.specs.declared.header.Options.{Options}
-use Rattle.qa_base.specs.declared.header.Version.TheVariants.{One, Two}
+use Rattle.qa_base.specs.declared.header.Version.{Version}
+use Rattle.qa_base.specs.declared.header.Version.TheVariants.{One, Two, Three}
 use Rattle.qa_base.specs.declared.rule.Field.TheVariants.{Window, Ssthresh, BytesInFlight, LatestRtt, MinRtt, SmoothedRtt, Rttvar}
 use Rattle.qa_base.specs.declared.space.Space.{Space}
 use Rattle.qa_base.specs.declared.space.Space.TheVariants.{Initial, Handshake, App}
 use Rattle.qa_base.specs.declared.space.Role.{Role}
+use Rattle.qa_base.specs.declared.space.TimeUnit.{TimeUnit}
+use Rattle.qa_base.specs.declared.space.TimeUnit.TheVariants.{Microseconds, Nanoseconds}
 use Rattle.qa_format.specs.declared.line.Line.{Line}
 use Rattle.qa_format.specs.declared.line.Line.TheVariants as line
 use Rattle.qa_base.specs.declared.line_kind.LineKind.{LineKind}
 use Rattle.qa_base.specs.declared.line_kind.LineKind.TheVariants as kinds
 use Rattle.qa_base.specs.values.Events.{is_space}
 use Rattle.qa_format.specs.format.Keys.{◌>>=◌, both, ranged, string, string_among, required}
-use Rattle.qa_base.specs.values.Limits.{max_time, max_packet_number, max_packet_size, max_timer_late, max_report_slack_us, max_report_slack_bytes}
+use Rattle.qa_base.specs.values.Limits.{max_time, max_packet_number, max_packet_size, max_timer_late, max_report_slack_us, max_report_slack_bytes, min_packet_threshold, max_packet_threshold, max_timer_early_us}
 use Rattle.qa_base.specs.values.Names.{line_kind_named, discarded_named}
 use Rattle.qa_format.specs.format.Proper.{AreWords, IsProperEvent, IsProperLine}
 use Rattle.qa_format.specs.format.Reading.{Reader, header_line, event_line, reader_of, reader_named, object_says, json_of, is_blank, reading_by, reading}
-use Rattle.qa_base.specs.values.Settings.{Settings, AreInRange, is_outside, default_window, no_options, checked, settings_of, with_options}
+use Rattle.qa_base.specs.values.Settings.{Settings, AreInRange, IsSaidIn, are_second, is_outside, in_unit, default_window, no_options, checked, version_in, settings_in, version_with, in_version, with_options, choosing_options}
 use Rattle.qa_format.specs.format.Tables.{time, out_of_range, header_fields, options, settings, of_version, header_of, sent_fields, sent_of, ack_fields, ack_of, lost_fields, lost_of, timer_fields, timer_of, discard_fields, discard_of, confirmed_of, keys_of, metric, metric_values, metrics_of}
 use Rattle.qa_format.specs.format.Written.{line_fits}
 use Rattle.qa_format.proofs.format.KeysRead.{bind_ok, both_ok, ok_is, required_stands, required_within, required_high, optional_is_word, present_is_word, ranges_are}
@@ -174,19 +177,27 @@ past false fault r s h = (refl, h)
 none_is_high : (hi : ℕ) → ForSome None (λ n. n ≤ hi)
 none_is_high hi n is = cc
 
--- values that were compared with their ranges are in them
-checked_is_in_range : (s t : Settings) → s.options ≡ no_options → checked s ≡ Ok t → AreInRange t
-checked_is_in_range s t none h =
+-- values that were compared with their ranges are those that were given
+checked_is : (s t : Settings) → checked s ≡ Ok t → s ≡ t
+checked_is s t h =
     let datagram = past (is_outside 1200 65527 s.max_datagram_size) _ _ t h in
-    let delay = past (is_outside 0 16383000 s.max_ack_delay) _ _ t datagram.1 in
-    let rtt = past (is_outside 1 1000000000 s.initial_rtt) _ _ t delay.1 in
+    let delay = past (is_outside 0 (in_unit s.unit 16383000) s.max_ack_delay) _ _ t datagram.1 in
+    let rtt = past (is_outside 1 (in_unit s.unit 1000000000) s.initial_rtt) _ _ t delay.1 in
+    let window = past (is_outside (2 * s.max_datagram_size) 4294967295 s.initial_window) _ _ t rtt.1 in
+    ok_is_settings s t window.1
+
+-- and are in them
+checked_is_in_range : (s t : Settings) → s.options ≡ no_options → IsSaidIn s.version s.unit s.options → checked s ≡ Ok t → AreInRange t
+checked_is_in_range s t none said h =
+    let datagram = past (is_outside 1200 65527 s.max_datagram_size) _ _ t h in
+    let delay = past (is_outside 0 (in_unit s.unit 16383000) s.max_ack_delay) _ _ t datagram.1 in
+    let rtt = past (is_outside 1 (in_unit s.unit 1000000000) s.initial_rtt) _ _ t delay.1 in
     let window = past (is_outside (2 * s.max_datagram_size) 4294967295 s.initial_window) _ _ t rtt.1 in
     let datagram_in = inside 1200 65527 s.max_datagram_size datagram.0 in
-    let delay_in = inside 0 16383000 s.max_ack_delay delay.0 in
-    let rtt_in = inside 1 1000000000 s.initial_rtt rtt.0 in
+    let delay_in = inside 0 (in_unit s.unit 16383000) s.max_ack_delay delay.0 in
+    let rtt_in = inside 1 (in_unit s.unit 1000000000) s.initial_rtt rtt.0 in
     let window_in = inside (2 * s.max_datagram_size) 4294967295 s.initial_window window.0 in
-    let same : s ≡ t = cc in
-    rw (← same) (record {
+    rw (← checked_is s t h) (record {
       datagram_low = datagram_in.0;
       datagram_high = datagram_in.1;
       delay_high = delay_in.1;
@@ -197,36 +208,55 @@ checked_is_in_range s t none h =
       late_high = rw none (none_is_high max_timer_late);
       slack_us_high = rw none (omega arith);
       slack_bytes_high = rw none (omega arith);
+      threshold_low = rw none (omega arith);
+      threshold_high = rw none (omega arith);
+      early_high = rw none (omega arith);
       first_version = λ first. none;
+      said = said;
     })
 
 limit_high : (limit : Option ℕ) (hi : ℕ) → unwrap_or limit 0 ≤ hi → ForSome limit (λ n. n ≤ hi)
 limit_high None hi high = none_is_high hi
 limit_high (Some m) hi high = λ n is. let same : m ≡ n = cc in rw (← same) high
 
-two_is_not_one : (A : Type 0) → Two ≡ One → A
-two_is_not_one A h = cc
+said_first : (v : Version) (u : TimeUnit) (o : Options) → IsSaidIn v u o → v ≡ One → o ≡ no_options
+said_first One u o said first = said.1
+said_first Two u o said first = cc
+said_first Three u o said first = cc
 
--- and so are options
-with_options_in_range : (s t : Settings) (o : Options) → AreInRange s → with_options s o ≡ Ok t → AreInRange t
-with_options_in_range s t o are h =
+-- the values with options that were compared with their ranges
+in_version_is : (v : Version) (s t : Settings) (o : Options) → in_version v s o ≡ Ok t → record {
+  role = s.role;
+  unit = s.unit;
+  max_datagram_size = s.max_datagram_size;
+  max_ack_delay = s.max_ack_delay;
+  initial_rtt = s.initial_rtt;
+  initial_window = s.initial_window;
+  version = v;
+  options = o;
+} ≡ t
+in_version_is v s t o h =
     let late = past (is_outside 0 max_timer_late (unwrap_or o.timer_late 0)) _ _ t h in
     let slack_us = past (is_outside 0 max_report_slack_us o.report_slack_us) _ _ t late.1 in
     let slack_bytes = past (is_outside 0 max_report_slack_bytes o.report_slack_bytes) _ _ t slack_us.1 in
+    let threshold = past (is_outside min_packet_threshold max_packet_threshold o.packet_threshold) _ _ t slack_bytes.1 in
+    let early = past (is_outside 0 max_timer_early_us o.timer_early_us) _ _ t threshold.1 in
+    ok_is_settings _ t early.1
+
+-- and they are in them
+in_version_in_range : (v : Version) (s t : Settings) (o : Options) → AreInRange s → IsSaidIn v s.unit o → in_version v s o ≡ Ok t → AreInRange t
+in_version_in_range v s t o are said h =
+    let late = past (is_outside 0 max_timer_late (unwrap_or o.timer_late 0)) _ _ t h in
+    let slack_us = past (is_outside 0 max_report_slack_us o.report_slack_us) _ _ t late.1 in
+    let slack_bytes = past (is_outside 0 max_report_slack_bytes o.report_slack_bytes) _ _ t slack_us.1 in
+    let threshold = past (is_outside min_packet_threshold max_packet_threshold o.packet_threshold) _ _ t slack_bytes.1 in
+    let early = past (is_outside 0 max_timer_early_us o.timer_early_us) _ _ t threshold.1 in
     let late_in = inside 0 max_timer_late (unwrap_or o.timer_late 0) late.0 in
     let slack_us_in = inside 0 max_report_slack_us o.report_slack_us slack_us.0 in
     let slack_bytes_in = inside 0 max_report_slack_bytes o.report_slack_bytes slack_bytes.0 in
-    let set : Settings = record {
-      role = s.role;
-      max_datagram_size = s.max_datagram_size;
-      max_ack_delay = s.max_ack_delay;
-      initial_rtt = s.initial_rtt;
-      initial_window = s.initial_window;
-      version = Two;
-      options = o;
-    } in
-    let same : set ≡ t = ok_is_settings set t slack_bytes.1 in
-    rw (← same) (record {
+    let threshold_in = inside min_packet_threshold max_packet_threshold o.packet_threshold threshold.0 in
+    let early_in = inside 0 max_timer_early_us o.timer_early_us early.0 in
+    rw (← in_version_is v s t o h) (record {
       datagram_low = are.datagram_low;
       datagram_high = are.datagram_high;
       delay_high = are.delay_high;
@@ -237,34 +267,63 @@ with_options_in_range s t o are h =
       late_high = limit_high o.timer_late max_timer_late late_in.1;
       slack_us_high = slack_us_in.1;
       slack_bytes_high = slack_bytes_in.1;
-      first_version = two_is_not_one (o ≡ no_options);
+      threshold_low = threshold_in.0;
+      threshold_high = threshold_in.1;
+      early_high = early_in.1;
+      first_version = said_first v s.unit o said;
+      said = said;
     })
 
 unmapped : (r : Result Settings RangeFault) (s : Settings) → out_of_range r ≡ Ok s → r ≡ Ok s
 unmapped (Ok t) s h = cc
 unmapped (Err e) s h = cc
 
--- a header that was read has one of the versions
-versioned : (first second : Bool) (s t : Settings) (r : Result Settings Fault) → cond first (Ok s) (cond second r (Err fault.Version)) ≡ Ok t → (s ≡ t) ⊎ (r ≡ Ok t)
-versioned true second s t r h = inl cc
-versioned false true s t r h = inr h
-versioned false false s t r h = cc
+-- options are said in the version that they get
+said_by : (second : Bool) (u : TimeUnit) (o : Options) → are_second o ≡ second → u ≡ Microseconds → IsSaidIn (cond second Two Three) u o
+said_by true u o is micro = (micro, is)
+said_by false u o is micro = tt
 
-set_is_in_range : (role : Role) (datagram : ℕ) (delay rtt window : Option ℕ) (s : Settings) → settings role datagram delay rtt window ≡ Ok s → AreInRange s
-set_is_in_range role datagram delay rtt window s h = checked_is_in_range (record {
+said_with : (v : Version) (u : TimeUnit) (old o : Options) → IsSaidIn v u old → IsSaidIn (version_with v o) u o
+said_with One u old o said = said_by (are_second o) u o refl said.0
+said_with Two u old o said = said_by (are_second o) u o refl said.0
+said_with Three u old o said = tt
+
+with_options_in_range : (s t : Settings) (o : Options) → AreInRange s → with_options s o ≡ Ok t → AreInRange t
+with_options_in_range s t o are = in_version_in_range (version_with s.version o) s t o are (said_with s.version s.unit s.options o are.said)
+
+-- a header that was read has one of the versions
+versioned : (first second third : Bool) (s t : Settings) (q r : Result Settings Fault)
+    → cond first (Ok s) (cond second q (cond third r (Err fault.Version))) ≡ Ok t → (s ≡ t) ⊎ (q ≡ Ok t) ⊎ (r ≡ Ok t)
+versioned true second third s t q r h = inl cc
+versioned false true third s t q r h = inr (inl h)
+versioned false false true s t q r h = inr (inr h)
+versioned false false false s t q r h = cc
+
+-- no options are said in the first version of each unit
+none_said : (u : TimeUnit) → IsSaidIn (version_in u) u no_options
+none_said Microseconds = (refl, refl)
+none_said Nanoseconds = tt
+
+-- a header with no options that was read is in its ranges
+set_is_in_range : (unit : TimeUnit) (role : Role) (datagram : ℕ) (delay rtt window : Option ℕ) (s : Settings) → settings unit role datagram delay rtt window ≡ Ok s → AreInRange s
+set_is_in_range unit role datagram delay rtt window s h = checked_is_in_range (record {
   role = role;
+  unit = unit;
   max_datagram_size = datagram;
-  max_ack_delay = unwrap_or delay 25000;
-  initial_rtt = unwrap_or rtt 333000;
+  max_ack_delay = unwrap_or delay (in_unit unit 25000);
+  initial_rtt = unwrap_or rtt (in_unit unit 333000);
   initial_window = unwrap_or window (default_window datagram);
-  version = One;
+  version = version_in unit;
   options = no_options;
-}) s refl (unmapped (settings_of role datagram delay rtt window) s h)
+}) s refl (none_said unit) (unmapped (settings_in unit role datagram delay rtt window) s h)
 
 of_version_in_range : (n : ℕ) (o : Options) (s t : Settings) → AreInRange s → of_version n o s ≡ Ok t → AreInRange t
-of_version_in_range n o s t are h = elim (versioned (n == 1) (n == 2) s t (out_of_range (with_options s o)) h) [
+of_version_in_range n o s t are h = elim (versioned (n == 1) (n == 2) (n == 3) s t (out_of_range (with_options s o)) (out_of_range (choosing_options s o)) h) [
   | inl same ↦ rw (← same) are
-  | inr set ↦ with_options_in_range s t o are (unmapped (with_options s o) t set)
+  | inr later ↦ elim later [
+    | inl set ↦ with_options_in_range s t o are (unmapped (with_options s o) t set)
+    | inr set ↦ in_version_in_range Three s t o are tt (unmapped (choosing_options s o) t set)
+  ]
 ]
 
 header_is_proper : (d : Data) (s : Settings) → header_of d ≡ Ok s → AreInRange s
@@ -272,8 +331,9 @@ unfolding header_of
 header_is_proper d s h =
     let read = bind_ok (both (header_fields d) (options d)) _ s h in
     let f = read.0.0 in
-    let set = bind_ok (settings f.0.1 f.1.0.0 f.1.0.1 f.1.1.0 f.1.1.1) (of_version f.0.0 read.0.1) s read.2 in
-    of_version_in_range f.0.0 read.0.1 set.0 s (set_is_in_range f.0.1 f.1.0.0 f.1.0.1 f.1.1.0 f.1.1.1 set.0 set.1) set.2
+    let asked : Options = record read.0.1 { controller = f.1.0.1 } in
+    let set = bind_ok (settings f.1.0.0 f.0.1 f.1.1.0.0 f.1.1.0.1 f.1.1.1.0 f.1.1.1.1) (of_version f.0.0 asked) s read.2 in
+    of_version_in_range f.0.0 asked set.0 s (set_is_in_range f.1.0.0 f.0.1 f.1.1.0.0 f.1.1.0.1 f.1.1.1.0 f.1.1.1.1 set.0 set.1) set.2
 
 -- ---- a line
 

@@ -8,9 +8,11 @@ use Rattle.qa_base.specs.declared.event.Event.{Event}
 use Rattle.qa_base.specs.declared.key.Key.{Key}
 use Rattle.qa_base.specs.declared.key.Key.TheVariants as key
 use Rattle.qa_base.specs.declared.space.Leave.TheVariants.{Window}
+use Rattle.qa_base.specs.declared.space.TimeUnit.{TimeUnit}
+use Rattle.qa_base.specs.declared.space.TimeUnit.TheVariants.{Microseconds}
 use Rattle.qa_base.specs.values.Constants.{default_initial_rtt, default_max_ack_delay}
-use Rattle.qa_base.specs.values.Names.{leave_name}
-use Rattle.qa_base.specs.values.Settings.{Settings, default_window, no_options}
+use Rattle.qa_base.specs.values.Names.{leave_name, unit_name, controller_name}
+use Rattle.qa_base.specs.values.Settings.{Settings, in_unit, default_window, no_options}
 use Rattle.qa_format.specs.format.Written.{Pairs, integer, string, boolean, header_pairs, event_pairs, object_of}
 
 -- the pair is one of these
@@ -36,20 +38,27 @@ AreOf e = AreOfLine (event_pairs e) event_defaults
 
 -- ---- headers
 
--- the same of a header with this datagram size, by which the initial window is computed; the last three are keys of version 2
-abbrev pub header_defaults : ℕ → Pairs
-header_defaults max_datagram_size =
-    (key.InitialRtt, integer default_initial_rtt)
+-- the same of a header with times in this unit and with this datagram size, by which the initial window is computed; some are keys
+-- of later versions alone
+abbrev pub header_defaults : TimeUnit → ℕ → Pairs
+header_defaults unit max_datagram_size =
+    (key.InitialRtt, integer (in_unit unit default_initial_rtt))
     ∷ (key.InitialWindow, integer (default_window max_datagram_size))
-    ∷ (key.MaxAckDelay, integer default_max_ack_delay)
+    ∷ (key.MaxAckDelay, integer (in_unit unit default_max_ack_delay))
+    ∷ (key.PacketThreshold, integer no_options.packet_threshold)
     ∷ (key.RefreshMinRtt, boolean no_options.refresh_min_rtt)
     ∷ (key.ReportSlackBytes, integer no_options.report_slack_bytes)
     ∷ (key.ReportSlackUs, integer no_options.report_slack_us)
+    ∷ (key.SampleElicitingOnly, boolean no_options.sample_eliciting_only)
+    ∷ (key.TimerEarlyUs, integer no_options.timer_early_us)
+    ∷ (key.Unit, string (unit_name Microseconds))
+    ∷ (key.Window, string (controller_name no_options.controller))
+    ∷ (key.WindowOvershoot, boolean no_options.window_overshoot)
     ∷ []
 
 -- the pairs are the keys and values of the header
 abbrev pub AreOfHeader : Settings → Pairs → Type 0
-AreOfHeader s = AreOfLine (header_pairs s) (header_defaults s.max_datagram_size)
+AreOfHeader s = AreOfLine (header_pairs s) (header_defaults s.unit s.max_datagram_size)
 
 -- ---- the text
 

@@ -11,18 +11,23 @@ use Rattle.qa_base.specs.declared.event.Event.{Event}
 use Rattle.qa_base.specs.declared.event.Event.TheVariants.{Sent, Ack, Lost, Timer, Discard, Confirmed, Keys, Metrics}
 use Rattle.qa_base.specs.declared.event.MetricValues.{MetricValues}
 use Rattle.qa_base.specs.declared.header.Options.{Options}
-use Rattle.qa_base.specs.declared.header.Version.TheVariants.{One, Two}
+use Rattle.qa_base.specs.declared.header.Version.TheVariants.{One, Two, Three}
 use Rattle.qa_base.specs.declared.rule.Field.{Field}
 use Rattle.qa_base.specs.declared.rule.Field.TheVariants.{Window, Ssthresh, BytesInFlight, LatestRtt, MinRtt, SmoothedRtt, Rttvar}
+use Rattle.qa_base.specs.declared.space.Controller.{Controller}
+use Rattle.qa_base.specs.declared.space.Controller.TheVariants.{NewReno}
 use Rattle.qa_base.specs.declared.space.TimerKind.{TimerKind}
 use Rattle.qa_base.specs.declared.space.Leave.{Leave}
 use Rattle.qa_base.specs.declared.space.Leave.TheVariants as leaves
 use Rattle.qa_base.specs.declared.space.Space.{Space}
 use Rattle.qa_base.specs.declared.space.Role.{Role}
+use Rattle.qa_base.specs.declared.space.TimeUnit.{TimeUnit}
+use Rattle.qa_base.specs.declared.space.TimeUnit.TheVariants.{Microseconds}
 use Rattle.qa_format.specs.format.Keys.{◌>>=◌, both, integer, integer_from, string_among, boolean, ranges, required, optional, if_present}
+use Rattle.qa_base.specs.values.Constants.{default_packet_threshold}
 use Rattle.qa_base.specs.values.Limits.{max_time, max_packet_number, max_packet_size}
-use Rattle.qa_base.specs.values.Names.{version_number, role_named, space_named, discarded_named, leave_named, kind_named}
-use Rattle.qa_base.specs.values.Settings.{Settings, no_options, settings_of, with_options}
+use Rattle.qa_base.specs.values.Names.{version_number, role_named, unit_named, controller_named, space_named, discarded_named, leave_named, kind_named}
+use Rattle.qa_base.specs.values.Settings.{Settings, no_options, settings_in, with_options, choosing_options}
 
 -- the keys that several kinds of line have
 abbrev pub time : Data → Result ℕ Fault
@@ -40,49 +45,90 @@ version = required integer key.Version
 abbrev pub out_of_range : Result Settings RangeFault → Result Settings Fault
 out_of_range r = result_map_both (λ s. s) (λ e. OutOfRange e.0) r
 
--- version and role, max_datagram_size and max_ack_delay, initial_rtt and initial_window, whose numbers are not compared with
+abbrev pub unit_and_window_for : Result ℕ Fault → Data → Result (TimeUnit × Controller) Fault
+unit_and_window_for (Ok n) d =
+    if n == version_number Three
+    then both (optional (string_among unit_named) Microseconds key.Unit d) (optional (string_among controller_named) NewReno key.Window d)
+    else Ok (Microseconds, NewReno)
+unit_and_window_for (Err e) d = Ok (Microseconds, NewReno)
+
+-- the unit of times, and by whose window packets are judged, which only version 3 has keys for: they are looked at where the version is 3
+abbrev pub unit_and_window : Data → Result (TimeUnit × Controller) Fault
+unit_and_window d = unit_and_window_for (version d) d
+
+-- version and role, unit and window, max_datagram_size and max_ack_delay, initial_rtt and initial_window, whose numbers are not compared with
 -- their ranges yet
-abbrev pub header_fields : Data → Result ((ℕ × Role) × ((ℕ × Option ℕ) × (Option ℕ × Option ℕ))) Fault
+abbrev pub header_fields : Data → Result ((ℕ × Role) × ((TimeUnit × Controller) × ((ℕ × Option ℕ) × (Option ℕ × Option ℕ)))) Fault
 header_fields d =
     both (both (version d) (required (string_among role_named) key.Role d))
+    (both (unit_and_window d)
     (both (both (required integer key.MaxDatagramSize d) (if_present integer key.MaxAckDelay d))
-    (both (if_present integer key.InitialRtt d) (if_present integer key.InitialWindow d)))
+    (both (if_present integer key.InitialRtt d) (if_present integer key.InitialWindow d))))
 
 -- timer_late_us and refresh_min_rtt, report_slack_us and report_slack_bytes, whose numbers are not compared with their ranges yet
-abbrev pub option_values : Data → Result Options Fault
-option_values d =
+abbrev pub option_fields : Data → Result ((Option ℕ × Bool) × (ℕ × ℕ)) Fault
+option_fields d =
     both (both (if_present integer key.TimerLateUs d) (optional boolean false key.RefreshMinRtt d))
     (both (optional integer 0 key.ReportSlackUs d) (optional integer 0 key.ReportSlackBytes d))
-    >>= λ ((timer_late, refresh_min_rtt), (report_slack_us, report_slack_bytes)). Ok (record {
+
+-- window_overshoot and sample_eliciting_only, packet_threshold and timer_early_us, likewise
+abbrev pub choice_fields : Data → Result ((Bool × Bool) × (ℕ × ℕ)) Fault
+choice_fields d =
+    both (both (optional boolean false key.WindowOvershoot d) (optional boolean false key.SampleElicitingOnly d))
+    (both (optional integer default_packet_threshold key.PacketThreshold d) (optional integer 0 key.TimerEarlyUs d))
+
+-- the options of version 2
+abbrev pub second_options : Data → Result Options Fault
+second_options d =
+    option_fields d >>= λ ((timer_late, refresh_min_rtt), (report_slack_us, report_slack_bytes)). Ok (record no_options {
       timer_late = timer_late;
       refresh_min_rtt = refresh_min_rtt;
       report_slack_us = report_slack_us;
       report_slack_bytes = report_slack_bytes;
     })
 
+-- the options of version 3, but for the window
+abbrev pub third_options : Data → Result Options Fault
+third_options d =
+    both (option_fields d) (choice_fields d)
+    >>= λ (((timer_late, refresh_min_rtt), (report_slack_us, report_slack_bytes)), ((window_overshoot, sample_eliciting_only), (packet_threshold, timer_early_us))).
+    Ok (record no_options {
+      timer_late = timer_late;
+      refresh_min_rtt = refresh_min_rtt;
+      report_slack_us = report_slack_us;
+      report_slack_bytes = report_slack_bytes;
+      window_overshoot = window_overshoot;
+      sample_eliciting_only = sample_eliciting_only;
+      packet_threshold = packet_threshold;
+      timer_early_us = timer_early_us;
+    })
+
 abbrev pub options_for : Result ℕ Fault → Data → Result Options Fault
-options_for (Ok n) d = if n == version_number Two then option_values d else Ok no_options
+options_for (Ok n) d = if n == version_number Two then second_options d else (if n == version_number Three then third_options d else Ok no_options)
 options_for (Err e) d = Ok no_options
 
--- the keys that only version 2 has: they are looked at where the version is 2
+-- the keys of options, of which version 1 has none: they are looked at where the version has them
 abbrev pub options : Data → Result Options Fault
 options d = options_for (version d) d
 
--- the settings, each in its range
-abbrev pub settings : Role → ℕ → Option ℕ → Option ℕ → Option ℕ → Result Settings Fault
-settings role max_datagram_size max_ack_delay initial_rtt initial_window =
-    out_of_range (settings_of role max_datagram_size max_ack_delay initial_rtt initial_window)
+-- the settings in this unit, each in its range
+abbrev pub settings : TimeUnit → Role → ℕ → Option ℕ → Option ℕ → Option ℕ → Result Settings Fault
+settings unit role max_datagram_size max_ack_delay initial_rtt initial_window =
+    out_of_range (settings_in unit role max_datagram_size max_ack_delay initial_rtt initial_window)
 
--- the settings in the version of this number, with these options in version 2
+-- the settings in the version of this number, with these options where it has options
 abbrev pub of_version : ℕ → Options → Settings → Result Settings Fault
 of_version n options s =
-    if n == version_number One then Ok s else (if n == version_number Two then out_of_range (with_options s options) else Err fault.Version)
+    if n == version_number One then Ok s else
+    (if n == version_number Two then out_of_range (with_options s options) else
+    (if n == version_number Three then out_of_range (choosing_options s options) else Err fault.Version))
 
 -- the version is judged after all other keys
 unfoldable pub header_of : Data → Result Settings Fault
 header_of d =
-    both (header_fields d) (options d) >>= λ (((version, role), ((max_datagram_size, max_ack_delay), (initial_rtt, initial_window))), options).
-    settings role max_datagram_size max_ack_delay initial_rtt initial_window >>= of_version version options
+    both (header_fields d) (options d)
+    >>= λ (((version, role), ((unit, controller), ((max_datagram_size, max_ack_delay), (initial_rtt, initial_window)))), options).
+    settings unit role max_datagram_size max_ack_delay initial_rtt initial_window >>= of_version version (record options { controller = controller })
 
 -- ---- packets
 

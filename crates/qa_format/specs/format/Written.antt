@@ -9,14 +9,14 @@ use Rattle.qa_base.specs.declared.key.Key.{Key}
 use Rattle.qa_base.specs.declared.key.Key.TheVariants as key
 use Rattle.qa_base.specs.declared.header.Options.{Options}
 use Rattle.qa_base.specs.declared.header.Version.{Version}
-use Rattle.qa_base.specs.declared.header.Version.TheVariants.{One, Two}
+use Rattle.qa_base.specs.declared.header.Version.TheVariants.{One, Two, Three}
 use Rattle.qa_format.specs.declared.line.Line.{Line}
 use Rattle.qa_format.specs.declared.line.Line.TheVariants as line
 use Rattle.qa_base.specs.declared.line_kind.LineKind.TheVariants as kinds
 use Rattle.qa_base.specs.declared.rule.Field.{Field}
 use Rattle.qa_base.specs.declared.rule.Field.TheVariants.{Window, Ssthresh, BytesInFlight, LatestRtt, MinRtt, SmoothedRtt, Rttvar}
 use Rattle.qa_base.specs.values.Events.{fits}
-use Rattle.qa_base.specs.values.Names.{key_name, line_kind_name, version_number, role_name, space_name, leave_name, kind_name}
+use Rattle.qa_base.specs.values.Names.{key_name, line_kind_name, version_number, role_name, unit_name, controller_name, space_name, leave_name, kind_name}
 use Rattle.qa_base.specs.values.Settings.{Settings}
 
 -- ---- values
@@ -49,14 +49,24 @@ abbrev pub limit_pairs : Option ℕ → Pairs
 limit_pairs None = []
 limit_pairs (Some limit) = (key.TimerLateUs, integer limit) ∷ []
 
--- the keys that only version 2 has, up to the role
-abbrev pub option_pairs : Version → Options → Pairs
-option_pairs One options = []
-option_pairs Two options =
+-- the keys of version 2 that version 1 has not, up to the role
+abbrev pub second_pairs : Options → Pairs
+second_pairs options =
     (key.RefreshMinRtt, boolean options.refresh_min_rtt)
     ∷ (key.ReportSlackBytes, integer options.report_slack_bytes)
     ∷ (key.ReportSlackUs, integer options.report_slack_us)
     ∷ []
+
+abbrev pub option_pairs : Version → Options → Pairs
+option_pairs One options = []
+option_pairs Two options = second_pairs options
+option_pairs Three options = second_pairs options
+
+-- the keys that version 3 alone has
+abbrev pub in_third : Version → Pairs → Pairs
+in_third One pairs = []
+in_third Two pairs = []
+in_third Three pairs = pairs
 
 abbrev pub header_pairs : Settings → Pairs
 header_pairs s =
@@ -65,11 +75,14 @@ header_pairs s =
     ∷ (key.InitialWindow, integer s.initial_window)
     ∷ (key.MaxAckDelay, integer s.max_ack_delay)
     ∷ (key.MaxDatagramSize, integer s.max_datagram_size)
-    ∷ option_pairs s.version s.options
+    ∷ in_third s.version ((key.PacketThreshold, integer s.options.packet_threshold) ∷ [])
+    ++ option_pairs s.version s.options
     ++ (key.Role, string (role_name s.role))
-    ∷ limit_pairs s.options.timer_late
+    ∷ in_third s.version ((key.SampleElicitingOnly, boolean s.options.sample_eliciting_only) ∷ (key.TimerEarlyUs, integer s.options.timer_early_us) ∷ [])
+    ++ limit_pairs s.options.timer_late
+    ++ in_third s.version ((key.Unit, string (unit_name s.unit)) ∷ [])
     ++ (key.Version, integer (version_number s.version))
-    ∷ []
+    ∷ in_third s.version ((key.Window, string (controller_name s.options.controller)) ∷ (key.WindowOvershoot, boolean s.options.window_overshoot) ∷ [])
 
 -- a value that is reported; one that is not is left out
 abbrev pub reported : Field → Option ℕ → Pairs

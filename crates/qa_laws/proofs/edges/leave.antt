@@ -11,7 +11,7 @@ use Rattle.qa_base.specs.machine.Leave.{is_probe_due}
 use Rattle.qa_base.specs.machine.Rules.{first_broken, IsRun}
 use Rattle.qa_base.specs.values.Settings.{Settings}
 use Rattle.qa_base.specs.machine.Timer.{deadline}
-use Rattle.qa_laws.proofs.Shorthand.{client, server, sent, padded, bare, probe, bare_probe, ack, lost, pto_fires, metrics}
+use Rattle.qa_laws.proofs.Shorthand.{client, server, sent, padded, padded_probe, bare, probe, bare_probe, ack, lost, pto_fires, metrics}
 use Rattle.qa_laws.proofs.edges.Deadlines.{pto_at}
 
 abbrev c : Settings
@@ -127,6 +127,17 @@ unfolding first_broken
 report_does_not = (((((tt, refl), refl), refl), refl), refl)
 
 -- ---- what a timeout allows
+
+-- Before any timeout nothing in flight may be marked as a probe, be it ack-eliciting or padded; one that is not in flight may.
+pub probe_needs_a_timeout :
+    (first_broken s [] (probe App 0 0 1200) ≡ Some rule.PastProbe)
+    × (first_broken s [] (padded_probe App 0 0 1200) ≡ Some rule.PastProbe)
+    × (first_broken s [] (padded_probe App 0 0 1) ≡ Some rule.PastProbe)
+    × (first_broken s [] (bare_probe App 0 0 1200) ≡ None)
+    × (first_broken c due (padded_probe Initial 1 999000 2400) ≡ None)
+    × (first_broken c due (padded_probe Initial 1 999000 2401) ≡ Some rule.PastProbe)
+unfolding first_broken
+probe_needs_a_timeout = (refl, refl, refl, refl, refl, refl)
 
 abbrev half_spent : List Event
 half_spent =

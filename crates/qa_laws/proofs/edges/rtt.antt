@@ -8,6 +8,7 @@ use Rattle.qa_base.specs.declared.space.Space.TheVariants.{Initial, Handshake, A
 use Rattle.qa_base.specs.machine.Estimates.{rtt}
 use Rattle.qa_base.specs.machine.Reno.{reno}
 use Rattle.qa_base.specs.machine.Rules.{first_broken, IsRun}
+use Rattle.qa_base.specs.declared.space.TimeUnit.TheVariants.{Microseconds}
 use Rattle.qa_base.specs.values.Settings.{Settings, no_options}
 use Rattle.qa_laws.proofs.Shorthand.{server, sent, padded, bare, ack, delayed_ack}
 
@@ -109,7 +110,7 @@ sample_below_the_least_sets_it = refl
 -- ---- what is rounded (section 5.3)
 
 abbrev odd_start : Settings
-odd_start = record { role = role.Server; max_datagram_size = 1200; max_ack_delay = 25000; initial_rtt = 333333; initial_window = 12000; version = One; options = no_options }
+odd_start = record { role = role.Server; unit = Microseconds; max_datagram_size = 1200; max_ack_delay = 25000; initial_rtt = 333333; initial_window = 12000; version = One; options = no_options }
 
 -- Half of 100001 is 50000, rounded down, and so is half of the initial RTT of 333333: 166666.
 pub first_variation_is_rounded_down :

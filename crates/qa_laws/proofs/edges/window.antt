@@ -1,6 +1,7 @@
 -- Edges of the window and of recovery (RFC 9002, section 7.3).
 use Rattle.std.specs.Prelude.{◌≡◌, List, [], ◌∷◌, Some, None, refl}
 use Rattle.qa_base.specs.declared.event.Event.{Event}
+use Rattle.qa_base.specs.declared.rule.Rule.TheVariants as rule
 use Rattle.qa_base.specs.declared.space.Space.TheVariants.{App}
 use Rattle.qa_base.specs.machine.Reno.{reno}
 use Rattle.qa_base.specs.machine.Rules.{first_broken, IsRun}
@@ -19,6 +20,20 @@ in_recovery =
     sent App 2 0 1200 ∷
     sent App 1 0 1200 ∷
     sent App 0 0 1200 ∷ []
+
+-- ---- room for a packet
+
+-- Of a window of 2400 bytes 1200 or 2399 are in flight: a packet has to fit as a whole, and a byte of room is none for two.
+pub packet_has_to_fit_whole :
+    (first_broken (server 1200 2400) (sent App 0 0 1200 ∷ []) (sent App 1 0 1200) ≡ None)
+    × (first_broken (server 1200 2400) (sent App 0 0 1200 ∷ []) (sent App 1 0 1201) ≡ Some rule.PastWindow)
+    × (first_broken (server 1200 2400) (sent App 0 0 2399 ∷ []) (sent App 1 0 1) ≡ None)
+    × (first_broken (server 1200 2400) (sent App 0 0 2399 ∷ []) (sent App 1 0 2) ≡ Some rule.PastWindow)
+    × (first_broken (server 1200 2400) (sent App 0 0 2399 ∷ []) (padded App 1 0 1200) ≡ Some rule.PastWindow)
+    × (first_broken (server 1200 2400) (sent App 0 0 2399 ∷ []) (bare App 1 0 1200) ≡ None)
+    × (first_broken (server 1200 2400) [] (sent App 0 0 2401) ≡ Some rule.PastWindow)
+unfolding first_broken
+packet_has_to_fit_whole = (refl, refl, refl, refl, refl, refl, refl)
 
 -- ---- what was sent when recovery began
 

@@ -9,8 +9,8 @@ use Rattle.qa_base.specs.declared.space.Space.{Space}
 use Rattle.qa_base.specs.machine.Breaches.{numbers}
 use Rattle.qa_base.specs.values.Events.{is_space, is_named, acknowledges, declares_lost}
 use Rattle.qa_base.specs.machine.Estimates.{sampled}
-use Rattle.qa_base.specs.machine.Detection.{is_found, is_found_at, detection, is_unsettled}
-use Rattle.qa_base.specs.machine.Loss.{owed, is_owed, is_open}
+use Rattle.qa_base.specs.machine.Detection.{is_found, is_found_at, is_unsettled}
+use Rattle.qa_base.specs.machine.Loss.{owed, is_owed, is_open, detection}
 use Rattle.qa_base.specs.machine.Numbers.{is_in, has_all}
 use Rattle.qa_laws.specs.machine.Oldest.{is_flying}
 use Rattle.qa_base.specs.machine.Packets.{Packet, packets, is_of, is_some_packet, is_followed_by, is_acknowledged, is_declared_lost, is_newly_acknowledged, largest_acknowledged}
@@ -103,16 +103,16 @@ lost_is_owed c e h run p has =
     lost_after e h p has ∙ or_same (declares_lost p.space p.number e) (is_owed c h p) (is_declared_lost h p) (sym (not_owed_now c e h p has (all_hold c h e run.1).loss_owed))
 
 found_was_flying : (c : Settings) (e : Event) (h : List Event) → IsRun c (e ∷ h) → (p : Packet) → Contains (packets h) p
-    → (d : Option (Space × ℕ)) → detection (e ∷ h) ≡ d → is_found_at (sampled c (e ∷ h)) (e ∷ h) p d ≡ true → is_flying c h p ≡ true
+    → (d : Option (Space × ℕ)) → detection c (e ∷ h) ≡ d → is_found_at c (sampled c (e ∷ h)) (e ∷ h) p d ≡ true → is_flying c h p ≡ true
 found_was_flying c e h run p has None at is = cc
 found_was_flying c e h run p has (Some (s, now)) at is =
-    let parts = and_parts (is_of s p) (is_found (sampled c (e ∷ h)) (e ∷ h) now s p) is in
-    let more = and_parts (p.in_flight && is_unsettled (e ∷ h) p) (is_past_threshold (sampled c (e ∷ h)) now (largest_acknowledged (e ∷ h) s) p) parts.1 in
+    let parts = and_parts (is_of s p) (is_found c (sampled c (e ∷ h)) (e ∷ h) now s p) is in
+    let more = and_parts (p.in_flight && is_unsettled (e ∷ h) p) (is_past_threshold c (sampled c (e ∷ h)) now (largest_acknowledged (e ∷ h) s) p) parts.1 in
     asked_was_flying c e h run s now at p has (and_from (is_of s p) (p.in_flight && is_unsettled (e ∷ h) p) parts.0 more.0)
 
 -- in a run whatever an event finds lost was open and in flight
 pub owed_was_flying : (c : Settings) (e : Event) (h : List Event) → IsRun c (e ∷ h) → (p : Packet) → Contains (packets h) p → is_owed c (e ∷ h) p ≡ true → is_flying c h p ≡ true
-owed_was_flying c e h run p has is = found_was_flying c e h run p has (detection (e ∷ h)) refl is
+owed_was_flying c e h run p has is = found_was_flying c e h run p has (detection c (e ∷ h)) refl is
 
 -- in a run whatever an event newly acknowledges was open
 pub newly_was_open : (c : Settings) (e : Event) (h : List Event) → IsRun c (e ∷ h) → (p : Packet) → Contains (packets h) p → is_newly_acknowledged e h p ≡ true → is_open c h p ≡ true
@@ -130,9 +130,9 @@ newly_was_open c _ h run p has is = cc
 
 -- ---- what is found lost is unsettled
 
-pub found_unsettled : (c : Settings) (h : List Event) (p : Packet) (d : Option (Space × ℕ)) → is_found_at (sampled c h) h p d ≡ true → is_unsettled h p ≡ true
+pub found_unsettled : (c : Settings) (h : List Event) (p : Packet) (d : Option (Space × ℕ)) → is_found_at c (sampled c h) h p d ≡ true → is_unsettled h p ≡ true
 found_unsettled c h p None is = cc
 found_unsettled c h p (Some (s, now)) is =
-    let parts = and_parts (is_of s p) (is_found (sampled c h) h now s p) is in
-    let more = and_parts (p.in_flight && is_unsettled h p) (is_past_threshold (sampled c h) now (largest_acknowledged h s) p) parts.1 in
+    let parts = and_parts (is_of s p) (is_found c (sampled c h) h now s p) is in
+    let more = and_parts (p.in_flight && is_unsettled h p) (is_past_threshold c (sampled c h) now (largest_acknowledged h s) p) parts.1 in
     (and_parts p.in_flight (is_unsettled h p) more.0).1

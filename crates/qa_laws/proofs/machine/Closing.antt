@@ -10,8 +10,8 @@ use Rattle.qa_base.specs.declared.space.Leave.{Leave}
 use Rattle.qa_base.specs.declared.space.Space.{Space}
 use Rattle.qa_base.specs.values.Events.{acknowledges, declares_lost, discards}
 use Rattle.qa_base.specs.machine.Estimates.{sampled}
-use Rattle.qa_base.specs.machine.Detection.{is_found, is_found_at, found_at, detection, is_unsettled}
-use Rattle.qa_base.specs.machine.Loss.{owed, is_owed, is_open, flight_size, bytes_in_flight}
+use Rattle.qa_base.specs.machine.Detection.{is_found, is_found_at, found_at, is_unsettled}
+use Rattle.qa_base.specs.machine.Loss.{owed, is_owed, is_open, flight_size, bytes_in_flight, detection}
 use Rattle.qa_base.specs.machine.Packets.{Packet, packets, packet_of, is_of, is_acknowledged, is_declared_lost, is_discarded, is_newly_acknowledged, newly_acknowledged}
 use Rattle.qa_base.specs.machine.Rules.{IsRun}
 use Rattle.qa_base.specs.values.Settings.{Settings}
@@ -102,16 +102,16 @@ sum_of_either weight f g (p ∷ ps) apart =
 
 -- ---- sums over the open packets
 
-found_part : (c : Settings) (h : List Event) (d : Option (Space × ℕ)) → filter (λ p. is_found_at (sampled c h) h p d) (packets h) ≡ found_at (sampled c h) h d
+found_part : (c : Settings) (h : List Event) (d : Option (Space × ℕ)) → filter (λ p. is_found_at c (sampled c h) h p d) (packets h) ≡ found_at c (sampled c h) h d
 found_part c h None = none_left (λ p. false) (packets h) (of_each (λ p. false ≡ false) (packets h) (λ p has. refl))
-found_part c h (Some (s, now)) = part_of_part (is_of s) (is_found (sampled c h) h now s) (packets h)
+found_part c h (Some (s, now)) = part_of_part (is_of s) (is_found c (sampled c h) h now s) (packets h)
 
 -- what an event finds lost stands among the packets sent before it
 pub owed_among : (c : Settings) (e : Event) (h : List Event) → filter (is_owed c (e ∷ h)) (packets h) ≡ owed c (e ∷ h)
 owed_among c (Sent time space number size eliciting in_flight leave) h = none_left (λ p. false) (packets h) (of_each (λ p. false ≡ false) (packets h) (λ p has. refl))
-owed_among c (Ack time space ranges delay app_limited) h = found_part c (Ack time space ranges delay app_limited ∷ h) (detection (Ack time space ranges delay app_limited ∷ h))
+owed_among c (Ack time space ranges delay app_limited) h = found_part c (Ack time space ranges delay app_limited ∷ h) (detection c (Ack time space ranges delay app_limited ∷ h))
 owed_among c (Lost time space ranges) h = found_part c (Lost time space ranges ∷ h) None
-owed_among c (Timer time kind space) h = found_part c (Timer time kind space ∷ h) (detection (Timer time kind space ∷ h))
+owed_among c (Timer time kind space) h = found_part c (Timer time kind space ∷ h) (detection c (Timer time kind space ∷ h))
 owed_among c (Discard time space) h = found_part c (Discard time space ∷ h) None
 owed_among c (Confirmed time) h = found_part c (Confirmed time ∷ h) None
 owed_among c (Keys time) h = found_part c (Keys time ∷ h) None
@@ -122,7 +122,7 @@ newly_not_owed c e h p has newly =
     let parts = and_parts (acknowledges p.space p.number e && not (is_acknowledged h p)) (not (is_declared_lost h p)) newly in
     let named = (and_parts (acknowledges p.space p.number e) (not (is_acknowledged h p)) parts.0).0 in
     let covered : is_acknowledged (e ∷ h) p ≡ true = covered_after e h p has ∙ or_left (acknowledges p.space p.number e) (is_acknowledged h p) named in
-    false_from_ne_true (is_owed c (e ∷ h) p) (λ found. both_ways (is_unsettled (e ∷ h) p) (covered_settles (e ∷ h) p covered) (found_unsettled c (e ∷ h) p (detection (e ∷ h)) found))
+    false_from_ne_true (is_owed c (e ∷ h) p) (λ found. both_ways (is_unsettled (e ∷ h) p) (covered_settles (e ∷ h) p covered) (found_unsettled c (e ∷ h) p (detection c (e ∷ h)) found))
 
 not_both_discarded : (c : Settings) (e : Event) (h : List Event) (p : Packet) → (is_newly_acknowledged e h p || is_owed c (e ∷ h) p) ≡ true → is_discarded_by c e h p ≡ false
 not_both_discarded c (Discard time space) h p either = cc

@@ -10,13 +10,13 @@ use Rattle.qa_base.specs.machine.Breaches.{numbers}
 use Rattle.qa_laws.specs.machine.Conduct.{IsLostRightly}
 use Rattle.qa_base.specs.values.Events.{is_space, is_named, acknowledges, has_ranges}
 use Rattle.qa_base.specs.machine.Estimates.{sampled}
-use Rattle.qa_base.specs.machine.Detection.{is_found, is_found_at, detection, is_past_threshold, is_old, is_unsettled}
-use Rattle.qa_base.specs.machine.Loss.{owed}
+use Rattle.qa_base.specs.machine.Detection.{is_found, is_found_at, is_past_threshold, is_old, is_unsettled}
+use Rattle.qa_base.specs.machine.Loss.{owed, detection}
 use Rattle.qa_base.specs.machine.Numbers.{has_all}
 use Rattle.qa_base.specs.machine.Packets.{Packet, packet_of, packets, packets_of, is_of, is_acknowledged, greatest, greatest_in, largest_acknowledged}
 use Rattle.qa_format.specs.format.Proper.{IsRange, IsProperEvent}
 use Rattle.qa_base.specs.machine.Rules.{IsRun}
-use Rattle.qa_base.specs.values.Settings.{Settings}
+use Rattle.qa_base.specs.values.Settings.{Settings, granularity}
 use Rattle.qa_base.specs.machine.Rtt.{loss_delay}
 use Rattle.qa_laws.proofs.machine.Changes.{one_of_numbers}
 use Rattle.qa_laws.proofs.machine.Courses.{in_order, is_space_same, is_space_is}
@@ -54,7 +54,7 @@ greatest_is_named (range ∷ other ∷ ranges) some order =
     greatest_first range (other ∷ ranges) (nat_le (greatest (other ∷ ranges)) range.1) refl order.0.0 (greatest_is_named (other ∷ ranges) refl order.1)
 
 -- a packet of the space with this number that is acknowledged
-abbrev Acknowledged : List Event → Space → ℕ → Type 0
+abbrev pub Acknowledged : List Event → Space → ℕ → Type 0
 Acknowledged h s n = (q : Packet) × Contains (packets h) q × (q.space ≡ s) × (q.number ≡ n) × (is_acknowledged h q ≡ true)
 
 has_behind : (first ps : List Packet) (q : Packet) → Contains ps q → Contains (first ++ ps) q
@@ -131,19 +131,19 @@ place_of c h run p q has_p has_q same lower = elim (two_of WasSentBefore (packet
   | inr (inr behind) ↦ behind.place
 ]
 
-late_by : (c : Settings) (h : List Event) (now m : ℕ) (p : Packet) → p.number < m → (nat_le 3 (m - p.number) || is_old (sampled c h) now p) ≡ true
-    → (p.number + 3 ≤ m) ⊎ (loss_delay (sampled c h) ≤ now - p.time)
-late_by c h now m p below is = elim (or_cases (nat_le 3 (m - p.number)) (is_old (sampled c h) now p) is) [
-  | inl far ↦ (let three = leb-true 3 (m - p.number) far in inl (omega (arith, three, below)))
-  | inr old ↦ inr ((old_is_after_loss_delay (sampled c h) now p).0 old)
+late_by : (c : Settings) (h : List Event) (now m : ℕ) (p : Packet) → p.number < m → (nat_le c.options.packet_threshold (m - p.number) || is_old c (sampled c h) now p) ≡ true
+    → (p.number + c.options.packet_threshold ≤ m) ⊎ (loss_delay (granularity c) (sampled c h) ≤ now - p.time)
+late_by c h now m p below is = elim (or_cases (nat_le c.options.packet_threshold (m - p.number)) (is_old c (sampled c h) now p) is) [
+  | inl far ↦ (let three = leb-true c.options.packet_threshold (m - p.number) far in inl (omega (arith, three, below)))
+  | inr old ↦ inr ((old_is_after_loss_delay c (sampled c h) now p).0 old)
 ]
 
 lost_by : (c : Settings) (h : List Event) → IsRun c h → AllByRecursion IsProperEvent h → (p : Packet) → Contains (packets h) p → (s : Space) (now : ℕ)
-    → detection h ≡ Some (s, now) → p.space ≡ s → p.in_flight ≡ true → (most : Option ℕ) → largest_acknowledged h s ≡ most → is_past_threshold (sampled c h) now most p ≡ true
+    → detection c h ≡ Some (s, now) → p.space ≡ s → p.in_flight ≡ true → (most : Option ℕ) → largest_acknowledged h s ≡ most → is_past_threshold c (sampled c h) now most p ≡ true
     → IsLostRightly c h s p.number
 lost_by c h run proper p has s now at of_space flying None largest late = cc
 lost_by c h run proper p has s now at of_space flying (Some m) largest late =
-    let both = and_parts (nat_lt p.number m) (nat_le 3 (m - p.number) || is_old (sampled c h) now p) late in
+    let both = and_parts (nat_lt p.number m) (nat_le c.options.packet_threshold (m - p.number) || is_old c (sampled c h) now p) late in
     let below = ltb-true p.number m both.0 in
     let ack = largest_is_acknowledged c h run proper s m largest in
     let lower : p.number < ack.0.number = omega (arith, below, ack.3) in
@@ -161,15 +161,15 @@ lost_by c h run proper p has s now at of_space flying (Some m) largest late =
       lower = lower;
       now = now;
       detected = at;
-      late = subst (λ (k : ℕ). (p.number + 3 ≤ k) ⊎ (loss_delay (sampled c h) ≤ now - p.time)) (sym ack.3) (late_by c h now m p below both.1);
+      late = subst (λ (k : ℕ). (p.number + c.options.packet_threshold ≤ k) ⊎ (loss_delay (granularity c) (sampled c h) ≤ now - p.time)) (sym ack.3) (late_by c h now m p below both.1);
     }
 
 found_rightly : (c : Settings) (h : List Event) → IsRun c h → AllByRecursion IsProperEvent h → (p : Packet) → Contains (packets h) p → (space : Space) → p.space ≡ space
-    → (d : Option (Space × ℕ)) → detection h ≡ d → is_found_at (sampled c h) h p d ≡ true → IsLostRightly c h space p.number
+    → (d : Option (Space × ℕ)) → detection c h ≡ d → is_found_at c (sampled c h) h p d ≡ true → IsLostRightly c h space p.number
 found_rightly c h run proper p has space of_space None at is = cc
 found_rightly c h run proper p has space of_space (Some (s, now)) at is =
-    let parts = and_parts (is_of s p) (is_found (sampled c h) h now s p) is in
-    let more = and_parts (p.in_flight && is_unsettled h p) (is_past_threshold (sampled c h) now (largest_acknowledged h s) p) parts.1 in
+    let parts = and_parts (is_of s p) (is_found c (sampled c h) h now s p) is in
+    let more = and_parts (p.in_flight && is_unsettled h p) (is_past_threshold c (sampled c h) now (largest_acknowledged h s) p) parts.1 in
     let flying = (and_parts p.in_flight (is_unsettled h p) more.0).0 in
     let of_s : p.space ≡ s = sym (is_space_is s p.space parts.0) in
     subst (λ (t : Space). IsLostRightly c h t p.number) (sym of_s ∙ of_space)
@@ -185,4 +185,4 @@ lost_rightly c h time space ranges run proper n named =
     let p = one.0 in
     let is = owed_is c h p one.1 in
     subst (λ (k : ℕ). IsLostRightly c h space k) one.2
-    (found_rightly c h run.0 proper p is.0 space (owed_space c h time space ranges run p is.1) (detection h) refl is.1)
+    (found_rightly c h run.0 proper p is.0 space (owed_space c h time space ranges run p is.1) (detection c h) refl is.1)

@@ -1,6 +1,6 @@
 -- What a run sends stays within the window, or has its leave.
 use Rattle.std.proofs.Common.{◌≡◌, ◌∙◌, ◌+◌, ◌*◌, ◌<◌, ◌≤◌, ℕ, List, [], ◌∷◌, ◌++◌, Bool, true, false, cond, ◌&&◌, ◌||◌, not, Some, None, refl, sym, ap, arith, sum_by, count_by}
-use Rattle.std.proofs.lemmas.Bool.{both_ways, ltb-false, or_parts}
+use Rattle.std.proofs.lemmas.Bool.{both_ways, leb-false, ltb-false, or_parts}
 use Rattle.std.proofs.lemmas.List.Sums.{sum_by-cons}
 use Rattle.std.specs.List.{list_any}
 use Rattle.std.specs.Prelude.{if◌then◌else◌}
@@ -10,14 +10,15 @@ use Rattle.qa_base.specs.declared.space.TimerKind.TheVariants.{Loss, Pto}
 use Rattle.qa_base.specs.declared.space.Leave.{Leave}
 use Rattle.qa_base.specs.declared.space.Leave.TheVariants.{Window, Probe, Recovery}
 use Rattle.qa_base.specs.declared.space.Space.{Space}
-use Rattle.qa_base.specs.machine.Breaches.{is_over}
-use Rattle.qa_laws.specs.machine.Conduct.{is_pto_event, is_probe, probe_bytes, is_recovery, HasMoment, IsAmong, HasLeave}
+use Rattle.qa_base.specs.machine.Breaches.{is_over, is_past}
+use Rattle.qa_laws.specs.machine.Conduct.{is_pto_event, is_probe, probe_bytes, is_recovery, HasMoment, IsAmong, HasLeave, HasOvershoot}
 use Rattle.qa_base.specs.machine.Leave.{probe_size, is_recovery_packet}
 use Rattle.qa_base.specs.machine.Loss.{owed, bytes_in_flight}
 use Rattle.qa_base.specs.machine.Moments.{moments, since}
 use Rattle.qa_base.specs.machine.Packets.{is_discarded}
-use Rattle.qa_base.specs.machine.Reno.{reno, is_entry}
+use Rattle.qa_base.specs.machine.Reno.{is_entry}
 use Rattle.qa_base.specs.machine.Rules.{IsRun}
+use Rattle.qa_base.specs.machine.Window.{window}
 use Rattle.qa_base.specs.values.Settings.{Settings}
 use Rattle.qa_base.specs.machine.Timer.{is_pto}
 use Rattle.qa_format.proofs.verdicts.Accepted.{no_packet}
@@ -31,17 +32,37 @@ fits_window : (gone : Bool) (flight size window : ℕ) → flight + size ≤ win
 fits_window true flight size window le = omega (arith, le)
 fits_window false flight size window le = le
 
--- in a run, after an in-flight packet that is sent by leave of the window, the bytes in flight are within the window
-pub within_window : (c : Settings) (h : List Event) (time : ℕ) (space : Space) (number size : ℕ) (eliciting : Bool) → IsRun c (Sent time space number size eliciting true Window ∷ h)
-    → bytes_in_flight c (Sent time space number size eliciting true Window ∷ h) ≤ (reno c (Sent time space number size eliciting true Window ∷ h)).window
-within_window c h time space number size eliciting run =
+not_past : (window bytes size : ℕ) (overshoot : Bool) → overshoot ≡ false → is_past overshoot window bytes size ≡ false → bytes + size ≤ window
+not_past window bytes size true within is = cc
+not_past window bytes size false within is = ltb-false window (bytes + size) is
+
+not_full : (window bytes size : ℕ) (overshoot : Bool) → overshoot ≡ true → is_past overshoot window bytes size ≡ false → bytes < window
+not_full window bytes size true allowed is = leb-false window bytes is
+not_full window bytes size false allowed is = cc
+
+-- in a run, before an in-flight packet that is sent by leave of the window, the bytes in flight are below the window
+pub below_window : (c : Settings) (h : List Event) (time : ℕ) (space : Space) (number size : ℕ) (eliciting : Bool) → c.options.window_overshoot ≡ true
+    → IsRun c (Sent time space number size eliciting true Window ∷ h) → bytes_in_flight c h < window c h
+below_window c h time space number size eliciting allowed run =
+    not_full (window c h) (bytes_in_flight c h) size c.options.window_overshoot allowed (all_hold c h (Sent time space number size eliciting true Window) run.1).past_window
+
+-- the leave of a packet that the window has no room for
+window_leave : (c : Settings) (h : List Event) (size : ℕ) (overshoot : Bool) → c.options.window_overshoot ≡ overshoot → is_past overshoot (window c h) (bytes_in_flight c h) size ≡ false
+    → window c h < bytes_in_flight c h + size → HasOvershoot c h
+window_leave c h size true is kept past = record { allowed = is; room = leb-false (window c h) (bytes_in_flight c h) kept }
+window_leave c h size false is kept past = let le = ltb-false (window c h) (bytes_in_flight c h + size) kept in absurd (omega (arith, le, past))
+
+-- in a run, after an in-flight packet that is sent by leave of the window, the bytes in flight are within the window, unless it may be overshot
+pub within_window : (c : Settings) (h : List Event) (time : ℕ) (space : Space) (number size : ℕ) (eliciting : Bool) → c.options.window_overshoot ≡ false → IsRun c (Sent time space number size eliciting true Window ∷ h)
+    → bytes_in_flight c (Sent time space number size eliciting true Window ∷ h) ≤ window c (Sent time space number size eliciting true Window ∷ h)
+within_window c h time space number size eliciting within run =
     let e = Sent time space number size eliciting true Window in
     let holds = all_hold c h e run.1 in
     let none = no_packet (owed c h) holds.loss_owed in
-    let le = ltb-false (reno c h).window (bytes_in_flight c h + size) holds.past_window in
+    let le = not_past (window c h) (bytes_in_flight c h) size c.options.window_overshoot within holds.past_window in
     let bytes = bytes_in_flight-sent c h time space number size eliciting true Window none in
-    let same : (reno c (e ∷ h)).window ≡ (reno c h).window = rw (moves-quiet c e h refl) refl in
-    let within = fits_window (is_discarded h space) (bytes_in_flight c h) size (reno c h).window le in
+    let same : window c (e ∷ h) ≡ window c h = rw (moves-quiet c e h refl) refl in
+    let within = fits_window (is_discarded h space) (bytes_in_flight c h) size (window c h) le in
     rw (bytes, same) within
 
 -- ---- since the last moment that passes a test
@@ -151,10 +172,9 @@ recovery_leave c h time space number size eliciting run =
 
 -- in a run an in-flight packet that takes the bytes in flight past the window has its leave
 pub past_window_by_leave : (c : Settings) (h : List Event) (time : ℕ) (space : Space) (number size : ℕ) (eliciting : Bool) (leave : Leave)
-    → IsRun c (Sent time space number size eliciting true leave ∷ h) → (reno c h).window < bytes_in_flight c h + size → HasLeave c h size leave
+    → IsRun c (Sent time space number size eliciting true leave ∷ h) → window c h < bytes_in_flight c h + size → HasLeave c h size leave
 past_window_by_leave c h time space number size eliciting Window run past =
-    let le = ltb-false (reno c h).window (bytes_in_flight c h + size) (all_hold c h (Sent time space number size eliciting true Window) run.1).past_window in
-    absurd (omega (arith, past, le))
+    window_leave c h size c.options.window_overshoot refl (all_hold c h (Sent time space number size eliciting true Window) run.1).past_window past
 past_window_by_leave c h time space number size eliciting Probe run past = probe_leave c h time space number size eliciting run
 past_window_by_leave c h time space number size eliciting Recovery run past = recovery_leave c h time space number size eliciting run
 

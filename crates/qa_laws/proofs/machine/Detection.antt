@@ -13,16 +13,16 @@ use Rattle.qa_base.specs.declared.space.Space.TheVariants.{Initial, Handshake, A
 use Rattle.qa_base.specs.machine.Breaches.{is_other}
 use Rattle.qa_base.specs.values.Events.{is_space}
 use Rattle.qa_base.specs.machine.Estimates.{rtt, sampled}
-use Rattle.qa_base.specs.machine.Detection.{is_found, found_at, detection, is_past_threshold, is_unsettled}
-use Rattle.qa_base.specs.machine.Loss.{owed, is_owed, is_open}
+use Rattle.qa_base.specs.machine.Detection.{is_found, found_at, is_past_threshold, is_unsettled, looks_at, old_at}
+use Rattle.qa_base.specs.machine.Loss.{owed, is_owed, is_open, detection}
 use Rattle.qa_laws.specs.machine.Oldest.{is_flying, due_of, is_asked}
 use Rattle.qa_laws.specs.machine.Sequence.{EachTwo}
-use Rattle.qa_base.specs.machine.Packets.{Packet, packets, packets_of, is_of, is_some_packet, is_discarded, acknowledges_new, largest_acknowledged}
+use Rattle.qa_base.specs.machine.Packets.{Packet, packets, packets_of, is_of, is_some_packet, is_discarded, acknowledges_new, largest_acknowledged, is_below_largest}
 use Rattle.qa_base.specs.machine.Rtt.{Estimate, pto_base}
 use Rattle.qa_base.specs.machine.Rules.{IsRun}
-use Rattle.qa_base.specs.values.Settings.{Settings}
+use Rattle.qa_base.specs.values.Settings.{Settings, early, granularity}
 use Rattle.qa_base.specs.machine.Handshake.{is_confirmed, is_validated, has_keys}
-use Rattle.qa_base.specs.machine.Timer.{Due, is_kind, deadline, awaits_acknowledgment, last_eliciting, last_set, pto_count, earlier, earliest_loss, earliest_pto, anti_deadlock, loss_due, pto_due, is_below_largest}
+use Rattle.qa_base.specs.machine.Timer.{Due, is_kind, deadline, awaits_acknowledgment, last_eliciting, last_set, pto_count, earlier, earliest_loss, earliest_pto, anti_deadlock, loss_due, pto_due}
 use Rattle.qa_laws.proofs.machine.Courses.{IsEarlier, in_order_of, is_space_is}
 use Rattle.qa_laws.proofs.machine.Deadline.{first_passes, loss_due_is}
 use Rattle.qa_laws.proofs.machine.Thresholds.{earlier_is_past_threshold}
@@ -38,9 +38,9 @@ abbrev pub asked : List Event → Space → List Packet
 asked h s = filter (is_asked h s) (reverse (packets h))
 
 found_of_asked : (c : Settings) (h : List Event) (now : ℕ) (s : Space)
-    → filter (is_found (sampled c h) h now s) (packets_of h s) ≡ filter (is_past_threshold (sampled c h) now (largest_acknowledged h s)) (filter (is_asked h s) (packets h))
+    → filter (is_found c (sampled c h) h now s) (packets_of h s) ≡ filter (is_past_threshold c (sampled c h) now (largest_acknowledged h s)) (filter (is_asked h s) (packets h))
 found_of_asked c h now s =
-    let late = is_past_threshold (sampled c h) now (largest_acknowledged h s) in
+    let late = is_past_threshold c (sampled c h) now (largest_acknowledged h s) in
     let open_here : Packet → Bool = λ p. p.in_flight && is_unsettled h p in
     part_of_part open_here late (packets_of h s) ∙ ap (filter late) (sym (part_of_part (is_of s) open_here (packets h)))
 
@@ -48,23 +48,23 @@ asked_is : (h : List Event) (s : Space) → asked h s ≡ reverse (filter (λ p.
 asked_is h s = part_turned (is_asked h s) (packets h) ∙ ap reverse (part_of_part (is_of s) (λ p. p.in_flight && is_unsettled h p) (packets h))
 
 late_first : (c : Settings) (h : List Event) (r : Estimate) (now : ℕ) (largest : Option ℕ) (s : Space) → IsRun c h
-    → EachTwo (λ p q. is_past_threshold r now largest q ≡ true → is_past_threshold r now largest p ≡ true) (asked h s)
+    → EachTwo (λ p q. is_past_threshold c r now largest q ≡ true → is_past_threshold c r now largest p ≡ true) (asked h s)
 late_first c h r now largest s run =
     let open_here : Packet → Bool = λ p. p.in_flight && is_unsettled h p in
-    let R : Packet → Packet → Type 0 = λ p q. is_past_threshold r now largest q ≡ true → is_past_threshold r now largest p ≡ true in
+    let R : Packet → Packet → Type 0 = λ p q. is_past_threshold c r now largest q ≡ true → is_past_threshold c r now largest p ≡ true in
     let two : EachTwo (λ p q. IsEarlier q p) (reverse (filter open_here (packets_of h s))) =
     two_turned IsEarlier (filter open_here (packets_of h s)) (two_of_part IsEarlier open_here (packets_of h s) (in_order_of c h s run)) in
     let all : EachTwo R (reverse (filter open_here (packets_of h s))) =
-    two_weaker (λ p q. IsEarlier q p) R (λ p q before late. earlier_is_past_threshold r now largest q p (omega (arith, before.number)) before.time late) (reverse (filter open_here (packets_of h s))) two in
+    two_weaker (λ p q. IsEarlier q p) R (λ p q before late. earlier_is_past_threshold c r now largest q p (omega (arith, before.number)) before.time late) (reverse (filter open_here (packets_of h s))) two in
     subst (λ (ps : List Packet). EachTwo R ps) (sym (asked_is h s)) all
 
 -- in a run, where the last event looks for losses in a space at a time, what it finds is, in the order of sending,
 -- the packets asked of up to the first that is not late
-pub owed_is_front : (c : Settings) (h : List Event) → IsRun c h → (s : Space) (now : ℕ) → detection h ≡ Some (s, now)
-    → reverse (owed c h) ≡ take_while (is_past_threshold (sampled c h) now (largest_acknowledged h s)) (asked h s)
+pub owed_is_front : (c : Settings) (h : List Event) → IsRun c h → (s : Space) (now : ℕ) → detection c h ≡ Some (s, now)
+    → reverse (owed c h) ≡ take_while (is_past_threshold c (sampled c h) now (largest_acknowledged h s)) (asked h s)
 owed_is_front c h run s now at =
-    let late = is_past_threshold (sampled c h) now (largest_acknowledged h s) in
-    ap (λ d. reverse (found_at (sampled c h) h d)) at
+    let late = is_past_threshold c (sampled c h) now (largest_acknowledged h s) in
+    ap (λ d. reverse (found_at c (sampled c h) h d)) at
     ∙ (ap reverse (found_of_asked c h now s)
     ∙ (sym (part_turned late (filter (is_asked h s) (packets h)))
     ∙ (ap (filter late) (sym (part_turned (is_asked h s) (packets h)))
@@ -97,7 +97,7 @@ probe_or (Some d) p is_o is_p = is_o
 probe_of : (c : Settings) (h : List Event) (peer_delay : ℕ) (s : Space) → IsProbe (pto_due c h peer_delay s)
 probe_of c h peer_delay s =
     probe_if (list_any (awaits_acknowledgment c h) (packets_of h s)) _ None
-    (probe_map s (λ sent. sent + (pto_base (rtt c h) + peer_delay) * 2 ^ pto_count c h) (last_eliciting h s)) tt
+    (probe_map s (λ sent. sent + (pto_base (granularity c) (rtt c h) + peer_delay) * 2 ^ pto_count c h) (last_eliciting h s)) tt
 
 pub probes : (c : Settings) (h : List Event) → IsProbe (option_or (earliest_pto c h) (anti_deadlock c h))
 probes c h =
@@ -106,7 +106,7 @@ probes c h =
     (probe_earlier (pto_due c h 0 Handshake) (if is_confirmed h then pto_due c h c.max_ack_delay App else None) (probe_of c h 0 Handshake)
     (probe_if (is_confirmed h) (pto_due c h c.max_ack_delay App) None (probe_of c h c.max_ack_delay App) tt)))
     (probe_if (is_validated c h) None _ tt
-    (probe_map (if has_keys h then Handshake else Initial) (λ sent. sent + pto_base (rtt c h) * 2 ^ pto_count c h) (last_set h)))
+    (probe_map (if has_keys h then Handshake else Initial) (λ sent. sent + pto_base (granularity c) (rtt c h) * 2 ^ pto_count c h) (last_set h)))
 
 pub loss_of : (o p : Option Due) (due : Due) → IsProbe p → option_or o p ≡ Some due → is_kind Loss due.kind ≡ true → o ≡ Some due
 loss_of None None due probe is loss = cc
@@ -177,23 +177,23 @@ acknowledged_space : (new : Bool) (h : List Event) (space s : Space) (time now :
 acknowledged_space true h space s time now at there = rw (same_space space s time now at) at there
 acknowledged_space false h space s time now at there = cc
 
-pub space_of_detection : (c : Settings) (e : Event) (h : List Event) → IsRun c (e ∷ h) → (s : Space) (now : ℕ) → detection (e ∷ h) ≡ Some (s, now) → is_discarded h s ≡ false
+pub space_of_detection : (c : Settings) (e : Event) (h : List Event) → IsRun c (e ∷ h) → (s : Space) (now : ℕ) → detection c (e ∷ h) ≡ Some (s, now) → is_discarded h s ≡ false
 space_of_detection c (Ack time space ranges delay app_limited) h run s now at =
     let holds = all_hold c h (Ack time space ranges delay app_limited) run.1 in
     acknowledged_space (acknowledges_new (Ack time space ranges delay app_limited ∷ h)) h space s time now at holds.space_gone
 space_of_detection c (Timer time Loss space) h run s now at =
     let there = timer_there c h time space run in
-    rw (same_space space s time now at) at there
+    rw (same_space space s (looks_at (early c) time (old_at c (rtt c h) h space)) now at) at there
 space_of_detection c (Timer time Pto space) h run s now at = cc
 space_of_detection c _ h run s now at = cc
 
-nothing_owed : (c : Settings) (e : Event) (h : List Event) → IsRun c (e ∷ h) → (s : Space) (now : ℕ) → detection (e ∷ h) ≡ Some (s, now) → is_some_packet (owed c h) ≡ false
+nothing_owed : (c : Settings) (e : Event) (h : List Event) → IsRun c (e ∷ h) → (s : Space) (now : ℕ) → detection c (e ∷ h) ≡ Some (s, now) → is_some_packet (owed c h) ≡ false
 nothing_owed c (Ack time space ranges delay app_limited) h run s now at = (all_hold c h (Ack time space ranges delay app_limited) run.1).loss_owed
 nothing_owed c (Timer time kind space) h run s now at = (all_hold c h (Timer time kind space) run.1).loss_owed
 nothing_owed c _ h run s now at = cc
 
 -- in a run each packet of which a detection asks was open and in flight before the event
-pub asked_was_flying : (c : Settings) (e : Event) (h : List Event) → IsRun c (e ∷ h) → (s : Space) (now : ℕ) → detection (e ∷ h) ≡ Some (s, now)
+pub asked_was_flying : (c : Settings) (e : Event) (h : List Event) → IsRun c (e ∷ h) → (s : Space) (now : ℕ) → detection c (e ∷ h) ≡ Some (s, now)
     → (p : Packet) → Contains (packets h) p → is_asked (e ∷ h) s p ≡ true → is_flying c h p ≡ true
 asked_was_flying c e h run s now at p has asked_of =
     let parts = and_parts (is_of s p) (p.in_flight && is_unsettled (e ∷ h) p) asked_of in

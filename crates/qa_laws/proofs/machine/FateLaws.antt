@@ -6,8 +6,7 @@ use Rattle.qa_base.specs.declared.event.Event.{Event}
 use Rattle.qa_base.specs.declared.space.Space.{Space}
 use Rattle.qa_base.specs.values.Events.{acknowledges}
 use Rattle.qa_laws.specs.machine.Fates.{fate, fate_by, fate_next, is_unacknowledged}
-use Rattle.qa_base.specs.machine.Detection.{detection}
-use Rattle.qa_base.specs.machine.Loss.{is_owed, is_open}
+use Rattle.qa_base.specs.machine.Loss.{is_owed, is_open, detection}
 use Rattle.qa_laws.specs.machine.Oldest.{is_flying, NoneFlies}
 use Rattle.qa_base.specs.machine.Packets.{Packet, packets, is_of, is_acknowledged, is_declared_lost, is_discarded}
 use Rattle.qa_base.specs.machine.Rules.{IsRun}
@@ -36,7 +35,7 @@ pub fate_after : (c : Settings) (e : Event) (h : List Event) → IsRun c (e ∷ 
     → fate c (e ∷ h) p ≡ fate_next (acknowledges p.space p.number e) (is_owed c (e ∷ h) p) (fate c h p)
 fate_after c e h run p has =
     next_by (acknowledges p.space p.number e) (is_acknowledged h p) (is_declared_lost h p) (is_owed c h p) (is_acknowledged (e ∷ h) p) (is_declared_lost (e ∷ h) p) (is_owed c (e ∷ h) p)
-    (covered_after e h p has) (lost_is_owed c e h run p has) (λ found. found_unsettled c (e ∷ h) p (detection (e ∷ h)) found)
+    (covered_after e h p has) (lost_is_owed c e h run p has) (λ found. found_unsettled c (e ∷ h) p (detection c (e ∷ h)) found)
 
 open_by : (covered lost is_due gone : Bool) → (not covered && not lost && not is_due && not gone) ≡ (is_unacknowledged (fate_by covered lost is_due) && not gone)
 open_by true lost is_due gone = refl

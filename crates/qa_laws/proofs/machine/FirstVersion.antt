@@ -1,27 +1,32 @@
 -- A header without a limit, a refresh and slack asks what one of version 1 does.
-use Rattle.std.proofs.Common.{◌≡◌, ◌∙◌, ◌<◌, ℕ, List, [], ◌∷◌, ◌++◌, Bool, true, false, ◌==◌, not, Option, Some, None, Ok, refl, sym, ap, arith, inl, inr}
+use Rattle.std.proofs.Common.{◌+◌, ◌*◌, ◌≡◌, ◌∙◌, ◌<◌, ◌&&◌, ℕ, List, [], ◌∷◌, ◌++◌, Bool, true, false, ◌==◌, not, Option, Some, None, Ok, refl, sym, ap, arith, inl, inr, mul-zero}
 use Rattle.std.proofs.lemmas.Bool.{false≢true, cases_eq, cases_lt, eq-eqb, ne_eqb, le-ltb, lt-ltb}
 use Rattle.std.specs.List.{AllByRecursion}
 use Rattle.std.specs.Prelude.{nat_lt, if◌then◌else◌}
 use Rattle.qa_base.specs.declared.event.Event.{Event}
 use Rattle.qa_base.specs.declared.event.Event.TheVariants.{Metrics}
 use Rattle.qa_base.specs.declared.event.MetricValues.{MetricValues}
-use Rattle.qa_base.specs.declared.header.Options.{Options}
 use Rattle.qa_base.specs.declared.header.Version.TheVariants.{One}
 use Rattle.qa_format.specs.declared.line.Line.TheVariants as line
 use Rattle.qa_base.specs.declared.rule.Rule.{Rule}
-use Rattle.qa_base.specs.declared.rule.Rule.TheVariants.{TimerLate}
+use Rattle.qa_base.specs.declared.rule.Field.{Field}
+use Rattle.qa_base.specs.declared.rule.Field.TheVariants.{Window, Ssthresh, BytesInFlight, LatestRtt, MinRtt, SmoothedRtt, Rttvar}
+use Rattle.qa_base.specs.declared.rule.Rule.TheVariants.{CollapseMissing, Metric, TimerLate}
+use Rattle.qa_base.specs.declared.space.Controller.{Controller}
+use Rattle.qa_base.specs.declared.space.Controller.TheVariants.{NewReno, Reported}
 use Rattle.qa_base.specs.declared.totals.Totals.{Totals}
 use Rattle.qa_format.specs.format.Reading.{reading}
-use Rattle.qa_base.specs.machine.Breaches.{is_timer_late, is_late_by}
+use Rattle.qa_base.specs.machine.Breaches.{is_above_collapse, is_collapse_missing, is_timer_late, is_late_by}
 use Rattle.qa_base.specs.machine.Estimates.{refreshed_by, rtt, sampled}
 use Rattle.qa_base.specs.machine.FirstVersion.{rtt_by_samples, is_another, exact_tests_of, exact_tests}
 use Rattle.qa_base.specs.machine.Metrics.{differs, tests, metric_tests}
 use Rattle.qa_base.specs.machine.Rtt.{Estimate, sample_of, updated, distance}
 use Rattle.qa_base.specs.machine.Rules.{broken, first_of, first_broken}
 use Rattle.qa_base.specs.machine.State.{totals}
+use Rattle.qa_base.specs.machine.Window.{acknowledged_since_collapse, other_window}
+use Rattle.qa_base.specs.values.Constants.{minimum_window}
 use Rattle.qa_base.specs.values.Events.{time_of}
-use Rattle.qa_base.specs.values.Settings.{Settings, no_options}
+use Rattle.qa_base.specs.values.Settings.{Settings, in_unit, is_reported, no_options, per_microsecond}
 use Rattle.qa_format.proofs.format.ProperReadings.{reading_is_proper}
 
 -- ---- the RTT
@@ -44,21 +49,24 @@ sampled_is_by_samples c (e ∷ h) none = ap (λ r. updated r (sample_of c (e ∷
 -- ---- late timers
 
 -- the rule is another, or what it forbids is not so
-abbrev IsNotLate : Bool × Rule → Type 0
-IsNotLate test = test.0 ≡ true → test.1 ≡ TimerLate → ⊥
+abbrev IsNot : Rule → Bool × Rule → Type 0
+IsNot rule test = test.0 ≡ true → test.1 ≡ rule → ⊥
 
-never_if : (here : Bool) (r : Rule) (rest : Option Rule) → (here ≡ true → r ≡ TimerLate → ⊥) → (rest ≡ Some TimerLate → ⊥) → (if here then Some r else rest) ≡ Some TimerLate → ⊥
-never_if true r rest not later is = not refl cc
-never_if false r rest not later is = later is
+never_if : (rule : Rule) (here : Bool) (r : Rule) (rest : Option Rule) → (here ≡ true → r ≡ rule → ⊥) → (rest ≡ Some rule → ⊥) → (if here then Some r else rest) ≡ Some rule → ⊥
+never_if rule true r rest not later is = not refl cc
+never_if rule false r rest not later is = later is
 
-never_of : (tests : List (Bool × Rule)) → AllByRecursion IsNotLate tests → first_of tests ≡ Some TimerLate → ⊥
-never_of [] all is = cc
-never_of (test ∷ tests) all is = never_if test.0 test.1 (first_of tests) all.0 (never_of tests all.1) is
+never_of : (rule : Rule) (tests : List (Bool × Rule)) → AllByRecursion (IsNot rule) tests → first_of tests ≡ Some rule → ⊥
+never_of rule [] all is = cc
+never_of rule (test ∷ tests) all is = never_if rule test.0 test.1 (first_of tests) all.0 (never_of rule tests all.1) is
 
-metrics_are_others : (c : Settings) (h : List Event) (e : Event) (tests : List (Bool × Rule)) → AllByRecursion IsNotLate tests → AllByRecursion IsNotLate (metric_tests c h e ++ tests)
-metrics_are_others c h (Metrics time values) tests all =
-    ((λ t is. cc), ((λ t is. cc), ((λ t is. cc), ((λ t is. cc), ((λ t is. cc), ((λ t is. cc), ((λ t is. cc), all)))))))
-metrics_are_others c h _ tests all = all
+metrics_are_others : (rule : Rule) → ((field : Field) → Metric field ≡ rule → ⊥) → (c : Settings) (h : List Event) (e : Event) (tests : List (Bool × Rule)) → AllByRecursion (IsNot rule) tests
+    → AllByRecursion (IsNot rule) (metric_tests c h e ++ tests)
+metrics_are_others rule other c h (Metrics time values) tests all = (
+  (λ t. other Window),
+  ((λ t. other Ssthresh), ((λ t. other BytesInFlight), ((λ t. other LatestRtt), ((λ t. other MinRtt), ((λ t. other SmoothedRtt), ((λ t. other Rttvar), all)))))),
+)
+metrics_are_others rule other c h _ tests all = all
 
 no_late_by : (c : Settings) (h : List Event) (time : ℕ) (limit : Option ℕ) → limit ≡ None → is_late_by c h time limit ≡ false
 no_late_by c h time None none = refl
@@ -72,8 +80,28 @@ no_timer_late c h e none = no_late_by c h (time_of e) c.options.timer_late none
 pub never_late : (c : Settings) (h : List Event) (e : Event) → c.options.timer_late ≡ None → first_broken c h e ≡ Some TimerLate → ⊥
 unfolding first_broken
 never_late c h e none is =
-    let last = metrics_are_others c h e ((is_timer_late c h e, TimerLate) ∷ []) ((λ late same. absurd (false≢true (sym (no_timer_late c h e none) ∙ late))), tt) in
-    never_of (broken c h e)
+    let last = metrics_are_others TimerLate (λ field same. cc) c h e ((is_timer_late c h e, TimerLate) ∷ (is_collapse_missing c h e, CollapseMissing) ∷ [])
+    ((λ late same. absurd (false≢true (sym (no_timer_late c h e none) ∙ late))), ((λ t r. cc), tt)) in
+    never_of TimerLate (broken c h e)
+    ((λ t r. cc), ((λ t r. cc), ((λ t r. cc), ((λ t r. cc), ((λ t r. cc), ((λ t r. cc), ((λ t r. cc), ((λ t r. cc), ((λ t r. cc), ((λ t r. cc), ((λ t r. cc), ((λ t r. cc), ((λ t r. cc), ((λ t r. cc), ((λ t r. cc), last))))))))))))))) is
+
+-- ---- reported windows
+
+none_missing : (controller : Controller) (missing : Bool) → is_reported controller ≡ false → (is_reported controller && missing) ≡ false
+none_missing NewReno missing is = refl
+none_missing Reported missing is = cc
+
+-- where no window is reported, none is that shows no collapse
+pub no_collapse_missing : (c : Settings) (h : List Event) (e : Event) → is_reported c.options.controller ≡ false → is_collapse_missing c h e ≡ false
+no_collapse_missing c h e own =
+    none_missing c.options.controller (is_above_collapse (minimum_window c.max_datagram_size + c.options.report_slack_bytes) (other_window c h e) (acknowledged_since_collapse c h)) own
+
+pub never_missing : (c : Settings) (h : List Event) (e : Event) → is_reported c.options.controller ≡ false → first_broken c h e ≡ Some CollapseMissing → ⊥
+unfolding first_broken
+never_missing c h e own is =
+    let last = metrics_are_others CollapseMissing (λ field same. cc) c h e ((is_timer_late c h e, TimerLate) ∷ (is_collapse_missing c h e, CollapseMissing) ∷ [])
+    ((λ t r. cc), ((λ missing same. absurd (false≢true (sym (no_collapse_missing c h e own) ∙ missing))), tt)) in
+    never_of CollapseMissing (broken c h e)
     ((λ t r. cc), ((λ t r. cc), ((λ t r. cc), ((λ t r. cc), ((λ t r. cc), ((λ t r. cc), ((λ t r. cc), ((λ t r. cc), ((λ t r. cc), ((λ t r. cc), ((λ t r. cc), ((λ t r. cc), ((λ t r. cc), ((λ t r. cc), ((λ t r. cc), last))))))))))))))) is
 
 -- ---- reported values
@@ -98,21 +126,30 @@ differs_is slack None held none = refl
 differs_is slack (Some n) None none = refl
 differs_is slack (Some n) (Some m) none = rw none (exactly n m)
 
-tests_are : (o : Options) (values : MetricValues) (held : Totals) → o.report_slack_us ≡ 0 → o.report_slack_bytes ≡ 0 → tests o values held ≡ exact_tests_of values held
-tests_are o values held no_us no_bytes = rw (
-  differs_is o.report_slack_bytes values.window (Some held.window) no_bytes,
-  differs_is o.report_slack_bytes values.ssthresh held.ssthresh no_bytes,
-  differs_is o.report_slack_bytes values.bytes_in_flight (Some held.bytes_in_flight) no_bytes,
-  differs_is o.report_slack_us values.latest_rtt (Some held.latest_rtt) no_us,
-  differs_is o.report_slack_us values.min_rtt (Some held.min_rtt) no_us,
-  differs_is o.report_slack_us values.smoothed_rtt (Some held.smoothed_rtt) no_us,
-  differs_is o.report_slack_us values.rttvar (Some held.rttvar) no_us,
+none_in_unit : (c : Settings) → c.options.report_slack_us ≡ 0 → in_unit c.unit c.options.report_slack_us ≡ 0
+none_in_unit c none = ap (λ n. per_microsecond c.unit * n) none ∙ mul-zero (per_microsecond c.unit)
+
+own_differs : (controller : Controller) (slack : ℕ) (value held : Option ℕ) → is_reported controller ≡ false → slack ≡ 0 → (not (is_reported controller) && differs slack value held) ≡ is_another value held
+own_differs NewReno slack value held own none = differs_is slack value held none
+own_differs Reported slack value held own none = cc
+
+tests_are : (c : Settings) (values : MetricValues) (held : Totals) → is_reported c.options.controller ≡ false → c.options.report_slack_us ≡ 0 → c.options.report_slack_bytes ≡ 0
+    → tests c values held ≡ exact_tests_of values held
+tests_are c values held own no_us no_bytes = rw (
+  own_differs c.options.controller c.options.report_slack_bytes values.window (Some held.window) own no_bytes,
+  own_differs c.options.controller c.options.report_slack_bytes values.ssthresh held.ssthresh own no_bytes,
+  differs_is c.options.report_slack_bytes values.bytes_in_flight (Some held.bytes_in_flight) no_bytes,
+  differs_is (in_unit c.unit c.options.report_slack_us) values.latest_rtt (Some held.latest_rtt) (none_in_unit c no_us),
+  differs_is (in_unit c.unit c.options.report_slack_us) values.min_rtt (Some held.min_rtt) (none_in_unit c no_us),
+  differs_is (in_unit c.unit c.options.report_slack_us) values.smoothed_rtt (Some held.smoothed_rtt) (none_in_unit c no_us),
+  differs_is (in_unit c.unit c.options.report_slack_us) values.rttvar (Some held.rttvar) (none_in_unit c no_us),
 ) refl
 
 -- without slack they are compared exactly
-pub metric_tests_are_exact : (c : Settings) (h : List Event) (e : Event) → c.options.report_slack_us ≡ 0 → c.options.report_slack_bytes ≡ 0 → metric_tests c h e ≡ exact_tests c h e
-metric_tests_are_exact c h (Metrics time values) no_us no_bytes = tests_are c.options values (totals c h) no_us no_bytes
-metric_tests_are_exact c h _ no_us no_bytes = refl
+pub metric_tests_are_exact : (c : Settings) (h : List Event) (e : Event) → is_reported c.options.controller ≡ false → c.options.report_slack_us ≡ 0 → c.options.report_slack_bytes ≡ 0
+    → metric_tests c h e ≡ exact_tests c h e
+metric_tests_are_exact c h (Metrics time values) own no_us no_bytes = tests_are c values (totals c h) own no_us no_bytes
+metric_tests_are_exact c h _ own no_us no_bytes = refl
 
 -- ---- headers of version 1
 

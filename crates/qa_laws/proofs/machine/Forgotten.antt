@@ -17,7 +17,7 @@ use Rattle.qa_laws.specs.machine.Sequence.{EachTwo, WasSentBefore}
 use Rattle.qa_base.specs.machine.Packets.{Packet, packets, is_acknowledged, is_newly_acknowledged, newly_acknowledged}
 use Rattle.qa_base.specs.machine.Rtt.{persistent_after}
 use Rattle.qa_base.specs.machine.Rules.{IsRun}
-use Rattle.qa_base.specs.values.Settings.{Settings}
+use Rattle.qa_base.specs.values.Settings.{Settings, granularity}
 use Rattle.qa_laws.specs.machine.Sums.{counted, open_sum}
 use Rattle.qa_laws.proofs.machine.Closing.{owed_among}
 use Rattle.qa_laws.proofs.machine.Changes.{owed_was_flying, newly_was_open}
@@ -70,7 +70,7 @@ ends_of_kept c g kept gone p q parts behind =
     let between : Packet → Bool = λ m. nat_lt p.place m.place && nat_lt m.place q.place && is_acknowledged g m in
     let none : AllByRecursion (λ m. between m ≡ false) gone = each_weaker (WasSentBefore p) (λ m. between m ≡ false) (λ m before. not_between g p q m before.place) gone behind in
     let same : list_any between (packets g) ≡ list_any between kept = ap (list_any between) parts ∙ any_of_first between kept gone none in
-    ap (λ b. is_end (sampled c g) p && is_end (sampled c g) q && nat_lt (persistent_after (sampled c g) c.max_ack_delay) (q.time - p.time) && not b) same
+    ap (λ b. is_end (sampled c g) p && is_end (sampled c g) q && nat_lt (persistent_after (granularity c) (sampled c g) c.max_ack_delay) (q.time - p.time) && not b) same
 
 pairs_of_kept : (c : Settings) (g : List Event) (kept gone found : List Packet) → packets g ≡ kept ++ gone → EachTwo WasSentBefore (kept ++ gone)
     → AllByRecursion (λ p. AllByRecursion (WasSentBefore p) gone) found

@@ -12,7 +12,7 @@ use Rattle.qa_laws.specs.machine.Sequence.{EachTwo, WasSentBefore}
 use Rattle.qa_base.specs.machine.Packets.{Packet, packets, is_acknowledged}
 use Rattle.qa_base.specs.machine.Rtt.{persistent_after}
 use Rattle.qa_base.specs.machine.Rules.{IsRun}
-use Rattle.qa_base.specs.values.Settings.{Settings}
+use Rattle.qa_base.specs.values.Settings.{Settings, granularity}
 use Rattle.qa_laws.proofs.machine.Changes.{same_tests}
 use Rattle.qa_laws.proofs.machine.Courses.{in_order}
 use Rattle.qa_laws.proofs.machine.Pairs.{at_one, first_or_rest, has_first, has_later, two_turned, of_each}
@@ -244,15 +244,15 @@ apart_back covered counts limit ps p q apart = record {
 }
 
 walk_gives : (c : Settings) (h : List Event)
-    → Found (is_acknowledged h) (counts_as_end c h) (persistent_after (sampled c h) c.max_ack_delay) None (reverse (packets h)) → is_persistent c h ≡ true
-walk_gives c h (inl (p, q, apart)) = of_apart c h p q (apart_back (is_acknowledged h) (counts_as_end c h) (persistent_after (sampled c h) c.max_ack_delay) (packets h) p q apart)
+    → Found (is_acknowledged h) (counts_as_end c h) (persistent_after (granularity c) (sampled c h) c.max_ack_delay) None (reverse (packets h)) → is_persistent c h ≡ true
+walk_gives c h (inl (p, q, apart)) = of_apart c h p q (apart_back (is_acknowledged h) (counts_as_end c h) (persistent_after (granularity c) (sampled c h) c.max_ack_delay) (packets h) p q apart)
 walk_gives c h (inr (s, q, is, on)) = cc
 
 -- in a run the last event establishes persistent congestion exactly where a walk in the order of sending finds it
 pub persistent_is_forward : (c : Settings) (h : List Event) → IsRun c h
-    → is_persistent c h ≡ finds_apart (is_acknowledged h) (counts_as_end c h) (persistent_after (sampled c h) c.max_ack_delay) None (reverse (packets h))
+    → is_persistent c h ≡ finds_apart (is_acknowledged h) (counts_as_end c h) (persistent_after (granularity c) (sampled c h) c.max_ack_delay) None (reverse (packets h))
 persistent_is_forward c h run =
-    let limit = persistent_after (sampled c h) c.max_ack_delay in
+    let limit = persistent_after (granularity c) (sampled c h) c.max_ack_delay in
     let two : EachTwo Before (reverse (packets h)) = two_turned WasSentBefore (packets h) (in_order c h run) in
     same_tests (is_persistent c h) (finds_apart (is_acknowledged h) (counts_as_end c h) limit None (reverse (packets h)))
     (λ is. let a = apart_of c h is in

@@ -9,10 +9,9 @@ use Rattle.std.specs.Prelude.{nat_le, if◌then◌else◌}
 use Rattle.qa_base.specs.declared.event.Event.{Event}
 use Rattle.qa_base.specs.declared.event.Event.TheVariants.{Sent}
 use Rattle.qa_laws.specs.machine.Sequence.{EachTwo}
-use Rattle.qa_base.specs.machine.Packets.{Packet, packets}
+use Rattle.qa_base.specs.machine.Packets.{Packet, packets, least_of}
 use Rattle.qa_base.specs.values.Settings.{Settings}
 use Rattle.qa_base.specs.machine.Kept.{is_kept, oldest_kept, count_from, kept_count}
-use Rattle.qa_base.specs.machine.Timer.{least_of}
 use Rattle.qa_base.proofs.machine.WindowBound.{placed}
 use Rattle.qa_laws.proofs.machine.Deadline.{first_sent_is, first_passes, find_none}
 use Rattle.qa_laws.proofs.machine.Forgotten.{all_behind}

@@ -6,11 +6,11 @@ use Rattle.std.specs.Prelude.{nat_lt}
 use Rattle.qa_base.specs.declared.event.Event.{Event}
 use Rattle.qa_laws.specs.machine.Among.{counts_as_end}
 use Rattle.qa_base.specs.machine.Estimates.{sampled}
-use Rattle.qa_base.specs.machine.Detection.{detection, is_end, are_ends, is_acknowledged_between}
-use Rattle.qa_base.specs.machine.Loss.{owed, is_owed, is_persistent}
+use Rattle.qa_base.specs.machine.Detection.{is_end, are_ends, is_acknowledged_between}
+use Rattle.qa_base.specs.machine.Loss.{owed, is_owed, is_persistent, detection}
 use Rattle.qa_base.specs.machine.Packets.{Packet, packets, is_acknowledged, is_declared_lost}
 use Rattle.qa_base.specs.machine.Rtt.{persistent_after}
-use Rattle.qa_base.specs.values.Settings.{Settings}
+use Rattle.qa_base.specs.values.Settings.{Settings, granularity}
 use Rattle.qa_laws.proofs.machine.Changes.{found_unsettled}
 use Rattle.qa_laws.proofs.machine.Pairs.{first_or_rest, some_one}
 use Rattle.qa_laws.proofs.machine.Settled.{owed_has, owed_is}
@@ -44,9 +44,9 @@ pub record AreApart (covered counts : Packet → Bool) (limit : ℕ) (ps : List 
 -- ---- the last event's two packets
 
 pub apart_of : (c : Settings) (h : List Event) → is_persistent c h ≡ true
-    → (p : Packet) × (q : Packet) × AreApart (is_acknowledged h) (counts_as_end c h) (persistent_after (sampled c h) c.max_ack_delay) (packets h) p q
+    → (p : Packet) × (q : Packet) × AreApart (is_acknowledged h) (counts_as_end c h) (persistent_after (granularity c) (sampled c h) c.max_ack_delay) (packets h) p q
 apart_of c h is =
-    let limit = persistent_after (sampled c h) c.max_ack_delay in
+    let limit = persistent_after (granularity c) (sampled c h) c.max_ack_delay in
     let one = some_one (λ p. list_any (are_ends (sampled c h) c h p) (owed c h)) (owed c h) is in
     let p = one.0 in
     let two = some_one (are_ends (sampled c h) c h p) (owed c h) one.2 in
@@ -73,10 +73,10 @@ apart_of c h is =
       },
     )
 
-pub of_apart : (c : Settings) (h : List Event) (p q : Packet) → AreApart (is_acknowledged h) (counts_as_end c h) (persistent_after (sampled c h) c.max_ack_delay) (packets h) p q
+pub of_apart : (c : Settings) (h : List Event) (p q : Packet) → AreApart (is_acknowledged h) (counts_as_end c h) (persistent_after (granularity c) (sampled c h) c.max_ack_delay) (packets h) p q
     → is_persistent c h ≡ true
 of_apart c h p q apart =
-    let limit = persistent_after (sampled c h) c.max_ack_delay in
+    let limit = persistent_after (granularity c) (sampled c h) c.max_ack_delay in
     let of_p = and_parts (is_owed c h p) (is_end (sampled c h) p) apart.counts_p in
     let of_q = and_parts (is_owed c h q) (is_end (sampled c h) q) apart.counts_q in
     let none : is_acknowledged_between h p q ≡ false = none_from (λ k. nat_lt p.place k.place && nat_lt k.place q.place && is_acknowledged h k) (packets h) (λ m inside.
@@ -94,5 +94,5 @@ of_apart c h p q apart =
 -- a packet found lost is not covered
 pub owed_not_covered : (c : Settings) (h : List Event) (p : Packet) → counts_as_end c h p ≡ true → is_acknowledged h p ≡ false
 owed_not_covered c h p is =
-    let open_here = found_unsettled c h p (detection h) (and_parts (is_owed c h p) (is_end (sampled c h) p) is).0 in
+    let open_here = found_unsettled c h p (detection c h) (and_parts (is_owed c h p) (is_end (sampled c h) p) is).0 in
     not-true (is_acknowledged h p) (and_parts (not (is_acknowledged h p)) (not (is_declared_lost h p)) open_here).0

@@ -13,7 +13,7 @@ use Rattle.qa_base.specs.machine.Loss.{owed, is_owed, is_open, is_persistent}
 use Rattle.qa_base.specs.machine.Packets.{Packet, packets, packet_of, is_acknowledged, is_newly_acknowledged, newly_acknowledged}
 use Rattle.qa_base.specs.machine.Rtt.{persistent_after}
 use Rattle.qa_base.specs.machine.Rules.{IsRun}
-use Rattle.qa_base.specs.values.Settings.{Settings}
+use Rattle.qa_base.specs.values.Settings.{Settings, granularity}
 use Rattle.qa_laws.specs.machine.Sums.{counted, open_sum}
 use Rattle.qa_laws.proofs.machine.Changes.{owed_was_flying}
 use Rattle.qa_laws.proofs.machine.Forgotten.{newly_of_kept, owed_of_kept, open_sum_of_kept}
@@ -73,19 +73,19 @@ gone_counts_not c e h run gone kept parts closed = of_each (λ p. counts_as_end 
     (false_from_ne_true (is_owed c (e ∷ h) p) (λ is. both_ways (is_open c h p) shut (and_parts p.in_flight (is_open c h p) (owed_was_flying c e h run p inside is)).1)))
 
 walk_if : (c : Settings) (e : Event) (h : List Event) → IsRun c (e ∷ h) → (gone kept : List Packet) → packets (e ∷ h) ≡ packets h → reverse (packets h) ≡ gone ++ kept → AreClosed c h gone
-    → is_persistent c (e ∷ h) ≡ finds_apart (is_acknowledged (e ∷ h)) (counts_as_end c (e ∷ h)) (persistent_after (sampled c (e ∷ h)) c.max_ack_delay) None kept
+    → is_persistent c (e ∷ h) ≡ finds_apart (is_acknowledged (e ∷ h)) (counts_as_end c (e ∷ h)) (persistent_after (granularity c) (sampled c (e ∷ h)) c.max_ack_delay) None kept
 walk_if c e h run gone kept same parts closed =
-    let limit = persistent_after (sampled c (e ∷ h)) c.max_ack_delay in
+    let limit = persistent_after (granularity c) (sampled c (e ∷ h)) c.max_ack_delay in
     persistent_is_forward c (e ∷ h) run
     ∙ (ap (finds_apart (is_acknowledged (e ∷ h)) (counts_as_end c (e ∷ h)) limit None) (ap reverse same ∙ parts)
     ∙ front_dropped (is_acknowledged (e ∷ h)) (counts_as_end c (e ∷ h)) limit gone kept (gone_counts_not c e h run gone kept parts closed))
 
 -- in a run an event establishes persistent congestion exactly where a walk over the packets kept finds it, in the order of sending
 pub persistent_is_walk_of_kept : (c : Settings) (e : Event) (h : List Event) → IsRun c (e ∷ h) → (gone kept : List Packet) → reverse (packets h) ≡ gone ++ kept → AreClosed c h gone
-    → is_persistent c (e ∷ h) ≡ finds_apart (is_acknowledged (e ∷ h)) (counts_as_end c (e ∷ h)) (persistent_after (sampled c (e ∷ h)) c.max_ack_delay) None kept
+    → is_persistent c (e ∷ h) ≡ finds_apart (is_acknowledged (e ∷ h)) (counts_as_end c (e ∷ h)) (persistent_after (granularity c) (sampled c (e ∷ h)) c.max_ack_delay) None kept
 persistent_is_walk_of_kept c (Sent time space number size eliciting in_flight leave) h run gone kept parts closed =
     let e = Sent time space number size eliciting in_flight leave in
-    sym (none_found (is_acknowledged (e ∷ h)) (counts_as_end c (e ∷ h)) (persistent_after (sampled c (e ∷ h)) c.max_ack_delay) kept (of_each (λ p. counts_as_end c (e ∷ h) p ≡ false) kept (λ p has. refl)))
+    sym (none_found (is_acknowledged (e ∷ h)) (counts_as_end c (e ∷ h)) (persistent_after (granularity c) (sampled c (e ∷ h)) c.max_ack_delay) kept (of_each (λ p. counts_as_end c (e ∷ h) p ≡ false) kept (λ p has. refl)))
 persistent_is_walk_of_kept c e h run gone kept parts closed = walk_if c e h run gone kept refl parts closed
 
 -- ---- sums

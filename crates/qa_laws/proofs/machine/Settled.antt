@@ -9,13 +9,12 @@ use Rattle.qa_base.specs.declared.space.Space.{Space}
 use Rattle.qa_base.specs.machine.Breaches.{numbers}
 use Rattle.qa_base.specs.values.Events.{is_space, is_named, acknowledges, declares_lost, discards}
 use Rattle.qa_base.specs.machine.Estimates.{sampled}
-use Rattle.qa_base.specs.machine.Detection.{is_found, is_found_at, found_at, detection, is_unsettled}
-use Rattle.qa_base.specs.machine.Loss.{owed, is_owed, is_open}
+use Rattle.qa_base.specs.machine.Detection.{is_found, is_found_at, found_at, is_unsettled}
+use Rattle.qa_base.specs.machine.Loss.{owed, is_owed, is_open, detection}
 use Rattle.qa_base.specs.machine.Numbers.{has_all, names_exactly}
-use Rattle.qa_base.specs.machine.Packets.{Packet, packets, packets_of, is_of, is_some_packet, is_acknowledged, is_declared_lost, is_discarded, greatest, greatest_in, greatest_of, largest_acknowledged}
+use Rattle.qa_base.specs.machine.Packets.{Packet, packets, packets_of, is_of, is_some_packet, is_acknowledged, is_declared_lost, is_discarded, greatest, greatest_in, greatest_of, largest_acknowledged, is_below_largest}
 use Rattle.qa_base.specs.machine.Rules.{IsRun}
 use Rattle.qa_base.specs.values.Settings.{Settings}
-use Rattle.qa_base.specs.machine.Timer.{is_below_largest}
 use Rattle.qa_laws.proofs.machine.Courses.{is_space_same, is_space_is}
 use Rattle.qa_base.proofs.machine.WindowBound.{placed}
 use Rattle.qa_laws.proofs.machine.Pairs.{at_one, part_has, part_is, some_one, first_or_rest}
@@ -60,36 +59,36 @@ below_largest_stays e h s n is = rw (largest_after e h s) (below_raised (greates
 
 -- ---- what is owed
 
-found_has : (c : Settings) (h : List Event) (p : Packet) (d : Option (Space × ℕ)) → Contains (packets h) p → is_found_at (sampled c h) h p d ≡ true → Contains (found_at (sampled c h) h d) p
+found_has : (c : Settings) (h : List Event) (p : Packet) (d : Option (Space × ℕ)) → Contains (packets h) p → is_found_at c (sampled c h) h p d ≡ true → Contains (found_at c (sampled c h) h d) p
 found_has c h p None has is = cc
 found_has c h p (Some (s, now)) has is =
-    let both = and_parts (is_of s p) (is_found (sampled c h) h now s p) is in
-    part_has (is_found (sampled c h) h now s) (packets_of h s) p (part_has (is_of s) (packets h) p has both.0) both.1
+    let both = and_parts (is_of s p) (is_found c (sampled c h) h now s p) is in
+    part_has (is_found c (sampled c h) h now s) (packets_of h s) p (part_has (is_of s) (packets h) p has both.0) both.1
 
-found_is : (c : Settings) (h : List Event) (p : Packet) (d : Option (Space × ℕ)) → Contains (found_at (sampled c h) h d) p → Contains (packets h) p × (is_found_at (sampled c h) h p d ≡ true)
+found_is : (c : Settings) (h : List Event) (p : Packet) (d : Option (Space × ℕ)) → Contains (found_at c (sampled c h) h d) p → Contains (packets h) p × (is_found_at c (sampled c h) h p d ≡ true)
 found_is c h p None (k, within, is) = absurd (omega arith)
 found_is c h p (Some (s, now)) has =
-    let found = part_is (is_found (sampled c h) h now s) (packets_of h s) p has in
+    let found = part_is (is_found c (sampled c h) h now s) (packets_of h s) p has in
     let of_space = part_is (is_of s) (packets h) p found.0 in
-    (of_space.0, and_from (is_of s p) (is_found (sampled c h) h now s p) of_space.1 found.1)
+    (of_space.0, and_from (is_of s p) (is_found c (sampled c h) h now s p) of_space.1 found.1)
 
 -- the packets owed are those of which it is so
 pub owed_has : (c : Settings) (h : List Event) (p : Packet) → Contains (packets h) p → is_owed c h p ≡ true → Contains (owed c h) p
-owed_has c h p has is = found_has c h p (detection h) has is
+owed_has c h p has is = found_has c h p (detection c h) has is
 
 pub owed_is : (c : Settings) (h : List Event) (p : Packet) → Contains (owed c h) p → Contains (packets h) p × (is_owed c h p ≡ true)
-owed_is c h p has = found_is c h p (detection h) has
+owed_is c h p has = found_is c h p (detection c h) has
 
-found_of_one : (c : Settings) (h : List Event) (p q : Packet) (d : Option (Space × ℕ)) → is_found_at (sampled c h) h p d ≡ true → is_found_at (sampled c h) h q d ≡ true → p.space ≡ q.space
+found_of_one : (c : Settings) (h : List Event) (p q : Packet) (d : Option (Space × ℕ)) → is_found_at c (sampled c h) h p d ≡ true → is_found_at c (sampled c h) h q d ≡ true → p.space ≡ q.space
 found_of_one c h p q None is_p is_q = cc
 found_of_one c h p q (Some (s, now)) is_p is_q =
-    let of_p = is_space_is s p.space (and_parts (is_of s p) (is_found (sampled c h) h now s p) is_p).0 in
-    let of_q = is_space_is s q.space (and_parts (is_of s q) (is_found (sampled c h) h now s q) is_q).0 in
+    let of_p = is_space_is s p.space (and_parts (is_of s p) (is_found c (sampled c h) h now s p) is_p).0 in
+    let of_q = is_space_is s q.space (and_parts (is_of s q) (is_found c (sampled c h) h now s q) is_q).0 in
     sym of_p ∙ of_q
 
 -- all of one space
 pub owed_of_one : (c : Settings) (h : List Event) (p q : Packet) → is_owed c h p ≡ true → is_owed c h q ≡ true → p.space ≡ q.space
-owed_of_one c h p q is_p is_q = found_of_one c h p q (detection h) is_p is_q
+owed_of_one c h p q is_p is_q = found_of_one c h p q (detection c h) is_p is_q
 
 pub has_some : (ps : List Packet) (p : Packet) → Contains ps p → is_some_packet ps ≡ true
 has_some [] p (k, within, is) = absurd (omega arith)
@@ -138,7 +137,7 @@ owed_then_lost c e h run p has is = not_while_owed c h p (is_declared_lost (e �
 
 -- ---- open
 
-settled_parts : (h : List Event) (p : Packet) → is_unsettled h p ≡ false → (is_acknowledged h p ≡ true) ⊎ (is_declared_lost h p ≡ true)
+pub settled_parts : (h : List Event) (p : Packet) → is_unsettled h p ≡ false → (is_acknowledged h p ≡ true) ⊎ (is_declared_lost h p ≡ true)
 settled_parts h p is = elim (and_cases (not (is_acknowledged h p)) (not (is_declared_lost h p)) is) [
   | inl covered ↦ inl (not-false (is_acknowledged h p) covered)
   | inr lost ↦ inr (not-false (is_declared_lost h p) lost)

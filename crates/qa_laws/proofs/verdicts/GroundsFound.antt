@@ -13,7 +13,7 @@ use Rattle.qa_format.specs.declared.fault.Fault.TheVariants.{HeaderPlace, LineTo
 use Rattle.qa_format.specs.declared.line.Line.{Line}
 use Rattle.qa_format.specs.declared.line.Line.TheVariants as line
 use Rattle.qa_base.specs.declared.rule.Rule.{Rule}
-use Rattle.qa_base.specs.declared.rule.Rule.TheVariants.{OwedAtEnd, TimerLate}
+use Rattle.qa_base.specs.declared.rule.Rule.TheVariants.{CollapseMissing, OwedAtEnd, TimerLate}
 use Rattle.qa_base.specs.declared.totals.Totals.{Totals}
 use Rattle.qa_format.specs.declared.verdict.Verdict.{Verdict}
 use Rattle.qa_format.specs.declared.verdict.Verdict.TheVariants.{Accepted, Refused, Unreadable}
@@ -22,7 +22,7 @@ use Rattle.qa_base.specs.values.Limits.{max_lines}
 use Rattle.qa_format.specs.format.Lines.{line_limit, lines}
 use Rattle.qa_base.specs.machine.Loss.{owed}
 use Rattle.qa_base.specs.machine.Packets.{Packet, history_of, is_some_packet}
-use Rattle.qa_base.specs.machine.Breaches.{is_timer_late}
+use Rattle.qa_base.specs.machine.Breaches.{is_collapse_missing, is_timer_late}
 use Rattle.qa_base.specs.machine.Metrics.{metric_tests}
 use Rattle.qa_base.specs.machine.Rules.{broken, first_of, first_broken}
 use Rattle.qa_base.specs.values.Settings.{Settings}
@@ -553,4 +553,4 @@ metrics_of_event c h _ tests all = all
 
 pub never_owed_at_end : (c : Settings) (h : List Event) (e : Event) → first_broken c h e ≡ Some OwedAtEnd → ⊥
 unfolding first_broken
-never_owed_at_end c h e is = let metrics = metrics_of_event c h e ((is_timer_late c h e, TimerLate) ∷ []) ((λ is. cc), tt) in never_of (broken c h e) ((λ is. cc), ((λ is. cc), ((λ is. cc), ((λ is. cc), ((λ is. cc), ((λ is. cc), ((λ is. cc), ((λ is. cc), ((λ is. cc), ((λ is. cc), ((λ is. cc), ((λ is. cc), ((λ is. cc), ((λ is. cc), ((λ is. cc), metrics))))))))))))))) is
+never_owed_at_end c h e is = let metrics = metrics_of_event c h e ((is_timer_late c h e, TimerLate) ∷ (is_collapse_missing c h e, CollapseMissing) ∷ []) ((λ is. cc), ((λ is. cc), tt)) in never_of (broken c h e) ((λ is. cc), ((λ is. cc), ((λ is. cc), ((λ is. cc), ((λ is. cc), ((λ is. cc), ((λ is. cc), ((λ is. cc), ((λ is. cc), ((λ is. cc), ((λ is. cc), ((λ is. cc), ((λ is. cc), ((λ is. cc), ((λ is. cc), metrics))))))))))))))) is

@@ -7,7 +7,7 @@ use Rattle.qa_base.specs.machine.Detection.{is_end}
 use Rattle.qa_base.specs.machine.Loss.{is_owed}
 use Rattle.qa_base.specs.machine.Packets.{Packet, is_acknowledged}
 use Rattle.qa_base.specs.machine.Rtt.{persistent_after}
-use Rattle.qa_base.specs.values.Settings.{Settings}
+use Rattle.qa_base.specs.values.Settings.{Settings, granularity}
 
 -- one of these packets, sent between the two, is acknowledged
 abbrev pub is_acknowledged_among : List Event → List Packet → Packet → Packet → Bool
@@ -17,7 +17,7 @@ is_acknowledged_among h ps p q = list_any (λ m. nat_lt p.place m.place && nat_l
 abbrev pub are_ends_among : Settings → List Event → List Packet → Packet → Packet → Bool
 are_ends_among c h ps p q =
     is_end (sampled c h) p && is_end (sampled c h) q
-    && nat_lt (persistent_after (sampled c h) c.max_ack_delay) (q.time - p.time)
+    && nat_lt (persistent_after (granularity c) (sampled c h) c.max_ack_delay) (q.time - p.time)
     && not (is_acknowledged_among h ps p q)
 
 -- the last event establishes persistent congestion by two of these packets

@@ -7,15 +7,15 @@ use Rattle.qa_base.specs.declared.space.TimerKind.TheVariants.{Pto}
 use Rattle.qa_base.specs.declared.space.Leave.{Leave}
 use Rattle.qa_base.specs.declared.space.Leave.TheVariants.{Window, Probe, Recovery}
 use Rattle.qa_base.specs.declared.space.Space.{Space}
-use Rattle.qa_base.specs.values.Constants.{packet_threshold, probe_datagrams}
+use Rattle.qa_base.specs.values.Constants.{probe_datagrams}
 use Rattle.qa_base.specs.values.Events.{is_named, time_of}
 use Rattle.qa_base.specs.machine.Estimates.{sampled}
-use Rattle.qa_base.specs.machine.Detection.{detection}
-use Rattle.qa_base.specs.machine.Loss.{owed, bytes_in_flight, is_persistent}
+use Rattle.qa_base.specs.machine.Loss.{owed, bytes_in_flight, is_persistent, detection}
 use Rattle.qa_base.specs.machine.Packets.{Packet, packets, is_acknowledged}
-use Rattle.qa_base.specs.machine.Reno.{reno, is_entry, is_outside_recovery, latest_sent}
-use Rattle.qa_base.specs.values.Settings.{Settings}
+use Rattle.qa_base.specs.machine.Reno.{is_entry, is_outside_recovery, latest_sent}
+use Rattle.qa_base.specs.values.Settings.{Settings, granularity}
 use Rattle.qa_base.specs.machine.Rtt.{loss_delay}
+use Rattle.qa_base.specs.machine.Window.{window}
 
 -- ---- losses (RFC 9002, section 6.1)
 
@@ -35,8 +35,8 @@ pub record IsLostRightly (c : Settings) (h : List Event) (s : Space) (n : ℕ) :
   pub earlier : packet.place < other.place
   pub lower : packet.number < other.number
   pub now : ℕ
-  pub detected : detection h ≡ Some (s, now)
-  pub late : (packet.number + packet_threshold ≤ other.number) ⊎ (loss_delay (sampled c h) ≤ now - packet.time)
+  pub detected : detection c h ≡ Some (s, now)
+  pub late : (packet.number + c.options.packet_threshold ≤ other.number) ⊎ (loss_delay (granularity c) (sampled c h) ≤ now - packet.time)
 
 -- ---- probes (RFC 9002, section 6.2.4)
 
@@ -115,9 +115,14 @@ pub record HasEntryLeft (c : Settings) (h : List Event) : Type 0 where
   pub enters : is_entry c (entry ∷ before) ≡ true
   pub unused : list_any is_recovery since ≡ false
 
+-- the sender may overshoot the window, which the bytes in flight did not fill
+pub record HasOvershoot (c : Settings) (h : List Event) : Type 0 where
+  pub allowed : c.options.window_overshoot ≡ true
+  pub room : bytes_in_flight c h < window c h
+
 -- the leave of an in-flight packet of so many bytes that the window has no room for
 abbrev pub HasLeave : Settings → List Event → ℕ → Leave → Type 0
-HasLeave c h size Window = ⊥
+HasLeave c h size Window = HasOvershoot c h
 HasLeave c h size Probe = HasProbeLeft c h size
 HasLeave c h size Recovery = HasEntryLeft c h
 
@@ -130,7 +135,7 @@ pub record IsConduct (c : Settings) (h : List Event) : Type 0 where
       → (n : ℕ) → is_named ranges n ≡ true → IsLostRightly c before space n
   pub sent : (after before : List Event) (time : ℕ) (space : Space) (number size : ℕ) (eliciting : Bool) (leave : Leave)
       → h ≡ after ++ Sent time space number size eliciting true leave ∷ before
-      → (reno c before).window < bytes_in_flight c before + size → HasLeave c before size leave
+      → window c before < bytes_in_flight c before + size → HasLeave c before size leave
   pub halved : (after between before : List Event) (second first : Event) → h ≡ after ++ (second ∷ between ++ first ∷ before)
       → is_entry c (first ∷ before) ≡ true → is_entry c (second ∷ between ++ first ∷ before) ≡ true → NoCollapse c between (first ∷ before)
       → IsSentAfter (time_of first) (owed c (second ∷ between ++ first ∷ before))

@@ -8,10 +8,10 @@ use Rattle.qa_base.specs.declared.space.Space.{Space}
 use Rattle.qa_base.specs.machine.Estimates.{rtt}
 use Rattle.qa_base.specs.machine.Detection.{is_unsettled}
 use Rattle.qa_base.specs.machine.Loss.{is_open}
-use Rattle.qa_base.specs.machine.Packets.{Packet, is_of, largest_acknowledged}
-use Rattle.qa_base.specs.values.Settings.{Settings}
+use Rattle.qa_base.specs.machine.Packets.{Packet, is_of, largest_acknowledged, is_below_largest}
+use Rattle.qa_base.specs.values.Settings.{Settings, granularity}
 use Rattle.qa_base.specs.machine.Rtt.{loss_delay}
-use Rattle.qa_base.specs.machine.Timer.{Due, is_below_largest}
+use Rattle.qa_base.specs.machine.Timer.{Due}
 
 -- open and in flight
 abbrev pub is_flying : Settings → List Event → Packet → Bool
@@ -22,7 +22,7 @@ abbrev pub due_of : Settings → List Event → Space → Option Packet → Opti
 due_of c h s None = None
 due_of c h s (Some p) =
     if is_below_largest p.number (largest_acknowledged h s)
-    then Some (record { kind = Loss; space = s; time = p.time + loss_delay (rtt c h) })
+    then Some (record { kind = Loss; space = s; time = p.time + loss_delay (granularity c) (rtt c h) })
     else None
 
 -- a detection in the space asks of the packet whether it is past a threshold

@@ -1,6 +1,6 @@
 //! A line that is written and read back, as a logger does it.
 use qa_trace::{
-    Event, Fault, Line, LineFault, Micros, PacketNumber, Space, Span, Spans, read_line, write_line,
+    Event, Fault, Line, LineFault, PacketNumber, Space, Span, Spans, Ticks, read_line, write_line,
 };
 use std::alloc::Global;
 use std::test::Fail;
@@ -19,7 +19,7 @@ fn a_line_is_written_and_read(rt: HostRuntime) -> Result<(), Fail> {
     ranges.push(span(3, 3)?)?;
     ranges.push(span(0, 1)?)?;
     let event = Event::Ack {
-        time: Micros::of(100_000),
+        time: Ticks::of(100_000),
         space: Space::App,
         ranges,
         delay: 25_000,
@@ -46,7 +46,7 @@ fn ranges_are_copied_in_their_order(rt: HostRuntime) -> Result<(), Fail> {
     ranges.push(span(3, 3)?)?;
     ranges.push(span(0, 3)?)?;
     let event = Event::Ack {
-        time: Micros::of(5),
+        time: Ticks::of(5),
         space: Space::App,
         ranges,
         delay: 0,

@@ -3,7 +3,7 @@
 ghost use Rattle.std.specs.Prelude.{◌<◌, ◌≤◌, ◌+◌};
 ghost use Rattle.qa_base.specs.values.Limits.{max_lines};
 
-use qa_base::{Event, Header, Leave, Micros, PacketNumber, Role, Rule, Space, Span, Spans};
+use qa_base::{Event, Header, Leave, PacketNumber, Role, Rule, Space, Span, Spans, Ticks};
 use qa_ledger::{Ledger, LedgerFault};
 use qa_running::Running;
 use std::alloc::Global;
@@ -12,7 +12,7 @@ use std::test::Fail;
 /// An ack-eliciting packet of 1,200 bytes at time 0.
 fn sent(number: u64) -> Option<Event> {
     Some(Event::Sent {
-        time: Micros::of(0),
+        time: Ticks::of(0),
         space: Space::App,
         number: PacketNumber::new(number)?,
         size: 1200,
@@ -28,7 +28,7 @@ fn ack(alloc: Global, number: u64) -> Option<Event> {
     let mut ranges = Spans::new(alloc);
     ranges.push(Span::new(number, number)?).ok()?;
     Some(Event::Ack {
-        time: Micros::of(100_000),
+        time: Ticks::of(100_000),
         space: Space::App,
         ranges,
         delay: 0,

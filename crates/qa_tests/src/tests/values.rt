@@ -1,5 +1,5 @@
 //! Values by themselves.
-use qa_base::{Micros, PacketNumber, Space};
+use qa_base::{PacketNumber, Space, Ticks};
 use qa_check::report;
 use qa_format::{Fault, Verdict};
 use std::test::Fail;
@@ -9,7 +9,7 @@ fn spaces_and_numbers_are_ordered(rt: HostRuntime) -> Result<(), Fail> {
     let first = PacketNumber::new(999).ok_or("a packet number")?;
     let second = PacketNumber::new(1000).ok_or("a packet number")?;
     let spaces = Space::Initial < Space::Handshake && Space::Handshake < Space::App;
-    assert!(rt; spaces && Micros::of(999) < Micros::of(1000) && first < second);
+    assert!(rt; spaces && Ticks::of(999) < Ticks::of(1000) && first < second);
     Ok(())
 }
 

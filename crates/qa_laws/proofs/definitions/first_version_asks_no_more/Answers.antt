@@ -7,6 +7,8 @@ returns c = record {
   sampled = lemmas.sampled_is_by_samples;
   timers = lemmas.no_timer_late;
   late = lemmas.never_late;
+  collapses = lemmas.no_collapse_missing;
+  missing = lemmas.never_missing;
   metrics = lemmas.metric_tests_are_exact;
   read = lemmas.first_version_has_no_options;
 }

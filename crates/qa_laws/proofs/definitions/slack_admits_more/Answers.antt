@@ -1,4 +1,4 @@
-use Rattle.qa_laws.proofs.machine.Slack as lemmas
+use Rattle.qa_laws.proofs.machine.Looser as lemmas
 use Rattle.qa_laws.proofs.definitions.slack_admits_more.Goals as goal
 
 pub returns : goal.returns

@@ -1,7 +1,7 @@
 use Rattle.std.proofs.Common.{◌∙◌, ◌∷◌, ◌++◌, ℕ, List, Bool, Option, Some, min, unwrap_or, sym, ap, take, filter, map}
 use Rattle.std.specs.Prelude.{if◌then◌else◌}
-use Rattle.qa_base.specs.machine.Packets.{Packet, history_of, packets_of, is_of}
-use Rattle.qa_base.specs.machine.Timer.{least_of, awaits_loss}
+use Rattle.qa_base.specs.machine.Packets.{Packet, history_of, packets_of, is_of, least_of}
+use Rattle.qa_base.specs.machine.Timer.{awaits_loss}
 use Rattle.qa_plain.specs.Listed.{listed}
 use Rattle.qa_plain.proofs.Turns.{passing_next, at_end}
 use Rattle.qa_plain.proofs.deadlines.first_awaiting.Goals as goal

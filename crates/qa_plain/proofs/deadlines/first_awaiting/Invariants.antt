@@ -1,6 +1,6 @@
 use Rattle.std.proofs.Common.{◌≡◌, take, filter, map}
-use Rattle.qa_base.specs.machine.Packets.{Packet, history_of, packets_of}
-use Rattle.qa_base.specs.machine.Timer.{least_of, awaits_loss}
+use Rattle.qa_base.specs.machine.Packets.{Packet, history_of, packets_of, least_of}
+use Rattle.qa_base.specs.machine.Timer.{awaits_loss}
 use Rattle.qa_plain.proofs.deadlines.first_awaiting.Given as goal
 
 abbrev pub invariant-loop-place : goal.invariant-loop-place

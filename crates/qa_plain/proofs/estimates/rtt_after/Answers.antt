@@ -1,10 +1,10 @@
-use Rattle.std.proofs.Common.{◌∷◌, arith}
-use Rattle.std.proofs.lemmas.Grind.{common_steps}
-use Rattle.qa_base.specs.machine.Packets.{history_of}
-use Rattle.qa_plain.proofs.Refreshed.{rtt_is}
+use Rattle.std.proofs.Common.{◌∙◌, ap}
+use Rattle.qa_base.specs.machine.Estimates.{rtt}
 use Rattle.qa_plain.proofs.estimates.rtt_after.Goals as goal
 
+-- Written out, so that a wrong body is refused at these lines.
+pub refreshed_where_asked-requires : goal.refreshed_where_asked-requires
+refreshed_where_asked-requires c = record { seen = c.look_at.ensures }
+
 pub returns : goal.returns
-returns c =
-    let is = rtt_is c.args.header.now (c.args.event.now ∷ history_of c.args.before.now) in
-    grind (arith, common_steps)
+returns c = c.refreshed_where_asked.ensures ∙ ap (rtt c.args.header.now) c.requires.whole

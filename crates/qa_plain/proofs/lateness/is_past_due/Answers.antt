@@ -11,5 +11,5 @@ packet_deadline-requires c = record {
   counted = subst (λ (events : List Event). pto_count c.args.header.now (history_of events) ≤ 40) (take-length c.args.events.now) (c.requires.counted (length c.args.events.now));
 }
 
-pub returns-then-due-from : goal.returns-then-due-from
-returns-then-due-from c = grind (arith, late_is)
+pub returns-then-due-last : goal.returns-then-due-last
+returns-then-due-last c = grind (arith, late_is)

@@ -1,23 +1,10 @@
-use Rattle.std.proofs.Common.{◌≡◌, ◌∙◌, ◌&&◌, Bool, true, false, not, refl, sym, ap}
+use Rattle.std.proofs.Common.{◌∙◌, sym, ap}
 use Rattle.std.proofs.lemmas.Bool.{false≢true}
 use Rattle.qa_base.specs.machine.Packets.{Packet, history_of, is_discarded}
 use Rattle.qa_plain.proofs.Owed.{found_by_is}
+use Rattle.qa_plain.proofs.Thirds.{asked_third, no_by_second, no_by_first}
 use Rattle.qa_plain.proofs.losses.is_open.Goals.{then-is_unsettled, else-is_unsettled}
 use Rattle.qa_plain.proofs.losses.is_open.Goals as goal
-
--- each test is the definition's, and the first two say yes
-asked_third : (a b d unsettled owed gone : Bool) → a ≡ unsettled → b ≡ owed → d ≡ gone → a ≡ true → not b ≡ true
-    → not d ≡ (unsettled && not owed && not gone)
-asked_third a b d unsettled owed gone first second third is none = rw (← first, ← second, ← third, is, none) refl
-
--- the second says no
-no_by_second : (a b value unsettled owed gone : Bool) → a ≡ unsettled → b ≡ owed → value ≡ not b → a ≡ true → value ≡ false
-    → value ≡ (unsettled && not owed && not gone)
-no_by_second a b value unsettled owed gone first second both is none = rw (none, ← first, ← second, is, ← both, none) refl
-
--- the first says no
-no_by_first : (a value unsettled owed gone : Bool) → a ≡ unsettled → a ≡ false → value ≡ false → value ≡ (unsettled && not owed && not gone)
-no_by_first a value unsettled owed gone first is none = rw (none, ← first, is) refl
 
 pub returns-then-not-is_found : goal.returns-then-not-is_found
 returns-then-not-is_found c =

@@ -1,5 +1,12 @@
-use Rattle.std.proofs.Common.{arith}
-use Rattle.qa_plain.proofs.Moved.{window_in_range}
+use Rattle.std.proofs.Common.{◌∙◌, ◌∷◌, ℕ, List, [], Bool, Option, sym, ap, fold, arith}
+use Rattle.std.specs.Prelude.{if◌then◌else◌}
+use Rattle.qa_base.specs.declared.event.Event.{Event}
+use Rattle.qa_base.specs.machine.Loss.{owed, is_persistent}
+use Rattle.qa_base.specs.machine.Packets.{history_of, newly_acknowledged}
+use Rattle.qa_base.specs.machine.Reno.{Control, Move, moved, grows, collapses, is_app_limited}
+use Rattle.qa_base.specs.values.Events.{time_of}
+use Rattle.qa_plain.specs.Words.{last_sending, hits_at}
+use Rattle.qa_plain.proofs.Moved.{window_in_range, reno_moved}
 use Rattle.qa_plain.proofs.window.reno_after.Goals as goal
 
 pub hit_by-hit-requires : goal.hit_by-hit-requires
@@ -11,3 +18,28 @@ pub grown_unless_app_limited-requires-clause-high : goal.grown_unless_app_limite
 grown_unless_app_limited-requires-clause-high c =
     let high = (window_in_range c.args.header.now c.args.before.now c.args.reno c.requires.range c.requires.fit c.requires.few c.requires.known).1 in
     omega (arith, high)
+
+-- Written out, so that a wrong body is refused at these lines.
+pub grown_unless_app_limited-requires-clause-low : goal.grown_unless_app_limited-requires-clause-low
+grown_unless_app_limited-requires-clause-low c = c.collapsed-collapsed.ensures.low
+
+pub returns : goal.returns
+returns c =
+    let s = c.args.header.now in
+    let e = c.args.event.now in
+    let h = history_of c.args.before.now in
+    let after = λ (r : Control) (ms : List Move). fold (moved s.max_datagram_size) r ms in
+    let grown : List Move = if is_app_limited e then [] else grows (newly_acknowledged (e ∷ h)) in
+    let lost = c.last_owed.ensures ∙ ap (λ (h : List Event). last_sending (owed s h)) c.requires.whole in
+    let persistent = c.is_persistent.ensures ∙ ap (is_persistent s) c.requires.whole in
+    let hit =
+    c.hit_by-hit.ensures.value
+    ∙ (ap (λ (t : ℕ). after c.args.reno (hits_at t c.last_owed.result)) c.time.ensures.value
+    ∙ (ap (λ (o : Option ℕ). after c.args.reno (hits_at (time_of e) o)) lost
+    ∙ ap (λ (r : Control). after r (hits_at (time_of e) (last_sending (owed s (e ∷ h))))) c.requires.known)) in
+    let collapsed =
+    c.collapsed-collapsed.ensures.value
+    ∙ (ap (λ (b : Bool). after c.hit_by-hit.result (collapses b)) persistent
+    ∙ ap (λ (r : Control). after r (collapses (is_persistent s (e ∷ h)))) hit) in
+    c.grown_unless_app_limited.ensures.value
+    ∙ (ap (λ (r : Control). after r grown) collapsed ∙ sym (reno_moved s e h))

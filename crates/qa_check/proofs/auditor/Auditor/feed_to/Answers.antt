@@ -1,7 +1,13 @@
-use Rattle.std.proofs.Common.{◌≡◌, ◌∙◌, Ok, ap}
+use Rattle.std.proofs.Common.{◌≡◌, ◌∙◌, Ok, sym, ap}
 use Rattle.qa_check.specs.declared.auditor.Progress.TheVariants.{Fixed}
 use Rattle.qa_check.proofs.Fed.{brings_on, fixed_is_over, failed_is_over}
 use Rattle.qa_check.proofs.auditor.Auditor.feed_to.Goals as goal
+
+-- Written out, so that a wrong body is refused at this line.
+pub returns-in-Ok-Fixed-clause-progress : goal.returns-in-Ok-Fixed-clause-progress
+returns-in-Ok-Fixed-clause-progress g c =
+    let fixed : c.in-Ok-Fixed.field-0 ≡ Fixed c.in-Ok-Fixed.verdict = rw c.in-Ok-Fixed.is at c.in-Ok-Fixed.field-0-is in
+    rw (← c.self.view_is) (sym (c.in-Ok-Fixed.is ∙ ap Ok fixed))
 
 pub returns-in-Ok-Fixed-clause-fed : goal.returns-in-Ok-Fixed-clause-fed
 returns-in-Ok-Fixed-clause-fed g c =

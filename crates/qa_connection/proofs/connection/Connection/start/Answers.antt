@@ -10,8 +10,9 @@ returns c = record {
     handshake = c.start.ensures;
     rtt = c.start-2.ensures;
     reno = c.start-3.ensures;
-    timer = c.start-4.ensures;
-    allowances = c.start-5.ensures;
-    spaces = c.start-6.ensures;
+    reported = c.start-4.ensures;
+    timer = c.start-5.ensures;
+    allowances = c.start-6.ensures;
+    spaces = c.start-7.ensures;
   };
 }

@@ -1,4 +1,4 @@
-use Rattle.std.proofs.Common.{◌≡◌, ◌∙◌, [], ◌∷◌, ◌==◌, length, not, true, false, refl, sym, ap, subst}
+use Rattle.std.proofs.Common.{◌≡◌, ◌∙◌, ℕ, [], ◌∷◌, ◌==◌, length, not, true, false, refl, sym, ap, subst}
 use Rattle.qa_base.specs.declared.event.Event.TheVariants.{Ack}
 use Rattle.qa_base.specs.machine.Packets.{acknowledges_new}
 use Rattle.qa_base.specs.values.Settings.{AreInRange}
@@ -42,7 +42,8 @@ returns-clause-ok c = λ k h stands run.
     let grown_is = c.grow.ensures ∙ ap (λ qs. grown c.args.app_limited qs c.find_losses.new.self.connection) c.deref-2.ensures.value in
     let measured = acked_measured k h _ _ _ _ _ old.connection c.acknowledge.new.self c.sample.new.self stands.connection.parts
     c.greatest-largest.result c.greatest-largest.ensures c.acknowledge.ensures ps are sampled_is in
-    let once : StandsOnceFound c.cover.new.self k (e ∷ h) c.args.space c.args.time = λ new l late is. stands_acknowledged k h _ _ _ _ _ run.run some l late old.packets c.cover.new.self new stands.packets (rw c.as_slice-ranges.ensures at c.cover.ensures) is in
+    let at_time : StandsOnceFound c.cover.new.self k (e ∷ h) c.args.space c.args.time = λ new l late is. stands_acknowledged k h _ _ _ _ _ run.run some l late old.packets c.cover.new.self new stands.packets (rw c.as_slice-ranges.ensures at c.cover.ensures) is in
+    let once : StandsOnceFound c.cover.new.self k (e ∷ h) c.args.space c.get.result = subst (λ (now : ℕ). StandsOnceFound c.cover.new.self k (e ∷ h) c.args.space now) (sym c.get.ensures.value) at_time in
     let lost = c.find_losses.ensures.connection k (e ∷ h) run.run measured once in
     c.finish-2.ensures k e h refl run (rw (c.restart.ensures, grown_is, lost, sampled_is, c.acknowledge.ensures) stands.connection.events)
     (acked_is k h _ _ _ _ _ old.connection c.acknowledge.new.self c.sample.new.self c.find_losses.new.self.connection c.grow.new.self c.restart.new.self

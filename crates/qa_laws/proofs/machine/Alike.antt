@@ -1,0 +1,279 @@
+-- What alike headers have in common: all that a history makes, where losses are looked for as of the same times.
+use Rattle.std.proofs.Common.{◌≡◌, ◌∙◌, ◌+◌, ◌*◌, ◌^◌, ◌&&◌, ◌||◌, not, ℕ, List, [], ◌∷◌, ◌++◌, Bool, true, false, Option, Some, None, refl, sym, ap, ap₂, fold, count_by, map, min, option_map, is_none, sum_by}
+use Rattle.std.proofs.Math.Path.{fun_ext}
+use Rattle.std.specs.List.{filter, list_any}
+use Rattle.std.specs.Option.{option_or}
+use Rattle.std.specs.Prelude.{if◌then◌else◌}
+use Rattle.qa_base.specs.declared.event.Event.{Event}
+use Rattle.qa_base.specs.declared.event.Event.TheVariants.{Sent, Lost, Timer}
+use Rattle.qa_base.specs.declared.header.Version.{Version}
+use Rattle.qa_base.specs.declared.space.TimerKind.TheVariants.{Loss, Pto}
+use Rattle.qa_base.specs.declared.space.Leave.TheVariants.{Recovery}
+use Rattle.qa_base.specs.declared.space.Space.{Space}
+use Rattle.qa_base.specs.declared.space.Space.TheVariants.{Initial, Handshake, App}
+use Rattle.qa_base.specs.machine.Breaches.{is_loss_owed, is_loss_not_owed, numbers, is_other_loss_set, is_over, is_past_recovery, is_timer_not_set, is_other, is_timer_other}
+use Rattle.qa_base.specs.machine.Detection.{are_ends, detection_by, found_at, is_found_at, is_unsettled, looks_at, old_at}
+use Rattle.qa_base.specs.machine.Estimates.{refreshed_by, rtt, sampled}
+use Rattle.qa_base.specs.machine.Handshake.{is_confirmed, is_validated, has_keys}
+use Rattle.qa_base.specs.machine.Leave.{is_recovery_packet, recovery_spent}
+use Rattle.qa_base.specs.machine.Loss.{bytes_in_flight, detection, is_open, is_owed, is_persistent, owed}
+use Rattle.qa_base.specs.machine.Moments.{moments, since}
+use Rattle.qa_base.specs.machine.Numbers.{names_exactly}
+use Rattle.qa_base.specs.machine.Packets.{Packet, packets, packets_of, is_of, is_discarded, is_some_packet, newly_acknowledged, largest_acknowledged, least_of, is_below_largest}
+use Rattle.qa_base.specs.machine.Reno.{Control, hits, collapses, grows, is_app_limited, moves_of_last, moves, moved, start, reno, enters, is_entry}
+use Rattle.qa_base.specs.machine.Rtt.{Estimate, sample_of, updated, refreshed, pto_base, loss_delay}
+use Rattle.qa_base.specs.machine.State.{totals}
+use Rattle.qa_base.specs.machine.Timer.{pto_count, earlier, awaits_loss, loss_due, earliest_loss, awaits_acknowledgment, last_eliciting, pto_due, earliest_pto, last_set, anti_deadlock, deadline, packet_deadline, is_same_due, set_since}
+use Rattle.qa_base.specs.machine.Window.{acknowledged_bytes, acknowledged_since_collapse, changes_window, reported_window, ssthresh, ssthresh_by, window, window_by}
+use Rattle.qa_base.specs.values.Events.{time_of}
+use Rattle.qa_base.specs.values.Settings.{Settings, early, granularity, per_microsecond}
+use Rattle.qa_base.proofs.machine.Collapses.{since_collapse_after}
+use Rattle.qa_laws.specs.machine.Alike.{AreAlike}
+
+-- ---- alike headers
+
+-- what they may differ by
+pub record Tolerances : Type 0 where
+  pub version : Version
+  pub timer_late : Option ℕ
+  pub window_overshoot : Bool
+  pub timer_early_us : ℕ
+  pub report_slack_us : ℕ
+  pub report_slack_bytes : ℕ
+
+abbrev pub tolerances_of : Settings → Tolerances
+tolerances_of c = record {
+  version = c.version;
+  timer_late = c.options.timer_late;
+  window_overshoot = c.options.window_overshoot;
+  timer_early_us = c.options.timer_early_us;
+  report_slack_us = c.options.report_slack_us;
+  report_slack_bytes = c.options.report_slack_bytes;
+}
+
+-- the header with these
+abbrev pub like : Settings → Tolerances → Settings
+like c t = record {
+  role = c.role;
+  unit = c.unit;
+  max_datagram_size = c.max_datagram_size;
+  max_ack_delay = c.max_ack_delay;
+  initial_rtt = c.initial_rtt;
+  initial_window = c.initial_window;
+  version = t.version;
+  options = record {
+    timer_late = t.timer_late;
+    refresh_min_rtt = c.options.refresh_min_rtt;
+    report_slack_us = t.report_slack_us;
+    report_slack_bytes = t.report_slack_bytes;
+    controller = c.options.controller;
+    window_overshoot = t.window_overshoot;
+    sample_eliciting_only = c.options.sample_eliciting_only;
+    packet_threshold = c.options.packet_threshold;
+    timer_early_us = t.timer_early_us;
+  };
+}
+
+pub like_is : (c d : Settings) → AreAlike c d → like c (tolerances_of d) ≡ d
+like_is c d a = rw (
+  sym a.role,
+  sym a.unit,
+  sym a.max_datagram_size,
+  sym a.max_ack_delay,
+  sym a.initial_rtt,
+  sym a.initial_window,
+  sym a.refresh_min_rtt,
+  sym a.controller,
+  sym a.sample_eliciting_only,
+  sym a.packet_threshold,
+) refl
+
+-- behind each event of the history losses are looked for in the same place, as of the same time
+abbrev pub Agree : Settings → Tolerances → List Event → Type 0
+Agree c t [] = Unit {0}
+Agree c t (e ∷ h) = Agree c t h × (detection_by (like c t) (sampled c (e ∷ h)) (e ∷ h) ≡ detection_by c (sampled c (e ∷ h)) (e ∷ h))
+
+-- so it is where timers may be equally early
+same_early : (c : Settings) (t : Tolerances) → t.timer_early_us ≡ c.options.timer_early_us → early (like c t) ≡ early c
+same_early c t same = ap (λ us. per_microsecond c.unit * min us 1000000000) same
+
+equally_early : (c : Settings) (t : Tolerances) (r : Estimate) (h : List Event) → t.timer_early_us ≡ c.options.timer_early_us → detection_by (like c t) r h ≡ detection_by c r h
+equally_early c t r [] same = refl
+equally_early c t r (Timer time Loss space ∷ h) same = ap (λ tolerance. Some (space, looks_at tolerance time (old_at c r h space))) (same_early c t same)
+equally_early c t r (Timer time Pto space ∷ h) same = refl
+equally_early c t r (_ ∷ h) same = refl
+
+pub agree_if_equally_early : (c : Settings) (t : Tolerances) (h : List Event) → t.timer_early_us ≡ c.options.timer_early_us → Agree c t h
+agree_if_equally_early c t [] same = tt
+agree_if_equally_early c t (e ∷ h) same = (agree_if_equally_early c t h same, equally_early c t (sampled c (e ∷ h)) (e ∷ h) same)
+
+-- ---- the estimate, and what is found lost by it
+
+same_refresh : (refresh : Bool) (c : Settings) (t : Tolerances) (h : List Event) (r : Estimate) → detection_by (like c t) r h ≡ detection_by c r h
+    → refreshed_by refresh (like c t) h r ≡ refreshed_by refresh c h r
+same_refresh true c t h r same = ap (λ d. if list_any (λ p. list_any (are_ends r c h p) (found_at c r h d)) (found_at c r h d) then refreshed r else r) same
+same_refresh false c t h r same = refl
+
+pub same_rtt : (c : Settings) (t : Tolerances) (h : List Event) → Agree c t h → rtt (like c t) h ≡ rtt c h
+same_rtt c t [] agree = refl
+same_rtt c t (e ∷ h) agree =
+    ap (λ r. refreshed_by c.options.refresh_min_rtt (like c t) (e ∷ h) (updated r (sample_of c (e ∷ h)))) (same_rtt c t h agree.0)
+    ∙ same_refresh c.options.refresh_min_rtt c t (e ∷ h) (sampled c (e ∷ h)) agree.1
+
+same_sampled : (c : Settings) (t : Tolerances) (h : List Event) → Agree c t h → sampled (like c t) h ≡ sampled c h
+same_sampled c t [] agree = refl
+same_sampled c t (e ∷ h) agree = ap (λ r. updated r (sample_of c (e ∷ h))) (same_rtt c t h agree.0)
+
+same_detection : (c : Settings) (t : Tolerances) (h : List Event) → Agree c t h → detection (like c t) h ≡ detection c h
+same_detection c t [] agree = refl
+same_detection c t (e ∷ h) agree = ap (λ r. detection_by (like c t) r (e ∷ h)) (same_sampled c t (e ∷ h) agree) ∙ agree.1
+
+pub same_owed : (c : Settings) (t : Tolerances) (h : List Event) → Agree c t h → owed (like c t) h ≡ owed c h
+same_owed c t h agree = ap₂ (λ r d. found_at c r h d) (same_sampled c t h agree) (same_detection c t h agree)
+
+same_is_owed : (c : Settings) (t : Tolerances) (h : List Event) → Agree c t h → (p : Packet) → is_owed (like c t) h p ≡ is_owed c h p
+same_is_owed c t h agree p = ap₂ (λ r d. is_found_at c r h p d) (same_sampled c t h agree) (same_detection c t h agree)
+
+same_persistent : (c : Settings) (t : Tolerances) (h : List Event) → Agree c t h → is_persistent (like c t) h ≡ is_persistent c h
+same_persistent c t h agree = ap₂ (λ r ps. list_any (λ p. list_any (are_ends r c h p) ps) ps) (same_sampled c t h agree) (same_owed c t h agree)
+
+same_open : (c : Settings) (t : Tolerances) (h : List Event) → Agree c t h → (p : Packet) → is_open (like c t) h p ≡ is_open c h p
+same_open c t h agree p = ap (λ is. is_unsettled h p && not is && not (is_discarded h p.space)) (same_is_owed c t h agree p)
+
+pub same_bytes : (c : Settings) (t : Tolerances) (h : List Event) → Agree c t h → bytes_in_flight (like c t) h ≡ bytes_in_flight c h
+same_bytes c t h agree = ap (λ (f : Packet → ℕ). sum_by f (packets h)) (fun_ext (λ (p : Packet). ap (λ here. if p.in_flight && here then p.size else 0) (same_open c t h agree p)))
+
+-- ---- the window
+
+same_moves_of_last : (c : Settings) (t : Tolerances) (h : List Event) → Agree c t h → moves_of_last (like c t) h ≡ moves_of_last c h
+same_moves_of_last c t [] agree = refl
+same_moves_of_last c t (e ∷ h) agree =
+    ap₂ (λ ps persistent. hits (time_of e) ps ++ collapses persistent ++ (if is_app_limited e then [] else grows (newly_acknowledged (e ∷ h))))
+    (same_owed c t (e ∷ h) agree) (same_persistent c t (e ∷ h) agree)
+
+same_moves : (c : Settings) (t : Tolerances) (h : List Event) → Agree c t h → moves (like c t) h ≡ moves c h
+same_moves c t [] agree = refl
+same_moves c t (e ∷ h) agree = ap₂ (λ some more. some ++ more) (same_moves c t h agree.0) (same_moves_of_last c t (e ∷ h) agree)
+
+same_reno : (c : Settings) (t : Tolerances) (h : List Event) → Agree c t h → reno (like c t) h ≡ reno c h
+same_reno c t h agree = ap (fold (moved c.max_datagram_size) (start c.initial_window)) (same_moves c t h agree)
+
+pub same_window : (c : Settings) (t : Tolerances) (h : List Event) → Agree c t h → window (like c t) h ≡ window c h
+same_window c t h agree = ap (λ (r : Control). window_by c.options.controller r.window (reported_window c h)) (same_reno c t h agree)
+
+same_ssthresh : (c : Settings) (t : Tolerances) (h : List Event) → Agree c t h → ssthresh (like c t) h ≡ ssthresh c h
+same_ssthresh c t h agree = ap (λ (r : Control). ssthresh_by c.options.controller r.ssthresh) (same_reno c t h agree)
+
+pub same_collapse : (c : Settings) (t : Tolerances) (h : List Event) → Agree c t h → acknowledged_since_collapse (like c t) h ≡ acknowledged_since_collapse c h
+same_collapse c t [] agree = refl
+same_collapse c t (e ∷ h) agree =
+    since_collapse_after (like c t) e h
+    ∙ ap₂ (λ persistent before. if persistent then Some (acknowledged_bytes (e ∷ h))
+    else (if changes_window c (e ∷ h) then None else option_map (λ n. acknowledged_bytes (e ∷ h) + n) before))
+    (same_persistent c t (e ∷ h) agree) (same_collapse c t h agree.0)
+    ∙ sym (since_collapse_after c e h)
+
+-- ---- entries into recovery
+
+-- two tests say the same of each moment
+abbrev SameAt : (List Event → Bool) → (List Event → Bool) → List Event → Type 0
+SameAt test other [] = Unit {0}
+SameAt test other (e ∷ h) = (test (e ∷ h) ≡ other (e ∷ h)) × SameAt test other h
+
+any_moment : (test other : List Event → Bool) (h : List Event) → SameAt test other h → list_any test (moments h) ≡ list_any other (moments h)
+any_moment test other [] same = refl
+any_moment test other (e ∷ h) same = ap₂ (λ here rest. here || rest) same.0 (any_moment test other h same.1)
+
+since_moment : (test other : List Event → Bool) (h : List Event) → SameAt test other h → since test h ≡ since other h
+since_moment test other [] same = refl
+since_moment test other (e ∷ h) same = ap₂ (λ here rest. if here then [] else (e ∷ h) ∷ rest) same.0 (since_moment test other h same.1)
+
+same_entries : (c : Settings) (t : Tolerances) (h : List Event) → Agree c t h → SameAt (is_entry (like c t)) (is_entry c) h
+same_entries c t [] agree = tt
+same_entries c t (e ∷ h) agree = (
+  ap₂ (λ (k : Control) ms. enters k.recovery_start_time ms) (same_reno c t h agree.0) (same_moves_of_last c t (e ∷ h) agree),
+  same_entries c t h agree.0,
+)
+
+same_recovery : (c : Settings) (t : Tolerances) (h : List Event) → Agree c t h → recovery_spent (like c t) h ≡ recovery_spent c h
+same_recovery c t h agree =
+    ap₂ (λ any after. if any then Some (count_by is_recovery_packet after) else None)
+    (any_moment (is_entry (like c t)) (is_entry c) h (same_entries c t h agree)) (since_moment (is_entry (like c t)) (is_entry c) h (same_entries c t h agree))
+
+-- ---- the timer
+
+same_awaits_loss : (c : Settings) (t : Tolerances) (h : List Event) → Agree c t h → (p : Packet) → awaits_loss (like c t) h p ≡ awaits_loss c h p
+same_awaits_loss c t h agree p = ap (λ here. p.in_flight && here && is_below_largest p.number (largest_acknowledged h p.space)) (same_open c t h agree p)
+
+same_loss_due : (c : Settings) (t : Tolerances) (h : List Event) → Agree c t h → (s : Space) → loss_due (like c t) h s ≡ loss_due c h s
+same_loss_due c t h agree s =
+    ap₂ (λ r awaits. option_map (λ sent. record { kind = Loss; space = s; time = sent + loss_delay (granularity c) r }) (least_of (map (λ p. p.time) (filter awaits (packets_of h s)))))
+    (same_rtt c t h agree) (fun_ext (same_awaits_loss c t h agree))
+
+same_earliest_loss : (c : Settings) (t : Tolerances) (h : List Event) → Agree c t h → earliest_loss (like c t) h ≡ earliest_loss c h
+same_earliest_loss c t h agree =
+    ap₂ earlier (same_loss_due c t h agree Initial) (ap₂ earlier (same_loss_due c t h agree Handshake) (same_loss_due c t h agree App))
+
+same_awaits : (c : Settings) (t : Tolerances) (h : List Event) → Agree c t h → (p : Packet) → awaits_acknowledgment (like c t) h p ≡ awaits_acknowledgment c h p
+same_awaits c t h agree p = ap (λ here. p.eliciting && here) (same_open c t h agree p)
+
+same_pto_due : (c : Settings) (t : Tolerances) (h : List Event) → Agree c t h → (delay : ℕ) (s : Space) → pto_due (like c t) h delay s ≡ pto_due c h delay s
+same_pto_due c t h agree delay s =
+    ap₂ (λ r awaits. if list_any awaits (packets_of h s)
+    then option_map (λ sent. record { kind = Pto; space = s; time = sent + (pto_base (granularity c) r + delay) * 2 ^ pto_count c h }) (last_eliciting h s)
+    else None)
+    (same_rtt c t h agree) (fun_ext (same_awaits c t h agree))
+
+same_earliest_pto : (c : Settings) (t : Tolerances) (h : List Event) → Agree c t h → earliest_pto (like c t) h ≡ earliest_pto c h
+same_earliest_pto c t h agree =
+    ap₂ earlier (same_pto_due c t h agree 0 Initial)
+    (ap₂ earlier (same_pto_due c t h agree 0 Handshake)
+    (ap (λ due. if is_confirmed h then due else None) (same_pto_due c t h agree c.max_ack_delay App)))
+
+same_anti_deadlock : (c : Settings) (t : Tolerances) (h : List Event) → Agree c t h → anti_deadlock (like c t) h ≡ anti_deadlock c h
+same_anti_deadlock c t h agree = ap (λ r. if is_validated c h then None
+    else option_map (λ set. record { kind = Pto; space = if has_keys h then Handshake else Initial; time = set + pto_base (granularity c) r * 2 ^ pto_count c h }) (last_set h)
+    ) (same_rtt c t h agree)
+
+pub same_packet_deadline : (c : Settings) (t : Tolerances) (h : List Event) → Agree c t h → packet_deadline (like c t) h ≡ packet_deadline c h
+same_packet_deadline c t h agree = ap₂ (λ loss pto. option_or loss pto) (same_earliest_loss c t h agree) (same_earliest_pto c t h agree)
+
+pub same_deadline : (c : Settings) (t : Tolerances) (h : List Event) → Agree c t h → deadline (like c t) h ≡ deadline c h
+same_deadline c t h agree =
+    ap₂ (λ loss rest. option_or loss rest) (same_earliest_loss c t h agree)
+    (ap₂ (λ pto anti. option_or pto anti) (same_earliest_pto c t h agree) (same_anti_deadlock c t h agree))
+
+pub same_since : (c : Settings) (t : Tolerances) (h : List Event) → Agree c t h → set_since (like c t) h ≡ set_since c h
+same_since c t [] agree = refl
+same_since c t (e ∷ h) agree =
+    ap₂ (λ due later. if is_same_due due later then set_since (like c t) h else time_of e) (same_deadline c t h agree.0) (same_deadline c t (e ∷ h) agree)
+    ∙ ap (λ began. if is_same_due (deadline c h) (deadline c (e ∷ h)) then began else time_of e) (same_since c t h agree.0)
+
+pub same_totals : (c : Settings) (t : Tolerances) (h : List Event) → Agree c t h → totals (like c t) h ≡ totals c h
+same_totals c t h agree = rw (same_window c t h agree, same_ssthresh c t h agree, same_bytes c t h agree, same_rtt c t h agree, same_owed c t h agree) refl
+
+-- ---- rules that forbid the same
+
+pub same_loss_owed : (c : Settings) (t : Tolerances) (h : List Event) → Agree c t h → (e : Event) → is_loss_owed (like c t) h e ≡ is_loss_owed c h e
+same_loss_owed c t h agree (Lost time space ranges) = refl
+same_loss_owed c t h agree _ = ap is_some_packet (same_owed c t h agree)
+
+pub same_loss_not_owed : (c : Settings) (t : Tolerances) (h : List Event) → Agree c t h → (e : Event) → is_loss_not_owed (like c t) h e ≡ is_loss_not_owed c h e
+same_loss_not_owed c t h agree (Lost time space ranges) = ap (λ ps. not (list_any (is_of space) ps)) (same_owed c t h agree)
+same_loss_not_owed c t h agree _ = refl
+
+pub same_loss_set : (c : Settings) (t : Tolerances) (h : List Event) → Agree c t h → (e : Event) → is_other_loss_set (like c t) h e ≡ is_other_loss_set c h e
+same_loss_set c t h agree (Lost time space ranges) = ap (λ ps. not (names_exactly ranges (numbers ps))) (same_owed c t h agree)
+same_loss_set c t h agree _ = refl
+
+pub same_past_recovery : (c : Settings) (t : Tolerances) (h : List Event) → Agree c t h → (e : Event) → is_past_recovery (like c t) h e ≡ is_past_recovery c h e
+same_past_recovery c t h agree (Sent time space number size eliciting in_flight Recovery) = ap (λ spent. in_flight && is_over 1 1 spent) (same_recovery c t h agree)
+same_past_recovery c t h agree _ = refl
+
+pub same_not_set : (c : Settings) (t : Tolerances) (h : List Event) → Agree c t h → (e : Event) → is_timer_not_set (like c t) h e ≡ is_timer_not_set c h e
+same_not_set c t h agree (Timer time kind space) = ap is_none (same_deadline c t h agree)
+same_not_set c t h agree _ = refl
+
+pub same_other : (c : Settings) (t : Tolerances) (h : List Event) → Agree c t h → (e : Event) → is_timer_other (like c t) h e ≡ is_timer_other c h e
+same_other c t h agree (Timer time kind space) = ap (is_other kind space) (same_deadline c t h agree)
+same_other c t h agree _ = refl

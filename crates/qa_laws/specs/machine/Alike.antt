@@ -1,0 +1,36 @@
+-- Headers of which the same machine is asked: they differ by their version and by what they tolerate alone.
+use Rattle.std.specs.Prelude.{◌≡◌, ℕ, ◌≤◌, true, Option, Some, None}
+use Rattle.qa_base.specs.declared.header.Version.{Version}
+use Rattle.qa_base.specs.values.Settings.{Settings}
+
+-- the two headers say the same but for their version, the late and early timers, the window that may be overshot and the slacks
+pub record AreAlike (c d : Settings) : Type 0 where
+  pub role : d.role ≡ c.role
+  pub unit : d.unit ≡ c.unit
+  pub max_datagram_size : d.max_datagram_size ≡ c.max_datagram_size
+  pub max_ack_delay : d.max_ack_delay ≡ c.max_ack_delay
+  pub initial_rtt : d.initial_rtt ≡ c.initial_rtt
+  pub initial_window : d.initial_window ≡ c.initial_window
+  pub refresh_min_rtt : d.options.refresh_min_rtt ≡ c.options.refresh_min_rtt
+  pub controller : d.options.controller ≡ c.options.controller
+  pub sample_eliciting_only : d.options.sample_eliciting_only ≡ c.options.sample_eliciting_only
+  pub packet_threshold : d.options.packet_threshold ≡ c.options.packet_threshold
+
+-- a limit that is no less, or no limit
+abbrev pub IsNoLess : Option ℕ → Option ℕ → Type 0
+IsNoLess limit None = Unit {0}
+IsNoLess None (Some other) = ⊥
+IsNoLess (Some limit) (Some other) = limit ≤ other
+
+-- and the second tolerates no less than the first
+pub record IsLooser (c d : Settings) : Type 0 where
+  pub alike : AreAlike c d
+  pub late : IsNoLess c.options.timer_late d.options.timer_late
+  pub overshoot : c.options.window_overshoot ≡ true → d.options.window_overshoot ≡ true
+  pub early : c.options.timer_early_us ≤ d.options.timer_early_us
+  pub slack_us : c.options.report_slack_us ≤ d.options.report_slack_us
+  pub slack_bytes : c.options.report_slack_bytes ≤ d.options.report_slack_bytes
+
+-- the header in another version, with all else as it is
+abbrev pub of_version : Settings → Version → Settings
+of_version c version = record c { version = version }
