@@ -11,7 +11,8 @@ import unittest
 from pathlib import Path
 from typing import Any
 
-from qlog_to_trace.command import main
+from qlog_to_trace.command import arguments, main
+from qlog_to_trace.dialects import DIALECTS
 
 HERE = Path(__file__).parent
 PROGRAM = HERE / "qlog-to-trace"
@@ -243,8 +244,17 @@ class Ends(unittest.TestCase):
         self.assertRegex(end.errors, "line 4: .*congestion_window.*; the trace ends behind ")
 
     def test_arguments(self) -> None:
-        for words in (["--unit", "ns", "x"], ["--slack-us", "-1", "x"], ["--version", "9", "x"]):
-            end = subprocess.run([PROGRAM, *words], capture_output=True, text=True, check=False)
+        for words in (
+            ["--version", "2", "--unit", "ns"],
+            ["--version", "2", "--window", "reported"],
+            ["--version", "1", "--slack-us", "1"],
+            ["--slack-us", "-1"],
+            ["--version", "9"],
+            ["--window", "cubic"],
+            ["--window-overshoot", "maybe"],
+        ):
+            command = [str(PROGRAM), *words, "x"]
+            end = subprocess.run(command, capture_output=True, text=True, check=False)
             self.assertEqual((end.returncode, end.stdout), (64, ""))
         end = subprocess.run([PROGRAM, "--help"], capture_output=True, text=True, check=True)
         self.assertIn("--notes", end.stdout)
@@ -291,17 +301,63 @@ class Header(unittest.TestCase):
         choices |= {"packet_threshold", "timer_early_us"}
         self.assertEqual(keys[3] - keys[2], choices)
 
+    def test_the_options_of_each_kind_of_log(self) -> None:
+        keys = ["window_overshoot", "sample_eliciting_only", "timer_early_us"]
+        keys += ["report_slack_us", "report_slack_bytes"]
+        for name, values in (
+            ("quic-go", (True, True, 3_000, 1_000, 0)),
+            ("ngtcp2", (True, True, 3_000, 2_000, 64)),
+            ("aioquic", (False, False, 1_000, 1_000, 64)),
+            ("quinn", (False, False, 1_000, 1_000, 1_200)),
+            ("something", (False, False, 10, 10, 0)),
+        ):
+            events = [sent(0, 0), metrics(0, congestion_window=12000)]
+            line = converted(events, name=name).lines[0]
+            self.assertEqual(tuple(line[key] for key in keys), values, name)
+            said = (line["version"], line["window"], line["packet_threshold"], line["unit"])
+            self.assertEqual(said, (3, "reported", 3, "us"), name)
+
+    def test_the_window_is_newrenos_where_none_is_logged(self) -> None:
+        line = converted([sent(0, 0), metrics(0, bytes_in_flight=1200)]).lines[0]
+        self.assertEqual(line["window"], "newreno")
+        self.assertIn("no window is logged", line["x_guess"][-1])
+
+    def test_the_unit_is_that_of_the_times(self) -> None:
+        for name, time, unit, expected in (
+            ("quic-go", 1.5, "us", 1500),
+            ("quic-go", 1.000001, "ns", 1_000_001),
+            ("something", 1.000001, "ns", 1_000_001),
+            # Digits that are those of a float alone.
+            ("aioquic", 1.000001, "us", 1000),
+        ):
+            found = converted([sent(time, 0)], name=name)
+            self.assertEqual(found.lines[0]["unit"], unit, name)
+            self.assertEqual(found.only("sent")[0]["time"], expected, name)
+
+    def test_version_2_has_microseconds(self) -> None:
+        self.assertEqual(converted([sent(1.0009, 0)], "--version", "2").lines[1]["time"], 1000)
+
     def test_nanoseconds(self) -> None:
         events = [parameters(max_ack_delay=25), sent(1.5, 0), received(2, [[0]], delay=0.5)]
-        found = converted(events, "--version", "3", "--unit", "ns")
+        found = converted(events, "--unit", "ns")
         self.assertEqual(found.lines[0]["max_ack_delay"], 25_000_000)
         self.assertEqual(found.only("ack")[0]["time"], 2_000_000)
         self.assertEqual(found.only("ack")[0]["delay"], 500_000)
 
     def test_options_of_the_command_line(self) -> None:
-        words = ("--slack-us", "7", "--timer-late-us", "9")
-        line = converted([sent(0, 0)], *words).lines[0]
-        self.assertEqual((line["report_slack_us"], line["timer_late_us"]), (7, 9))
+        for option, key, text, value in (
+            ("--slack-us", "report_slack_us", "7", 7),
+            ("--slack-bytes", "report_slack_bytes", "8", 8),
+            ("--timer-late-us", "timer_late_us", "9", 9),
+            ("--refresh-min-rtt", "refresh_min_rtt", "yes", True),
+            ("--window", "window", "newreno", "newreno"),
+            ("--window-overshoot", "window_overshoot", "no", False),
+            ("--sample-eliciting-only", "sample_eliciting_only", "no", False),
+            ("--packet-threshold", "packet_threshold", "4", 4),
+            ("--timer-early-us", "timer_early_us", "0", 0),
+        ):
+            events = [sent(0, 0), metrics(0, congestion_window=12000)]
+            self.assertEqual(converted(events, option, text).lines[0][key], value)
 
     def test_which_side(self) -> None:
         traces = [{**header(role=it), "events": [sent(0, 0)]} for it in ("server", "client")]
@@ -314,8 +370,8 @@ class Header(unittest.TestCase):
 
     def test_guesses_are_told_on_the_line_and_counted(self) -> None:
         end = converted([sent(0, 0)], "--notes")
-        self.assertEqual(len(end.lines[0]["x_guess"]), 2)
-        self.assertEqual(end.errors.count("guessed 1: "), 2)
+        self.assertEqual(len(end.lines[0]["x_guess"]), 3)
+        self.assertEqual(end.errors.count("guessed 1: "), 3)
 
 
 class Events(unittest.TestCase):
@@ -350,9 +406,54 @@ class Events(unittest.TestCase):
 
     def test_a_loss_behind_a_packet_without_an_ack(self) -> None:
         events = [sent(0, 0), sent(1, 1), received(20, None, frames=("ping",)), lost(20, 0)]
-        for name, last in (("quic-go", ["sent", "lost"]), ("aioquic", ["sent", "timer", "lost"])):
-            kinds = converted(events, name=name).kinds
+        timed = [*events[:2], received(10, [[1]]), *events[2:]]
+        for name, log, last in (
+            ("quic-go", events, ["sent", "lost"]),
+            ("aioquic", events, ["sent", "lost"]),
+            ("quic-go", timed, ["ack", "lost"]),
+            ("aioquic", timed, ["ack", "timer", "lost"]),
+        ):
+            kinds = converted(log, name=name).kinds
             self.assertEqual(kinds[-len(last) :], last, name)
+
+    def test_a_window_is_told_before_the_next_packet(self) -> None:
+        rtt = metrics(20, latest_rtt=19, smoothed_rtt=19, congestion_window=13000)
+        log = [sent(0, 0), metrics(0, congestion_window=12000)]
+        log += [sent(1, 1), received(20, [[1]]), rtt]
+        # The log tells of what the loss did to the window behind the next packet.
+        log += [lost(23, 0), sent(24, 2), metrics(24, congestion_window=6500)]
+        found = converted(log)
+        last = ["ack", "metrics", "timer", "lost", "metrics", "sent", "metrics"]
+        self.assertEqual(found.kinds[-len(last) :], last)
+        line = {"event": "metrics", "time": 24000, "window": 6500}
+        self.assertEqual(found.lines[-3], line)
+        for words in (("--window", "newreno"), ("--version", "2")):
+            kinds = converted(log, *words).kinds
+            self.assertEqual(kinds[-4:], ["timer", "lost", "sent", "metrics"])
+
+    def test_the_report_of_a_window_stands_behind_the_lost_line(self) -> None:
+        acks = [received(20, [[2, 4]]), lost(20, 0), metrics(20, congestion_window=6000)]
+        acks += [metrics(20, congestion_window=6100), sent(21, 5)]
+        for name in ("quic-go", "aioquic"):
+            found = converted([*(sent(0, n) for n in range(5)), *acks], name=name)
+            self.assertEqual(found.kinds[6:9], ["ack", "lost", "metrics"])
+            before = found.lines[: found.kinds.index("sent", 6)]
+            self.assertEqual(before[-1]["window"], 6100)
+
+    def test_values_behind_a_loss_that_nothing_shows(self) -> None:
+        events = [sent(0, 0), lost(20, 0), metrics(20, congestion_window=6000)]
+        found = converted(events, name="quic-go")
+        self.assertEqual(found.kinds, ["header", "sent", "lost", "metrics"])
+
+    def test_losses_that_nothing_can_show_stand_alone(self) -> None:
+        first = [sent(0, 0, "handshake"), sent(0, 1, "handshake")]
+        log = [received(20, [[0]], "handshake"), metrics(20, congestion_window=13000)]
+        log += [lost(220, 1, "handshake"), metrics(220, congestion_window=6500)]
+        found = converted([*first, *log], "--notes", name="aioquic")
+        last = ["ack", "metrics", "lost", "metrics"]
+        self.assertEqual(found.kinds[-len(last) :], last)
+        self.assertEqual(found.only("lost")[0]["time"], 220_000)
+        self.assertIn("left out 1: a loss that neither", found.errors)
 
     def test_a_loss_of_what_is_acknowledged_at_once_is_one_of_a_timer(self) -> None:
         events = [sent(0, 0), sent(0, 1), received(20, [[1]]), lost(23, 0), received(23, [[0, 1]])]
@@ -365,6 +466,18 @@ class Events(unittest.TestCase):
         self.assertEqual(found.only("timer")[0]["kind"], "pto")
         self.assertEqual(found.only("sent")[1]["leave"], "probe")
         self.assertIn("pto_count", found.only("timer")[0]["x_guess"][0])
+
+    def test_a_ping_is_a_probe_but_for_those_that_ask_for_acknowledgments(self) -> None:
+        for number, ranges, is_probe in (
+            (8, [[0, 1], [3, 4]], False),
+            (9, [[0, 1], [3, 4]], True),
+            (8, [[0, 4]], True),
+        ):
+            ping = sent(300, number)
+            ack = {"frame_type": "ack", "ack_delay": 0, "acked_ranges": ranges}
+            ping["data"]["frames"] = [ack, {"frame_type": "ping"}]
+            found = converted([sent(0, 0), ping], name="aioquic")
+            self.assertEqual(bool(found.only("timer")), is_probe, (number, ranges))
 
     def test_timers_of_the_log(self) -> None:
         data = {"event_type": "expired", "timer_type": "pto"}
@@ -431,6 +544,25 @@ class Events(unittest.TestCase):
         self.assertIn("left out 1: packets that left the bytes in flight", end.errors)
 
 
+class Pages(unittest.TestCase):
+    """The manual page and the completions have each option and each kind of log."""
+
+    def test_options(self) -> None:
+        top = HERE.parent
+        completions = sorted((top / "release" / "completions").glob("*qlog-to-trace*"))
+        self.assertEqual(len(completions), 3)
+        options = [it for action in arguments()._actions for it in action.option_strings]
+        for path in (top / "docs" / "qlog-to-trace.1", *completions):
+            text = path.read_text()
+            for option in options:
+                if option == "-h" or (option == "--help" and path.suffix == ".1"):
+                    continue
+                word = {".1": f"Fl {option[1:]}", ".fish": f"-l {option[2:]} "}.get(path.suffix)
+                self.assertIn(word or option, text, path.name)
+            for dialect in DIALECTS if path.suffix != ".1" else ():
+                self.assertIn(dialect.name, text, path.name)
+
+
 class Real(unittest.TestCase):
     """Each log of conformance/real/traces gives the trace beside it."""
 
@@ -440,7 +572,9 @@ class Real(unittest.TestCase):
         for path in paths:
             with self.subTest(path.name):
                 expected = path.with_suffix(".trace").read_text()
-                self.assertEqual(End(path.read_bytes()).text, expected)
+                version = json.loads(expected.partition("\n")[0])["version"]
+                words = ("--version", str(version))
+                self.assertEqual(End(path.read_bytes(), *words).text, expected)
 
 
 class Example(unittest.TestCase):

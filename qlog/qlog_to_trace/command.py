@@ -7,6 +7,7 @@ import os
 import sys
 import tempfile
 from collections.abc import Iterator
+from dataclasses import dataclass
 from pathlib import Path
 from typing import BinaryIO, TextIO
 
@@ -15,7 +16,7 @@ from .dialects import BY_NAME, DIALECTS, Dialect, dialect_of
 from .errors import Unusable
 from .events import Event, events_of
 from .forms import Form, form_of
-from .header import Choices, write_header
+from .header import Choices, options_of, write_header
 from .lines import Line, Lines
 from .notes import Notes
 from .survey import Survey
@@ -58,17 +59,18 @@ def arguments() -> argparse.ArgumentParser:
         "--version",
         type=int,
         choices=(1, 2, 3),
-        default=2,
-        help="of the format of traces, 2 where nothing is said; qaudit does not read 3 yet",
+        default=3,
+        help="of the format of traces, 3 where nothing is said",
     )
     add("--vantage", choices=ROLES, help="which side, where the log has both or says neither")
     names = [dialect.name for dialect in DIALECTS]
     add("--dialect", choices=names, help="the kind of log, where the log does not say it")
-    add("--unit", choices=("us", "ns"), default="us", help="of times; ns with --version 3 alone")
-    add("--slack-us", type=natural, help="report_slack_us of the header")
-    add("--slack-bytes", type=natural, help="report_slack_bytes of the header")
-    add("--timer-late-us", type=natural, help="timer_late_us of the header")
     add("--notes", action="store_true", help="count the guesses on standard error")
+    group = parser.add_argument_group(
+        "keys of the header", "They take the place of what is known of the kind of log."
+    )
+    for key in KEYS:
+        key.add_to(group)
     return parser
 
 
@@ -80,15 +82,61 @@ def natural(text: str) -> int:
     return value
 
 
+@dataclass(frozen=True)
+class Key:
+    """A key of the header that the command line may say."""
+
+    option: str
+    name: str
+    # The version of the format that brought it.
+    version: int
+    # The strings that it may have. Without any it is `yes` or `no`, or a number.
+    values: tuple[str, ...] = ()
+    is_number: bool = False
+
+    def add_to(self, group: argparse._ArgumentGroup) -> None:
+        """Makes an option of it."""
+        about = f"{self.name}, of version {self.version}"
+        if self.is_number:
+            group.add_argument(self.option, dest=self.name, type=natural, metavar="N", help=about)
+        else:
+            values = self.values or tuple(YES_OR_NO)
+            group.add_argument(self.option, dest=self.name, choices=values, help=about)
+
+    def value_of(self, args: argparse.Namespace) -> int | str | None:
+        """What the arguments say, if they do."""
+        said: int | str | None = getattr(args, self.name)
+        return YES_OR_NO.get(said, said) if isinstance(said, str) else said
+
+
+YES_OR_NO = {"yes": True, "no": False}
+KEYS = (
+    Key("--timer-late-us", "timer_late_us", 2, is_number=True),
+    Key("--refresh-min-rtt", "refresh_min_rtt", 2),
+    Key("--slack-us", "report_slack_us", 2, is_number=True),
+    Key("--slack-bytes", "report_slack_bytes", 2, is_number=True),
+    Key("--unit", "unit", 3, ("us", "ns")),
+    Key("--window", "window", 3, ("newreno", "reported")),
+    Key("--window-overshoot", "window_overshoot", 3),
+    Key("--sample-eliciting-only", "sample_eliciting_only", 3),
+    Key("--packet-threshold", "packet_threshold", 3, is_number=True),
+    Key("--timer-early-us", "timer_early_us", 3, is_number=True),
+)
+
+
 def choices_of(args: argparse.Namespace) -> Choices:
     """What the arguments say of the header."""
-    said = {
-        "report_slack_us": args.slack_us,
-        "report_slack_bytes": args.slack_bytes,
-        "timer_late_us": args.timer_late_us,
-    }
-    options = tuple((key, value) for key, value in said.items() if value is not None)
-    return Choices(args.version, args.unit, options)
+    said = ((key.name, key.value_of(args)) for key in KEYS)
+    options = tuple((name, value) for name, value in said if value is not None)
+    return Choices(args.version, options)
+
+
+def wrong_in(args: argparse.Namespace) -> str | None:
+    """What is wrong with arguments that each are right."""
+    for key in KEYS:
+        if key.version > args.version and key.value_of(args) is not None:
+            return f"{key.option} needs --version {key.version}"
+    return None
 
 
 class Progress:
@@ -170,9 +218,11 @@ class Converter:
         choices = choices_of(self._args)
         dialect = self._dialect()
         survey = Survey(self._events("looked at"))
-        lines = Lines(self._write, self.notes, choices.unit)
-        size = write_header(lines, self.notes, self._role, dialect, survey, choices)
+        options = options_of(dialect, survey, choices)
+        lines = Lines(self._write, self.notes, options.get("unit", "us"))
+        size = write_header(lines, self.notes, self._role, dialect, survey, options)
         conversion = Conversion(dialect, self._role, survey, lines, self.notes, size)
+        conversion.is_window_reported = options.get("window") == "reported"
         conversion.convert(self._events("converted"))
 
     def _dialect(self) -> Dialect:
@@ -232,8 +282,9 @@ def main(words: list[str] | None = None) -> int:
     """Runs the command; the exit status."""
     parser = arguments()
     args = parser.parse_args(words)
-    if args.unit == "ns" and args.version < 3:
-        parser.error("--unit ns needs --version 3")
+    wrong = wrong_in(args)
+    if wrong:
+        parser.error(wrong)
     return convert(args)
 
 

@@ -40,6 +40,12 @@ class Conversion:
         self._probe_left = 0
         # Whether the window fell since the last packet that was sent.
         self._has_fallen = False
+        # Whether packets are judged by the window that was reported last.
+        self.is_window_reported = False
+        # The window of the last report.
+        self._told_window = survey.first_window
+        # The largest number of a space that was acknowledged.
+        self._largest: dict[str, int] = {}
         # When the last ack-eliciting packet of a space was sent.
         self._last_eliciting: dict[str, int] = {}
 
@@ -88,6 +94,19 @@ class Conversion:
         }
         if known:
             self._lines.metrics(time, known)
+            self._told_window = known.get("window", self._told_window)
+
+    def _tell_window(self, time: int) -> None:
+        """A report of the window alone where it is another than the one that was told.
+
+        A log may tell of a change only behind the next packet, which is judged by it.
+        """
+        window = self._metrics.get("window")
+        if not self.is_window_reported or window is None:
+            return
+        if window != self._told_window:
+            self._lines.metrics(time, {"window": window})
+            self._told_window = window
 
     def _write_lost(self, event: Event, lost: Iterable[Event]) -> None:
         """The Lost line of each space, at the time of an event."""
@@ -112,6 +131,7 @@ class Conversion:
         is_late = False
         for event in group.events:
             is_late |= self._handshake.before_sent(event, reported if is_reported else None)
+            self._tell_window(event.time)
             self._write_sent(event)
         if is_reported:
             self._forget(last)
@@ -124,7 +144,7 @@ class Conversion:
         if self._logs_timers:
             return
         if self._dialect.probes_by_ping:
-            if any("ping" in event.frame_types for event in group.events):
+            if any(self._is_ping_of_probe(event) for event in group.events):
                 self._notes.guess(Guess.PROBE_BY_PING)
                 self._write_timer(group.first, "pto", self._probed_space())
             return
@@ -133,6 +153,13 @@ class Conversion:
         for _ in range(count - self._pto_count):
             self._notes.guess(Guess.PROBE_BY_COUNT)
             self._write_timer(group.first, "pto", self._probed_space())
+
+    def _is_ping_of_probe(self, event: Event) -> bool:
+        every = self._dialect.packets_between_pings
+        if "ping" not in event.frame_types:
+            return False
+        has_ranges = any(len(event.ranges(frame)) > 1 for frame in event.acks)
+        return every is None or event.number % every != 0 or not has_ranges
 
     def _write_sent(self, event: Event) -> None:
         space, number, size = event.space, event.number, event.size
@@ -198,8 +225,9 @@ class Conversion:
 
     def _on_received(self, group: Group) -> None:
         event, lost = group.first, group.lost_before
+        later = self._not_shown(group)
         if lost and not self._is_shown(lost, event, group.beside):
-            self._guess_loss_timer(lost)
+            self._lost_alone(lost)
             lost = []
         if event.space == "handshake":
             self._handshake.take_keys(event)
@@ -220,6 +248,24 @@ class Conversion:
         elif held != self._metrics:
             self._report(event.time)
         self._handshake.after_received(event)
+        self._lost_alone(later)
+
+    def _not_shown(self, group: Group) -> list[Event]:
+        """Takes from a packet that came what stands behind it and begins with a loss that no
+        acknowledgment can show, where the log has no timers."""
+        if self._logs_timers:
+            return []
+        event = group.first
+        tops = [high for frame in event.acks for _, high in event.ranges(frame)]
+        for place, it in enumerate(group.beside):
+            if it.name == "packet_lost" and not self._can_be_shown(it, event.space, tops):
+                later = group.beside[place:]
+                del group.beside[place:]
+                return later
+        return []
+
+    def _can_be_shown(self, lost: Event, space: str | None, tops: list[int]) -> bool:
+        return lost.space == space and lost.number < max([*tops, self._largest.get(space or "", 0)])
 
     def _settle_received(self, event: Event, lost: list[Event]) -> None:
         """The discards that are due, by what leaves with an acknowledgment and its losses."""
@@ -254,6 +300,8 @@ class Conversion:
             delay=self._lines.in_unit(delay),
             limited=self._is_limited(before) and not lost,
         )
+        top = max(high for _, high in ranges)
+        self._largest[space] = max(top, self._largest.get(space, 0))
         self._flight.take(space, self._flight.named(space, ranges))
         self._write_lost(event, lost)
 
@@ -293,19 +341,22 @@ class Conversion:
         self._lost_alone([*group.events, *group.beside])
 
     def _lost_alone(self, lost: list[Event]) -> None:
-        """Losses that no acknowledgment shows: those of a timer, where the log has no timers."""
+        """Losses that no acknowledgment shows: those of a timer, where the log has no timers.
+
+        The loss timer is set for packets below an acknowledged number alone. Some senders declare
+        others lost too, at a probe timeout or when they send again, and for these nothing stands in
+        front of the Lost line.
+        """
         if not lost:
             return
-        if not self._logs_timers:
-            self._guess_loss_timer(lost)
-            return
-        self._notes.omit(Omission.LOSS_OF_NOTHING)
-        self._write_lost(lost[0], lost)
-
-    def _guess_loss_timer(self, lost: list[Event]) -> None:
-        self._notes.guess(Guess.LOSS_TIMER)
-        self._write_timer(lost[0], "loss", str(lost[0].space))
-        self._after_timer(lost[0], lost)
+        first = lost[0]
+        space = str(first.space)
+        if not self._logs_timers and first.number < self._largest.get(space, 0):
+            self._notes.guess(Guess.LOSS_TIMER)
+            self._write_timer(first, "loss", space)
+        else:
+            self._notes.omit(Omission.LOSS_OF_NOTHING)
+        self._after_timer(first, lost)
 
     def _on_timer(self, group: Group) -> None:
         event = group.first
@@ -325,7 +376,7 @@ class Conversion:
                 self._pto_count += 1
 
     def _after_timer(self, event: Event, beside: list[Event]) -> None:
-        """The losses that a timer found, and the values behind it."""
+        """The losses that a timer found, if it was one, and the values behind them."""
         self._write_lost(event, beside)
         if self._take_metrics(beside):
             self._report(max(it.time for it in beside))

@@ -39,18 +39,25 @@ class Dialect:
     logs_timers: bool | None = None
     # Nothing tells of a probe timeout but a PING that is sent.
     probes_by_ping: bool = False
+    # A packet whose number this divides has a PING behind an ACK frame of several ranges, so that
+    # the frame is acknowledged; that is no probe.
+    packets_between_pings: int | None = None
     # Spaces in which the sender subtracts the peer's delay.
     delay_spaces: tuple[str, ...] = ("handshake", "app")
     limited: Limited = Limited.BY_STATE
     # How far off reports can be.
     slack_us: int = 10
     slack_bytes: int = 0
-    # Options of version 3 of the format alone.
-    window: str = "newreno"
+    # The rest is of version 3 of the format alone. The unit of the trace; where it is not known,
+    # nanoseconds if some time of the log has them.
+    unit: str | None = None
+    # Packets past the window, and samples of ack-eliciting packets alone: what a sender is known to
+    # do, so that the rest of it can be audited.
     window_overshoot: bool = False
     sample_eliciting_only: bool = False
     packet_threshold: int = 3
-    timer_early_us: int = 0
+    # How early a timer can be by the log, since its times are rounded or read late.
+    timer_early_us: int = 10
 
 
 GENERIC = Dialect("generic")
@@ -71,10 +78,9 @@ DIALECTS = (
         logs_timers=True,
         delay_spaces=("app",),
         slack_us=1_000,
-        window="reported",
         window_overshoot=True,
         sample_eliciting_only=True,
-        timer_early_us=1_000,
+        timer_early_us=3_000,
     ),
     # 0.12: JSON-SEQ, 0.3, all times in whole ms, rounded down. No timers and no keys. Metrics have
     # all values. The delay of Initial and Handshake acknowledgments is logged as 0.
@@ -87,14 +93,15 @@ DIALECTS = (
         limited=Limited.BY_WINDOW,
         slack_us=2_000,
         slack_bytes=64,
-        window="reported",
+        unit="us",
         window_overshoot=True,
         sample_eliciting_only=True,
         timer_early_us=3_000,
     ),
-    # 1.2: one JSON object, 0.3, times of the wall clock. No timers, no PTO count and no key_retired
-    # of the Initial space. Metrics have what changed. Before a sample the probe timeout is 200 ms.
-    # packet_lost has its type and number beside and not in a header.
+    # 1.2: one JSON object, 0.3, times of the wall clock, in which the digits behind the microsecond
+    # are those of a float. No timers, no PTO count and no key_retired of the Initial space. Metrics
+    # have what changed. Before a sample the probe timeout is 200 ms. packet_lost has its type and
+    # number beside and not in a header. A packet is no greater than the rest of the window.
     Dialect(
         "aioquic",
         ("aioquic",),
@@ -103,22 +110,22 @@ DIALECTS = (
         metrics_stand_before=True,
         logs_timers=False,
         probes_by_ping=True,
+        packets_between_pings=8,
         delay_spaces=("initial", "handshake", "app"),
         limited=Limited.NEVER,
         slack_us=1_000,
         slack_bytes=64,
-        window="reported",
-        window_overshoot=True,
+        unit="us",
         timer_early_us=1_000,
     ),
     # By their documentation: JSON-SEQ of the Rust crate `qlog`, 0.3, times in ms with fractions;
     # metrics have what changed.
-    Dialect("quinn", ("quinn",), slack_us=1_000, slack_bytes=1_200),
-    Dialect("neqo", ("neqo",), slack_us=1_000),
-    Dialect("quiche", ("quiche",), slack_us=1_000, slack_bytes=1_200),
+    Dialect("quinn", ("quinn",), slack_us=1_000, slack_bytes=1_200, timer_early_us=1_000),
+    Dialect("neqo", ("neqo",), slack_us=1_000, timer_early_us=1_000),
+    Dialect("quiche", ("quiche",), slack_us=1_000, slack_bytes=1_200, timer_early_us=1_000),
     # By its documentation: one JSON object, events as lists, times in microseconds. Its losses name
     # no packets, so a log with losses gives no trace.
-    Dialect("mvfst", ("mvfst",), slack_us=1_000),
+    Dialect("mvfst", ("mvfst",), slack_us=1_000, timer_early_us=1_000),
     GENERIC,
 )
 

@@ -72,6 +72,7 @@ BYTES = {
     "ssthresh": "ssthresh",
     "bytes_in_flight": "bytes_in_flight",
 }
+WINDOWS = tuple(key for key, name in BYTES.items() if name == "window")
 GREATEST_PACKET_NUMBER = (1 << 62) - 1
 GREATEST_SIZE = 65527
 GREATEST_BYTES = (1 << 64) - 1
@@ -209,6 +210,11 @@ class Event:
         if found.get("ssthresh", 0) > GREATEST_PACKET_NUMBER:
             del found["ssthresh"]
         return found
+
+    @property
+    def has_window(self) -> bool:
+        """Whether a metrics_updated has a congestion window."""
+        return any(self.data.get(key) is not None for key in WINDOWS)
 
     def pto_count(self) -> int | None:
         """The count of probe timeouts, if the event has one."""

@@ -13,24 +13,25 @@ from .survey import Survey
 class Choices:
     """What the user of the converter says of the header."""
 
-    version: int = 2
-    unit: str = "us"
+    version: int = 3
     # Keys of the header that take the place of those of the dialect.
-    options: tuple[tuple[str, int], ...] = ()
+    options: tuple[tuple[str, int | str], ...] = ()
 
 
-def options_of(dialect: Dialect, choices: Choices) -> dict[str, Any]:
-    """The options of the versions behind the first."""
-    if choices.version == 1:
-        return {}
-    found: dict[str, Any] = {
-        "report_slack_us": dialect.slack_us,
-        "report_slack_bytes": dialect.slack_bytes,
-    }
-    if choices.version >= 3:
+def options_of(dialect: Dialect, survey: Survey, choices: Choices) -> dict[str, Any]:
+    """The version, and the options of the versions behind the first."""
+    found: dict[str, Any] = {"version": choices.version}
+    if choices.version >= 2:
         found |= {
-            "unit": choices.unit,
-            "window": dialect.window,
+            "report_slack_us": dialect.slack_us,
+            "report_slack_bytes": dialect.slack_bytes,
+        }
+    if choices.version >= 3:
+        by_log = "ns" if survey.has_nanoseconds else "us"
+        found |= {
+            "unit": dialect.unit or by_log,
+            # By which controller a sender has its window is its own choice (RFC 9002, section 7).
+            "window": "reported" if survey.has_window else "newreno",
             "window_overshoot": dialect.window_overshoot,
             "sample_eliciting_only": dialect.sample_eliciting_only,
             "packet_threshold": dialect.packet_threshold,
@@ -40,12 +41,13 @@ def options_of(dialect: Dialect, choices: Choices) -> dict[str, Any]:
 
 
 def write_header(
-    lines: Lines, notes: Notes, role: str, dialect: Dialect, survey: Survey, choices: Choices
+    lines: Lines, notes: Notes, role: str, dialect: Dialect, survey: Survey, options: dict[str, Any]
 ) -> int:
     """Writes the header; gives the datagram size."""
     size, guess = survey.max_datagram_size(dialect.initial_datagrams)
     notes.guess(guess)
-    line: dict[str, Any] = {"version": choices.version, "role": role, "max_datagram_size": size}
+    version = options["version"]
+    line: dict[str, Any] = {"version": version, "role": role, "max_datagram_size": size}
     if survey.max_ack_delay is None:
         notes.guess(Guess.NO_MAX_ACK_DELAY)
     else:
@@ -57,5 +59,7 @@ def write_header(
         line["initial_rtt"] = lines.in_unit(survey.first_smoothed)
     if survey.first_window:
         line["initial_window"] = survey.first_window
-    lines.header(line | options_of(dialect, choices) | {"x_dialect": dialect.name})
+    if version >= 3 and not survey.has_window:
+        notes.guess(Guess.NO_WINDOW)
+    lines.header(line | options | {"x_dialect": dialect.name})
     return size

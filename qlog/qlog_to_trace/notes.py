@@ -11,6 +11,7 @@ class Guess(Enum):
     DATAGRAM_BY_PACKET = "max_datagram_size: the largest packet that was sent"
     DATAGRAM_LEAST = "max_datagram_size: 1200, for no packet was larger"
     NO_MAX_ACK_DELAY = "max_ack_delay: 25 ms, for the peer's is not logged"
+    NO_WINDOW = "window: newreno, for no window is logged"
     INITIAL_RTT = "initial_rtt: that of the stack's sources or documentation"
     PROBE_BY_COUNT = "a probe timeout and its space: pto_count rose"
     PROBE_BY_PING = "a probe timeout and its space: a PING was sent"

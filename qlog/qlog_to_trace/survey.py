@@ -3,7 +3,7 @@
 from collections.abc import Iterable
 
 from .errors import Unusable
-from .events import Event
+from .events import NANOSECONDS, Event
 from .notes import Guess
 
 LEAST_DATAGRAM = 1200
@@ -21,6 +21,9 @@ class Survey:
         # The spaces of whose discard the log tells.
         self.retired: set[str] = set()
         self.has_timers = False
+        # Whether a congestion window is logged, and whether a time is no whole microsecond.
+        self.has_window = False
+        self.has_nanoseconds = False
         # Places of events.
         self.first_handshake_received: int | None = None
         self.handshake_done: int | None = None
@@ -32,6 +35,8 @@ class Survey:
             raise Unusable("no packet_sent of a QUIC packet with a size")
 
     def _see(self, event: Event) -> None:
+        if event.time % NANOSECONDS["us"]:
+            self.has_nanoseconds = True
         if event.name == "parameters_set":
             self._see_parameters(event)
         elif event.name == "packet_sent":
@@ -74,6 +79,7 @@ class Survey:
             self.last_crypto_before_done = event.index
 
     def _see_metrics(self, event: Event) -> None:
+        self.has_window = self.has_window or event.has_window
         if self._has_ack:
             return
         values = event.metrics()

@@ -1,0 +1,27 @@
+# Completion of qlog-to-trace for bash.
+
+_qlog_to_trace() {
+    local current=${COMP_WORDS[COMP_CWORD]} before=${COMP_WORDS[COMP_CWORD - 1]}
+    local words=
+    case $before in
+        --version) words='1 2 3' ;;
+        --vantage) words='client server' ;;
+        --dialect) words='quic-go ngtcp2 aioquic quinn neqo quiche mvfst generic' ;;
+        --unit) words='us ns' ;;
+        --window) words='newreno reported' ;;
+        --window-overshoot | --sample-eliciting-only | --refresh-min-rtt) words='yes no' ;;
+        --timer-late-us | --slack-us | --slack-bytes | --packet-threshold | --timer-early-us) return ;;
+    esac
+    if [ -z "$words" ] && [[ $current == -* ]]; then
+        words='--version --vantage --dialect --notes --timer-late-us --refresh-min-rtt --slack-us
+            --slack-bytes --unit --window --window-overshoot --sample-eliciting-only
+            --packet-threshold --timer-early-us --help'
+    fi
+    if [ -n "$words" ]; then
+        mapfile -t COMPREPLY < <(compgen -W "$words" -- "$current")
+    else
+        compopt -o filenames
+        mapfile -t COMPREPLY < <(compgen -f -- "$current")
+    fi
+}
+complete -F _qlog_to_trace qlog-to-trace
