@@ -1,7 +1,4 @@
 -- Lemmas of the quick reader.
-pub mod Words
-pub mod Numerals
-pub mod Lexing
 pub mod Reading
 pub mod Spelling
 pub mod Finding

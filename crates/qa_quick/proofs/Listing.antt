@@ -12,9 +12,9 @@ use Rattle.qa_base.specs.values.Limits.{max_packet_number, in_range}
 use Rattle.qa_format.specs.format.Proper.{IsRange}
 use Rattle.qa_format.proofs.format.Compact.{of_json-outline, depth-outline}
 use Rattle.qa_format.proofs.format.KeysWritten.{ranges_are_kept}
-use Rattle.qa_quick.specs.Lexes.{Lexes, lexemes, IsValueOf}
+use Rattle.qa_tokens.specs.Lexes.{Lexes, lexemes, IsValueOf}
 use Rattle.qa_quick.specs.Ranges.{Spans, ranges_data, TakesRange, TakesRanges, FollowsRanges}
-use Rattle.qa_quick.proofs.Lexing.{then}
+use Rattle.qa_tokens.proofs.Lexing.{then}
 use Rattle.qa_quick.proofs.Saying.{range_is}
 
 -- ---- a range

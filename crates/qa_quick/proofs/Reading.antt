@@ -14,7 +14,7 @@ use Rattle.json.proofs.Printed.Trees.{value-json_tokens}
 use Rattle.serde_json.specs.Data.{Data, object, Members, no_members}
 use Rattle.serde_json.specs.Read.{of_json, of_members, read}
 use Rattle.qa_format.specs.format.Reading.{json_of, is_blank}
-use Rattle.qa_quick.specs.Lexes.{lexemes, items_lexemes, members_lexemes}
+use Rattle.qa_tokens.specs.Lexes.{lexemes, items_lexemes, members_lexemes}
 
 -- ---- the tokens of a value's lexemes
 

@@ -14,7 +14,7 @@ use Rattle.qa_base.specs.declared.space.Leave.TheVariants.{Window, Probe, Recove
 use Rattle.qa_base.specs.declared.space.Space.{Space}
 use Rattle.qa_base.specs.declared.space.Space.TheVariants.{Initial, Handshake, App}
 use Rattle.qa_base.specs.values.Names.{key_name, field_name, line_kind_name, space_name, leave_name, kind_name}
-use Rattle.qa_quick.specs.Lexes.{is_plain}
+use Rattle.qa_tokens.specs.Lexes.{is_plain}
 
 pub line_kind_is_plain : (k : LineKind) → list_all is_plain (line_kind_name k) ≡ true
 line_kind_is_plain kinds.Header = refl

@@ -1,5 +1,5 @@
 -- Members that are found one after another, up to the end of their object.
-use Rattle.std.proofs.Common.{◌≡◌, ◌∙◌, ◌<◌, ◌≤◌, ◌^◌, ℕ, List, [], ◌∷◌, ◌++◌, Bool, true, false, Some, None, Ok, Equal, IsUtf8, decimal, codes, length, is_eq, Option, option_map, option_and_then, refl, sym, ap, arith}
+use Rattle.std.proofs.Common.{◌≡◌, ◌∙◌, ◌<◌, ◌≤◌, ◌^◌, ℕ, List, [], ◌∷◌, ◌++◌, Bool, true, false, Some, None, Ok, Equal, IsUtf8, decimal, codes, length, is_eq, Option, option_map, option_and_then, refl, sym, ap, arith, append_assoc}
 use Rattle.std.specs.Cmp.Lexicographic.{slice_cmp}
 use Rattle.std.specs.Ordering.{nat_cmp}
 use Rattle.std.specs.List.{list_all}
@@ -11,6 +11,7 @@ use Rattle.std.proofs.lemmas.Str.{IsUtf8-nil}
 use Rattle.json.specs.Json as form
 use Rattle.json.specs.Lex.{token, comma, colon, between, lex}
 use Rattle.json.specs.Token as tokens
+use Rattle.json.specs.Word.{ends_word}
 use Rattle.json.specs.Tree.{members_depth as tree_depth}
 use Rattle.serde_json.specs.Data as json
 use Rattle.serde_json.specs.Data.{Data, Members, no_members, put}
@@ -18,14 +19,14 @@ use Rattle.serde_json.specs.Read.{of_members}
 use Rattle.serde_json.proofs.Numbers.{number_of-decimal}
 use Rattle.qa_format.specs.declared.line.Line.{Line}
 use Rattle.qa_format.specs.format.Reading.{json_of, reading_by, reading}
-use Rattle.qa_format.specs.format.Written.{integer, string, boolean, line_fits}
+use Rattle.qa_format.specs.format.Written.{integer, string, boolean}
 use Rattle.qa_format.specs.format.Proper.{IsWord}
 use Rattle.qa_format.proofs.format.AnyOrder.{get_put_other}
 use Rattle.qa_format.proofs.format.ProperReadings.{reading_fits}
 use Rattle.qa_quick.specs.declared.found.Found.{Found}
-use Rattle.qa_quick.specs.Lexes.{Lexes, lexemes, members_lexemes, is_plain, IsQuoted, IsKey, IsValueOf, IsValue}
-use Rattle.qa_quick.specs.Found.{Holds, Keeps, Puts, Takes, TakesNothing, Follows, SaysLine, is_known}
-use Rattle.qa_quick.proofs.Lexing.{then, lexes_quoted}
+use Rattle.qa_tokens.specs.Lexes.{Lexes, lexemes, members_lexemes, is_plain, IsQuoted, IsKey, IsValueOf, IsValue}
+use Rattle.qa_quick.specs.Found.{Holds, Keeps, Puts, Takes, TakesNothing, Follows, Ends, EndsIf, PutsIf, SaysLine, Reads, nothing, is_known}
+use Rattle.qa_tokens.proofs.Lexing.{then, lexes_quoted, lexes_colon, lexes_comma, lexes_begin_object, lexes_end_object}
 use Rattle.qa_quick.proofs.Reading.{json_of-lexemes, not_blank}
 
 -- ---- values
@@ -111,9 +112,6 @@ takes_nothing key bytes behind middle rest all_plain is at_colon unknown one f =
 
 -- ---- the object
 
-abbrev pub nothing : Found
-nothing = record { event = None; time = None; space = None; number = None; size = None; eliciting = None; in_flight = None; leave = None; ranges = None; delay = None; app_limited = None; kind = None; values = record { window = None; ssthresh = None; bytes_in_flight = None; latest_rtt = None; min_rtt = None; smoothed_rtt = None; rttvar = None } }
-
 no_word : IsWord None
 no_word n e = cc
 
@@ -169,14 +167,56 @@ quick_says old new l bytes rest behind end before one closed none says =
     let is = ends old new bytes rest behind end before one closed (none_left end none) in
     rw (not_blank bytes _ is, is) (says (put one.key one.value before.before) (one.keeps before.before before.holds))
 
--- what the line is read as, and its values are in their ranges
-pub record Reads (bytes : List ℕ) (o : Option Line) : Type 0 where
-  pub read : IfSome o (λ l. reading bytes ≡ Ok l)
-  pub fitting : IfSome o (λ l. line_fits l ≡ true)
-
 pub quick_reads : (old new : Found) (o : Option Line) (bytes rest behind end : List ℕ) → Follows old bytes rest → Takes old new rest behind
     → Lexes behind end (token tokens.end_object ∷ []) → length end ≡ 0 → IfSome o (λ l. SaysLine new l) → Reads bytes o
 quick_reads old new None bytes rest behind end before one closed none says = record { read = tt; fitting = tt }
 quick_reads old new (Some l) bytes rest behind end before one closed none says =
     let read = quick_says old new l bytes rest behind end before one closed none says in
     record { read = read; fitting = reading_fits bytes l read }
+
+-- ---- members in a usual order, with no white space
+
+-- a word of a key in quotes and a colon
+key_then : (key bytes rest : List ℕ) → bytes ≡ (34 ∷ (key ++ 34 ∷ 58 ∷ [])) ++ rest → IsKey key bytes rest
+key_then key bytes rest is = record {
+  middle = 58 ∷ rest;
+  quoted = is ∙ ap (λ l. 34 ∷ l) (append_assoc key (34 ∷ 58 ∷ []) rest);
+  at_colon = lexes_colon (58 ∷ rest) rest refl;
+}
+
+-- a comma before it
+pub next_member : (key : List ℕ) (old new : Found) (whole bytes behind rest : List ℕ) → list_all is_plain key ≡ true → bytes ≡ (44 ∷ 34 ∷ (key ++ 34 ∷ 58 ∷ [])) ++ behind
+    → Puts key old new behind rest → Ends old whole bytes → Ends new whole rest
+next_member key old new whole bytes behind rest all_plain is puts before =
+    let middle : List ℕ = (34 ∷ (key ++ 34 ∷ 58 ∷ [])) ++ behind in record {
+      old = old;
+      last = middle;
+      before = goes_on before.old old whole before.last bytes middle before.before before.takes (lexes_comma bytes middle is);
+      takes = takes key old new middle behind rest all_plain (key_then key middle behind refl) puts;
+    }
+
+-- the brace that opens the object before it
+pub first_member : (key : List ℕ) (new : Found) (bytes behind rest : List ℕ) → list_all is_plain key ≡ true → bytes ≡ (123 ∷ 34 ∷ (key ++ 34 ∷ 58 ∷ [])) ++ behind
+    → Puts key nothing new behind rest → Ends new bytes rest
+first_member key new bytes behind rest all_plain is puts =
+    let middle : List ℕ = (34 ∷ (key ++ 34 ∷ 58 ∷ [])) ++ behind in record {
+      old = nothing;
+      last = middle;
+      before = begins bytes middle (lexes_begin_object bytes middle is);
+      takes = takes key nothing new middle behind rest all_plain (key_then key middle behind refl) puts;
+    }
+
+-- the same, where what comes behind ends the value
+pub next_if : (key : List ℕ) (old new : Found) (whole bytes behind rest : List ℕ) → list_all is_plain key ≡ true → bytes ≡ (44 ∷ 34 ∷ (key ++ 34 ∷ 58 ∷ [])) ++ behind
+    → PutsIf key old new behind rest → EndsIf old whole bytes → EndsIf new whole rest
+next_if key old new whole bytes behind rest all_plain is puts before ended = next_member key old new whole bytes behind rest all_plain is (puts ended) (before (ap ends_word is))
+
+pub first_if : (key : List ℕ) (new : Found) (bytes behind rest : List ℕ) → list_all is_plain key ≡ true → bytes ≡ (123 ∷ 34 ∷ (key ++ 34 ∷ 58 ∷ [])) ++ behind
+    → PutsIf key nothing new behind rest → EndsIf new bytes rest
+first_if key new bytes behind rest all_plain is puts ended = first_member key new bytes behind rest all_plain is (puts ended)
+
+-- the brace that closes the object behind it
+pub last_member : (new : Found) (o : Option Line) (whole rest : List ℕ) → EndsIf new whole rest → rest ≡ 125 ∷ [] → IfSome o (λ l. SaysLine new l) → Reads whole o
+last_member new o whole rest before_if is says =
+    let before = before_if (ap ends_word is) in
+    quick_reads before.old new o whole before.last rest [] before.before before.takes (lexes_end_object rest [] is) refl says

@@ -1,11 +1,12 @@
 -- What was found of an object's keys so far, and what a line's bytes then still have to be.
-use Rattle.std.specs.Prelude.{◌≡◌, ◌≤◌, ◌∷◌, ℕ, List, Bool, true, false, ◌||◌, bytes_eq, codes, option_map, IfSome, Ok, Some}
+use Rattle.std.specs.Prelude.{◌≡◌, ◌≤◌, ◌∷◌, ℕ, List, Option, Bool, true, false, ◌||◌, bytes_eq, codes, option_map, IfSome, Ok, Some, None}
 use Rattle.std.specs.List.{AllByRecursion}
 use Rattle.std.specs.Str.{IsUtf8}
 use Rattle.json.specs.Json as form
 use Rattle.json.specs.Json.{Json}
 use Rattle.json.specs.Lex.{token, colon, between, lex}
 use Rattle.json.specs.Token as tokens
+use Rattle.json.specs.Word.{ends_word}
 use Rattle.json.specs.Tree.{depth, members_depth}
 use Rattle.serde_json.specs.Data as json
 use Rattle.serde_json.specs.Data.{Data, Members, put}
@@ -21,10 +22,10 @@ use Rattle.qa_base.specs.declared.space.Space.{Space}
 use Rattle.qa_base.specs.values.Events.{has_ranges}
 use Rattle.qa_base.specs.values.Names.{line_kind_name, space_name, leave_name, kind_name}
 use Rattle.qa_format.specs.format.Proper.{IsRange, AreWords}
-use Rattle.qa_format.specs.format.Reading.{json_of, object_says, reader_named}
-use Rattle.qa_format.specs.format.Written.{integer, string, boolean}
+use Rattle.qa_format.specs.format.Reading.{json_of, object_says, reader_named, reading}
+use Rattle.qa_format.specs.format.Written.{integer, string, boolean, line_fits}
 use Rattle.qa_quick.specs.declared.found.Found.{Found}
-use Rattle.qa_quick.specs.Lexes.{Lexes, lexemes, members_lexemes, IsValueOf}
+use Rattle.qa_tokens.specs.Lexes.{Lexes, lexemes, members_lexemes, IsValueOf}
 use Rattle.qa_quick.specs.Ranges.{ranges_data}
 
 -- ---- values
@@ -130,6 +131,29 @@ pub record Follows (f : Found) (bytes rest : List ℕ) : Type 0 where
   pub reads : (key : List ℕ) (j : Json) (ms : form.Members) (all : Members) → members_depth (form.member key j ms) ≤ 2 → of_members (form.member key j ms) before ≡ Some all
       → lex between rest ≡ members_lexemes false (form.member key j ms) → IsUtf8 rest → json_of bytes ≡ Ok (json.object all)
 
+-- before any key
+abbrev pub nothing : Found
+nothing = record { event = None; time = None; space = None; number = None; size = None; eliciting = None; in_flight = None; leave = None; ranges = None; delay = None; app_limited = None; kind = None; values = record { window = None; ssthresh = None; bytes_in_flight = None; latest_rtt = None; min_rtt = None; smoothed_rtt = None; rttvar = None } }
+
+-- the member before the rest was the last of those that gave what was found
+pub record Ends (f : Found) (bytes rest : List ℕ) : Type 0 where
+  pub old : Found
+  pub last : List ℕ
+  pub before : Follows old bytes last
+  pub takes : Takes old f last rest
+
+-- the same, if what comes next ends an integer or a literal
+abbrev pub EndsIf : Found → List ℕ → List ℕ → Type 0
+EndsIf f bytes rest = ends_word rest ≡ true → Ends f bytes rest
+
+-- the bytes are a value of this key and the rest, if the rest ends an integer or a literal
+abbrev pub PutsIf : List ℕ → Found → Found → List ℕ → List ℕ → Type 0
+PutsIf key old new bytes rest = ends_word rest ≡ true → Puts key old new bytes rest
+
+-- from the bytes to the rest one member more is found: where the earlier ones began is for the caller to say
+abbrev pub Continues : Found → Found → List ℕ → List ℕ → Type 0
+Continues old new bytes rest = (whole : List ℕ) → EndsIf old whole bytes → EndsIf new whole rest
+
 -- what was found says this line
 abbrev pub SaysLine : Found → Line → Type 0
 SaysLine f l = (ms : Members) → Holds f ms → object_says reader_named (json.object ms) ≡ Ok l
@@ -137,3 +161,8 @@ SaysLine f l = (ms : Members) → Holds f ms → object_says reader_named (json.
 -- what was found says this event
 abbrev pub Says : Found → Event → Type 0
 Says f e = SaysLine f (line.Event e)
+
+-- a line that is returned is what these bytes are read as, and its values are in their ranges
+pub record Reads (bytes : List ℕ) (o : Option Line) : Type 0 where
+  pub read : IfSome o (λ l. reading bytes ≡ Ok l)
+  pub fitting : IfSome o (λ l. line_fits l ≡ true)

@@ -1,3 +1,2 @@
-pub mod Lexes
 pub mod Ranges
 pub mod Found

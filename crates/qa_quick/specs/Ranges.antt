@@ -9,7 +9,7 @@ use Rattle.serde_json.specs.Written.{outline, items_outline}
 use Rattle.qa_base.specs.values.Events.{has_ranges}
 use Rattle.qa_format.specs.format.Proper.{IsRange}
 use Rattle.qa_format.specs.format.Written.{integer_pair, integer_pairs}
-use Rattle.qa_quick.specs.Lexes.{Lexes, lexemes, items_lexemes}
+use Rattle.qa_tokens.specs.Lexes.{Lexes, lexemes, items_lexemes}
 
 abbrev pub Spans : Type 0
 Spans = List (ℕ × ℕ)

@@ -18,6 +18,7 @@ fn packet_fits(size: u64, eliciting: bool, in_flight: bool) -> bool
 
 impl Found {
     /// The time that was found, where it is in its range.
+    #[inline(always)]
     fn micros(&self) -> Option<Ticks>
         ensures { IfSome result (λ time. (self.now.time ≡ Some time) × (time ≤ max_time)) }
     {
@@ -25,6 +26,7 @@ impl Found {
     }
 
     /// A packet that was sent, where its keys were found.
+    #[inline(always)]
     fn sent(&self) -> Option<Line>
         requires { self.now.event ≡ Some LineKind.Sent }
         ensures { IfSome result (λ line. SaysLine self.now line) }
@@ -51,6 +53,7 @@ impl Found {
     }
 
     /// An acknowledgment that came, where its keys were found.
+    #[inline(always)]
     fn ack(&mut self) -> Option<Line>
         requires { self.old.event ≡ Some LineKind.Ack }
         ensures { IfSome result (λ line. SaysLine self.old line) }
@@ -70,6 +73,7 @@ impl Found {
     }
 
     /// Packets that were declared lost, where their keys were found.
+    #[inline(always)]
     fn lost(&mut self) -> Option<Line>
         requires { self.old.event ≡ Some LineKind.Lost }
         ensures { IfSome result (λ line. SaysLine self.old line) }
@@ -85,6 +89,7 @@ impl Found {
     }
 
     /// A timer that fired, where its keys were found.
+    #[inline(always)]
     fn timer(&self) -> Option<Line>
         requires { self.now.event ≡ Some LineKind.Timer }
         ensures { IfSome result (λ line. SaysLine self.now line) }
@@ -96,6 +101,7 @@ impl Found {
     }
 
     /// Keys that were discarded, where their line's keys were found.
+    #[inline(always)]
     fn discard(&self) -> Option<Line>
         requires { self.now.event ≡ Some LineKind.Discard }
         ensures { IfSome result (λ line. SaysLine self.now line) }
@@ -111,6 +117,7 @@ impl Found {
     }
 
     /// The handshake that was confirmed, where the keys of its line were found.
+    #[inline(always)]
     fn confirmed(&self) -> Option<Line>
         requires { self.now.event ≡ Some LineKind.Confirmed }
         ensures { IfSome result (λ line. SaysLine self.now line) }
@@ -120,6 +127,7 @@ impl Found {
     }
 
     /// The keys of the Handshake space that came, where the keys of their line were found.
+    #[inline(always)]
     fn handshake_keys(&self) -> Option<Line>
         requires { self.now.event ≡ Some LineKind.Keys }
         ensures { IfSome result (λ line. SaysLine self.now line) }
@@ -129,6 +137,7 @@ impl Found {
     }
 
     /// A report of the sender's state, where the keys of its line were found.
+    #[inline(always)]
     fn metrics(&self) -> Option<Line>
         requires { self.now.event ≡ Some LineKind.Metrics }
         ensures { IfSome result (λ line. SaysLine self.now line) }
@@ -139,6 +148,7 @@ impl Found {
     }
 
     /// What an object says with these keys, where it is an event.
+    #[inline(always)]
     pub fn line_of(&mut self) -> Option<Line>
         ensures { IfSome result (λ line. SaysLine self.old line) }
     {

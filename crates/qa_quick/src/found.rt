@@ -1,15 +1,15 @@
 //! What was found at the keys of an object.
-ghost use Rattle.std.specs.Prelude.{IfSome, codes};
+ghost use Rattle.std.specs.Prelude.{◌≡◌, IfSome, codes};
 ghost use Rattle.qa_base.specs.values.Names.{field_name, key_name};
 ghost use Rattle.qa_format.specs.format.Written as written;
-ghost use Rattle.qa_quick.specs.Found.{Keeps, Puts, Takes};
+ghost use Rattle.qa_quick.specs.Found.{Keeps, Puts, Takes, nothing};
 
 use crate::keys::event_key;
 use crate::names::{leave, line_kind, space, timer_kind};
 use crate::ranges::ranges;
-use crate::tokens::{boolean, integer};
 use crate::unknown::unknown_member;
 use qa_base::{Field, Key, Leave, LineKind, MetricValues, Space, Spans, TimerKind};
+use qa_tokens::{boolean, integer};
 use std::alloc::Global;
 
 /// What was found at the keys of an object.
@@ -31,6 +31,36 @@ pub struct Found {
 }
 
 impl Found {
+    /// Before any key is found.
+    #[inline(always)]
+    pub fn nothing() -> Found
+        ensures { result ≡ nothing }
+    {
+        Found {
+            event: None,
+            time: None,
+            space: None,
+            number: None,
+            size: None,
+            eliciting: None,
+            in_flight: None,
+            leave: None,
+            ranges: None,
+            delay: None,
+            app_limited: None,
+            kind: None,
+            values: MetricValues {
+                window: None,
+                ssthresh: None,
+                bytes_in_flight: None,
+                latest_rtt: None,
+                min_rtt: None,
+                smoothed_rtt: None,
+                rttvar: None,
+            },
+        }
+    }
+
     /// A key and its value are found; gives what follows them. A key that no event has is passed over.
     #[inline(always)]
     pub fn member<'a>(&mut self, alloc: Global, bytes: &'a [u8]) -> Option<&'a [u8]>
@@ -88,7 +118,7 @@ impl Found {
 
     /// The packet number space is found.
     #[inline(always)]
-    fn space<'a>(&mut self, bytes: &'a [u8]) -> Option<&'a [u8]>
+    pub fn space<'a>(&mut self, bytes: &'a [u8]) -> Option<&'a [u8]>
         ensures { IfSome result (λ rest. Puts (codes "space") self.old self.new bytes.now rest.now) }
     {
         let (found, rest) = space(bytes)?;
@@ -138,7 +168,7 @@ impl Found {
 
     /// Why the packet was allowed to leave is found.
     #[inline(always)]
-    fn leave<'a>(&mut self, bytes: &'a [u8]) -> Option<&'a [u8]>
+    pub fn leave<'a>(&mut self, bytes: &'a [u8]) -> Option<&'a [u8]>
         ensures { IfSome result (λ rest. Puts (codes "leave") self.old self.new bytes.now rest.now) }
     {
         let (found, rest) = leave(bytes)?;

@@ -1,11 +1,11 @@
 //! The keys of events.
 ghost use Rattle.std.specs.Prelude.{◌≡◌, ◌++◌, ◌∷◌, [], bytes_eq, IfSome};
 ghost use Rattle.qa_base.specs.values.Names.{key_name};
-ghost use Rattle.qa_quick.specs.Lexes.{IsKey};
+ghost use Rattle.qa_tokens.specs.Lexes.{IsKey};
 ghost use Rattle.qa_quick.specs.Found as found;
 
-use crate::tokens::{after, colon};
 use qa_base::{Field, Key};
+use qa_tokens::{after, colon};
 
 /// The key, where the bytes begin with its name in quotes and a colon, and what follows them. The name comes in two parts, its
 /// quotes with them: the first is known when the key is, so that mostly the second alone is compared.

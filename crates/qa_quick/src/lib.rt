@@ -6,12 +6,13 @@
 #![tactic(auto)]
 
 mod events;
+mod exact;
 mod found;
 mod keys;
 mod line;
+mod members;
 mod names;
 mod ranges;
-mod tokens;
 mod unknown;
 
 pub use line::quick_line;

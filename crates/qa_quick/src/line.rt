@@ -2,11 +2,12 @@
 ghost use Rattle.std.specs.Prelude.{◌≡◌, true, Ok, IfSome};
 ghost use Rattle.qa_format.specs.format.Reading as reading;
 ghost use Rattle.qa_format.specs.format.Written.{line_fits};
+ghost use Rattle.qa_quick.specs.Found.{Reads};
 
+use crate::exact::{exact_line, exact_lost};
 use crate::found::Found;
-use crate::tokens::{begin_object, comma, end_object};
-use qa_base::MetricValues;
 use qa_format::Line;
+use qa_tokens::{begin_object, comma, end_object};
 use std::alloc::Global;
 
 /// The event that the bytes of a line say, where the line has the form that most loggers write; None for any other line.
@@ -19,30 +20,30 @@ pub fn quick_line(alloc: Global, bytes: &[u8]) -> Option<Line>
     ensures read { IfSome result (λ line. reading.reading bytes.now ≡ Ok line) }
     ensures fitting { IfSome result (λ line. line_fits line ≡ true) }
 {
+    if let Some(line) = exact_line(alloc, bytes) {
+        return Some(line);
+    }
+    rarer_line(alloc, bytes)
+}
+
+/// The same of the lines that are rarer.
+#[inline(never)]
+fn rarer_line(alloc: Global, bytes: &[u8]) -> Option<Line>
+    ensures { Reads bytes.now result }
+{
+    if let Some(line) = exact_lost(alloc, bytes) {
+        return Some(line);
+    }
+    any_order(alloc, bytes)
+}
+
+/// The same, where the keys may stand in any order.
+#[inline(never)]
+fn any_order(alloc: Global, bytes: &[u8]) -> Option<Line>
+    ensures { Reads bytes.now result }
+{
     let mut rest = begin_object(bytes)?;
-    let mut found = Found {
-        event: None,
-        time: None,
-        space: None,
-        number: None,
-        size: None,
-        eliciting: None,
-        in_flight: None,
-        leave: None,
-        ranges: None,
-        delay: None,
-        app_limited: None,
-        kind: None,
-        values: MetricValues {
-            window: None,
-            ssthresh: None,
-            bytes_in_flight: None,
-            latest_rtt: None,
-            min_rtt: None,
-            smoothed_rtt: None,
-            rttvar: None,
-        },
-    };
+    let mut found = Found::nothing();
     for i in 0..u64::MAX {
         let behind = found.member(alloc, rest)?;
         let Some(more) = comma(behind) else {

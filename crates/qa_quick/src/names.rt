@@ -1,10 +1,10 @@
 //! The strings that name a kind of line, a space, a reason to leave and a kind of timer.
 ghost use Rattle.std.specs.Prelude.{IfSome};
 ghost use Rattle.qa_base.specs.values.Names.{line_kind_name, space_name, leave_name, kind_name};
-ghost use Rattle.qa_quick.specs.Lexes.{IsQuoted};
+ghost use Rattle.qa_tokens.specs.Lexes.{IsQuoted};
 
-use crate::tokens::after;
 use qa_base::{Leave, LineKind, Space, TimerKind};
+use qa_tokens::after;
 
 /// The kind of an event's line, and what follows it.
 #[inline(always)]

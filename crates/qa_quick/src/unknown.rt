@@ -1,10 +1,10 @@
 //! Members whose key no event has, where their value is simple.
 ghost use Rattle.std.specs.Prelude.{IfSome};
 ghost use Rattle.qa_quick.specs.Found.{TakesNothing};
-ghost use Rattle.qa_quick.specs.Lexes.{IsValue};
+ghost use Rattle.qa_tokens.specs.Lexes.{IsValue};
 
 use crate::keys::is_known;
-use crate::tokens::{boolean, colon, integer, null, string};
+use qa_tokens::{boolean, colon, integer, null, string};
 
 /// What follows a member whose key no event has.
 pub fn unknown_member(bytes: &[u8]) -> Option<&[u8]>

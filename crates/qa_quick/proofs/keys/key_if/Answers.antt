@@ -1,5 +1,5 @@
 use Rattle.qa_base.specs.values.Names.{key_name}
-use Rattle.qa_quick.proofs.Words.{quoted_in_parts}
+use Rattle.qa_tokens.proofs.Matching.{quoted_in_parts}
 use Rattle.qa_quick.proofs.keys.key_if.Goals as goal
 
 pub returns : goal.returns

@@ -1,6 +1,0 @@
-use Rattle.std.proofs.Common.{arith}
-use Rattle.qa_quick.proofs.Words.{four_more}
-use Rattle.qa_quick.proofs.tokens.four_equal.Goals as goal
-
-pub returns : goal.returns
-returns c is same = four_more c.args.bytes.now c.args.word.now c.args.i same (omega arith) (omega arith) is

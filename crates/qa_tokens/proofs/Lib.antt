@@ -1,0 +1,5 @@
+-- Lemmas of the tokens.
+pub mod Matching
+pub mod Numerals
+pub mod Tops
+pub mod Lexing
