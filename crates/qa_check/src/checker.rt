@@ -1,5 +1,6 @@
 //! The verdict of lines that come one after another.
 ghost use Rattle.std.specs.Prelude.{◌≡◌, ◌≢◌, ◌≤◌, ◌<◌, ◌+◌, ◌++◌, [], ◌∷◌, length, List, ℕ, true, false, Some, None, Option, Ok, Err, OnOk, IfOk, not, is_some, IsSome, option_map};
+ghost use Rattle.std.specs.Option.{ForSome, option_copied};
 ghost use Rattle.qa_base.specs.declared.event.Event.{Event as AnEvent};
 ghost use Rattle.qa_format.specs.format.Lines.{line_limit};
 ghost use Rattle.qa_format.specs.format.Reading.{reading};
@@ -57,7 +58,8 @@ impl<L: Ledger> Model for Checker<L> {
     ghost view = { λ c. record { ledger = c.ledger; lines = c.lines; last_event = c.last_event; verdict = c.verdict; failed = c.failed } };
 
     ghost invariant = { λ c. (c.lines ≤ max_lines)
-        × (c.verdict ≡ None → c.failed ≡ false → ForSome c.ledger (λ l. L.admitted l ≤ c.lines)) };
+        × (c.verdict ≡ None → c.failed ≡ false → ForSome c.ledger (λ l. L.admitted l ≤ c.lines))
+        × (c.failed ≡ false → ForSome c.ledger (λ l. L.has_failed l ≡ false)) };
 }
 
 impl<L: Ledger + Drop> Checker<L> {
@@ -78,7 +80,8 @@ impl<L: Ledger + Drop> Checker<L> {
 
     /// Takes the next line, its LF not among its bytes.
     ///
-    /// `Stop::Decided` comes where this line or an earlier one is not good: the verdict is fixed.
+    /// `Stop::Decided` comes where this line or an earlier one is not good: the verdict is fixed, and
+    /// the ledger stands for the good lines before.
     /// `Stop::OutOfMemory` comes where it is out of memory, and from then on.
     pub fn push_line(&mut self, bytes: &[u8]) -> Result<(), Stop>
         ensures failed { self.old.failed ≡ true → result ≡ Err Stop.OutOfMemory }
@@ -86,6 +89,7 @@ impl<L: Ledger + Drop> Checker<L> {
         ensures good { OnOk result (AddsGood L.stands self.old self.new bytes.now) }
         ensures decided { (result ≡ Err Stop.Decided)
             → AddsBad L.stands self.old self.new bytes.now }
+        ensures kept { (result ≡ Err Stop.Decided) → self.new.ledger ≡ self.old.ledger }
     {
         self.push_line_kind(bytes)?;
         Ok(())
@@ -99,6 +103,7 @@ impl<L: Ledger + Drop> Checker<L> {
         ensures good { OnOk result (AddsGood L.stands self.old self.new bytes.now) }
         ensures decided { (result ≡ Err Stop.Decided)
             → AddsBad L.stands self.old self.new bytes.now }
+        ensures kept { (result ≡ Err Stop.Decided) → self.new.ledger ≡ self.old.ledger }
     {
         if let Err(stop) = self.expect_line() {
             return Err(stop);
@@ -119,6 +124,7 @@ impl<L: Ledger + Drop> Checker<L> {
         ensures fails { result ≡ Stop.OutOfMemory → self.new.failed ≡ true }
         ensures decided { result ≡ Stop.Decided → (l : List ℕ) → line_limit < length l
             → AddsBad L.stands self.old self.new l }
+        ensures kept { result ≡ Stop.Decided → self.new.ledger ≡ self.old.ledger }
     {
         match self.expect_line() {
             Ok(()) => self.stop(Fault::LineTooLong),
@@ -167,6 +173,16 @@ impl<L: Ledger + Drop> Checker<L> {
         Some(self.ledger.as_ref()?.totals())
     }
 
+    /// The ledger after the good lines; None before a header. Of a checker that works it has not
+    /// failed.
+    pub fn ledger(&self) -> Option<&L>
+        ensures ledger { option_copied result ≡ self.now.ledger }
+        ensures works { self.now.failed ≡ false
+            → ForSome self.now.ledger (λ l. L.has_failed l ≡ false) }
+    {
+        self.ledger.as_ref()
+    }
+
     /// Stops where no line is taken, whatever it says: out of memory, after the verdict was fixed, and
     /// behind as many lines as a trace may have.
     fn expect_line(&mut self) -> Result<(), Stop>
@@ -177,6 +193,7 @@ impl<L: Ledger + Drop> Checker<L> {
             × (self.new.verdict ≡ None) × (self.new.lines < max_lines)) }
         ensures decided { (result ≡ Err Stop.Decided) → (l : List ℕ)
             → AddsBad L.stands self.old self.new l }
+        ensures kept { (result ≡ Err Stop.Decided) → self.new.ledger ≡ self.old.ledger }
     {
         if self.failed {
             return Err(Stop::OutOfMemory);
@@ -205,6 +222,7 @@ impl<L: Ledger + Drop> Checker<L> {
         ensures decided { (result ≡ Err Stop.Decided) → (l : List ℕ) → length l ≤ line_limit
             → Gives (λ line. line) read.now (reading l)
             → AddsBad L.stands self.old self.new l }
+        ensures kept { (result ≡ Err Stop.Decided) → self.new.ledger ≡ self.old.ledger }
     {
         match read {
             Ok(line) => match self.take(line) {
@@ -230,6 +248,7 @@ impl<L: Ledger + Drop> Checker<L> {
         ensures ok { OnOk result ((self.new.failed ≡ false)
             × TakesIn L.stands self.old self.new line.now) }
         ensures decided { result ≡ Err Stop.Decided → StopsAt L.stands self.old self.new line.now }
+        ensures kept { (result ≡ Err Stop.Decided) → self.new.ledger ≡ self.old.ledger }
     {
         match line {
             Line::Blank => {
@@ -252,6 +271,7 @@ impl<L: Ledger + Drop> Checker<L> {
             × TakesIn L.stands self.old self.new (Line.Header header)) }
         ensures decided { result ≡ Err Stop.Decided
             → StopsAt L.stands self.old self.new (Line.Header header) }
+        ensures kept { (result ≡ Err Stop.Decided) → self.new.ledger ≡ self.old.ledger }
     {
         if self.ledger.is_some() {
             return Err(self.stop(Fault::HeaderPlace));
@@ -273,6 +293,7 @@ impl<L: Ledger + Drop> Checker<L> {
             × TakesIn L.stands self.old self.new (Line.Event event.now)) }
         ensures decided { result ≡ Err Stop.Decided
             → StopsAt L.stands self.old self.new (Line.Event event.now) }
+        ensures kept { (result ≡ Err Stop.Decided) → self.new.ledger ≡ self.old.ledger }
     {
         let Some(ledger) = &mut self.ledger else {
             return Err(self.stop(Fault::HeaderPlace));
@@ -305,6 +326,7 @@ impl<L: Ledger + Drop> Checker<L> {
         ensures verdict { (header : Option Settings) (h : List AnEvent)
             → HoldsRun L.stands self.old.ledger header h
             → self.new.verdict ≡ Some (verdicts.unreadable (self.old.lines + 1) header h fault) }
+        ensures kept { self.new.ledger ≡ self.old.ledger }
     {
         let totals = self.totals();
         self.verdict = Some(Verdict::Unreadable(self.lines + 1, fault, totals));

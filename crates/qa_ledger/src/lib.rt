@@ -8,5 +8,5 @@ mod state;
 
 pub use ledger::{Ledger, LedgerFault};
 pub use metrics::totals_by;
-pub use rules::first_broken;
+pub use rules::{first_broken, other_window};
 pub use state::State;

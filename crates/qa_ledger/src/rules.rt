@@ -283,8 +283,9 @@ fn is_timer_late<S: State>(state: &S, event: &Event) -> bool
     state.is_late(event.time())
 }
 
-/// The window that the event reports, where it is another than the one before.
-fn other_window<S: State>(state: &S, event: &Event) -> Option<u64>
+/// The window in bytes that the event reports, where it is another than the one that was reported
+/// before, as V19 asks for it; None of another event.
+pub fn other_window<S: State>(state: &S, event: &Event) -> Option<u64>
     ensures { (c : Settings) (h : List AnEvent) → S.tells state.now c h
         → result ≡ windows.other_window c h event.now }
 {

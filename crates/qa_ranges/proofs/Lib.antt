@@ -1,3 +1,5 @@
 pub mod Sets
 pub mod Counts
 pub mod Histories
+pub mod Lacking
+pub mod Removed

@@ -83,7 +83,7 @@ names_inserted s (r ∷ rs) n order apart =
       ]
     ]
 
-further : (a b : ℕ) (runs : List (ℕ × ℕ)) → a ≤ b → AllByRecursion (λ later. b + 1 < later.0) runs → AllByRecursion (λ later. a + 1 < later.0) runs
+pub further : (a b : ℕ) (runs : List (ℕ × ℕ)) → a ≤ b → AllByRecursion (λ later. b + 1 < later.0) runs → AllByRecursion (λ later. a + 1 < later.0) runs
 further a b [] low all = tt
 further a b (q ∷ qs) low all = (omega (arith, all.0), further a b qs low all.1)
 

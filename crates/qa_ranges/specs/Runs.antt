@@ -1,6 +1,6 @@
 -- Sets of packet numbers, seen as their runs of consecutive numbers: each run is a pair of its least and its greatest
 -- number, and the runs stand in rising order. Which numbers are in the set, `is_named` says of the runs.
-use Rattle.std.specs.Prelude.{◌≡◌, ℕ, ◌+◌, ◌<◌, ◌≤◌, Bool, true, false, not, ◌&&◌, nat_le, nat_lt, min, max, count_by, List, [], ◌∷◌, Option, Some, None, if◌then◌else◌}
+use Rattle.std.specs.Prelude.{◌≡◌, ℕ, ◌+◌, ◌<◌, ◌≤◌, Bool, true, false, not, ◌&&◌, nat_le, nat_lt, min, max, count_by, List, [], ◌∷◌, Option, Some, None, option_to_list, ◌++◌, ◌-◌, if◌then◌else◌}
 use Rattle.std.specs.List.{AllByRecursion}
 use Rattle.qa_base.specs.machine.Numbers.{is_in}
 use Rattle.qa_base.specs.values.Events.{is_named}
@@ -49,3 +49,21 @@ inserted span (run ∷ runs) =
     if ends_before run span.0 then run ∷ inserted span runs else
     (if ends_before span run.0 then span ∷ run ∷ runs else
     inserted (joined span run) runs)
+
+-- ---- one number less
+
+-- what of the run stands below the number
+abbrev pub part_below : ℕ → ℕ × ℕ → Option (ℕ × ℕ)
+part_below n run = if nat_lt run.0 n then Some (run.0, n - 1) else None
+
+-- and what stands above it
+abbrev pub part_above : ℕ → ℕ × ℕ → Option (ℕ × ℕ)
+part_above n run = if nat_lt n run.1 then Some (n + 1, run.1) else None
+
+-- the runs without that number: the run that has it is cut there
+abbrev pub removed : ℕ → List (ℕ × ℕ) → List (ℕ × ℕ)
+removed n [] = []
+removed n (run ∷ runs) =
+    if nat_lt run.1 n then run ∷ removed n runs else
+    (if nat_lt n run.0 then run ∷ runs else
+    option_to_list (part_below n run) ++ (option_to_list (part_above n run) ++ runs))

@@ -48,6 +48,7 @@ impl Ranges {
     /// with the number of runs.
     pub fn insert_range(&mut self, span: Span) -> Result<(), AllocError>
         ensures ok { OnOk result ((n : ℕ) → is_named self.new n ≡ is_named (span ∷ self.old) n) }
+        ensures exact { OnOk result (self.new ≡ inserted span self.old) }
         ensures err { OnErr result (self.new ≡ self.old) }
     {
         let first = count_before(&self.runs, span.lo());
@@ -93,7 +94,7 @@ impl Ranges {
     }
 
     /// The first run that does not end below the number.
-    fn run_from(&self, number: PacketNumber) -> Option<Span>
+    pub(crate) fn run_from(&self, number: PacketNumber) -> Option<Span>
         ensures run { result ≡ find (λ run. nat_le number run.1) self.now }
         ensures apart { AreApart self.now }
     {

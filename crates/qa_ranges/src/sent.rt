@@ -5,9 +5,11 @@ ghost use Rattle.qa_base.specs.declared.space.Space.TheVariants.{Initial, Handsh
 ghost use Rattle.qa_base.specs.machine.Breaches as breaches;
 ghost use Rattle.qa_base.specs.machine.Kept as kept;
 ghost use Rattle.qa_base.specs.machine.Numbers as numbers;
+ghost use Rattle.qa_base.specs.machine.Packets.{greatest_of};
 ghost use Rattle.qa_base.specs.machine.Rules.{IsRun};
 ghost use Rattle.qa_base.specs.values.Events.{is_sent};
 ghost use Rattle.qa_base.specs.values.Settings.{Settings};
+ghost use Rattle.qa_ranges.specs.Missing.{first_outside};
 ghost use Rattle.qa_ranges.specs.Runs.{AreApart};
 ghost use Rattle.qa_ranges.specs.Sent.{AreSent, AreSentWith, runs_in};
 
@@ -70,6 +72,22 @@ impl SentNumbers {
             }
         }
         true
+    }
+
+    /// The greatest number that was sent in the space; None before any.
+    pub fn greatest_sent(&self, space: Space) -> Option<PacketNumber>
+        ensures { (h : List AnEvent) → AreSent self.now h
+            → result ≡ greatest_of (kept.numbers_of h space) }
+    {
+        self.sets.of(space).greatest()
+    }
+
+    /// The least number of the ranges that was not sent in the space; None where all were.
+    pub fn first_unsent(&self, space: Space, ranges: &[Span]) -> Option<PacketNumber>
+        ensures { (h : List AnEvent) → AreSent self.now h
+            → result ≡ first_outside ranges.now (kept.numbers_of h space) }
+    {
+        self.sets.of(space).first_missing(ranges)
     }
 
     /// Adds the number of a packet that is sent in the space. `AllocError` comes where it is out of

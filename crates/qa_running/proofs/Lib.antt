@@ -9,3 +9,4 @@ pub mod Acks
 pub mod Answered
 pub mod Followed
 pub mod Watching
+pub mod Causal

@@ -2,6 +2,7 @@
 #![tactic(auto)]
 
 mod answers;
+mod facts;
 mod machine;
 mod running;
 mod watch;

@@ -10,7 +10,7 @@ use Rattle.std.proofs.lemmas.List.Sums.{sum_by-cons}
 use Rattle.qa_base.specs.declared.space.Space.{Space}
 use Rattle.qa_base.specs.values.Events.{is_space}
 use Rattle.qa_sent.specs.Fates.{is_acknowledged, is_owed, is_owed_in}
-use Rattle.qa_sent.specs.Owing.{IsOwedPart, NoneOwed}
+use Rattle.qa_sent.specs.Owing.{IsOwedPart, NoneOwed, first_space}
 use Rattle.qa_sent.specs.Walks.{are_apart, earliest, is_end, is_far_from, last_owed, owed_numbers, owed_of}
 use Rattle.qa_sent.specs.declared.packet.SentPacket.{SentPacket}
 use Rattle.qa_sent.proofs.Alike.{space_is}
@@ -182,3 +182,24 @@ any_owed s t (p ∷ ps) all =
     let count : count_by (λ q. is_owed q.fate) (p ∷ ps) ≡ cond (is_owed p.fate) 1 0 + count_by (λ q. is_owed q.fate) ps = sum_by-cons (λ q. cond (is_owed q.fate) 1 0) p ps in
     any_if s t p (count_by (λ q. is_owed q.fate) ps) (list_any (is_owed_in s) ps) (is_owed p.fate) refl all.0 (any_owed s t ps all.1)
     ∙ ap (λ n. nat_lt 0 n && is_space s t) (sym count)
+
+-- ---- the space of the first
+
+first_if : (t : Space) (p : SentPacket) (rest : List SentPacket) (n : ℕ) (owed : Bool) → (owed ≡ true → is_space t p.space ≡ true)
+    → first_space rest ≡ (if nat_lt 0 n then Some t else None)
+    → first_space (if owed then p ∷ rest else rest) ≡ (if nat_lt 0 (cond owed 1 0 + n) then Some t else None)
+first_if t p rest n true of_space more =
+    let some : nat_lt 0 (1 + n) ≡ true = lt-ltb 0 (1 + n) (omega arith) in
+    ap Some (sym (space_is t p.space (of_space refl))) ∙ ap (λ b. if b then Some t else None) (sym some)
+first_if t p rest n false of_space more =
+    let same : 0 + n ≡ n = omega arith in
+    more ∙ ap (λ m. if nat_lt 0 m then Some t else None) (sym same)
+
+-- it is the space of all that are owed, where any is
+pub first_owed : (t : Space) (ps : List SentPacket) → AllByRecursion (λ p. is_owed p.fate ≡ true → is_space t p.space ≡ true) ps
+    → first_space (owed_of ps) ≡ (if nat_lt 0 (count_by (λ p. is_owed p.fate) ps) then Some t else None)
+first_owed t [] all = refl
+first_owed t (p ∷ ps) all =
+    let count : count_by (λ q. is_owed q.fate) (p ∷ ps) ≡ cond (is_owed p.fate) 1 0 + count_by (λ q. is_owed q.fate) ps = sum_by-cons (λ q. cond (is_owed q.fate) 1 0) p ps in
+    first_if t p (owed_of ps) (count_by (λ q. is_owed q.fate) ps) (is_owed p.fate) all.0 (first_owed t ps all.1)
+    ∙ ap (λ n. if nat_lt 0 n then Some t else None) (sym count)

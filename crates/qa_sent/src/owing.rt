@@ -1,13 +1,34 @@
 //! The packets that are owed: that a detection found lost, until they are declared.
-ghost use Rattle.std.specs.Prelude.{◌≡◌, ◌≤◌, ◌||◌, ◌∷◌, length, None, List, slice_range};
+ghost use Rattle.std.specs.Prelude.{◌≡◌, ◌≤◌, ◌||◌, ◌∷◌, length, None, List, slice_range, IfOk};
 ghost use Rattle.qa_sent.specs.Walks as walks;
 ghost use Rattle.qa_sent.specs.declared.packet.SentPacket.{SentPacket};
 
 use crate::fate::Fate;
 use crate::packet::SentPacket;
-use qa_base::Ticks;
+use qa_base::{PacketNumber, Ticks};
+use std::alloc::{AllocError, Global};
 use std::collections::VecDeque;
 use std::ops::Range;
+
+/// The numbers of the packets in this part that are owed.
+pub(crate) fn owed_numbers_in(
+    alloc: Global,
+    packets: &VecDeque<SentPacket>,
+    part: Range<usize>,
+) -> Result<Vec<PacketNumber>, AllocError>
+    requires order { part.start ≤ part.end }
+    requires within { part.end ≤ length packets.now.items }
+    ensures { IfOk result (λ found. found.items
+        ≡ walks.owed_numbers (slice_range packets.now.items part.start part.end)) }
+{
+    let mut found = Vec::new(alloc);
+    for packet in packets.range(part) {
+        if packet.is_owed() {
+            found.push(packet.number)?;
+        }
+    }
+    Ok(found)
+}
 
 /// When the last of the packets in this part was sent that are owed.
 pub(crate) fn last_owed_in(packets: &VecDeque<SentPacket>, part: Range<usize>) -> Option<Ticks>

@@ -6,7 +6,7 @@ ghost use Rattle.qa_sent.specs.Covering.{AreApart};
 ghost use Rattle.qa_sent.specs.Dropping.{is_first_closed};
 ghost use Rattle.qa_sent.specs.Fates.{is_new, is_owed, is_owed_in, flight_bytes, is_awaiting, is_flying};
 ghost use Rattle.qa_sent.specs.Held.{IsBefore, unacknowledged_in};
-ghost use Rattle.qa_sent.specs.Owing.{IsOwedPart};
+ghost use Rattle.qa_sent.specs.Owing.{IsOwedPart, first_space};
 ghost use Rattle.qa_sent.specs.Steps.{covered_by, found_by, declared, discarded_in, trimmed};
 ghost use Rattle.qa_sent.specs.Walks as walks;
 ghost use Rattle.qa_sent.specs.Walks.{owed_numbers};
@@ -23,10 +23,10 @@ use crate::discarding::discard_all;
 use crate::lane::Lane;
 use crate::named::NamedNumbers;
 use crate::naming::are_next;
-use crate::owing::{are_apart_in, last_owed_in};
+use crate::owing::{are_apart_in, last_owed_in, owed_numbers_in};
 use crate::packet::SentPacket;
 use crate::pushing::{add, are_before};
-use qa_base::{PerSpace, Space, Span, Ticks};
+use qa_base::{PacketNumber, PerSpace, Space, Span, Ticks};
 use std::alloc::{AllocError, Global};
 use std::collections::VecDeque;
 use std::marker::Model;
@@ -177,6 +177,25 @@ impl SentPackets {
         ensures { result ≡ count_by (λ p. is_owed p.fate) self.now.packets }
     {
         self.losses.count
+    }
+
+    /// The numbers of the packets that are owed, in the order of sending, which within their space
+    /// is that of their numbers. `AllocError` comes where it is out of memory.
+    pub fn owed_numbers(&self) -> Result<Vec<PacketNumber>, AllocError>
+        ensures { IfOk result (λ found. found.items ≡ owed_numbers self.now.packets) }
+    {
+        owed_numbers_in(self.alloc, &self.packets, self.owed_part())
+    }
+
+    /// The space of the packets that are owed, which is one: a detection looks at the space of its
+    /// acknowledgment alone (RFC 9002, A.10). None where nothing is owed.
+    pub fn owed_space(&self) -> Option<Space>
+        ensures { result ≡ first_space (walks.owed_of self.now.packets) }
+    {
+        if self.losses.count == 0 {
+            return None;
+        }
+        Some(self.losses.space)
     }
 
     /// Whether a packet of the space is owed.

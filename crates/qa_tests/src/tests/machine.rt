@@ -4,6 +4,7 @@ ghost use Rattle.std.specs.Prelude.{◌<◌, ◌≤◌, ◌+◌};
 ghost use Rattle.qa_base.specs.values.Limits.{max_lines};
 
 use qa_base::{Event, Header, Leave, PacketNumber, Role, Rule, Space, Span, Spans, Ticks};
+use qa_causes::{Cause, Explains};
 use qa_ledger::{Ledger, LedgerFault};
 use qa_running::Running;
 use std::alloc::Global;
@@ -36,6 +37,18 @@ fn ack(alloc: Global, number: u64) -> Option<Event> {
     })
 }
 
+/// A Lost line of one packet, after 100 ms.
+fn lost(alloc: Global, number: u64) -> Option<Event> {
+    let number = PacketNumber::new(number)?;
+    let mut ranges = Spans::new(alloc);
+    ranges.push(Span::new(number, number)?).ok()?;
+    Some(Event::Lost {
+        time: Ticks::of(100_000),
+        space: Space::App,
+        ranges,
+    })
+}
+
 /// Hands an event to the ledger; None where there is none, or it does not fit.
 fn judged(ledger: &mut Running, event: Option<Event>) -> Option<Result<(), LedgerFault>>
     requires few { ledger.old.connection.events < max_lines }
@@ -61,6 +74,45 @@ fn a_loss(rt: HostRuntime) -> Result<(), Fail> {
     // Until it is declared, nothing else may happen: this is V2, loss-owed.
     let answer = judged(&mut ledger, ack(rt.alloc(), 0));
     assert_eq!(rt; answer, Some(Err(LedgerFault::Broken(Rule::LossOwed))));
+    Ok(())
+}
+
+/// Whether it is told that packet 0 is owed, in the application space and alone of the two, that a
+/// Lost line does not name it, and that the line names packet 3, which is not owed.
+fn is_told(cause: &Cause, first: PacketNumber, last: PacketNumber) -> bool {
+    match cause {
+        Cause::LossSet {
+            owed,
+            unnamed,
+            unowed,
+        } => {
+            owed.space == Some(Space::App)
+                && owed.numbers.contains(first)
+                && !owed.numbers.contains(last)
+                && unnamed.contains(first)
+                && unowed.contains(last)
+        }
+        _ => false,
+    }
+}
+
+/// A Lost line that names another packet than the one that is owed: the ledger says which is not
+/// named, and which is not owed.
+#[test]
+fn a_cause(rt: HostRuntime) -> Result<(), Fail> {
+    let header = Header::new(Role::Server, 1200, None, None, None)?;
+    let mut ledger = Running::start(rt.alloc(), header);
+    judged(&mut ledger, sent(0));
+    judged(&mut ledger, sent(3));
+    judged(&mut ledger, ack(rt.alloc(), 3));
+    let first = PacketNumber::new(0).ok_or("a packet number")?;
+    let last = PacketNumber::new(3).ok_or("a packet number")?;
+    let event = lost(rt.alloc(), 3).ok_or("a Lost line")?;
+    let told = match ledger.cause(&event, Rule::LossSet) {
+        Ok(cause) => is_told(&cause, first, last),
+        Err(_) => false,
+    };
+    assert!(rt; told);
     Ok(())
 }
 

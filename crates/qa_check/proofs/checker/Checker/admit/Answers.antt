@@ -11,6 +11,7 @@ returns-in_default g c =
       whole = λ other. stop.whole;
       ok = tt;
       decided = λ is. rw (← c.self.view_is) (event_stops _ _ _ _ c.in_default.is stop.decided stop.verdict);
+      kept = λ is. rw (← c.self.view_is) stop.kept;
     }
 
 pub returns-in-Ok-clause-failed : goal.returns-in-Ok-clause-failed
@@ -23,4 +24,4 @@ pub returns-in-Err-Broken-clause-failed : goal.returns-in-Err-Broken-clause-fail
 returns-in-Err-Broken-clause-failed g c = λ is. absurd (decided_is_not_memory is)
 
 pub returns-in-Err-OutOfMemory : goal.returns-in-Err-OutOfMemory
-returns-in-Err-OutOfMemory g c = record { failed = λ is. refl; whole = λ other. absurd (other refl); ok = tt; decided = λ is. absurd (memory_is_not_decided is) }
+returns-in-Err-OutOfMemory g c = record { failed = λ is. refl; whole = λ other. absurd (other refl); ok = tt; decided = λ is. absurd (memory_is_not_decided is); kept = λ is. absurd (memory_is_not_decided is) }

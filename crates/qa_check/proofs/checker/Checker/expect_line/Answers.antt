@@ -12,6 +12,7 @@ returns-then-self g c =
       fails = λ is. (failed, failed);
       ok = tt;
       decided = λ is. absurd (memory_is_not_decided is);
+      kept = λ is. absurd (memory_is_not_decided is);
     }
 
 pub returns-then-is_some : goal.returns-then-is_some
@@ -22,6 +23,7 @@ returns-then-is_some g c =
       fails = λ is. absurd (decided_is_not_memory is);
       ok = tt;
       decided = rw (← c.self.view_is) (λ is l. (c.if-self.false, fixed_adds _ _ _ _ _ _ (sym c.is_some.ensures ∙ c.if-is_some.true)));
+      kept = λ is. refl;
     }
 
 pub returns-then-self-ge-MAX_LINES : goal.returns-then-self-ge-MAX_LINES
@@ -37,6 +39,7 @@ returns-then-self-ge-MAX_LINES g c =
           let says = too_many _ l (omega (arith, c.if-self-ge-MAX_LINES.true, count)) in
           let none = undecided _ _ c.self.view_is _ c.is_some.ensures c.if-is_some.false in
           unread_adds _ c.args.self.now c.stop.new.self l _ stop.whole stop.decided stop.verdict none says;
+      kept = λ is. stop.kept;
     }
 
 pub returns : goal.returns
@@ -48,4 +51,5 @@ returns g c =
       fails = λ is. absurd (ok_is_no_err is);
       ok = (refl, whole, undecided _ _ c.self.view_is _ c.is_some.ensures c.if-is_some.false, omega (arith, c.if-self-ge-MAX_LINES.false, count));
       decided = λ is. absurd (ok_is_no_err is);
+      kept = λ is. absurd (ok_is_no_err is);
     }

@@ -15,6 +15,7 @@ returns-in-Err g c =
       fails = λ is. (expected.fails (c.in-Err.is ∙ ap Err (error_of is))).1;
       good = tt;
       decided = λ is. expected.decided (c.in-Err.is ∙ ap Err (error_of is)) c.args.bytes.now;
+      kept = λ is. expected.kept (c.in-Err.is ∙ ap Err (error_of is));
     }
 
 pub returns-then-bytes-gt-MAX_LINE_LENGTH : goal.returns-then-bytes-gt-MAX_LINE_LENGTH
@@ -29,6 +30,7 @@ returns-then-bytes-gt-MAX_LINE_LENGTH g c =
       decided = λ is.
           rw (← open_yet.0)
           (unread_adds _ c.expect_line.new.self c.stop.new.self _ _ stop.whole stop.decided stop.verdict open_yet.2 (too_long _ _ open_yet.3 (omega (arith, c.if-bytes-gt-MAX_LINE_LENGTH.true))));
+      kept = λ is. stop.kept ∙ ap (λ k. k.ledger) open_yet.0;
     }
 
 pub returns : goal.returns
@@ -43,4 +45,5 @@ returns g c =
       fails = taken.fails;
       good = rw open_yet.0 at (on_ok_weaker c.take_read.result (λ adds. adds c.args.bytes.now short gives) taken.good);
       decided = λ is. rw open_yet.0 at (taken.decided is c.args.bytes.now short gives);
+      kept = λ is. taken.kept is ∙ ap (λ k. k.ledger) open_yet.0;
     }

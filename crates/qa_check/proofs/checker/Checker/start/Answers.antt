@@ -11,6 +11,7 @@ returns-then-is_some g c =
       memory = λ is. stops_differ (sym stop.result ∙ error_of is);
       ok = tt;
       decided = λ is. header_stops _ _ _ _ (headed _ _ c.self.view_is _ c.is_some.ensures c.if-is_some.true) stop.decided stop.verdict;
+      kept = λ is. stop.kept;
     }
 
 pub returns-clause-memory : goal.returns-clause-memory

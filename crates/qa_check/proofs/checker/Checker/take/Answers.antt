@@ -19,9 +19,9 @@ returns-in-Blank-clause-ok g c =
 pub returns-in-Header : goal.returns-in-Header
 returns-in-Header g c =
     let started = c.start.ensures in
-    record { failed = λ is. absurd (started.memory is); whole = λ other. started.whole; ok = rw c.in-Header.is started.ok; decided = rw c.in-Header.is started.decided }
+    record { failed = λ is. absurd (started.memory is); whole = λ other. started.whole; ok = rw c.in-Header.is started.ok; decided = rw c.in-Header.is started.decided; kept = started.kept }
 
 pub returns-in-Event : goal.returns-in-Event
 returns-in-Event g c =
     let admitted = c.admit.ensures in
-    record { failed = admitted.failed; whole = admitted.whole; ok = rw c.in-Event.is admitted.ok; decided = rw c.in-Event.is admitted.decided }
+    record { failed = admitted.failed; whole = admitted.whole; ok = rw c.in-Event.is admitted.ok; decided = rw c.in-Event.is admitted.decided; kept = admitted.kept }

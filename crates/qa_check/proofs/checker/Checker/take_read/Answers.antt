@@ -18,6 +18,7 @@ returns-in-Ok-take g c = record {
       let says = read_as_said reading _ l c.requires.few short ∙ (rw c.in-Ok.is at gives) in
       taken_adds _ _ _ l _ taken.0 taken.1 c.requires.undecided says;
   decided = λ is. absurd (ok_is_no_err is);
+  kept = λ is. absurd (ok_is_no_err is);
 }
 
 pub returns-in-Err : goal.returns-in-Err
@@ -30,6 +31,7 @@ returns-in-Err g c = record {
       let whole = c.take.ensures.whole (λ memory. decided_is_not_memory (sym stopped ∙ memory)) in
       let says = read_as_said reading _ l c.requires.few short ∙ (rw c.in-Ok.is at gives) in
       refused_adds _ _ _ l _ whole (c.take.ensures.decided stopped) c.requires.undecided says;
+  kept = λ is. c.take.ensures.kept (c.in-Err.is ∙ ap Err (error_of is));
 }
 
 pub stop-requires : goal.stop-requires
@@ -46,7 +48,8 @@ returns-in-Err-Fault g c =
           let is_fault : c.args.read.now ≡ Err (Fault c.in-Err-Fault.fault) = search rules in
           let says = read_as_said reading _ l c.requires.few short ∙ (rw is_fault at gives) in
           unread_adds _ c.args.self.now c.stop.new.self l _ stop.whole stop.decided stop.verdict c.requires.undecided says;
+      kept = λ is. stop.kept;
     }
 
 pub returns-in-Err-OutOfMemory : goal.returns-in-Err-OutOfMemory
-returns-in-Err-OutOfMemory g c = record { kind = tt; fails = λ is. refl; good = tt; decided = λ is. absurd (memory_is_not_decided is) }
+returns-in-Err-OutOfMemory g c = record { kind = tt; fails = λ is. refl; good = tt; decided = λ is. absurd (memory_is_not_decided is); kept = λ is. absurd (memory_is_not_decided is) }

@@ -1,0 +1,27 @@
+//! A ledger that says why it refuses an event.
+ghost use Rattle.std.specs.Prelude.{◌≡◌, false, List, IfOk};
+ghost use Rattle.qa_base.specs.declared.event.Event.{Event as AnEvent};
+ghost use Rattle.qa_base.specs.values.Settings.{Settings};
+ghost use Rattle.qa_causes.specs.Causes as causes;
+
+use crate::cause::{Cause, Owed};
+use qa_base::{Event, Rule};
+use qa_ledger::Ledger;
+use std::alloc::AllocError;
+
+/// A ledger that says why it refuses an event, or why the end of a trace breaks V17.
+///
+/// It is asked once, for the event that is refused, and may take memory then.
+pub trait Explains: Ledger {
+    /// The facts of the rule for an event after those that were admitted. `AllocError` comes where it
+    /// is out of memory.
+    fn cause(&self, event: &Event, rule: Rule) -> Result<Cause, AllocError>
+        ensures { Self.has_failed self.now ≡ false → IfOk result (λ cause. (c : Settings)
+            (h : List AnEvent) → Self.stands self.now c h
+            → cause ≡ causes.cause_of c h event.now rule) };
+
+    /// What is owed after the events that were admitted. `AllocError` comes where it is out of memory.
+    fn owed(&self) -> Result<Owed, AllocError>
+        ensures { Self.has_failed self.now ≡ false → IfOk result (λ owed. (c : Settings)
+            (h : List AnEvent) → Self.stands self.now c h → owed ≡ causes.owed_now c h) };
+}
