@@ -3,7 +3,6 @@ ghost use Rattle.qa_quick.specs.Found.{Reads};
 
 use crate::found::Found;
 use qa_format::Line;
-use qa_tokens::after;
 use std::alloc::Global;
 
 /// A packet that was sent, its keys in ascending order.
@@ -12,14 +11,14 @@ fn sent_sorted(bytes: &[u8]) -> Option<Line>
     ensures { Reads bytes.now result }
 {
     let mut found = Found::nothing();
-    let rest = found.open_eliciting(after(bytes, b"{\"eliciting\":")?)?;
+    let rest = found.eliciting_first(bytes)?;
     let rest = found.sent_next(rest)?;
-    let rest = found.open_in_flight(after(rest, b",\"in_flight\":")?)?;
+    let rest = found.in_flight_next(rest)?;
     let rest = found.leave_if(rest)?;
-    let rest = found.open_number(after(rest, b",\"number\":")?)?;
-    let rest = found.open_size(after(rest, b",\"size\":")?)?;
-    let rest = found.space(after(rest, b",\"space\":")?)?;
-    let rest = found.open_time(after(rest, b",\"time\":")?)?;
+    let rest = found.number_next(rest)?;
+    let rest = found.size_next(rest)?;
+    let rest = found.space_next(rest)?;
+    let rest = found.time_next(rest)?;
     found.ended(rest)
 }
 
@@ -31,9 +30,9 @@ fn ack_sorted(alloc: Global, bytes: &[u8]) -> Option<Line>
     let mut found = Found::nothing();
     let rest = found.ack_begun(bytes)?;
     let rest = found.limited_if(rest)?;
-    let rest = found.exact_ranges(alloc, after(rest, b",\"ranges\":")?)?;
-    let rest = found.space(after(rest, b",\"space\":")?)?;
-    let rest = found.open_time(after(rest, b",\"time\":")?)?;
+    let rest = found.ranges_next(alloc, rest)?;
+    let rest = found.space_next(rest)?;
+    let rest = found.time_next(rest)?;
     found.ended(rest)
 }
 
@@ -44,12 +43,12 @@ fn sent_in_order(bytes: &[u8]) -> Option<Line>
 {
     let mut found = Found::nothing();
     let rest = found.sent_first(bytes)?;
-    let rest = found.open_time(after(rest, b",\"time\":")?)?;
-    let rest = found.space(after(rest, b",\"space\":")?)?;
-    let rest = found.open_number(after(rest, b",\"number\":")?)?;
-    let rest = found.open_size(after(rest, b",\"size\":")?)?;
-    let rest = found.open_eliciting(after(rest, b",\"eliciting\":")?)?;
-    let rest = found.open_in_flight(after(rest, b",\"in_flight\":")?)?;
+    let rest = found.time_next(rest)?;
+    let rest = found.space_next(rest)?;
+    let rest = found.number_next(rest)?;
+    let rest = found.size_next(rest)?;
+    let rest = found.eliciting_next(rest)?;
+    let rest = found.in_flight_next(rest)?;
     let rest = found.leave_if(rest)?;
     found.ended(rest)
 }
@@ -61,9 +60,9 @@ fn ack_in_order(alloc: Global, bytes: &[u8]) -> Option<Line>
 {
     let mut found = Found::nothing();
     let rest = found.ack_first(bytes)?;
-    let rest = found.open_time(after(rest, b",\"time\":")?)?;
-    let rest = found.space(after(rest, b",\"space\":")?)?;
-    let rest = found.exact_ranges(alloc, after(rest, b",\"ranges\":")?)?;
+    let rest = found.time_next(rest)?;
+    let rest = found.space_next(rest)?;
+    let rest = found.ranges_next(alloc, rest)?;
     let rest = found.delay_if(rest)?;
     let rest = found.limited_if(rest)?;
     found.ended(rest)
@@ -76,9 +75,9 @@ fn lost_sorted(alloc: Global, bytes: &[u8]) -> Option<Line>
 {
     let mut found = Found::nothing();
     let rest = found.lost_first(bytes)?;
-    let rest = found.exact_ranges(alloc, after(rest, b",\"ranges\":")?)?;
-    let rest = found.space(after(rest, b",\"space\":")?)?;
-    let rest = found.open_time(after(rest, b",\"time\":")?)?;
+    let rest = found.ranges_next(alloc, rest)?;
+    let rest = found.space_next(rest)?;
+    let rest = found.time_next(rest)?;
     found.ended(rest)
 }
 
@@ -89,9 +88,9 @@ fn lost_in_order(alloc: Global, bytes: &[u8]) -> Option<Line>
 {
     let mut found = Found::nothing();
     let rest = found.lost_first(bytes)?;
-    let rest = found.open_time(after(rest, b",\"time\":")?)?;
-    let rest = found.space(after(rest, b",\"space\":")?)?;
-    let rest = found.exact_ranges(alloc, after(rest, b",\"ranges\":")?)?;
+    let rest = found.time_next(rest)?;
+    let rest = found.space_next(rest)?;
+    let rest = found.ranges_next(alloc, rest)?;
     found.ended(rest)
 }
 

@@ -11,32 +11,32 @@ use qa_tokens::{after, is_last, open_boolean, open_integer};
 use std::alloc::Global;
 
 impl Found {
-    /// The time is found; what follows is to end it.
+    /// The time is found, where it comes next; gives what follows it.
     #[inline(always)]
-    pub fn open_time<'a>(&mut self, bytes: &'a [u8]) -> Option<&'a [u8]>
-        ensures { IfSome result (λ rest. PutsIf (codes "time") self.old self.new bytes.now rest.now) }
+    pub fn time_next<'a>(&mut self, bytes: &'a [u8]) -> Option<&'a [u8]>
+        ensures { IfSome result (λ rest. Continues self.old self.new bytes.now rest.now) }
     {
-        let (value, rest) = open_integer(bytes)?;
+        let (value, rest) = open_integer(after(bytes, b",\"time\":")?)?;
         self.time = Some(value);
         Some(rest)
     }
 
-    /// The packet number is found; what follows is to end it.
+    /// The packet number is found, where it comes next; gives what follows it.
     #[inline(always)]
-    pub fn open_number<'a>(&mut self, bytes: &'a [u8]) -> Option<&'a [u8]>
-        ensures { IfSome result (λ rest. PutsIf (codes "number") self.old self.new bytes.now rest.now) }
+    pub fn number_next<'a>(&mut self, bytes: &'a [u8]) -> Option<&'a [u8]>
+        ensures { IfSome result (λ rest. Continues self.old self.new bytes.now rest.now) }
     {
-        let (value, rest) = open_integer(bytes)?;
+        let (value, rest) = open_integer(after(bytes, b",\"number\":")?)?;
         self.number = Some(value);
         Some(rest)
     }
 
-    /// The size of the packet is found; what follows is to end it.
+    /// The size of the packet is found, where it comes next; gives what follows it.
     #[inline(always)]
-    pub fn open_size<'a>(&mut self, bytes: &'a [u8]) -> Option<&'a [u8]>
-        ensures { IfSome result (λ rest. PutsIf (codes "size") self.old self.new bytes.now rest.now) }
+    pub fn size_next<'a>(&mut self, bytes: &'a [u8]) -> Option<&'a [u8]>
+        ensures { IfSome result (λ rest. Continues self.old self.new bytes.now rest.now) }
     {
-        let (value, rest) = open_integer(bytes)?;
+        let (value, rest) = open_integer(after(bytes, b",\"size\":")?)?;
         self.size = Some(value);
         Some(rest)
     }
@@ -51,23 +51,34 @@ impl Found {
         Some(rest)
     }
 
-    /// Whether the packet is ack-eliciting is found; what follows is to end it.
+    /// Whether the packet is ack-eliciting is found, where it comes next; gives what follows it.
     #[inline(always)]
-    pub fn open_eliciting<'a>(&mut self, bytes: &'a [u8]) -> Option<&'a [u8]>
-        ensures { IfSome result (λ rest. PutsIf (codes "eliciting") self.old self.new bytes.now rest.now) }
+    pub fn eliciting_next<'a>(&mut self, bytes: &'a [u8]) -> Option<&'a [u8]>
+        ensures { IfSome result (λ rest. Continues self.old self.new bytes.now rest.now) }
     {
-        let (value, rest) = open_boolean(bytes)?;
+        let (value, rest) = open_boolean(after(bytes, b",\"eliciting\":")?)?;
         self.eliciting = Some(value);
         Some(rest)
     }
 
-    /// Whether the packet is in flight is found; what follows is to end it.
+    /// Whether the packet is in flight is found, where it comes next; gives what follows it.
     #[inline(always)]
-    pub fn open_in_flight<'a>(&mut self, bytes: &'a [u8]) -> Option<&'a [u8]>
-        ensures { IfSome result (λ rest. PutsIf (codes "in_flight") self.old self.new bytes.now rest.now) }
+    pub fn in_flight_next<'a>(&mut self, bytes: &'a [u8]) -> Option<&'a [u8]>
+        ensures { IfSome result (λ rest. Continues self.old self.new bytes.now rest.now) }
     {
-        let (value, rest) = open_boolean(bytes)?;
+        let (value, rest) = open_boolean(after(bytes, b",\"in_flight\":")?)?;
         self.in_flight = Some(value);
+        Some(rest)
+    }
+
+    /// Whether the packet is ack-eliciting is found, where it comes first; gives what follows it.
+    #[inline(always)]
+    pub fn eliciting_first<'a>(&mut self, bytes: &'a [u8]) -> Option<&'a [u8]>
+        requires { self.old ≡ nothing }
+        ensures { IfSome result (λ rest. EndsIf self.new bytes.now rest.now) }
+    {
+        let (value, rest) = open_boolean(after(bytes, b"{\"eliciting\":")?)?;
+        self.eliciting = Some(value);
         Some(rest)
     }
 
@@ -81,13 +92,21 @@ impl Found {
         Some(rest)
     }
 
-    /// The ranges are found, without white space.
+    /// The packet number space is found, where it comes next; gives what follows it.
     #[inline(always)]
-    pub fn exact_ranges<'a>(&mut self, alloc: Global, bytes: &'a [u8]) -> Option<&'a [u8]>
-        ensures { IfSome result (λ rest. Puts (codes "ranges") self.old self.new bytes.now rest.now) }
+    pub fn space_next<'a>(&mut self, bytes: &'a [u8]) -> Option<&'a [u8]>
+        ensures { IfSome result (λ rest. Continues self.old self.new bytes.now rest.now) }
+    {
+        self.space(after(bytes, b",\"space\":")?)
+    }
+
+    /// The ranges are found, without white space, where they come next; gives what follows them.
+    #[inline(always)]
+    pub fn ranges_next<'a>(&mut self, alloc: Global, bytes: &'a [u8]) -> Option<&'a [u8]>
+        ensures { IfSome result (λ rest. Continues self.old self.new bytes.now rest.now) }
     {
         let mut spans = Spans::new(alloc);
-        let rest = exact_ranges(&mut spans, bytes)?;
+        let rest = exact_ranges(&mut spans, after(bytes, b",\"ranges\":")?)?;
         self.ranges = Some(spans);
         Some(rest)
     }
