@@ -5,8 +5,6 @@
 
 PREFIX ?= /usr/local
 DESTDIR ?=
-# How many crates `make build` proves side by side; a proof takes 1 to 4 GB.
-JOBS ?= $(shell nproc)
 
 release := qaudit-$(shell cat VERSION)-x86_64-linux
 # A copy of the program that `make build` makes. The gate takes away what lies in crates/*/out while it runs.
@@ -55,12 +53,8 @@ help:
 
 build: $(built)
 
-# All other crates wait for qa_base. The rest of what crates.txt names for the program is proved side by side.
 $(built): crates.txt HANDLES $(shell find crates/qa_*/src crates/qa_*/specs crates/qa_*/proofs crates/qaudit/src)
-	cd crates/qa_base && rt lib --jobs $(JOBS)
-	cd crates/qaudit && rt all check --jobs $(JOBS)
-	cd crates/qaudit && rt run -- check < ../../$(example) > /dev/null
-	install -D -m 755 $(program) $@
+	release/prove qaudit $@
 
 run: build
 	@$(built) check < $(example)
