@@ -1,7 +1,7 @@
 -- Which packets are owed as lost, which may be declared lost, which are open, the bytes in flight, and persistent congestion.
 --
 -- `c` are the settings of the header, `h` is the history.
-use Rattle.std.specs.Prelude.{ℕ, ◌&&◌, not, Bool, List, ◌++◌, Option, sum_by, if◌then◌else◌}
+use Rattle.std.specs.Prelude.{ℕ, ◌&&◌, ◌||◌, not, Bool, List, filter, Option, sum_by, if◌then◌else◌}
 use Rattle.qa_base.specs.declared.event.Event.{Event}
 use Rattle.qa_base.specs.declared.space.Space.{Space}
 use Rattle.qa_base.specs.machine.Detection.{detection_by, owed_by, is_owed_by, free_by, is_free_by, declared_by, is_unsettled, is_persistent_by}
@@ -29,9 +29,12 @@ free c h = free_by c (sampled c h) h
 abbrev pub is_free : Settings → List Event → Packet → Bool
 is_free c h p = is_free_by c (sampled c h) h p
 
--- the packets that the next Lost line may name
+abbrev pub is_nameable : Settings → List Event → Packet → Bool
+is_nameable c h p = is_owed c h p || is_free c h p
+
+-- the packets that the next Lost line may name: those that are owed, and those that are free
 abbrev pub nameable : Settings → List Event → List Packet
-nameable c h = free c h ++ owed c h
+nameable c h = filter (is_nameable c h) (packets h)
 
 -- the packets that are lost by the last event: by a detection, and by a Lost line with those of the detection that it completes
 abbrev pub declared : Settings → List Event → List Packet
