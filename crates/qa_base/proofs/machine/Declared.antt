@@ -125,7 +125,7 @@ is_taken c h e p = is_owed c h p || (is_free c h p && declares_lost p.space p.nu
 abbrev pub is_completed : Settings → List Event → Event → Bool
 is_completed c h e = list_any (λ p. is_free c h p && declares_lost p.space p.number e) (packets h)
 
-same_filter : (f g : Packet → Bool) (ps : List Packet) → ((p : Packet) → f p ≡ g p) → filter f ps ≡ filter g ps
+pub same_filter : (f g : Packet → Bool) (ps : List Packet) → ((p : Packet) → f p ≡ g p) → filter f ps ≡ filter g ps
 same_filter f g [] same = refl
 same_filter f g (p ∷ ps) same = rw (same p, same_filter f g ps same) refl
 
@@ -134,11 +134,11 @@ any_if : (test kept : Packet → Bool) (p : Packet) (ps : List Packet) (b : Bool
 any_if test kept p ps true is rest = ap (λ (b : Bool). test p || b) rest
 any_if test kept p ps false is rest = rest
 
-any_of_part : (test kept : Packet → Bool) (ps : List Packet) → list_any test (filter kept ps) ≡ list_any (λ p. kept p && test p) ps
+pub any_of_part : (test kept : Packet → Bool) (ps : List Packet) → list_any test (filter kept ps) ≡ list_any (λ p. kept p && test p) ps
 any_of_part test kept [] = refl
 any_of_part test kept (p ∷ ps) = any_if test kept p ps (kept p) refl (any_of_part test kept ps)
 
-same_any : (f g : Packet → Bool) (ps : List Packet) → ((p : Packet) → f p ≡ g p) → list_any f ps ≡ list_any g ps
+pub same_any : (f g : Packet → Bool) (ps : List Packet) → ((p : Packet) → f p ≡ g p) → list_any f ps ≡ list_any g ps
 same_any f g [] same = refl
 same_any f g (p ∷ ps) same = rw (same p, same_any f g ps same) refl
 

@@ -4,7 +4,7 @@ use Rattle.std.specs.List.{list_all}
 use Rattle.std.specs.Prelude.{nat_le, nat_lt, nat_eq}
 use Rattle.std.proofs.lemmas.Bool.{and_parts, and_from, or_cases, or_left, or_right, eqb-true, eq-eqb, le-leb, lt-ltb, leb-true, ltb-true, cases_Bool, not_from_false}
 use Rattle.qa_base.specs.values.Events.{is_named}
-use Rattle.qa_base.specs.machine.Numbers.{is_in, has_next, has_range, has_all, names_between, Names, NamesOnly, AreRanges}
+use Rattle.qa_base.specs.machine.Numbers.{is_in, has_next, has_range, has_all, names_between, NamesBetween, NamesOnly, AreRanges}
 
 -- ---- one range
 
@@ -76,7 +76,7 @@ pub has_all_is : (numbers : List ℕ) (ranges : List (ℕ × ℕ)) → AreRanges
 has_all_is numbers ranges order = ((λ all. record { only = has_all_names numbers ranges all }), (λ names. names_has_all numbers ranges order names.only))
 
 -- the test of a Lost line's ranges is what it stands for
-pub names_between_is : (ranges : List (ℕ × ℕ)) (least most : List ℕ) → AreRanges ranges → (names_between ranges least most ≡ true) ↔ Names ranges least most
+pub names_between_is : (ranges : List (ℕ × ℕ)) (least most : List ℕ) → AreRanges ranges → (names_between ranges least most ≡ true) ↔ NamesBetween ranges least most
 names_between_is ranges least most order = (
   (λ between. let parts = and_parts (has_all most ranges) (list_all (is_named ranges) least) between in
       record { only = has_all_names most ranges parts.0; each = λ n is. all_at (is_named ranges) least n parts.1 is }),

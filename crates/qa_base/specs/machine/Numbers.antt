@@ -28,8 +28,13 @@ names_between ranges least most = has_all most ranges && list_all (is_named rang
 pub record NamesOnly (ranges : List (ℕ × ℕ)) (numbers : List ℕ) : Type 0 where
   pub only : (n : ℕ) → is_named ranges n ≡ true → is_in numbers n ≡ true
 
+-- these numbers are in a range, and no others
+pub record Names (ranges : List (ℕ × ℕ)) (numbers : List ℕ) : Type 0 where
+  pub only : (n : ℕ) → is_named ranges n ≡ true → is_in numbers n ≡ true
+  pub each : (n : ℕ) → is_in numbers n ≡ true → is_named ranges n ≡ true
+
 -- all of the least numbers are in a range, and none but the most
-pub record Names (ranges : List (ℕ × ℕ)) (least most : List ℕ) : Type 0 where
+pub record NamesBetween (ranges : List (ℕ × ℕ)) (least most : List ℕ) : Type 0 where
   pub only : (n : ℕ) → is_named ranges n ≡ true → is_in most n ≡ true
   pub each : (n : ℕ) → is_in least n ≡ true → is_named ranges n ≡ true
 
