@@ -39,11 +39,11 @@ EDGES = sorted({limit + beside for limit in LIMITS for beside in (-1, 0, 1)})
 WORDS = (
     "initial", "handshake", "app", "loss", "pto", "window", "probe", "recovery", "client", "server",
     "header", "sent", "ack", "lost", "timer", "discard", "confirmed", "keys", "metrics", "other",
-    "us", "ns", "newreno", "reported",
+    "us", "ns", "newreno", "reported", "must", "may",
 )
 KEYS = (
     "delay", "limited", "leave", "size", "number", "time", "space", "ranges", "window", "ssthresh",
-    "initial_rtt", "unit", "packet_threshold", "timer_early_us", "extra",
+    "initial_rtt", "unit", "packet_threshold", "timer_early_us", "loss_by_number", "extra",
 )
 OTHER_VALUES: tuple[Any, ...] = (
     None, True, False, 1.0, 1e300, -1, "5", [], {}, [[]], [[0]], [[0, 0]], [[0, 1.5]],

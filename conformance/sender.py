@@ -61,6 +61,18 @@ class Deadline(NamedTuple):
     space: str
 
 
+class Detection(NamedTuple):
+    """What is kept of the last event, where it looked for losses: its time and space, the packets
+    that it found lost, the bytes in flight that it newly acknowledged, and when recovery began as
+    it was before."""
+
+    time: int
+    space: str
+    lost: list[Packet]
+    acked_bytes: int
+    recovery_start_time: int | None
+
+
 @dataclass
 class Space:
     """What a sender holds of a packet number space (A.3).
@@ -101,6 +113,7 @@ class Settings:
         self.samples_eliciting_only: bool = choices.get("sample_eliciting_only") or False
         self.packet_threshold: int = choices.get("packet_threshold") or K_PACKET_THRESHOLD
         self.timer_early = (choices.get("timer_early_us") or 0) * self.microsecond
+        self.may_spare = choices.get("loss_by_number") == "may"
 
     def time_of(self, header: Event, key: str, microseconds: int) -> int:
         """The time that a header has under a key, or this one where it leaves it out."""
@@ -176,8 +189,8 @@ class Sender:
         self.probe_spent: int | None = None
         self.probe_due: str | None = None
         self.recovery_spent: int | None = None
-        self.owed_space: str | None = None
         self.owed_numbers: set[int] = set()
+        self.detection: Detection | None = None
         self.acknowledged_places: set[int] = set()
         self.is_confirmed = False
         self.is_handshake_acknowledged = False
@@ -205,6 +218,15 @@ class Sender:
     def owed(self) -> int:
         """How many packets were found lost and are not declared lost."""
         return len(self.owed_numbers)
+
+    @property
+    def free(self) -> list[Packet]:
+        """The packets that the next Lost line may name or not: those that lie behind by number and
+        are young, where the last event looked for losses."""
+        if self.detection is None or not self.settings.may_spare:
+            return []
+        space = self.spaces[self.detection.space]
+        return [it for it in self.below_largest(space) if self.is_far_behind(space, it)]
 
     @property
     def is_validated(self) -> bool:
@@ -321,11 +343,12 @@ class Sender:
 
     def broken_by_lost(self, event: Event) -> str | None:
         """The first rule about losses that a Lost line breaks."""
-        if not self.owed or event["space"] != self.owed_space:
+        may_name = self.owed_numbers | {it.number for it in self.free}
+        if self.detection is None or not may_name or event["space"] != self.detection.space:
             return Rule.LOSS_NOT_OWED
         ranges = event["ranges"]
         names_each = named(ranges, self.owed_numbers) == self.owed_numbers
-        return None if names_each and are_all(ranges, self.owed_numbers) else Rule.LOSS_SET
+        return None if names_each and are_all(ranges, may_name) else Rule.LOSS_SET
 
     def broken_by_sent(self, event: Event) -> str | None:
         """The first rule about packets that are sent that this one breaks."""
@@ -415,8 +438,11 @@ class Sender:
     def follow(self, event: Event) -> None:
         """Takes an event that breaks no rule."""
         has_limit = self.settings.timer_late is not None
-        before = self.deadline() if has_limit else None
+        before, detection = self.deadline() if has_limit else None, self.detection
         self.change_by(event["event"], event)
+        if self.detection is detection:
+            # It counts for the event behind it alone.
+            self.detection = None
         if has_limit and self.deadline() != before:
             self.due_since = event["time"]
         self.events += 1
@@ -430,7 +456,7 @@ class Sender:
             case "ack":
                 self.on_ack(event)
             case "lost":
-                self.on_declared_lost()
+                self.on_declared_lost(event)
             case "timer":
                 self.on_timer(event)
             case "discard":
@@ -494,9 +520,9 @@ class Sender:
         asked = [last] if self.settings.samples_eliciting_only else newly_acked
         if last.number == max(acknowledged) and any(it.is_eliciting for it in asked):
             self.update_rtt(now, now - last.time, event.get("delay", 0))
-        self.detect_losses(name, now, now)
         if self.acked_since_collapse is not None:
             self.acked_since_collapse += acked_bytes
+        self.detect_losses(name, now, now, acked_bytes)
         is_app_limited = event.get("limited", False)
         if not is_app_limited:
             for packet in newly_acked:
@@ -520,36 +546,48 @@ class Sender:
         self.rttvar = (3 * self.rttvar + abs(self.smoothed_rtt - adjusted)) // 4
         self.smoothed_rtt = (7 * self.smoothed_rtt + adjusted) // 8
 
-    def detect_losses(self, name: str, as_of: int, now: int) -> None:
-        """DetectAndRemoveLostPackets (A.10), as of a time, and OnPacketsLost (B.8)."""
+    def detect_losses(self, name: str, as_of: int, now: int, acked_bytes: int = 0) -> None:
+        """DetectAndRemoveLostPackets (A.10), as of a time."""
         space = self.spaces[name]
         lost = self.past_threshold(space, as_of)
-        if not lost:
-            return
-        for packet in lost:
-            del space.sent[packet.number]
-            self.bytes_in_flight -= packet.size
-        self.owed_space, self.owed_numbers = name, {it.number for it in lost}
-        self.on_congestion_event(max(it.time for it in lost), now)
-        if self.is_persistent(lost):
-            self.congestion_window = self.settings.minimum_window
-            self.recovery_start_time = None
-            self.acked_since_collapse = 0
-            # Once the sample of the event has counted (section 5.2).
-            if self.settings.refreshes_min_rtt:
-                self.min_rtt = self.latest_rtt
+        self.owed_numbers = {it.number for it in lost}
+        detection = Detection(now, name, lost, acked_bytes, self.recovery_start_time)
+        self.detection = detection
+        self.remove_lost(space, lost)
+        if lost:
+            self.on_packets_lost(lost, detection)
 
     def past_threshold(self, space: Space, as_of: int) -> list[Packet]:
-        """The packets of a space that are past a threshold, and so are lost (section 6.1)."""
-        largest = space.largest_acked
-        if largest is None:
-            return []
-        threshold, delay = self.settings.packet_threshold, self.loss_delay
+        """The packets of a space that are past a threshold, and so are lost (section 6.1): past
+        that of time alone where those past the other may be spared."""
+        delay, may_spare = self.loss_delay, self.settings.may_spare
         return [
             it
             for it in self.below_largest(space)
-            if largest - it.number >= threshold or as_of - it.time >= delay
+            if as_of - it.time >= delay or (not may_spare and self.is_far_behind(space, it))
         ]
+
+    def is_far_behind(self, space: Space, packet: Packet) -> bool:
+        """Whether a packet is past the packet threshold (section 6.1.1)."""
+        largest = -1 if space.largest_acked is None else space.largest_acked
+        return largest - packet.number >= self.settings.packet_threshold
+
+    def remove_lost(self, space: Space, lost: list[Packet]) -> None:
+        """Takes lost packets out of flight."""
+        for packet in lost:
+            del space.sent[packet.number]
+            self.bytes_in_flight -= packet.size
+
+    def on_packets_lost(self, lost: list[Packet], detection: Detection) -> None:
+        """OnPacketsLost (B.8), for the packets of a detection."""
+        self.on_congestion_event(max(it.time for it in lost), detection.time)
+        if self.is_persistent(lost):
+            self.congestion_window = self.settings.minimum_window
+            self.recovery_start_time = None
+            self.acked_since_collapse = detection.acked_bytes
+            # Once the sample of the event has counted (section 5.2).
+            if self.settings.refreshes_min_rtt:
+                self.min_rtt = self.latest_rtt
 
     def on_congestion_event(self, last_sent: int, now: int) -> None:
         """OnCongestionEvent (B.6)."""
@@ -592,9 +630,17 @@ class Sender:
             datagram = self.settings.max_datagram_size
             self.congestion_window += datagram * packet.size // self.congestion_window
 
-    def on_declared_lost(self) -> None:
-        """The packets that were found lost are declared lost."""
+    def on_declared_lost(self, event: Event) -> None:
+        """The packets that were found lost are declared lost, and those of the free ones that are
+        named beyond them. These count as if the detection had found them all at once, with recovery
+        as it was before."""
         self.owed_numbers = set()
+        numbers = named(event["ranges"], (it.number for it in self.free))
+        more = [it for it in self.free if it.number in numbers]
+        if self.detection is not None and more:
+            self.remove_lost(self.spaces[event["space"]], more)
+            self.recovery_start_time = self.detection.recovery_start_time
+            self.on_packets_lost([*self.detection.lost, *more], self.detection)
 
     def on_timer(self, event: Event) -> None:
         """OnLossDetectionTimeout (A.9)."""

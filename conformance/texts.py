@@ -37,9 +37,9 @@ def row(number: int, kind: str, value_of: Callable[[str], object] = START.get) -
     return f"line {number} {kind}{''.join(totals)}\n"
 
 
-def header(role: str = "server", more: str = "") -> bytes:
+def header(role: str = "server", more: str = "", version: int = 1) -> bytes:
     """A header; here as below `more` has the keys behind those that each line of its kind has."""
-    start = f'{{"event":"header","version":1,"role":"{role}","max_datagram_size":1200'
+    start = f'{{"event":"header","version":{version},"role":"{role}","max_datagram_size":1200'
     return f"{start}{more}}}\n".encode()
 
 

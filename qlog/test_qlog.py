@@ -298,18 +298,18 @@ class Header(unittest.TestCase):
         }
         self.assertEqual(keys[2] - keys[1], {"report_slack_us", "report_slack_bytes"})
         choices = {"unit", "window", "window_overshoot", "sample_eliciting_only"}
-        choices |= {"packet_threshold", "timer_early_us"}
+        choices |= {"packet_threshold", "timer_early_us", "loss_by_number"}
         self.assertEqual(keys[3] - keys[2], choices)
 
     def test_the_options_of_each_kind_of_log(self) -> None:
         keys = ["window_overshoot", "sample_eliciting_only", "timer_early_us"]
-        keys += ["report_slack_us", "report_slack_bytes"]
+        keys += ["report_slack_us", "report_slack_bytes", "loss_by_number"]
         for name, values in (
-            ("quic-go", (True, True, 3_000, 1_000, 0)),
-            ("ngtcp2", (True, True, 3_000, 2_000, 64)),
-            ("aioquic", (False, False, 1_000, 1_000, 64)),
-            ("quinn", (False, False, 1_000, 1_000, 1_200)),
-            ("something", (False, False, 10, 10, 0)),
+            ("quic-go", (True, True, 3_000, 1_000, 0, "must")),
+            ("ngtcp2", (True, True, 3_000, 2_000, 64, "may")),
+            ("aioquic", (False, False, 1_000, 1_000, 64, "must")),
+            ("quinn", (False, False, 1_000, 1_000, 1_200, "must")),
+            ("something", (False, False, 10, 10, 0, "must")),
         ):
             events = [sent(0, 0), metrics(0, congestion_window=12000)]
             line = converted(events, name=name).lines[0]
@@ -355,9 +355,23 @@ class Header(unittest.TestCase):
             ("--sample-eliciting-only", "sample_eliciting_only", "no", False),
             ("--packet-threshold", "packet_threshold", "4", 4),
             ("--timer-early-us", "timer_early_us", "0", 0),
+            ("--loss-by-number", "loss_by_number", "may", "may"),
+            ("--loss-by-number", "loss_by_number", "must", "must"),
         ):
             events = [sent(0, 0), metrics(0, congestion_window=12000)]
             self.assertEqual(converted(events, option, text).lines[0][key], value)
+
+    def test_losses_may_be_declared_where_the_window_is_reported(self) -> None:
+        with_window = [sent(0, 0), metrics(0, congestion_window=12000)]
+        without = [sent(0, 0), metrics(0, bytes_in_flight=1200)]
+        for events, options in ((without, ()), (with_window, ("--window", "newreno"))):
+            line = converted(events, *options, name="ngtcp2").lines[0]
+            self.assertEqual((line["window"], line["loss_by_number"]), ("newreno", "must"))
+            may = converted(events, *options, "--loss-by-number", "may", name="ngtcp2")
+            self.assertEqual((may.status, may.lines), (2, []))
+            self.assertIn("its losses may be declared only where", may.errors)
+        must = converted(with_window, "--loss-by-number", "must", name="ngtcp2")
+        self.assertEqual(must.lines[0]["loss_by_number"], "must")
 
     def test_which_side(self) -> None:
         traces = [{**header(role=it), "events": [sent(0, 0)]} for it in ("server", "client")]

@@ -197,8 +197,10 @@ OPTIONS = (
 )
 
 # Those that have one in version 3 alone: behind the unit, and at the end.
+REPORTED = '"reported"'
+MAY, MUST = '"may"', '"must"'
 WINDOW = Key(
-    "window", ('"reported"', '"newreno"'), NOT_STRING,
+    "window", (REPORTED, '"newreno"'), NOT_STRING,
     (
         '"Reported"', '"REPORTED"', '"report"', '"reported "', '"NewReno"', '"newReno"', '"reno"',
         '" newreno"', '""', '"cubic"', '"bbr"', '"none"', '"12000"',
@@ -210,11 +212,20 @@ CHOICES = (
     Key("sample_eliciting_only", ("true", "false"), NOT_BOOLEAN, absent="false"),
     Key("packet_threshold", ("4", "3", "65535"), NOT_INTEGER, ("2", "0", "65536", MAX), "3"),
     Key("timer_early_us", ("8", "0", "1000000000"), NOT_INTEGER, ("1000000001", MAX), "0"),
+    Key(
+        "loss_by_number", (MAY, MUST), NOT_STRING,
+        (
+            '"Must"', '"MUST"', '"must "', '" may"', '"May"', '"MAY"', '"maybe"', '"mus"', '""',
+            '"none"', '"3"', REPORTED,
+        ),
+        MUST,
+    ),
 )
 
 # The tables, without the key `event`, by the names of their files. The usual initial window is one
 # for every datagram size, and what is out of its range, or is its value where it is absent, is so
-# for datagrams of 1200 bytes.
+# for datagrams of 1200 bytes. Where losses may be declared the window has to be a reported one, as
+# is usual.
 TABLES: dict[str, tuple[Key, ...]] = {
     "header": header("1"),
     "header-2": (*header("2"), *OPTIONS),
@@ -383,7 +394,10 @@ def usual(kind: str) -> Members:
 
 
 def changed(kind: str, changes: Changes) -> Members:
-    """The usual line with these values, which stand where the usual ones did."""
+    """The usual line with these values, which stand where the usual ones did. Where they have
+    another window than a reported one, and say nothing of losses, these must be declared."""
+    if changes.get("window", REPORTED) != REPORTED:
+        changes = {"loss_by_number": MUST, **changes}
     values = ((name, changes.get(name, value)) for name, value in usual(kind))
     return [(name, value) for name, value in values if value is not None]
 
@@ -492,6 +506,27 @@ def fault_cases(kind: str) -> Iterator[Case]:
             for pair in ((first, second), (second, first)):
                 members = changed_at_the_end(kind, {fault.name: fault.value for fault in pair})
                 yield object_text(members), said
+    yield from spared_cases(kind)
+
+
+def spared_cases(kind: str) -> Iterator[Case]:
+    """Headers where losses may be declared, though the window is none that is reported; by itself
+    and with each fault of another key, which stands before it and behind."""
+    names = [key.name for key in TABLES[kind]]
+    if "loss_by_number" not in names:
+        return
+    rank = Rank(Round.RANGE, names.index("loss_by_number"))
+    fault = Fault(rank, "loss_by_number", MAY, "F5 out-of-range loss_by_number")
+    for window in (None, "null", '"newreno"'):
+        changes: Changes = {"window": window, fault.name: fault.value}
+        yield object_text(changed(kind, changes)), fault.said
+        yield object_text(changed_at_the_end(kind, dict(reversed(changes.items())))), fault.said
+    for other in first_faults_of(kind):
+        if other.name not in changes:
+            said = min(judged(fault, other), key=lambda it: it.rank).said
+            for pair in ((fault, other), (other, fault)):
+                values = {it.name: it.value for it in pair}
+                yield object_text(changed_at_the_end(kind, {"window": None, **values})), said
 
 
 def orders_of(members: Members) -> list[Members]:

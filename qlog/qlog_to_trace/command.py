@@ -121,6 +121,7 @@ KEYS = (
     Key("--sample-eliciting-only", "sample_eliciting_only", 3),
     Key("--packet-threshold", "packet_threshold", 3, is_number=True),
     Key("--timer-early-us", "timer_early_us", 3, is_number=True),
+    Key("--loss-by-number", "loss_by_number", 3, ("must", "may")),
 )
 
 

@@ -56,6 +56,9 @@ class Dialect:
     window_overshoot: bool = False
     sample_eliciting_only: bool = False
     packet_threshold: int = 3
+    # Whether a packet so many numbers behind may be spared, as where the threshold adapts.
+    # Said only where the window is a reported one.
+    may_spare: bool = False
     # How early a timer can be by the log, since its times are rounded or read late.
     timer_early_us: int = 10
 
@@ -83,7 +86,8 @@ DIALECTS = (
         timer_early_us=3_000,
     ),
     # 0.12: JSON-SEQ, 0.3, all times in whole ms, rounded down. No timers and no keys. Metrics have
-    # all values. The delay of Initial and Handshake acknowledgments is logged as 0.
+    # all values. The delay of Initial and Handshake acknowledgments is logged as 0. The packet
+    # threshold is the greater of 3 and half of the packets in flight.
     Dialect(
         "ngtcp2",
         ("ngtcp2",),
@@ -96,6 +100,7 @@ DIALECTS = (
         unit="us",
         window_overshoot=True,
         sample_eliciting_only=True,
+        may_spare=True,
         timer_early_us=3_000,
     ),
     # 1.2: one JSON object, 0.3, times of the wall clock, in which the digits behind the microsecond

@@ -4,9 +4,15 @@ from dataclasses import dataclass
 from typing import Any
 
 from .dialects import Dialect
+from .errors import Unusable
 from .lines import Lines
 from .notes import Guess, Notes
 from .survey import Survey
+
+
+# Of the keys `window` and `loss_by_number`.
+REPORTED = "reported"
+MAY = "may"
 
 
 @dataclass(frozen=True)
@@ -21,6 +27,7 @@ class Choices:
 def options_of(dialect: Dialect, survey: Survey, choices: Choices) -> dict[str, Any]:
     """The version, and the options of the versions behind the first."""
     found: dict[str, Any] = {"version": choices.version}
+    said = dict(choices.options)
     if choices.version >= 2:
         found |= {
             "report_slack_us": dialect.slack_us,
@@ -28,16 +35,20 @@ def options_of(dialect: Dialect, survey: Survey, choices: Choices) -> dict[str, 
         }
     if choices.version >= 3:
         by_log = "ns" if survey.has_nanoseconds else "us"
+        # By which controller a sender has its window is its own choice (RFC 9002, section 7).
+        window = said.get("window", REPORTED if survey.has_window else "newreno")
+        if window != REPORTED and said.get("loss_by_number") == MAY:
+            raise Unusable("its losses may be declared only where it has a window that is reported")
         found |= {
             "unit": dialect.unit or by_log,
-            # By which controller a sender has its window is its own choice (RFC 9002, section 7).
-            "window": "reported" if survey.has_window else "newreno",
+            "window": window,
             "window_overshoot": dialect.window_overshoot,
             "sample_eliciting_only": dialect.sample_eliciting_only,
             "packet_threshold": dialect.packet_threshold,
             "timer_early_us": dialect.timer_early_us,
+            "loss_by_number": MAY if dialect.may_spare and window == REPORTED else "must",
         }
-    return found | dict(choices.options)
+    return found | said
 
 
 def write_header(

@@ -15,4 +15,5 @@ complete -c qlog-to-trace -l window-overshoot -x -a 'yes no' -d 'window_overshoo
 complete -c qlog-to-trace -l sample-eliciting-only -x -a 'yes no' -d 'sample_eliciting_only of the header'
 complete -c qlog-to-trace -l packet-threshold -x -d 'packet_threshold of the header'
 complete -c qlog-to-trace -l timer-early-us -x -d 'timer_early_us of the header'
+complete -c qlog-to-trace -l loss-by-number -x -a 'must may' -d 'loss_by_number of the header'
 complete -c qlog-to-trace -l help -d 'Say what the options are'

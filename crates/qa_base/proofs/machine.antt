@@ -1,6 +1,7 @@
 -- Lemmas about histories and the machine.
 pub mod Histories
 pub mod Quiet
+pub mod Declared
 pub mod RunLaws
 pub mod Ranges
 pub mod Steps

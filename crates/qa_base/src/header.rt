@@ -14,7 +14,7 @@ use crate::limits::{
     MIN_DATAGRAM_SIZE, MIN_PACKET_THRESHOLD,
 };
 use crate::number::Ticks;
-use crate::space::{Controller, Role, TimeUnit};
+use crate::space::{Controller, LossByNumber, Role, TimeUnit};
 use std::marker::Model;
 
 /// The version of the trace format.
@@ -91,6 +91,9 @@ pub struct Options {
     pub packet_threshold: u64,
     /// By how many microseconds a timer may go off before it is due, 0 to 1000000000.
     pub timer_early_us: u64,
+    /// What becomes of a packet that lies `packet_threshold` or more behind. It may be spared only
+    /// where the window is a reported one.
+    pub loss_by_number: LossByNumber,
 }
 
 impl Default for Options {
@@ -109,12 +112,13 @@ impl Default for Options {
             sample_eliciting_only: false,
             packet_threshold: DEFAULT_PACKET_THRESHOLD,
             timer_early_us: 0,
+            loss_by_number: LossByNumber::Must,
         }
     }
 }
 
 impl Options {
-    ghost use Rattle.qa_base.specs.values.Settings.{are_second};
+    ghost use Rattle.qa_base.specs.values.Settings.{are_second, spares_unreported};
 
     /// Whether version 2 can say them.
     fn are_second(&self) -> bool
@@ -125,6 +129,14 @@ impl Options {
             && !self.sample_eliciting_only
             && self.packet_threshold == DEFAULT_PACKET_THRESHOLD
             && self.timer_early_us == 0
+            && !self.loss_by_number.is_may()
+    }
+
+    /// Whether packets may be spared while the window is not one that the sender reports.
+    fn spares_unreported(&self) -> bool
+        ensures { result ≡ spares_unreported self.now }
+    {
+        self.loss_by_number.is_may() && !self.controller.is_reported()
     }
 }
 
@@ -274,8 +286,8 @@ impl Header {
     /// of it already or version 2 cannot say them.
     ///
     /// Where an option is outside its range the fault names the first such, in the order of
-    /// `timer_late`, `report_slack_us`, `report_slack_bytes`, `packet_threshold` and
-    /// `timer_early_us`.
+    /// `timer_late`, `report_slack_us`, `report_slack_bytes`, `packet_threshold`, `timer_early_us`
+    /// and `loss_by_number`, which is `May` only where the controller is `Reported`.
     pub fn with(self, options: Options) -> Result<Header, RangeFault>
         ensures { result ≡ with_options self options }
     {
@@ -311,6 +323,9 @@ impl Header {
         }
         if MAX_TIMER_EARLY_US < options.timer_early_us {
             return Err(RangeFault(Key::TimerEarlyUs));
+        }
+        if options.spares_unreported() {
+            return Err(RangeFault(Key::LossByNumber));
         }
         Ok(Header {
             version,

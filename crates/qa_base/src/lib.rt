@@ -25,5 +25,5 @@ pub use line_kind::LineKind;
 pub use number::{PacketNumber, Span, Spans, Ticks};
 pub use per_space::PerSpace;
 pub use rule::{Field, Rule};
-pub use space::{Controller, Leave, Role, Space, TimeUnit, TimerKind};
+pub use space::{Controller, Leave, LossByNumber, Role, Space, TimeUnit, TimerKind};
 pub use totals::Totals;

@@ -1,6 +1,6 @@
 //! The small choices that a line of a trace names by a string.
 ghost use Rattle.std.specs.Prelude.{◌≡◌};
-ghost use Rattle.qa_base.specs.values.Names.{role_name, role_named, unit_name, unit_named, controller_name, controller_named, space_name, space_named, leave_name, leave_named, kind_name, kind_named};
+ghost use Rattle.qa_base.specs.values.Names.{role_name, role_named, unit_name, unit_named, controller_name, controller_named, loss_by_number_name, loss_by_number_named, space_name, space_named, leave_name, leave_named, kind_name, kind_named};
 
 /// Which end of the connection the audited sender is.
 #[derive(Clone, Copy, PartialEq, Eq)]
@@ -122,6 +122,48 @@ impl Controller {
         ensures { result ≡ is_reported_of self }
     {
         self == Controller::Reported
+    }
+}
+
+/// What becomes of a packet that lies the packet threshold or more behind the largest acknowledged
+/// one (RFC 9002, section 6.1.1).
+#[derive(Clone, Copy, PartialEq, Eq)]
+pub enum LossByNumber {
+    /// It is lost.
+    Must,
+    /// The sender declares it lost or spares it, as one does whose threshold adapts.
+    May,
+}
+
+impl LossByNumber {
+    ghost use Rattle.qa_base.specs.values.Settings.{is_may as is_may_of};
+
+    /// The choice of this name: `must` or `may`; None for any other string.
+    pub fn named(text: &str) -> Option<LossByNumber>
+        ensures { result ≡ loss_by_number_named text.now }
+    {
+        match text {
+            "must" => Some(LossByNumber::Must),
+            "may" => Some(LossByNumber::May),
+            _ => None,
+        }
+    }
+
+    /// The choice's name, which `named` reads.
+    pub fn name(self) -> &'static str
+        ensures { result.now ≡ loss_by_number_name self }
+    {
+        match self {
+            LossByNumber::Must => "must",
+            LossByNumber::May => "may",
+        }
+    }
+
+    /// Whether such a packet may be spared.
+    pub fn is_may(self) -> bool
+        ensures { result ≡ is_may_of self }
+    {
+        self == LossByNumber::May
     }
 }
 

@@ -35,24 +35,25 @@ fn is_loss_owed<S: State>(state: &S, event: &Event) -> bool
     }
 }
 
-/// V3: a Lost line, and nothing is owed in its space.
+/// V3: a Lost line, and nothing is owed in its space or may be declared there.
 fn is_loss_not_owed<S: State>(state: &S, event: &Event) -> bool
     ensures { (c : Settings) (h : List AnEvent) → S.tells state.now c h
         → result ≡ breaches.is_loss_not_owed c h event.now }
 {
     match event {
-        Event::Lost { space, .. } => !state.has_owed_in(*space),
+        Event::Lost { space, .. } => !state.has_nameable_in(*space),
         _ => false,
     }
 }
 
-/// V4: a Lost line that does not name exactly the packets owed.
+/// V4: a Lost line that does not name all packets owed, or names one that is not owed and may not be
+/// declared.
 fn is_other_loss_set<S: State>(state: &S, event: &Event) -> bool
     ensures { (c : Settings) (h : List AnEvent) → S.tells state.now c h
         → result ≡ breaches.is_other_loss_set c h event.now }
 {
     match event {
-        Event::Lost { ranges, .. } => !state.names_owed(ranges.as_slice()),
+        Event::Lost { ranges, .. } => !state.names_losses(ranges.as_slice()),
         _ => false,
     }
 }

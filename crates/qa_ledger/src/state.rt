@@ -47,15 +47,17 @@ pub trait State {
         ensures { (c : Settings) (h : List AnEvent) → tells self.now c h
             → result ≡ packets.is_some_packet (loss.owed c h) };
 
-    /// Whether there are such packets in the space.
-    fn has_owed_in(&self, space: Space) -> bool
+    /// Whether there are such packets in the space, or some that the next Lost line may declare
+    /// beyond them.
+    fn has_nameable_in(&self, space: Space) -> bool
         ensures { (c : Settings) (h : List AnEvent) → tells self.now c h
-            → result ≡ list_any (packets.is_of space) (loss.owed c h) };
+            → result ≡ list_any (packets.is_of space) (loss.nameable c h) };
 
-    /// Whether the ranges name the numbers of exactly those packets.
-    fn names_owed(&self, ranges: &[Span]) -> bool
+    /// Whether the ranges name the numbers of all packets that are detected as lost, and of no others
+    /// but those that may be declared beyond them.
+    fn names_losses(&self, ranges: &[Span]) -> bool
         ensures { (c : Settings) (h : List AnEvent) → tells self.now c h
-            → result ≡ tests.names_exactly ranges.now (breaches.numbers (loss.owed c h)) };
+            → result ≡ tests.names_between ranges.now (breaches.numbers (loss.owed c h)) (breaches.numbers (loss.nameable c h)) };
 
     /// Whether the keys of the space were discarded (RFC 9002, section 6.4).
     fn is_discarded(&self, space: Space) -> bool

@@ -1,10 +1,10 @@
--- Entries into recovery, by the last packet that was found lost.
+-- Entries into recovery, by the last packet that is lost by an event.
 use Rattle.std.proofs.Common.{◌≡◌, ◌∙◌, ◌+◌, ℕ, List, [], ◌∷◌, ◌++◌, Bool, true, false, Option, Some, None, option_map, refl, ap, map}
 use Rattle.std.specs.Prelude.{if◌then◌else◌}
 use Rattle.qa_base.specs.declared.event.Event.{Event}
-use Rattle.qa_base.specs.values.Events.{time_of}
 use Rattle.qa_base.specs.machine.Leave.{recovery_spent, is_recovery_packet}
-use Rattle.qa_base.specs.machine.Loss.{owed, is_persistent}
+use Rattle.qa_base.specs.machine.Loss.{declared, is_persistent}
+use Rattle.qa_base.specs.machine.Moments.{before_last, detection_of, last_time}
 use Rattle.qa_base.specs.machine.Packets.{Packet, newly_acknowledged}
 use Rattle.qa_base.specs.machine.Reno.{Move, Grow, reno, is_entry, enters, grows, collapses, is_app_limited}
 use Rattle.qa_base.specs.values.Settings.{Settings}
@@ -25,12 +25,12 @@ by_last r now (Some t) b zs none = refl
 by_last r now None true zs none = refl
 by_last r now None false zs none = none
 
-pub entry_is : (c : Settings) (e : Event) (h : List Event) → is_entry c (e ∷ h) ≡ entry_by (reno c h).recovery_start_time (last_sending (owed c (e ∷ h)))
+pub entry_is : (c : Settings) (e : Event) (h : List Event) → is_entry c (e ∷ h) ≡ entry_by (reno c (before_last (detection_of (e ∷ h)))).recovery_start_time (last_sending (declared c (e ∷ h)))
 entry_is c e h =
     let zs : List Move = if is_app_limited e then [] else grows (newly_acknowledged (e ∷ h)) in
-    ap (λ (xs : List Move). enters (reno c h).recovery_start_time ((xs ++ collapses (is_persistent c (e ∷ h))) ++ zs)) (hits_is (time_of e) (owed c (e ∷ h)))
-    ∙ by_last (reno c h).recovery_start_time (time_of e) (last_sending (owed c (e ∷ h))) (is_persistent c (e ∷ h)) zs (open_growth (reno c h).recovery_start_time (is_app_limited e) _)
+    ap (λ (xs : List Move). enters (reno c (before_last (detection_of (e ∷ h)))).recovery_start_time ((xs ++ collapses (is_persistent c (e ∷ h))) ++ zs)) (hits_is (last_time (detection_of (e ∷ h))) (declared c (e ∷ h)))
+    ∙ by_last (reno c (before_last (detection_of (e ∷ h)))).recovery_start_time (last_time (detection_of (e ∷ h))) (last_sending (declared c (e ∷ h))) (is_persistent c (e ∷ h)) zs (open_growth (reno c (before_last (detection_of (e ∷ h)))).recovery_start_time (is_app_limited e) _)
 
 pub recovery_spent_is : (c : Settings) (e : Event) (h : List Event)
-    → recovery_spent c (e ∷ h) ≡ (if entry_by (reno c h).recovery_start_time (last_sending (owed c (e ∷ h))) then Some 0 else option_map (λ n. (if is_recovery_packet (e ∷ h) then 1 else 0) + n) (recovery_spent c h))
+    → recovery_spent c (e ∷ h) ≡ (if entry_by (reno c (before_last (detection_of (e ∷ h)))).recovery_start_time (last_sending (declared c (e ∷ h))) then Some 0 else option_map (λ n. (if is_recovery_packet (e ∷ h) then 1 else 0) + n) (recovery_spent c h))
 recovery_spent_is c e h = recovery_spent_after c e h ∙ ap (λ (b : Bool). if b then Some 0 else option_map (λ n. (if is_recovery_packet (e ∷ h) then 1 else 0) + n) (recovery_spent c h)) (entry_is c e h)

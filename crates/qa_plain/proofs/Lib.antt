@@ -1,6 +1,7 @@
 pub mod Turns
 pub mod Eliciting
 pub mod Owed
+pub mod Taken
 pub mod Moved
 pub mod Entries
 pub mod Answered

@@ -5,8 +5,8 @@ use Rattle.std.proofs.lemmas.List.Sums.{fold-append}
 use Rattle.std.specs.List.{All}
 use Rattle.std.specs.Prelude.{if◌then◌else◌}
 use Rattle.qa_base.specs.declared.event.Event.{Event}
-use Rattle.qa_base.specs.values.Events.{time_of}
-use Rattle.qa_base.specs.machine.Loss.{owed, is_persistent}
+use Rattle.qa_base.specs.machine.Loss.{declared, is_persistent}
+use Rattle.qa_base.specs.machine.Moments.{detection_of, last_time}
 use Rattle.qa_base.specs.machine.Packets.{Packet, history_of, newly_acknowledged}
 use Rattle.qa_base.specs.machine.Widths.{Fits}
 use Rattle.qa_base.specs.values.Constants.{minimum_window}
@@ -47,17 +47,17 @@ three d r xs ys zs = fold-append (moved d) r (xs ++ ys) zs ∙ ap (λ (x : Contr
 -- the moves of the last event, one kind after the other
 moves_are : (c : Settings) (e : Event) (h : List Event) (d : ℕ) (r : Control)
     → fold (moved d) r (moves_of_last c (e ∷ h))
-    ≡ fold (moved d) (fold (moved d) (fold (moved d) r (hits_at (time_of e) (last_sending (owed c (e ∷ h))))) (collapses (is_persistent c (e ∷ h)))) (if is_app_limited e then [] else grows (newly_acknowledged (e ∷ h)))
+    ≡ fold (moved d) (fold (moved d) (fold (moved d) r (hits_at (last_time (detection_of (e ∷ h))) (last_sending (declared c (e ∷ h))))) (collapses (is_persistent c (e ∷ h)))) (if is_app_limited e then [] else grows (newly_acknowledged (e ∷ h)))
 moves_are c e h d r =
     let ys = collapses (is_persistent c (e ∷ h)) in
     let zs : List Move = if is_app_limited e then [] else grows (newly_acknowledged (e ∷ h)) in
-    three d r (hits (time_of e) (owed c (e ∷ h))) ys zs
-    ∙ ap (λ (xs : List Move). fold (moved d) (fold (moved d) (fold (moved d) r xs) ys) zs) (hits_is (time_of e) (owed c (e ∷ h)))
+    three d r (hits (last_time (detection_of (e ∷ h))) (declared c (e ∷ h))) ys zs
+    ∙ ap (λ (xs : List Move). fold (moved d) (fold (moved d) (fold (moved d) r xs) ys) zs) (hits_is (last_time (detection_of (e ∷ h))) (declared c (e ∷ h)))
 
 -- the window after one more event, one kind of move after the other
 pub reno_moved : (c : Settings) (e : Event) (h : List Event)
     → reno c (e ∷ h)
-    ≡ fold (moved c.max_datagram_size) (fold (moved c.max_datagram_size) (fold (moved c.max_datagram_size) (reno c h) (hits_at (time_of e) (last_sending (owed c (e ∷ h))))) (collapses (is_persistent c (e ∷ h)))) (if is_app_limited e then [] else grows (newly_acknowledged (e ∷ h)))
+    ≡ fold (moved c.max_datagram_size) (fold (moved c.max_datagram_size) (fold (moved c.max_datagram_size) (reno c h) (hits_at (last_time (detection_of (e ∷ h))) (last_sending (declared c (e ∷ h))))) (collapses (is_persistent c (e ∷ h)))) (if is_app_limited e then [] else grows (newly_acknowledged (e ∷ h)))
 reno_moved c e h = reno_after c e h ∙ moves_are c e h c.max_datagram_size (reno c h)
 
 -- the window is in the range that its moves ask for

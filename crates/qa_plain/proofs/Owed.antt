@@ -1,39 +1,17 @@
 -- What is owed, as one filter.
 use Rattle.std.proofs.Common.{◌≡◌, ◌∙◌, List, [], ◌∷◌, Bool, true, false, ◌&&◌, ℕ, Option, Some, None, length, refl, sym, ap, filter, arith}
 use Rattle.std.proofs.lemmas.Bool.{lt-ltb}
-use Rattle.std.specs.List.{list_any}
-use Rattle.std.specs.Prelude.{if◌then◌else◌, nat_lt}
+use Rattle.std.specs.Prelude.{nat_lt}
 use Rattle.qa_base.specs.declared.event.Event.{Event}
 use Rattle.qa_base.specs.declared.space.Space.{Space}
 use Rattle.qa_base.specs.machine.Estimates.{sampled}
-use Rattle.qa_base.specs.machine.Detection.{is_found, is_found_at, found_at, are_ends}
-use Rattle.qa_base.specs.machine.Loss.{detection, is_owed, owed, is_persistent}
-use Rattle.qa_base.specs.machine.Packets.{Packet, packets, is_of, is_some_packet}
+use Rattle.qa_base.specs.machine.Detection.{is_found_at}
+use Rattle.qa_base.specs.machine.Loss.{detection, is_owed, owed}
+use Rattle.qa_base.specs.machine.Packets.{Packet, packets, is_some_packet}
 use Rattle.qa_base.specs.machine.Rtt.{Estimate}
 use Rattle.qa_base.specs.values.Settings.{Settings}
+use Rattle.qa_base.proofs.machine.Declared.{owed_is}
 use Rattle.qa_plain.specs.Looks.{Seen, IsLook, largest_there, is_found_where, is_found_by, found_in}
-
-one_more : (found of_space : Packet → Bool) (p : Packet) (ps rest : List Packet) (a b : Bool) → found p ≡ b
-    → filter found ps ≡ rest
-    → filter found (if a then p ∷ ps else ps) ≡ (if a && b then p ∷ rest else rest)
-one_more found of_space p ps rest true true is same = rw (is, same) refl
-one_more found of_space p ps rest true false is same = rw (is, same) refl
-one_more found of_space p ps rest false b is same = same
-
-both : (found of_space : Packet → Bool) (ps : List Packet) → filter found (filter of_space ps) ≡ filter (λ p. of_space p && found p) ps
-both found of_space [] = refl
-both found of_space (p ∷ ps) = one_more found of_space p (filter of_space ps) (filter (λ p. of_space p && found p) ps) (of_space p) (found p) refl (both found of_space ps)
-
-none : (ps : List Packet) → [] ≡ filter (λ p. false) ps
-none [] = refl
-none (p ∷ ps) = none ps
-
-found_is : (c : Settings) (h : List Event) (d : Option (Space × ℕ)) → found_at c (sampled c h) h d ≡ filter (λ p. is_found_at c (sampled c h) h p d) (packets h)
-found_is c h None = none (packets h)
-found_is c h (Some d) = both (is_found c (sampled c h) h d.1 d.0) (is_of d.0) (packets h)
-
-pub owed_is : (c : Settings) (h : List Event) → owed c h ≡ filter (is_owed c h) (packets h)
-owed_is c h = found_is c h (detection c h)
 
 -- ---- by what is seen
 
@@ -55,13 +33,6 @@ each_found c h look (p ∷ ps) is = rw (found_by_is c h look p is, each_found c 
 
 pub owed_by : (c : Settings) (h : List Event) (look : Seen) → IsLook c h look → owed c h ≡ found_in h look h
 owed_by c h look is = owed_is c h ∙ each_found c h look (packets h) is
-
--- they establish persistent congestion
-pub persistent_by : (c : Settings) (h : List Event) (look : Seen) → IsLook c h look
-    → list_any (λ p. list_any (are_ends look.rtt c h p) (found_in h look h)) (found_in h look h) ≡ is_persistent c h
-persistent_by c h look is =
-    ap (λ (r : Estimate). list_any (λ p. list_any (are_ends r c h p) (found_in h look h)) (found_in h look h)) is.0
-    ∙ sym (ap (λ (ps : List Packet). list_any (λ p. list_any (are_ends (sampled c h) c h p) ps) ps) (owed_by c h look is))
 
 pub some_counted : (ps : List Packet) → is_some_packet ps ≡ nat_lt 0 (length ps)
 some_counted [] = refl

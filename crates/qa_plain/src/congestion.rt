@@ -4,9 +4,9 @@ ghost use Rattle.std.specs.List.{list_any};
 ghost use Rattle.qa_base.specs.machine.Detection as detections;
 ghost use Rattle.qa_base.specs.machine.Loss as loss;
 ghost use Rattle.qa_base.specs.machine.Packets.{history_of};
-ghost use Rattle.qa_plain.specs.Looks.{IsLook, found_in};
+ghost use Rattle.qa_plain.specs.Looks.{AreSeen, lost_in};
 
-use crate::losses::{Look, found_of};
+use crate::declared::{Losses, lost_of};
 use crate::packet::{Packet, packet_of};
 use crate::settled::is_acknowledged;
 use qa_base::{Event, Header, Ticks};
@@ -60,14 +60,14 @@ fn are_ends(header: &Header, events: &[Event], rtt: Rtt, first: Packet, second: 
         && !is_acknowledged_between(events, first, second)
 }
 
-/// Whether the packet and one that is owed establish persistent congestion.
-fn has_end(header: &Header, events: &[Event], look: Look, first: Packet) -> bool
-    ensures { result ≡ list_any (detections.are_ends look.rtt header.now (history_of events.now) first) (found_in (history_of events.now) look (history_of events.now)) }
+/// Whether the packet and one that is lost by the last event establish persistent congestion.
+fn has_end(header: &Header, events: &[Event], losses: Losses, first: Packet) -> bool
+    ensures { result ≡ list_any (detections.are_ends losses.look.rtt header.now (history_of events.now) first) (lost_in (history_of events.now) losses (history_of events.now)) }
 {
-    let rtt = look.rtt;
+    let rtt = losses.rtt();
     let mut found = false;
     for (place, event) in events.iter().enumerate() {
-        if let Some(packet) = found_of(events, look, place, event) {
+        if let Some(packet) = lost_of(events, losses, place, event) {
             if are_ends(header, events, rtt, first, packet) {
                 found = true;
             }
@@ -77,14 +77,14 @@ fn has_end(header: &Header, events: &[Event], look: Look, first: Packet) -> bool
 }
 
 /// Whether the last event establishes persistent congestion.
-pub fn is_persistent(header: &Header, events: &[Event], look: Look) -> bool
-    requires seen { IsLook header.now (history_of events.now) look }
+pub fn is_persistent(header: &Header, events: &[Event], losses: Losses) -> bool
+    requires seen { AreSeen header.now (history_of events.now) losses }
     ensures { result ≡ loss.is_persistent header.now (history_of events.now) }
 {
     let mut found = false;
     for (place, event) in events.iter().enumerate() {
-        if let Some(packet) = found_of(events, look, place, event) {
-            if has_end(header, events, look, packet) {
+        if let Some(packet) = lost_of(events, losses, place, event) {
+            if has_end(header, events, losses, packet) {
                 found = true;
             }
         }

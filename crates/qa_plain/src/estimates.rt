@@ -3,10 +3,11 @@ ghost use Rattle.std.specs.Prelude.{◌≡◌, ◌∷◌};
 ghost use Rattle.qa_base.specs.machine.Estimates as estimates;
 ghost use Rattle.qa_base.specs.machine.Packets.{history_of};
 ghost use Rattle.qa_base.specs.machine.Rtt as steps;
-ghost use Rattle.qa_plain.specs.Looks.{IsLook};
+ghost use Rattle.qa_plain.specs.Looks.{AreSeen};
 
 use crate::congestion::is_persistent;
-use crate::losses::{Look, look_at};
+use crate::declared::{Losses, losses_at};
+use crate::losses::look_at;
 use crate::sampling::{sample_of, start, updated};
 use qa_base::{Event, Header};
 use qa_recovery::Rtt;
@@ -23,34 +24,32 @@ fn refreshed(rtt: Rtt) -> Rtt
 /// The estimate after the events, by that before a refresh: where the header asks for a refresh, the
 /// last event's persistent congestion gives one.
 #[tactic(auto, using(crate::proofs::Refreshed::rtt_is))]
-pub fn refreshed_where_asked(header: &Header, events: &[Event], look: Look) -> Rtt
-    requires seen { IsLook header.now (history_of events.now) look }
+pub fn refreshed_where_asked(header: &Header, events: &[Event], losses: Losses) -> Rtt
+    requires seen { AreSeen header.now (history_of events.now) losses }
     ensures { result ≡ estimates.rtt header.now (history_of events.now) }
 {
-    if header.options().refresh_min_rtt && is_persistent(header, events, look) {
-        refreshed(look.rtt)
+    if header.options().refresh_min_rtt && is_persistent(header, events, losses) {
+        refreshed(losses.look.rtt)
     } else {
-        look.rtt
+        losses.look.rtt
     }
 }
 
-/// What is known after one more event, by the estimate before it.
-pub fn look_after(
+/// What is lost by one more event, by the estimate before it.
+pub fn losses_after(
     header: &Header,
     before: &[Event],
     event: &Event,
     after: &[Event],
     rtt: Rtt,
-) -> Look
+) -> Losses
     requires whole { history_of after.now ≡ event.now ∷ history_of before.now }
     requires known { rtt ≡ estimates.rtt header.now (history_of before.now) }
-    ensures { IsLook header.now (history_of after.now) result }
+    ensures { AreSeen header.now (history_of after.now) result }
 {
-    look_at(
-        header,
-        after,
-        updated(rtt, sample_of(header, before, event)),
-    )
+    let sampled = updated(rtt, sample_of(header, before, event));
+    let look = look_at(header, after, sampled);
+    losses_at(header, before, event, after, look)
 }
 
 /// The estimate after one more event. Only where the header asks for a refresh is it asked what the
@@ -61,11 +60,11 @@ fn rtt_after(header: &Header, before: &[Event], event: &Event, after: &[Event], 
     requires known { rtt ≡ estimates.rtt header.now (history_of before.now) }
     ensures { result ≡ estimates.rtt header.now (event.now ∷ history_of before.now) }
 {
-    let sampled = updated(rtt, sample_of(header, before, event));
     if !header.options().refresh_min_rtt {
-        return sampled;
+        return updated(rtt, sample_of(header, before, event));
     }
-    refreshed_where_asked(header, after, look_at(header, after, sampled))
+    let losses = losses_after(header, before, event, after, rtt);
+    refreshed_where_asked(header, after, losses)
 }
 
 /// The estimate of the round-trip time after the events (RFC 9002, section 5, A.7).

@@ -7,17 +7,19 @@ ghost use Rattle.qa_base.specs.machine.Leave as leaves;
 ghost use Rattle.qa_base.specs.machine.Packets as packets;
 ghost use Rattle.qa_base.specs.machine.Packets.{history_of};
 ghost use Rattle.qa_base.specs.machine.Reno as steps;
-ghost use Rattle.qa_plain.specs.Looks.{IsLook};
+ghost use Rattle.qa_base.specs.machine.Moments.{before_last, detection_of};
+ghost use Rattle.qa_plain.specs.Looks.{AreSeen};
 ghost use Rattle.qa_base.specs.machine.Probes as probes;
 ghost use Rattle.qa_plain.specs.Words as words;
 ghost use Rattle.qa_base.specs.machine.Widths.{Fits};
+ghost use Rattle.qa_base.specs.values.Settings.{Settings};
 
-use crate::estimates::{look_after, refreshed_where_asked};
-use crate::losses::Look;
+use crate::declared::Losses;
+use crate::estimates::{losses_after, refreshed_where_asked};
 use crate::sampling::start;
 use crate::settled::acknowledges_new;
 use crate::timer::is_discard;
-use crate::window::{last_owed, reno_after};
+use crate::window::{last_lost, reno_after};
 use qa_base::{Event, Header, Leave, Space, Ticks};
 use qa_recovery::Reno;
 
@@ -189,27 +191,41 @@ fn spent_after(spent: Option<u64>, entered: bool, more: u64, place: usize) -> Op
     one_more(spent, more, place)
 }
 
-/// How many recovery packets there were since the last entry, with one more event.
+/// The window before the detection of what is lost by an event, by that before the event and the one
+/// before the event in front of it.
+fn before_detection(event: &Event, reno: Reno, earlier: Reno) -> Reno
+    ensures { (c : Settings) (h : List Event) → reno ≡ steps.reno c h
+        → earlier ≡ steps.reno c (before_last h)
+        → result ≡ steps.reno c (before_last (detection_of (event.now ∷ h))) }
+{
+    match event {
+        Event::Lost { .. } => earlier,
+        _ => reno,
+    }
+}
+
+/// How many recovery packets there were since the last entry, with one more event. `reno` is the
+/// window before the detection of what is lost by it.
 #[tactic(auto, using(crate::proofs::Entries::recovery_spent_is))]
 fn recovery_after(
     header: &Header,
     before: &[Event],
     event: &Event,
     after: &[Event],
-    look: Look,
+    losses: Losses,
     reno: Reno,
     spent: Option<u64>,
 ) -> Option<u64>
     requires whole { history_of after.now ≡ event.now ∷ history_of before.now }
-    requires seen { IsLook header.now (history_of after.now) look }
-    requires window { reno ≡ steps.reno header.now (history_of before.now) }
+    requires seen { AreSeen header.now (history_of after.now) losses }
+    requires window { reno ≡ steps.reno header.now (before_last (detection_of (event.now ∷ history_of before.now))) }
     requires spent { spent ≡ leaves.recovery_spent header.now (history_of before.now) }
     requires room { length before.now < 2 ^ 32 }
     requires few { ForSome spent (λ n. n ≤ length before.now) }
     ensures value { result ≡ leaves.recovery_spent header.now (event.now ∷ history_of before.now) }
     ensures few { ForSome result (λ n. n ≤ length before.now + 1) }
 {
-    let entered = enters(reno, last_owed(header, after, look));
+    let entered = enters(reno, last_lost(header, after, losses));
     spent_after(spent, entered, recovery_mark(event), before.len())
 }
 
@@ -224,14 +240,17 @@ pub fn recovery_spent(header: &Header, events: &[Event]) -> Option<u64>
 {
     let mut rtt = start(header);
     let mut reno = Reno::start(header.initial_window());
+    let mut earlier = reno;
     let mut spent: Option<u64> = None;
     for (place, event) in events.iter().enumerate() {
         let before = &events[..place];
         let after = &events[..place + 1];
-        let seen = look_after(header, before, event, after, rtt);
-        spent = recovery_after(header, before, event, after, seen, reno, spent);
-        reno = reno_after(header, before, event, after, seen, reno);
-        rtt = refreshed_where_asked(header, after, seen);
+        let losses = losses_after(header, before, event, after, rtt);
+        let detected = before_detection(event, reno, earlier);
+        spent = recovery_after(header, before, event, after, losses, detected, spent);
+        earlier = reno;
+        reno = reno_after(header, before, event, after, losses, reno);
+        rtt = refreshed_where_asked(header, after, losses);
     }
     spent
 }

@@ -13,6 +13,7 @@
 
 mod congestion;
 mod deadlines;
+mod declared;
 mod estimates;
 mod event;
 mod handshake;
@@ -36,7 +37,8 @@ pub use lateness::{is_late, set_since};
 pub use leave::{is_probe_due, probe_spent, recovery_spent};
 pub use packet::{Packet, packet_of};
 pub use questions::{
-    bytes_in_flight, deadline, is_owed, names_owed, owed_count, owes, owes_in, packet_deadline,
+    bytes_in_flight, deadline, has_nameable_in, is_owed, names_losses, owed_count, owes,
+    packet_deadline,
 };
 pub use reported::{acknowledged_since_collapse, reported_window};
 pub use settled::{

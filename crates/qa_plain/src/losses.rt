@@ -8,7 +8,7 @@ ghost use Rattle.qa_base.specs.machine.Packets as packets;
 ghost use Rattle.qa_base.specs.machine.Packets.{history_of};
 ghost use Rattle.qa_base.specs.values.Settings.{early};
 ghost use Rattle.qa_plain.specs.Listed.{listed};
-ghost use Rattle.qa_plain.specs.Looks.{IsLook, is_found_by, largest_there as largest_there_of};
+ghost use Rattle.qa_plain.specs.Looks.{IsLook, IsSeen, is_found_by, is_left_by, is_nameable_by, largest_there as largest_there_of};
 ghost use Rattle.std.specs.List.{list_any};
 
 use crate::packet::{Packet, is_below_largest, packet_in, packet_of, sooner};
@@ -49,8 +49,15 @@ fn is_old(header: &Header, rtt: Rtt, now: u64, packet: Packet) -> bool
     rtt.loss_delay(header.granularity()) <= now.saturating_sub(packet.time.get())
 }
 
-/// Whether the packet is below the largest acknowledged number, by the sender's packet threshold or
-/// for long enough.
+/// Whether the packet is below the largest acknowledged number by the sender's packet threshold.
+fn is_far_below(header: &Header, largest: u64, packet: Packet) -> bool
+    ensures { result ≡ detections.is_far_below header.now largest packet }
+{
+    header.options().packet_threshold <= largest.saturating_sub(packet.number.get())
+}
+
+/// Whether the packet is below the largest acknowledged number, for long enough or, where such
+/// packets must be lost, by the sender's packet threshold.
 fn is_past_threshold(
     header: &Header,
     rtt: Rtt,
@@ -64,8 +71,25 @@ fn is_past_threshold(
         None => false,
         Some(largest) => {
             packet.number.get() < largest
-                && (header.options().packet_threshold <= largest - packet.number.get()
+                && ((!header.options().loss_by_number.is_may()
+                    && is_far_below(header, largest, packet))
                     || is_old(header, rtt, now, packet))
+        }
+    }
+}
+
+/// Whether the packet may be spared though it is below the largest acknowledged number by the sender's
+/// packet threshold: the header says so, and the packet is not old.
+fn may_be_spared(header: &Header, rtt: Rtt, now: u64, largest: Option<u64>, packet: Packet) -> bool
+    ensures { result ≡ detections.may_be_spared header.now rtt now largest packet }
+{
+    match largest {
+        None => false,
+        Some(largest) => {
+            packet.number.get() < largest
+                && (header.options().loss_by_number.is_may()
+                    && is_far_below(header, largest, packet))
+                && !is_old(header, rtt, now, packet)
         }
     }
 }
@@ -161,6 +185,13 @@ pub fn look_at(header: &Header, events: &[Event], rtt: Rtt) -> Look
     requires known { rtt ≡ estimates.sampled header.now (history_of events.now) }
     ensures { IsLook header.now (history_of events.now) result }
 {
+    look_by(header, events, rtt)
+}
+
+/// What is known of the history, by an estimate.
+pub fn look_by(header: &Header, events: &[Event], rtt: Rtt) -> Look
+    ensures { IsSeen header.now rtt (history_of events.now) result }
+{
     let detection = detection(header, events, rtt);
     Look {
         rtt,
@@ -206,6 +237,53 @@ pub fn found_of(events: &[Event], look: Look, place: usize, event: &Event) -> Op
 {
     match packet_of(place, event) {
         Some(packet) if is_found(events, look, packet) => Some(packet),
+        _ => None,
+    }
+}
+
+/// Whether the packet may be spared and is unsettled, the cheaper test first.
+#[tactic(auto, using(crate::proofs::Owed::and_turned))]
+fn is_spared_open(
+    header: &Header,
+    events: &[Event],
+    rtt: Rtt,
+    largest: Option<u64>,
+    now: u64,
+    packet: Packet,
+) -> bool
+    ensures { result ≡ (detections.is_unsettled (history_of events.now) packet && detections.may_be_spared header.now rtt now largest packet) }
+{
+    may_be_spared(header, rtt, now, largest, packet) && is_unsettled(events, packet)
+}
+
+/// Whether by what is known the last event left it to the sender whether the packet is lost.
+pub fn is_left(events: &[Event], look: Look, packet: Packet) -> bool
+    ensures { result ≡ is_left_by (history_of events.now) look packet }
+{
+    match look.detection {
+        None => false,
+        Some((space, now)) => {
+            space == packet.space
+                && packet.in_flight
+                && is_spared_open(&look.header, events, look.rtt, look.largest, now, packet)
+        }
+    }
+}
+
+/// Whether by what is known the next Lost line may name the packet.
+fn is_nameable(events: &[Event], look: Look, packet: Packet) -> bool
+    ensures { result ≡ is_nameable_by (history_of events.now) look packet }
+{
+    is_found(events, look, packet) || is_left(events, look, packet)
+}
+
+/// The packet that the event sent, where by what is known the next Lost line may name it.
+pub fn nameable_of(events: &[Event], look: Look, place: usize, event: &Event) -> Option<Packet>
+    ensures { listed result
+        ≡ filter (is_nameable_by (history_of events.now) look) (packets.packet_of place event.now) }
+{
+    match packet_of(place, event) {
+        Some(packet) if is_nameable(events, look, packet) => Some(packet),
         _ => None,
     }
 }
@@ -261,14 +339,14 @@ pub fn bytes_in_flight(header: &Header, events: &[Event], look: Look) -> u128
     bytes
 }
 
-/// Whether a packet of the space is owed.
-pub fn owes_in(header: &Header, events: &[Event], look: Look, space: Space) -> bool
+/// Whether the next Lost line may name a packet of the space.
+pub fn has_nameable_in(header: &Header, events: &[Event], look: Look, space: Space) -> bool
     requires seen { IsLook header.now (history_of events.now) look }
-    ensures { result ≡ list_any (packets.is_of space) (loss.owed header.now (history_of events.now)) }
+    ensures { result ≡ list_any (packets.is_of space) (loss.nameable header.now (history_of events.now)) }
 {
     let mut found = false;
     for (place, event) in events.iter().enumerate() {
-        if let Some(packet) = found_of(events, look, place, event) {
+        if let Some(packet) = nameable_of(events, look, place, event) {
             if space == packet.space {
                 found = true;
             }

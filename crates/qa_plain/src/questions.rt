@@ -40,11 +40,11 @@ pub fn owes(header: &Header, events: &[Event]) -> bool
     0 < owed_count(header, events)
 }
 
-/// Whether the last event found a packet of the space lost.
-pub fn owes_in(header: &Header, events: &[Event], space: Space) -> bool
-    ensures { result ≡ list_any (packets.is_of space) (loss.owed header.now (history_of events.now)) }
+/// Whether the last event found a packet of the space lost, or left it to the sender whether one is.
+pub fn has_nameable_in(header: &Header, events: &[Event], space: Space) -> bool
+    ensures { result ≡ list_any (packets.is_of space) (loss.nameable header.now (history_of events.now)) }
 {
-    losses::owes_in(header, events, look(header, events), space)
+    losses::has_nameable_in(header, events, look(header, events), space)
 }
 
 /// How many packets the last event found lost.
@@ -54,11 +54,12 @@ pub fn owed_count(header: &Header, events: &[Event]) -> u64
     losses::owed_count(header, events, look(header, events))
 }
 
-/// Whether the ranges name exactly the packets that the last event found lost.
-pub fn names_owed(header: &Header, events: &[Event], ranges: &[Span]) -> bool
-    ensures { result ≡ tests.names_exactly ranges.now (breaches.numbers (loss.owed header.now (history_of events.now))) }
+/// Whether the ranges name all packets that the last event found lost, and no others but those of
+/// which it left that to the sender.
+pub fn names_losses(header: &Header, events: &[Event], ranges: &[Span]) -> bool
+    ensures { result ≡ tests.names_between ranges.now (breaches.numbers (loss.owed header.now (history_of events.now))) (breaches.numbers (loss.nameable header.now (history_of events.now))) }
 {
-    named::names_owed(header, events, look(header, events), ranges)
+    named::names_losses(header, events, look(header, events), ranges)
 }
 
 /// The bytes in flight: the sizes of the in-flight packets that are neither acknowledged nor lost,

@@ -2,15 +2,16 @@
 //! section 7.6.2).
 ghost use Rattle.std.specs.Prelude.{◌≡◌, ◌≤◌, ◌<◌, ◌*◌, ◌^◌, ◌&&◌, ◌∷◌, ◌+◌, length, is_some, option_map, if◌then◌else◌};
 ghost use Rattle.std.specs.List.{All};
+ghost use Rattle.qa_base.specs.machine.Moments.{detection_of};
 ghost use Rattle.qa_base.specs.machine.Packets.{history_of, is_newly_acknowledged as is_newly_acknowledged_of};
 ghost use Rattle.qa_base.specs.machine.Widths.{Fits};
 ghost use Rattle.qa_base.specs.machine.Window as windows;
 ghost use Rattle.qa_base.proofs.machine.Collapses.{IsAtMost};
-ghost use Rattle.qa_plain.specs.Looks.{IsLook};
+ghost use Rattle.qa_plain.specs.Looks.{AreSeen};
 
 use crate::congestion::is_persistent;
-use crate::estimates::{look_after, refreshed_where_asked};
-use crate::losses::Look;
+use crate::declared::Losses;
+use crate::estimates::{losses_after, refreshed_where_asked};
 use crate::packet::{Packet, packet_of};
 use crate::sampling::start;
 use crate::settled::is_newly_acknowledged;
@@ -96,6 +97,22 @@ fn acknowledged_bytes(before: &[Event], event: &Event) -> u64
     new_bytes(before, event) as u64
 }
 
+/// The bytes in flight that the detection newly acknowledged which an event after these makes, or
+/// completes as a Lost line.
+fn detected_bytes(before: &[Event], event: &Event) -> u64
+    requires few { length before.now < 2 ^ 32 }
+    requires fit { All Fits before.now }
+    ensures { result ≡ windows.acknowledged_bytes (detection_of (event.now ∷ history_of before.now)) }
+{
+    match event {
+        Event::Lost { .. } => match before.split_last() {
+            None => 0,
+            Some((detection, earlier)) => acknowledged_bytes(earlier, detection),
+        },
+        _ => acknowledged_bytes(before, event),
+    }
+}
+
 /// Whether an event reports another window than this, which was the last.
 fn changes_window(window: u64, event: &Event) -> bool
     ensures { result ≡ is_some (windows.unless_same window (windows.window_in event.now)) }
@@ -123,24 +140,23 @@ fn since_collapse_after(
     before: &[Event],
     event: &Event,
     after: &[Event],
-    look: Look,
+    losses: Losses,
     sum: Option<u64>,
 ) -> Option<u64>
     requires whole { history_of after.now ≡ event.now ∷ history_of before.now }
-    requires seen { IsLook header.now (history_of after.now) look }
+    requires seen { AreSeen header.now (history_of after.now) losses }
     requires known { sum ≡ windows.acknowledged_since_collapse header.now (history_of before.now) }
     requires few { length before.now < 2 ^ 32 }
     requires fit { All Fits before.now }
     ensures { result ≡ windows.acknowledged_since_collapse header.now (event.now ∷ history_of before.now) }
 {
-    let bytes = acknowledged_bytes(before, event);
-    if is_persistent(header, after, look) {
-        return Some(bytes);
+    if is_persistent(header, after, losses) {
+        return Some(detected_bytes(before, event));
     }
     if changes_window(reported_window(header, before), event) {
         return None;
     }
-    more(bytes, sum)
+    more(acknowledged_bytes(before, event), sum)
 }
 
 /// The bytes in flight that were newly acknowledged since persistent congestion was last established;
@@ -157,9 +173,9 @@ pub fn acknowledged_since_collapse(header: &Header, events: &[Event]) -> Option<
     for (place, event) in events.iter().enumerate() {
         let before = &events[..place];
         let after = &events[..place + 1];
-        let seen = look_after(header, before, event, after, rtt);
-        sum = since_collapse_after(header, before, event, after, seen, sum);
-        rtt = refreshed_where_asked(header, after, seen);
+        let losses = losses_after(header, before, event, after, rtt);
+        sum = since_collapse_after(header, before, event, after, losses, sum);
+        rtt = refreshed_where_asked(header, after, losses);
     }
     sum
 }

@@ -12,7 +12,7 @@ ghost use Rattle.qa_ranges.specs.Sent.{AreSent};
 use crate::handshake::is_confirmed;
 use crate::lateness::is_late;
 use crate::leave::{is_probe_due, probe_spent, recovery_spent};
-use crate::questions::{deadline, names_owed, owes, owes_in};
+use crate::questions::{deadline, has_nameable_in, names_losses, owes};
 use crate::reported::{acknowledged_since_collapse, reported_window};
 use crate::settled::is_discarded;
 use crate::totals::{bytes_in_flight, totals, window};
@@ -160,12 +160,12 @@ impl State for Whole {
         owes(&self.header, &self.events)
     }
 
-    fn has_owed_in(&self, space: Space) -> bool {
-        owes_in(&self.header, &self.events, space)
+    fn has_nameable_in(&self, space: Space) -> bool {
+        has_nameable_in(&self.header, &self.events, space)
     }
 
-    fn names_owed(&self, ranges: &[Span]) -> bool {
-        names_owed(&self.header, &self.events, ranges)
+    fn names_losses(&self, ranges: &[Span]) -> bool {
+        names_losses(&self.header, &self.events, ranges)
     }
 
     fn is_discarded(&self, space: Space) -> bool {

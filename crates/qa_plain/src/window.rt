@@ -3,8 +3,9 @@ ghost use Rattle.std.specs.Prelude.{if◌then◌else◌, [], ◌≡◌, ◌∷�
 ghost use Rattle.std.specs.List.{All};
 ghost use Rattle.qa_base.specs.machine.Loss as loss;
 ghost use Rattle.qa_base.specs.machine.Packets.{history_of, newly_acknowledged};
+ghost use Rattle.qa_base.specs.machine.Moments.{detection_of, last_time};
 ghost use Rattle.qa_base.specs.machine.Reno as steps;
-ghost use Rattle.qa_plain.specs.Looks.{IsLook};
+ghost use Rattle.qa_plain.specs.Looks.{AreSeen};
 ghost use Rattle.qa_base.specs.machine.Widths.{Fits};
 ghost use Rattle.qa_base.specs.values.Constants.{minimum_window};
 ghost use Rattle.qa_base.specs.values.Limits.{max_packet_size};
@@ -12,8 +13,8 @@ ghost use Rattle.qa_base.specs.values.Settings.{AreInRange};
 ghost use Rattle.qa_plain.specs.Words.{last_sending, hits_at};
 
 use crate::congestion::is_persistent;
-use crate::estimates::{look_after, refreshed_where_asked};
-use crate::losses::{Look, found_of};
+use crate::declared::{Losses, lost_of};
+use crate::estimates::{losses_after, refreshed_where_asked};
 use crate::packet::packet_of;
 use crate::sampling::start;
 use crate::settled::is_newly_acknowledged;
@@ -30,14 +31,14 @@ fn later(last: Option<Ticks>, time: Ticks) -> Ticks
     }
 }
 
-/// When the last of the packets was sent that the last event found lost.
-pub fn last_owed(header: &Header, events: &[Event], look: Look) -> Option<Ticks>
-    requires seen { IsLook header.now (history_of events.now) look }
-    ensures { result ≡ last_sending (loss.owed header.now (history_of events.now)) }
+/// When the last of the packets was sent that are lost by the last event.
+pub fn last_lost(header: &Header, events: &[Event], losses: Losses) -> Option<Ticks>
+    requires seen { AreSeen header.now (history_of events.now) losses }
+    ensures { result ≡ last_sending (loss.declared header.now (history_of events.now)) }
 {
     let mut last = None;
     for (place, event) in events.iter().enumerate() {
-        if let Some(packet) = found_of(events, look, place, event) {
+        if let Some(packet) = lost_of(events, losses, place, event) {
             last = Some(later(last, packet.time));
         }
     }
@@ -124,6 +125,20 @@ fn grown_unless_app_limited(header: &Header, before: &[Event], event: &Event, re
     }
 }
 
+/// When it was detected what is lost by an event after these: a Lost line completes the detection in
+/// front of it.
+fn detected_at(before: &[Event], event: &Event) -> Ticks
+    ensures { result ≡ last_time (detection_of (event.now ∷ history_of before.now)) }
+{
+    match event {
+        Event::Lost { .. } => match before.last() {
+            None => Ticks::of(0),
+            Some(detection) => detection.time(),
+        },
+        _ => event.time(),
+    }
+}
+
 /// The window after one more event: its losses count first, then its growth.
 #[tactic(auto, using(crate::proofs::Moved::reno_moved))]
 pub fn reno_after(
@@ -131,19 +146,20 @@ pub fn reno_after(
     before: &[Event],
     event: &Event,
     after: &[Event],
-    look: Look,
+    losses: Losses,
     reno: Reno,
 ) -> Reno
     requires whole { history_of after.now ≡ event.now ∷ history_of before.now }
-    requires seen { IsLook header.now (history_of after.now) look }
+    requires seen { AreSeen header.now (history_of after.now) losses }
     requires known { reno ≡ steps.reno header.now (history_of before.now) }
     requires range { AreInRange header.now }
     requires few { length before.now < 2 ^ 32 }
     requires fit { All Fits before.now }
     ensures { result ≡ steps.reno header.now (event.now ∷ history_of before.now) }
 {
-    let hit = hit_by(header, reno, last_owed(header, after, look), event.time());
-    let collapsed = collapsed(header, hit, is_persistent(header, after, look));
+    let now = detected_at(before, event);
+    let hit = hit_by(header, reno, last_lost(header, after, losses), now);
+    let collapsed = collapsed(header, hit, is_persistent(header, after, losses));
     grown_unless_app_limited(header, before, event, collapsed)
 }
 
@@ -162,9 +178,9 @@ pub fn reno(header: &Header, events: &[Event]) -> Reno
     for (place, event) in events.iter().enumerate() {
         let before = &events[..place];
         let after = &events[..place + 1];
-        let seen = look_after(header, before, event, after, rtt);
-        reno = reno_after(header, before, event, after, seen, reno);
-        rtt = refreshed_where_asked(header, after, seen);
+        let losses = losses_after(header, before, event, after, rtt);
+        reno = reno_after(header, before, event, after, losses, reno);
+        rtt = refreshed_where_asked(header, after, losses);
     }
     reno
 }

@@ -68,6 +68,7 @@ key_is_plain key.WindowOvershoot = refl
 key_is_plain key.SampleElicitingOnly = refl
 key_is_plain key.PacketThreshold = refl
 key_is_plain key.TimerEarlyUs = refl
+key_is_plain key.LossByNumber = refl
 key_is_plain key.Time = refl
 key_is_plain key.Space = refl
 key_is_plain key.Number = refl

@@ -2,19 +2,20 @@
 //!
 //! Each function is a word of the definitions over a `serde_json` value, and takes no memory. Lists
 //! of ranges, which do, have a module of their own.
-ghost use Rattle.std.specs.Prelude.{◌≡◌, option_map, false, Ok, Err};
+ghost use Rattle.std.specs.Prelude.{◌≡◌, option_map, false, Some, Ok, Err};
 ghost use Rattle.std.specs.Result.{result_map_both};
 ghost use Rattle.serde_json.specs.View.{view};
 ghost use Rattle.qa_format.specs.format.Keys as keys;
 ghost use Rattle.qa_base.specs.values.Constants.{default_packet_threshold};
 ghost use Rattle.qa_base.specs.values.Limits.{max_packet_number, max_packet_size};
-ghost use Rattle.qa_base.specs.values.Names.{role_named, unit_named, controller_named, discarded_named, leave_named, kind_named};
+ghost use Rattle.qa_base.specs.values.Names.{role_named, unit_named, controller_named, loss_by_number_named, discarded_named, leave_named, kind_named};
 ghost use Rattle.qa_format.specs.format.Tables as tables;
 
 use qa_base::constants::DEFAULT_PACKET_THRESHOLD;
 use qa_base::limits::MAX_PACKET_SIZE;
 use qa_base::{
-    Controller, Field, Key, Leave, PacketNumber, Role, Space, Ticks, TimeUnit, TimerKind,
+    Controller, Field, Key, Leave, LossByNumber, PacketNumber, Role, Space, Ticks, TimeUnit,
+    TimerKind,
 };
 use qa_format::Fault;
 use serde_json::Value;
@@ -204,6 +205,17 @@ pub fn controller(object: &Value) -> Result<Controller, Fault>
         Some(value) => Controller::named(string(Key::Window, value)?).ok_or(Fault::OutOfRange(
             Key::Window,
         )),
+    }
+}
+
+/// What the key `loss_by_number` names, if anything; `must` where it is absent. A word that is none
+/// of its values is judged behind the numbers of the header.
+pub fn loss_by_number(object: &Value) -> Result<Option<LossByNumber>, Fault>
+    ensures { result ≡ keys.optional (keys.string_naming loss_by_number_named) (Some LossByNumber.Must) Key.LossByNumber (view object.now) }
+{
+    match present(Key::LossByNumber, object) {
+        None => Ok(Some(LossByNumber::Must)),
+        Some(value) => Ok(LossByNumber::named(string(Key::LossByNumber, value)?)),
     }
 }
 

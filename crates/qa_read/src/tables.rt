@@ -10,8 +10,8 @@ use crate::fields;
 use crate::fields::both;
 use crate::ranges::ranges;
 use qa_base::{
-    Controller, Event, Field, Header, Key, Leave, MetricValues, Options, PacketNumber, RangeFault,
-    Role, Space, Spans, Ticks, TimeUnit, TimerKind, Version,
+    Controller, Event, Field, Header, Key, Leave, LossByNumber, MetricValues, Options,
+    PacketNumber, RangeFault, Role, Space, Spans, Ticks, TimeUnit, TimerKind, Version,
 };
 use qa_format::Fault;
 use serde_json::Value;
@@ -81,8 +81,8 @@ fn option_fields(object: &Value) -> Result<OptionFields, Fault>
 }
 
 /// What stands at the keys of the options that only version 3 has: those of the window and the
-/// samples, and the packet threshold and how early timers may be.
-type ChoiceFields = ((bool, bool), (u64, u64));
+/// samples, the packet threshold and how early timers may be, and what is said of losses by number.
+type ChoiceFields = ((bool, bool), ((u64, u64), Option<LossByNumber>));
 
 fn choice_fields(object: &Value) -> Result<ChoiceFields, Fault>
     ensures { result ≡ tables.choice_fields (view object.now) }
@@ -95,23 +95,25 @@ fn choice_fields(object: &Value) -> Result<ChoiceFields, Fault>
         fields::packet_threshold(object),
         fields::integer_or_zero(Key::TimerEarlyUs, object),
     );
-    both(flags, numbers)
+    let rest = both(numbers, fields::loss_by_number(object));
+    both(flags, rest)
 }
 
-/// The options of a header of version 2.
-fn second_options(object: &Value) -> Result<Options, Fault>
+/// The options of a header of version 2, under which losses by number must be declared.
+fn second_options(object: &Value) -> Result<(Options, Option<LossByNumber>), Fault>
     ensures { result ≡ tables.second_options (view object.now) }
 {
     let (machine, slack) = option_fields(object)?;
     let (timer_late, refresh_min_rtt) = machine;
     let (report_slack_us, report_slack_bytes) = slack;
-    Ok(Options {
+    let options = Options {
         timer_late,
         refresh_min_rtt,
         report_slack_us,
         report_slack_bytes,
         ..Options::default()
-    })
+    };
+    Ok((options, Some(LossByNumber::Must)))
 }
 
 /// What stands at the keys of all options of version 3.
@@ -121,16 +123,17 @@ fn third_fields(object: &Value) -> Result<(OptionFields, ChoiceFields), Fault>
     both(option_fields(object), choice_fields(object))
 }
 
-/// The options of a header of version 3, but for whose window it is.
-fn third_options(object: &Value) -> Result<Options, Fault>
+/// The options of a header of version 3, but for whose window it is. What its word for losses by
+/// number names, if anything, stands beside them.
+fn third_options(object: &Value) -> Result<(Options, Option<LossByNumber>), Fault>
     ensures { result ≡ tables.third_options (view object.now) }
 {
-    let ((machine, slack), (flags, numbers)) = third_fields(object)?;
+    let ((machine, slack), (flags, (numbers, losses))) = third_fields(object)?;
     let (timer_late, refresh_min_rtt) = machine;
     let (report_slack_us, report_slack_bytes) = slack;
     let (window_overshoot, sample_eliciting_only) = flags;
     let (packet_threshold, timer_early_us) = numbers;
-    Ok(Options {
+    let options = Options {
         timer_late,
         refresh_min_rtt,
         report_slack_us,
@@ -140,18 +143,19 @@ fn third_options(object: &Value) -> Result<Options, Fault>
         packet_threshold,
         timer_early_us,
         ..Options::default()
-    })
+    };
+    Ok((options, losses))
 }
 
 /// The options of a header. A key that its version has not is looked at no more than any key that no
 /// table has.
-fn options(object: &Value) -> Result<Options, Fault>
+fn options(object: &Value) -> Result<(Options, Option<LossByNumber>), Fault>
     ensures { result ≡ tables.options (view object.now) }
 {
     match fields::required_integer(Key::Version, object) {
         Ok(version) if version == Version::Two.number() => second_options(object),
         Ok(version) if version == Version::Three.number() => third_options(object),
-        _ => Ok(Options::default()),
+        _ => Ok((Options::default(), Some(LossByNumber::Must))),
     }
 }
 
@@ -181,8 +185,22 @@ fn of_version(version: u64, options: Options, header: Header) -> Result<Header, 
     Err(Fault::Version)
 }
 
+/// The header with the losses by number that its word names, if anything.
+fn with_losses(losses: Option<LossByNumber>, header: Header) -> Result<Header, Fault>
+    ensures { result ≡ tables.with_losses losses header }
+{
+    match losses {
+        None => Err(Fault::OutOfRange(Key::LossByNumber)),
+        Some(LossByNumber::Must) => Ok(header),
+        Some(LossByNumber::May) => out_of_range(header.choosing(Options {
+            loss_by_number: LossByNumber::May,
+            ..header.options()
+        })),
+    }
+}
+
 /// What stands at all keys of a header.
-fn header_values(object: &Value) -> Result<(HeaderFields, Options), Fault>
+fn header_values(object: &Value) -> Result<(HeaderFields, (Options, Option<LossByNumber>)), Fault>
     ensures { result ≡ keys.both (tables.header_fields (view object.now)) (tables.options (view object.now)) }
 {
     both(header_fields(object), options(object))
@@ -193,7 +211,7 @@ fn header_values(object: &Value) -> Result<(HeaderFields, Options), Fault>
 pub fn header_of(object: &Value) -> Result<Header, Fault>
     ensures { result ≡ tables.header_of (view object.now) }
 {
-    let (fields, options) = header_values(object)?;
+    let (fields, (options, losses)) = header_values(object)?;
     let ((version, role), ((unit, controller), (most, initial))) = fields;
     let (max_datagram_size, max_ack_delay) = most;
     let (initial_rtt, initial_window) = initial;
@@ -209,7 +227,8 @@ pub fn header_of(object: &Value) -> Result<Header, Fault>
         controller,
         ..options
     };
-    of_version(version, options, out_of_range(header)?)
+    let header = of_version(version, options, out_of_range(header)?)?;
+    with_losses(losses, header)
 }
 
 // ---- packets

@@ -7,7 +7,7 @@ use Rattle.qa_base.specs.declared.header.Options.{Options}
 use Rattle.qa_base.specs.declared.header.Version.{Version}
 use Rattle.qa_base.specs.declared.header.Version.TheVariants.{One, Two, Three}
 use Rattle.qa_base.specs.declared.line_kind.LineKind.{LineKind}
-use Rattle.qa_base.specs.values.Names.{key_name, line_kind_name, unit_name, controller_name}
+use Rattle.qa_base.specs.values.Names.{key_name, line_kind_name, unit_name, controller_name, loss_by_number_name}
 use Rattle.qa_base.specs.values.Settings.{Settings}
 use Rattle.qa_format.specs.format.Written.{integer, boolean, string}
 
@@ -46,7 +46,8 @@ with_third Three s ms =
     (with key.Unit (string (unit_name s.unit))
     (with key.TimerEarlyUs (integer s.options.timer_early_us)
     (with key.SampleElicitingOnly (boolean s.options.sample_eliciting_only)
-    (with key.PacketThreshold (integer s.options.packet_threshold) ms)))))
+    (with key.PacketThreshold (integer s.options.packet_threshold)
+    (with key.LossByNumber (string (loss_by_number_name s.options.loss_by_number)) ms))))))
 
 -- the members that each event has
 abbrev pub event_members : LineKind → ℕ → Members

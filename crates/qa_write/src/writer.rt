@@ -120,6 +120,7 @@ fn put_third(map: &mut Map<String, Value>, alloc: Global, header: &Header) -> Re
         return Ok(());
     }
     let options = header.options();
+    put_text(map, alloc, Key::LossByNumber, options.loss_by_number.name())?;
     put_integer(map, alloc, Key::PacketThreshold, options.packet_threshold)?;
     put_flag(
         map,

@@ -10,12 +10,12 @@ use Rattle.qa_base.specs.declared.event.Event.TheVariants.{Sent, Ack, Lost, Time
 use Rattle.qa_base.specs.declared.space.Space.{Space}
 use Rattle.qa_base.specs.declared.space.Leave.{Leave}
 use Rattle.qa_base.specs.values.Events.{is_quiet}
-use Rattle.qa_base.specs.machine.Detection.{is_found, is_found_at, found_at, is_persistent_by}
+use Rattle.qa_base.specs.machine.Detection.{is_found, is_found_at, found_at, declared_by, is_persistent_by}
 use Rattle.qa_base.specs.machine.Estimates.{refreshed_by, rtt, sampled}
-use Rattle.qa_base.specs.machine.Loss.{is_owed, owed, flight_size, bytes_in_flight, detection}
+use Rattle.qa_base.specs.machine.Loss.{is_owed, owed, declared, flight_size, bytes_in_flight, detection}
 use Rattle.qa_base.specs.machine.Moments.{since}
 use Rattle.qa_base.specs.machine.Packets.{Packet, packets, newly_acknowledged, is_followed_by, is_discarded, is_of, is_acknowledged, is_declared_lost}
-use Rattle.qa_base.specs.machine.Reno.{moves, moves_of_last}
+use Rattle.qa_base.specs.machine.Reno.{grows, is_app_limited, moves, moves_of_last}
 use Rattle.qa_base.specs.machine.Rtt.{Estimate}
 use Rattle.qa_base.specs.values.Settings.{Settings}
 use Rattle.qa_base.specs.machine.Timer.{is_pto, resets_count, pto_count}
@@ -50,24 +50,31 @@ sampled-quiet c (Timer time kind space) h quiet = cc
 sampled-quiet c (Discard time space) h quiet = cc
 sampled-quiet c _ h quiet = refl
 
-pub rtt-quiet : (c : Settings) (e : Event) (h : List Event) → is_quiet e ≡ true → rtt c (e ∷ h) ≡ rtt c h
-rtt-quiet c (Ack time space ranges delay app_limited) h quiet = cc
-rtt-quiet c (Timer time kind space) h quiet = cc
-rtt-quiet c (Discard time space) h quiet = cc
-rtt-quiet c e h quiet = not_refreshed c.options.refresh_min_rtt c (e ∷ h) (rtt c h) refl
+-- where nothing is lost by the last event it establishes no persistent congestion
+pub not_persistent : (r : Estimate) (c : Settings) (h : List Event) → declared_by c r h ≡ [] → is_persistent_by r c h ≡ false
+not_persistent r c h none = rw none refl
 
-pub moves_of_last-quiet : (c : Settings) (e : Event) (h : List Event) → is_quiet e ≡ true → moves_of_last c (e ∷ h) ≡ []
-moves_of_last-quiet c (Ack time space ranges delay app_limited) h quiet = cc
-moves_of_last-quiet c (Timer time kind space) h quiet = cc
-moves_of_last-quiet c (Discard time space) h quiet = cc
-moves_of_last-quiet c (Sent time space number size eliciting in_flight leave) h quiet = rw none_passes refl
-moves_of_last-quiet c (Lost time space ranges) h quiet = rw none_passes refl
-moves_of_last-quiet c (Confirmed time) h quiet = rw none_passes refl
-moves_of_last-quiet c (Keys time) h quiet = rw none_passes refl
-moves_of_last-quiet c (Metrics time values) h quiet = rw none_passes refl
+unrefreshed : (c : Settings) (e : Event) (h : List Event) → sampled c (e ∷ h) ≡ rtt c h → declared c (e ∷ h) ≡ [] → rtt c (e ∷ h) ≡ rtt c h
+unrefreshed c e h same none =
+    not_refreshed c.options.refresh_min_rtt c (e ∷ h) (sampled c (e ∷ h)) (not_persistent (sampled c (e ∷ h)) c (e ∷ h) none) ∙ same
 
-pub moves-quiet : (c : Settings) (e : Event) (h : List Event) → is_quiet e ≡ true → moves c (e ∷ h) ≡ moves c h
-moves-quiet c e h quiet = ap (λ ms. moves c h ++ ms) (moves_of_last-quiet c e h quiet) ∙ append-nil (moves c h)
+-- a quiet event by which nothing is lost leaves the estimate as it was
+pub rtt-quiet : (c : Settings) (e : Event) (h : List Event) → is_quiet e ≡ true → declared c (e ∷ h) ≡ [] → rtt c (e ∷ h) ≡ rtt c h
+rtt-quiet c e h quiet none = unrefreshed c e h (sampled-quiet c e h quiet) none
+
+none_or : (limited : Bool) → (if limited then [] else grows []) ≡ []
+none_or true = refl
+none_or false = refl
+
+no_moves : (c : Settings) (e : Event) (h : List Event) → declared c (e ∷ h) ≡ [] → newly_acknowledged (e ∷ h) ≡ [] → moves_of_last c (e ∷ h) ≡ []
+no_moves c e h none unacknowledged = rw (none, unacknowledged) (none_or (is_app_limited e))
+
+-- and the window
+pub moves_of_last-quiet : (c : Settings) (e : Event) (h : List Event) → is_quiet e ≡ true → declared c (e ∷ h) ≡ [] → moves_of_last c (e ∷ h) ≡ []
+moves_of_last-quiet c e h quiet none = no_moves c e h none (newly-quiet e h quiet)
+
+pub moves-quiet : (c : Settings) (e : Event) (h : List Event) → is_quiet e ≡ true → declared c (e ∷ h) ≡ [] → moves c (e ∷ h) ≡ moves c h
+moves-quiet c e h quiet none = ap (λ ms. moves c h ++ ms) (moves_of_last-quiet c e h quiet none) ∙ append-nil (moves c h)
 
 pub is_pto-quiet : (e : Event) (h : List Event) → is_quiet e ≡ true → is_pto (e ∷ h) ≡ false
 is_pto-quiet (Ack time space ranges delay app_limited) h quiet = cc

@@ -4,7 +4,7 @@ use Rattle.std.specs.List.{list_all}
 use Rattle.std.specs.Prelude.{nat_le, nat_lt, nat_eq}
 use Rattle.std.proofs.lemmas.Bool.{and_parts, and_from, or_cases, or_left, or_right, eqb-true, eq-eqb, le-leb, lt-ltb, leb-true, ltb-true, cases_Bool, not_from_false}
 use Rattle.qa_base.specs.values.Events.{is_named}
-use Rattle.qa_base.specs.machine.Numbers.{is_in, has_next, has_range, has_all, names_exactly, Names, NamesOnly, AreRanges}
+use Rattle.qa_base.specs.machine.Numbers.{is_in, has_next, has_range, has_all, names_between, NamesBetween, NamesOnly, AreRanges}
 
 -- ---- one range
 
@@ -64,7 +64,7 @@ names_has_all numbers (range ∷ ranges) order each =
     (range_is numbers range order.0 (λ n low high. each n (or_left (nat_le range.0 n && nat_le n range.1) (is_named ranges n) (and_from (nat_le range.0 n) (nat_le n range.1) (le-leb range.0 n low) (le-leb n range.1 high)))))
     (names_has_all numbers ranges order.1 (λ n named. each n (or_right (nat_le range.0 n && nat_le n range.1) (is_named ranges n) named)))
 
--- ---- exactly these numbers
+-- ---- all of the least and none but the most
 
 each_at : (p : ℕ → Bool) (xs : List ℕ) → ((n : ℕ) → is_in xs n ≡ true → p n ≡ true) → list_all p xs ≡ true
 each_at p [] each = refl
@@ -76,9 +76,9 @@ pub has_all_is : (numbers : List ℕ) (ranges : List (ℕ × ℕ)) → AreRanges
 has_all_is numbers ranges order = ((λ all. record { only = has_all_names numbers ranges all }), (λ names. names_has_all numbers ranges order names.only))
 
 -- the test of a Lost line's ranges is what it stands for
-pub names_exactly_is : (ranges : List (ℕ × ℕ)) (numbers : List ℕ) → AreRanges ranges → (names_exactly ranges numbers ≡ true) ↔ Names ranges numbers
-names_exactly_is ranges numbers order = (
-  (λ exactly. let parts = and_parts (has_all numbers ranges) (list_all (is_named ranges) numbers) exactly in
-      record { only = has_all_names numbers ranges parts.0; each = λ n is. all_at (is_named ranges) numbers n parts.1 is }),
-  (λ names. and_from (has_all numbers ranges) (list_all (is_named ranges) numbers) (names_has_all numbers ranges order names.only) (each_at (is_named ranges) numbers names.each)),
+pub names_between_is : (ranges : List (ℕ × ℕ)) (least most : List ℕ) → AreRanges ranges → (names_between ranges least most ≡ true) ↔ NamesBetween ranges least most
+names_between_is ranges least most order = (
+  (λ between. let parts = and_parts (has_all most ranges) (list_all (is_named ranges) least) between in
+      record { only = has_all_names most ranges parts.0; each = λ n is. all_at (is_named ranges) least n parts.1 is }),
+  (λ names. and_from (has_all most ranges) (list_all (is_named ranges) least) (names_has_all most ranges order names.only) (each_at (is_named ranges) least names.each)),
 )

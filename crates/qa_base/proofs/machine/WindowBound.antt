@@ -10,8 +10,9 @@ use Rattle.std.specs.Prelude.{if◌then◌else◌, nat_lt, nat_le}
 use Rattle.qa_base.specs.declared.event.Event.{Event}
 use Rattle.qa_base.specs.declared.event.Event.TheVariants.{Sent}
 use Rattle.qa_base.specs.machine.Packets.{Packet, packets, packet_of, is_acknowledged, is_declared_lost, is_newly_acknowledged, newly_acknowledged, history_of}
-use Rattle.qa_base.specs.values.Events.{acknowledges, time_of}
-use Rattle.qa_base.specs.machine.Loss.{owed, is_persistent, bytes_in_flight, flight_size, is_open}
+use Rattle.qa_base.specs.values.Events.{acknowledges}
+use Rattle.qa_base.specs.machine.Loss.{declared, is_persistent, bytes_in_flight, flight_size, is_open}
+use Rattle.qa_base.specs.machine.Moments.{detection_of, last_time}
 use Rattle.qa_base.specs.machine.Reno.{Move, Hit, Collapse, Grow, Control, start, moved, moves, moves_of_last, reno, hits, collapses, grows, is_app_limited, is_slow_start, is_outside_recovery, growth}
 use Rattle.qa_base.specs.values.Settings.{Settings, AreInRange}
 use Rattle.qa_base.specs.machine.Widths.{Fits, acknowledged_count}
@@ -161,11 +162,11 @@ small_grows false ps all =
 small_moves : (c : Settings) (e : Event) (h : List Event) → AllByRecursion IsSized (packets h)
     → AllByRecursion IsSmall (moves_of_last c (e ∷ h)) × (sum_by weight (moves_of_last c (e ∷ h)) ≤ 65527 * length (newly_acknowledged (e ∷ h)))
 small_moves c e h sized =
-    let xs = hits (time_of e) (owed c (e ∷ h)) in
+    let xs = hits (last_time (detection_of (e ∷ h))) (declared c (e ∷ h)) in
     let ys = collapses (is_persistent c (e ∷ h)) in
     let new = newly_acknowledged (e ∷ h) in
     let zs : List Move = if is_app_limited e then [] else grows new in
-    let a = small_hits (time_of e) (owed c (e ∷ h)) in
+    let a = small_hits (last_time (detection_of (e ∷ h))) (declared c (e ∷ h)) in
     let b = small_collapses (is_persistent c (e ∷ h)) in
     let g = small_grows (is_app_limited e) new (each_of_part IsSized (is_newly_acknowledged e h) (packets h) sized) in
     let sum : sum_by weight (moves_of_last c (e ∷ h)) ≡ sum_by weight (xs ++ ys) + sum_by weight zs = sum_by-append weight (xs ++ ys) zs in

@@ -13,8 +13,8 @@ use Rattle.qa_base.specs.declared.space.Space.TheVariants.{Handshake}
 use Rattle.qa_base.specs.values.Events.{time_of, is_space}
 use Rattle.qa_base.specs.machine.Handshake.{is_confirmed}
 use Rattle.qa_base.specs.machine.Leave.{probe_spent, recovery_spent, is_probe_due}
-use Rattle.qa_base.specs.machine.Loss.{owed, bytes_in_flight}
-use Rattle.qa_base.specs.machine.Numbers.{has_all, names_exactly}
+use Rattle.qa_base.specs.machine.Loss.{owed, nameable, bytes_in_flight}
+use Rattle.qa_base.specs.machine.Numbers.{has_all, names_between}
 use Rattle.qa_base.specs.machine.Packets.{Packet, packets_of, is_of, is_discarded, is_some_packet}
 use Rattle.qa_base.specs.machine.Window.{window, other_window, acknowledged_since_collapse}
 use Rattle.qa_base.specs.values.Constants.{minimum_window, probe_datagrams}
@@ -35,17 +35,17 @@ is_loss_owed c h _ = is_some_packet (owed c h)
 
 -- ---- a Lost line
 
--- V3: nothing is owed in its space
+-- V3: nothing is owed in its space, and nothing is free
 abbrev pub is_loss_not_owed : Settings → List Event → Event → Bool
-is_loss_not_owed c h (Lost time space ranges) = not (list_any (is_of space) (owed c h))
+is_loss_not_owed c h (Lost time space ranges) = not (list_any (is_of space) (nameable c h))
 is_loss_not_owed c h _ = false
 
 abbrev pub numbers : List Packet → List ℕ
 numbers ps = map (λ p. p.number) ps
 
--- V4: it does not name exactly the packets owed
+-- V4: it does not name all packets that are owed, or one that is neither owed nor free
 abbrev pub is_other_loss_set : Settings → List Event → Event → Bool
-is_other_loss_set c h (Lost time space ranges) = not (names_exactly ranges (numbers (owed c h)))
+is_other_loss_set c h (Lost time space ranges) = not (names_between ranges (numbers (owed c h)) (numbers (nameable c h)))
 is_other_loss_set c h _ = false
 
 -- ---- a space

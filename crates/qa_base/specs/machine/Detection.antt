@@ -4,12 +4,13 @@
 use Rattle.std.specs.Prelude.{ℕ, ◌+◌, ◌-◌, ◌&&◌, ◌||◌, not, nat_le, nat_lt, min, max, Bool, false, List, [], ◌∷◌, filter, map, Option, Some, None, option_map, if◌then◌else◌}
 use Rattle.std.specs.List.{list_any}
 use Rattle.qa_base.specs.declared.event.Event.{Event}
-use Rattle.qa_base.specs.declared.event.Event.TheVariants.{Ack, Timer}
+use Rattle.qa_base.specs.declared.event.Event.TheVariants.{Ack, Lost, Timer}
 use Rattle.qa_base.specs.declared.space.TimerKind.TheVariants.{Loss}
 use Rattle.qa_base.specs.declared.space.Space.{Space}
 use Rattle.qa_base.specs.machine.Packets.{Packet, packets, packets_of, is_of, is_acknowledged, is_declared_lost, is_below_largest, acknowledges_new, largest_acknowledged, least_of}
 use Rattle.qa_base.specs.machine.Rtt.{Estimate, loss_delay, persistent_after}
-use Rattle.qa_base.specs.values.Settings.{Settings, early, granularity}
+use Rattle.qa_base.specs.values.Events.{declares_lost}
+use Rattle.qa_base.specs.values.Settings.{Settings, early, granularity, is_may}
 
 -- ---- losses (RFC 9002, section 6.1, A.10)
 
@@ -17,11 +18,21 @@ use Rattle.qa_base.specs.values.Settings.{Settings, early, granularity}
 abbrev pub is_old : Settings → Estimate → ℕ → Packet → Bool
 is_old c r now p = nat_le (loss_delay (granularity c) r) (now - p.time)
 
--- below the largest acknowledged number, by the sender's packet threshold (section 6.1.1) or for long enough
+-- below the largest acknowledged number by the sender's packet threshold (section 6.1.1)
+abbrev pub is_far_below : Settings → ℕ → Packet → Bool
+is_far_below c largest p = nat_le c.options.packet_threshold (largest - p.number)
+
+-- below the largest acknowledged number, for long enough or, where such packets must be lost, by the packet threshold
 abbrev pub is_past_threshold : Settings → Estimate → ℕ → Option ℕ → Packet → Bool
 is_past_threshold c r now None p = false
 is_past_threshold c r now (Some largest) p =
-    nat_lt p.number largest && (nat_le c.options.packet_threshold (largest - p.number) || is_old c r now p)
+    nat_lt p.number largest && ((not (is_may c.options.loss_by_number) && is_far_below c largest p) || is_old c r now p)
+
+-- below it by the packet threshold, not for long enough, and such packets may be spared
+abbrev pub may_be_spared : Settings → Estimate → ℕ → Option ℕ → Packet → Bool
+may_be_spared c r now None p = false
+may_be_spared c r now (Some largest) p =
+    nat_lt p.number largest && (is_may c.options.loss_by_number && is_far_below c largest p) && not (is_old c r now p)
 
 -- neither acknowledged nor declared lost
 abbrev pub is_unsettled : List Event → Packet → Bool
@@ -30,6 +41,10 @@ is_unsettled h p = not (is_acknowledged h p) && not (is_declared_lost h p)
 -- a detection in the packet's space, at a time, finds it lost
 abbrev pub is_found : Settings → Estimate → List Event → ℕ → Space → Packet → Bool
 is_found c r h now s p = p.in_flight && is_unsettled h p && is_past_threshold c r now (largest_acknowledged h s) p
+
+-- a detection in the packet's space, at a time, leaves it to the sender whether it is lost
+abbrev pub is_left : Settings → Estimate → List Event → ℕ → Space → Packet → Bool
+is_left c r h now s p = p.in_flight && is_unsettled h p && may_be_spared c r now (largest_acknowledged h s) p
 
 -- ---- when losses are looked for
 
@@ -74,6 +89,38 @@ is_found_at c r h p (Some (s, now)) = is_of s p && is_found c r h now s p
 abbrev pub is_owed_by : Settings → Estimate → List Event → Packet → Bool
 is_owed_by c r h p = is_found_at c r h p (detection_by c r h)
 
+-- ---- what may be declared
+
+abbrev pub left_at : Settings → Estimate → List Event → Option (Space × ℕ) → List Packet
+left_at c r h None = []
+left_at c r h (Some (s, now)) = filter (is_left c r h now s) (packets_of h s)
+
+-- the packets of which the last event leaves it to the sender whether they are lost
+abbrev pub free_by : Settings → Estimate → List Event → List Packet
+free_by c r h = left_at c r h (detection_by c r h)
+
+abbrev pub is_left_at : Settings → Estimate → List Event → Packet → Option (Space × ℕ) → Bool
+is_left_at c r h p None = false
+is_left_at c r h p (Some (s, now)) = is_of s p && is_left c r h now s p
+
+abbrev pub is_free_by : Settings → Estimate → List Event → Packet → Bool
+is_free_by c r h p = is_left_at c r h p (detection_by c r h)
+
+-- the event names a packet that is free after the history
+abbrev pub is_completed_by : Settings → Estimate → List Event → Event → Bool
+is_completed_by c r h e = list_any (λ p. declares_lost p.space p.number e) (free_by c r h)
+
+-- a packet that is owed after the history, or that is free and that the event names
+abbrev pub is_taken_by : Settings → Estimate → List Event → Event → Packet → Bool
+is_taken_by c r h e p = is_owed_by c r h p || (is_free_by c r h p && declares_lost p.space p.number e)
+
+-- the packets that are lost by the last event: those that it finds lost; and by a Lost line that names one that is free, which
+-- so completes the detection in front of it, those that are owed and those that it names
+abbrev pub declared_by : Settings → Estimate → List Event → List Packet
+declared_by c r (Lost time space ranges ∷ before) =
+    if is_completed_by c r before (Lost time space ranges) then filter (is_taken_by c r before (Lost time space ranges)) (packets before) else []
+declared_by c r h = owed_by c r h
+
 -- ---- persistent congestion (RFC 9002, section 7.6)
 
 abbrev pub is_after : Option ℕ → Packet → Bool
@@ -95,6 +142,6 @@ are_ends r c h p q =
     && nat_lt (persistent_after (granularity c) r c.max_ack_delay) (q.time - p.time)
     && not (is_acknowledged_between h p q)
 
--- the last event establishes persistent congestion by two packets that it finds lost
+-- the last event establishes persistent congestion by two packets that are lost by it
 abbrev pub is_persistent_by : Estimate → Settings → List Event → Bool
-is_persistent_by r c h = list_any (λ p. list_any (are_ends r c h p) (owed_by c r h)) (owed_by c r h)
+is_persistent_by r c h = list_any (λ p. list_any (are_ends r c h p) (declared_by c r h)) (declared_by c r h)

@@ -1,10 +1,10 @@
--- Which packets are owed as lost, which are open, the bytes in flight, and persistent congestion.
+-- Which packets are owed as lost, which may be declared lost, which are open, the bytes in flight, and persistent congestion.
 --
 -- `c` are the settings of the header, `h` is the history.
-use Rattle.std.specs.Prelude.{ℕ, ◌&&◌, not, Bool, List, Option, sum_by, if◌then◌else◌}
+use Rattle.std.specs.Prelude.{ℕ, ◌&&◌, ◌||◌, not, Bool, List, filter, Option, sum_by, if◌then◌else◌}
 use Rattle.qa_base.specs.declared.event.Event.{Event}
 use Rattle.qa_base.specs.declared.space.Space.{Space}
-use Rattle.qa_base.specs.machine.Detection.{detection_by, owed_by, is_owed_by, is_unsettled, is_persistent_by}
+use Rattle.qa_base.specs.machine.Detection.{detection_by, owed_by, is_owed_by, free_by, is_free_by, declared_by, is_unsettled, is_persistent_by}
 use Rattle.qa_base.specs.machine.Estimates.{sampled}
 use Rattle.qa_base.specs.machine.Packets.{Packet, packets, is_discarded}
 use Rattle.qa_base.specs.values.Settings.{Settings}
@@ -22,6 +22,24 @@ owed c h = owed_by c (sampled c h) h
 abbrev pub is_owed : Settings → List Event → Packet → Bool
 is_owed c h p = is_owed_by c (sampled c h) h p
 
+-- the packets that the last event left to the sender: a Lost line behind it may declare them too
+abbrev pub free : Settings → List Event → List Packet
+free c h = free_by c (sampled c h) h
+
+abbrev pub is_free : Settings → List Event → Packet → Bool
+is_free c h p = is_free_by c (sampled c h) h p
+
+abbrev pub is_nameable : Settings → List Event → Packet → Bool
+is_nameable c h p = is_owed c h p || is_free c h p
+
+-- the packets that the next Lost line may name: those that are owed, and those that are free
+abbrev pub nameable : Settings → List Event → List Packet
+nameable c h = filter (is_nameable c h) (packets h)
+
+-- the packets that are lost by the last event: by a detection, and by a Lost line with those of the detection that it completes
+abbrev pub declared : Settings → List Event → List Packet
+declared c h = declared_by c (sampled c h) h
+
 -- ---- bytes in flight (RFC 9002, B.4, B.9)
 
 -- neither acknowledged nor lost, and its space not discarded
@@ -37,6 +55,6 @@ bytes_in_flight c h = sum_by (flight_size c h) (packets h)
 
 -- ---- persistent congestion (RFC 9002, section 7.6)
 
--- the last event establishes it by two packets that it found lost
+-- the last event establishes it by two packets that are lost by it
 abbrev pub is_persistent : Settings → List Event → Bool
 is_persistent c h = is_persistent_by (sampled c h) c h

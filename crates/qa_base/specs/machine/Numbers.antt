@@ -18,9 +18,9 @@ has_range numbers range = is_in numbers range.0 && list_all (has_next numbers ra
 abbrev pub has_all : List ℕ → List (ℕ × ℕ) → Bool
 has_all numbers ranges = list_all (has_range numbers) ranges
 
--- the ranges name these numbers and no others
-abbrev pub names_exactly : List (ℕ × ℕ) → List ℕ → Bool
-names_exactly ranges numbers = has_all numbers ranges && list_all (is_named ranges) numbers
+-- the ranges name all of the least numbers, and none but the most
+abbrev pub names_between : List (ℕ × ℕ) → (least most : List ℕ) → Bool
+names_between ranges least most = has_all most ranges && list_all (is_named ranges) least
 
 -- ---- the rules that the tests stand for
 
@@ -32,6 +32,11 @@ pub record NamesOnly (ranges : List (ℕ × ℕ)) (numbers : List ℕ) : Type 0 
 pub record Names (ranges : List (ℕ × ℕ)) (numbers : List ℕ) : Type 0 where
   pub only : (n : ℕ) → is_named ranges n ≡ true → is_in numbers n ≡ true
   pub each : (n : ℕ) → is_in numbers n ≡ true → is_named ranges n ≡ true
+
+-- all of the least numbers are in a range, and none but the most
+pub record NamesBetween (ranges : List (ℕ × ℕ)) (least most : List ℕ) : Type 0 where
+  pub only : (n : ℕ) → is_named ranges n ≡ true → is_in most n ≡ true
+  pub each : (n : ℕ) → is_in least n ≡ true → is_named ranges n ≡ true
 
 -- each range is from a number to one that is not below it
 abbrev pub AreRanges : List (ℕ × ℕ) → Type 0

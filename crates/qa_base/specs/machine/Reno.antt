@@ -4,8 +4,8 @@
 use Rattle.std.specs.Prelude.{ℕ, ◌+◌, ◌*◌, ◌/◌, nat_lt, max, Bool, true, false, List, [], ◌∷◌, ◌++◌, filter, fold, map, reverse, Option, Some, None, if◌then◌else◌}
 use Rattle.qa_base.specs.declared.event.Event.{Event}
 use Rattle.qa_base.specs.declared.event.Event.TheVariants.{Ack}
-use Rattle.qa_base.specs.values.Events.{time_of}
-use Rattle.qa_base.specs.machine.Loss.{owed, is_persistent}
+use Rattle.qa_base.specs.machine.Loss.{declared, is_persistent}
+use Rattle.qa_base.specs.machine.Moments.{detection_of, before_last, last_time}
 use Rattle.qa_base.specs.machine.Packets.{Packet, newly_acknowledged}
 use Rattle.qa_base.specs.values.Constants.{minimum_window, loss_reduction_divisor}
 use Rattle.qa_base.specs.values.Settings.{Settings}
@@ -67,7 +67,7 @@ abbrev pub latest_sent : List Packet → ℕ
 latest_sent [] = 0
 latest_sent (p ∷ ps) = max p.time (latest_sent ps)
 
--- packets found lost at a time
+-- packets lost by a detection at a time
 abbrev pub hits : ℕ → List Packet → List Move
 hits now [] = []
 hits now (p ∷ ps) = Hit (latest_sent (p ∷ ps)) now ∷ []
@@ -85,11 +85,11 @@ abbrev pub is_app_limited : Event → Bool
 is_app_limited (Ack time space ranges delay app_limited) = app_limited
 is_app_limited _ = false
 
--- the moves of the last event: losses first, then growth (A.7)
+-- the moves of the last event: losses first, at the time of their detection, then growth (A.7)
 abbrev pub moves_of_last : Settings → List Event → List Move
 moves_of_last c [] = []
 moves_of_last c (e ∷ before) =
-    hits (time_of e) (owed c (e ∷ before))
+    hits (last_time (detection_of (e ∷ before))) (declared c (e ∷ before))
     ++ collapses (is_persistent c (e ∷ before))
     ++ (if is_app_limited e then [] else grows (newly_acknowledged (e ∷ before)))
 
@@ -112,7 +112,6 @@ abbrev pub enters : Option ℕ → List Move → Bool
 enters recovery (Hit last_sent now ∷ ms) = is_outside_recovery recovery last_sent
 enters recovery _ = false
 
--- the last event enters recovery
+-- the last event enters recovery: by when recovery began before the detection of what is lost by it
 abbrev pub is_entry : Settings → List Event → Bool
-is_entry c [] = false
-is_entry c (e ∷ before) = enters (reno c before).recovery_start_time (moves_of_last c (e ∷ before))
+is_entry c h = enters (reno c (before_last (detection_of h))).recovery_start_time (moves_of_last c h)

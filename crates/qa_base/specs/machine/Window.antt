@@ -8,7 +8,7 @@ use Rattle.qa_base.specs.declared.event.Event.TheVariants.{Metrics}
 use Rattle.qa_base.specs.declared.space.Controller.{Controller}
 use Rattle.qa_base.specs.declared.space.Controller.TheVariants.{NewReno, Reported}
 use Rattle.qa_base.specs.machine.Loss.{is_persistent}
-use Rattle.qa_base.specs.machine.Moments.{moments, since}
+use Rattle.qa_base.specs.machine.Moments.{moments, since, detection_of}
 use Rattle.qa_base.specs.machine.Packets.{newly_acknowledged}
 use Rattle.qa_base.specs.machine.Reno.{reno}
 use Rattle.qa_base.specs.values.Settings.{Settings}
@@ -74,7 +74,7 @@ if_persistent c h = if is_persistent c h then Some h else None
 abbrev pub last_collapse : Settings → List Event → Option (List Event)
 last_collapse c h = option_and_then (if_persistent c) (find (is_collapse_or_change c) (moments h))
 
--- the bytes in flight that were newly acknowledged since then, that moment included
+-- the bytes in flight that were newly acknowledged since then, those of the detection that established it included
 abbrev pub acknowledged_since_collapse : Settings → List Event → Option ℕ
 acknowledged_since_collapse c h =
-    option_map (λ m. sum_by acknowledged_bytes (since (is_collapse_or_change c) h) + acknowledged_bytes m) (last_collapse c h)
+    option_map (λ m. sum_by acknowledged_bytes (since (is_collapse_or_change c) h) + acknowledged_bytes (detection_of m)) (last_collapse c h)

@@ -66,7 +66,8 @@ fits _ = true
 
 -- ---- events that change little
 
--- the event can change neither the RTT, the window nor the PTO count: no acknowledgment, timer or discard
+-- the event can change neither the RTT, the window nor the PTO count, unless it is a Lost line that completes a detection: no
+-- acknowledgment, timer or discard
 abbrev pub is_quiet : Event → Bool
 is_quiet (Ack time space ranges delay app_limited) = false
 is_quiet (Timer time kind space) = false

@@ -18,6 +18,8 @@ use Rattle.qa_base.specs.declared.space.TimeUnit.{TimeUnit}
 use Rattle.qa_base.specs.declared.space.TimeUnit.TheVariants.{Microseconds, Nanoseconds}
 use Rattle.qa_base.specs.declared.space.Controller.{Controller}
 use Rattle.qa_base.specs.declared.space.Controller.TheVariants.{NewReno, Reported}
+use Rattle.qa_base.specs.declared.space.LossByNumber.{LossByNumber}
+use Rattle.qa_base.specs.declared.space.LossByNumber.TheVariants.{Must, May}
 use Rattle.qa_base.specs.declared.space.TimerKind.{TimerKind}
 use Rattle.qa_base.specs.declared.space.TimerKind.TheVariants.{Loss, Pto}
 use Rattle.qa_base.specs.declared.space.Leave.{Leave}
@@ -52,6 +54,7 @@ key_name key.WindowOvershoot = codes "window_overshoot"
 key_name key.SampleElicitingOnly = codes "sample_eliciting_only"
 key_name key.PacketThreshold = codes "packet_threshold"
 key_name key.TimerEarlyUs = codes "timer_early_us"
+key_name key.LossByNumber = codes "loss_by_number"
 key_name key.Time = codes "time"
 key_name key.Space = codes "space"
 key_name key.Number = codes "number"
@@ -97,6 +100,10 @@ abbrev pub controller_name : Controller → List ℕ
 controller_name NewReno = codes "newreno"
 controller_name Reported = codes "reported"
 
+abbrev pub loss_by_number_name : LossByNumber → List ℕ
+loss_by_number_name Must = codes "must"
+loss_by_number_name May = codes "may"
+
 abbrev pub space_name : Space → List ℕ
 space_name Initial = codes "initial"
 space_name Handshake = codes "handshake"
@@ -136,6 +143,9 @@ unit_named = named (with_names unit_name (Microseconds ∷ Nanoseconds ∷ []))
 
 abbrev pub controller_named : List ℕ → Option Controller
 controller_named = named (with_names controller_name (NewReno ∷ Reported ∷ []))
+
+abbrev pub loss_by_number_named : List ℕ → Option LossByNumber
+loss_by_number_named = named (with_names loss_by_number_name (Must ∷ May ∷ []))
 
 abbrev pub space_named : List ℕ → Option Space
 space_named = named (with_names space_name (Initial ∷ Handshake ∷ App ∷ []))

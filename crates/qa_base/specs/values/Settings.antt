@@ -8,6 +8,8 @@ use Rattle.qa_base.specs.declared.header.Version.{Version}
 use Rattle.qa_base.specs.declared.header.Version.TheVariants.{One, Two, Three}
 use Rattle.qa_base.specs.declared.space.Controller.{Controller}
 use Rattle.qa_base.specs.declared.space.Controller.TheVariants.{NewReno, Reported}
+use Rattle.qa_base.specs.declared.space.LossByNumber.{LossByNumber}
+use Rattle.qa_base.specs.declared.space.LossByNumber.TheVariants.{Must, May}
 use Rattle.qa_base.specs.declared.space.Role.{Role}
 use Rattle.qa_base.specs.declared.space.TimeUnit.{TimeUnit}
 use Rattle.qa_base.specs.declared.space.TimeUnit.TheVariants.{Microseconds, Nanoseconds}
@@ -32,6 +34,11 @@ abbrev pub is_reported : Controller → Bool
 is_reported NewReno = false
 is_reported Reported = true
 
+-- a packet that lies the packet threshold behind may be spared
+abbrev pub is_may : LossByNumber → Bool
+is_may Must = false
+is_may May = true
+
 -- what a header of version 1 asks: no limit, no refresh and no slack, and a sender as RFC 9002 has it
 abbrev pub no_options : Options
 no_options = record {
@@ -44,11 +51,16 @@ no_options = record {
   sample_eliciting_only = false;
   packet_threshold = default_packet_threshold;
   timer_early_us = 0;
+  loss_by_number = Must;
 }
 
 -- version 2 can say these options
 abbrev pub are_second : Options → Bool
-are_second o = not (is_reported o.controller) && not o.window_overshoot && not o.sample_eliciting_only && o.packet_threshold == default_packet_threshold && o.timer_early_us == 0
+are_second o = not (is_reported o.controller) && not o.window_overshoot && not o.sample_eliciting_only && o.packet_threshold == default_packet_threshold && o.timer_early_us == 0 && not (is_may o.loss_by_number)
+
+-- packets may be spared, and the window is not one that the sender reports
+abbrev pub spares_unreported : Options → Bool
+spares_unreported o = is_may o.loss_by_number && not (is_reported o.controller)
 
 -- a header of this version says this unit and these options
 abbrev pub IsSaidIn : Version → TimeUnit → Options → Type 0
@@ -93,6 +105,7 @@ pub record AreInRange (s : Settings) : Type 0 where
   pub threshold_low : min_packet_threshold ≤ s.options.packet_threshold
   pub threshold_high : s.options.packet_threshold ≤ max_packet_threshold
   pub early_high : s.options.timer_early_us ≤ max_timer_early_us
+  pub spared_reported : spares_unreported s.options ≡ false
   pub first_version : s.version ≡ One → s.options ≡ no_options
   pub said : IsSaidIn s.version s.unit s.options
 
@@ -149,6 +162,7 @@ in_version version s options =
     (if is_outside 0 max_report_slack_bytes options.report_slack_bytes then Err (record { 0 = key.ReportSlackBytes }) else
     (if is_outside min_packet_threshold max_packet_threshold options.packet_threshold then Err (record { 0 = key.PacketThreshold }) else
     (if is_outside 0 max_timer_early_us options.timer_early_us then Err (record { 0 = key.TimerEarlyUs }) else
+    (if spares_unreported options then Err (record { 0 = key.LossByNumber }) else
     Ok (record {
       role = s.role;
       unit = s.unit;
@@ -158,7 +172,7 @@ in_version version s options =
       initial_window = s.initial_window;
       version = version;
       options = options;
-    })))))
+    }))))))
 
 -- a header's values with these options: in version 2, or in version 3 where the header is of it or version 2 cannot say them
 abbrev pub with_options : Settings → Options → Result Settings RangeFault

@@ -21,20 +21,22 @@ use Rattle.qa_base.specs.declared.space.Leave.TheVariants as leaves
 use Rattle.qa_base.specs.declared.space.Role.{Role}
 use Rattle.qa_base.specs.declared.space.Space.{Space}
 use Rattle.qa_base.specs.declared.space.Space.TheVariants.{Initial, Handshake, App}
+use Rattle.qa_base.specs.declared.space.LossByNumber.{LossByNumber}
+use Rattle.qa_base.specs.declared.space.LossByNumber.TheVariants.{Must}
 use Rattle.qa_base.specs.declared.space.Controller.{Controller}
 use Rattle.qa_base.specs.declared.space.Controller.TheVariants.{NewReno}
 use Rattle.qa_base.specs.declared.space.TimeUnit.{TimeUnit}
 use Rattle.qa_base.specs.declared.space.TimeUnit.TheVariants.{Microseconds}
 use Rattle.qa_base.specs.values.Events.{is_space}
 use Rattle.qa_base.specs.values.Limits.{max_time, max_packet_number, max_packet_size}
-use Rattle.qa_base.specs.values.Names.{key_name, role_name, role_named, unit_name, controller_name, unit_named, controller_named, space_name, space_named, discarded_named, leave_name, leave_named, kind_name, kind_named}
+use Rattle.qa_base.specs.values.Names.{key_name, role_name, role_named, unit_name, controller_name, loss_by_number_name, unit_named, controller_named, loss_by_number_named, space_name, space_named, discarded_named, leave_name, leave_named, kind_name, kind_named}
 use Rattle.qa_format.specs.format.Proper.{IsProperEvent}
 use Rattle.qa_base.specs.values.Settings.{Settings, no_options}
-use Rattle.qa_format.specs.format.Keys.{◌>>=◌, both, Kind, read_or, integer, integer_from, string, string_among, boolean, ranges, required, optional}
+use Rattle.qa_format.specs.format.Keys.{◌>>=◌, both, Kind, read_or, integer, integer_from, string, string_among, string_naming, boolean, ranges, required, optional}
 use Rattle.qa_format.specs.format.Reading.{reader_named, object_says}
-use Rattle.qa_format.specs.format.Tables.{time, space, version, unit_and_window_for, unit_and_window, header_fields, option_fields, choice_fields, second_options, third_options, options_for, options, settings, of_version, header_of, sent_fields, sent_of, ack_fields, ack_of, lost_fields, lost_of, timer_fields, timer_of, discard_fields, discard_of, confirmed_of, keys_of, metric_values, metrics_of}
+use Rattle.qa_format.specs.format.Tables.{time, space, version, unit_and_window_for, unit_and_window, header_fields, option_fields, choice_fields, second_options, third_options, options_for, options, settings, of_version, with_losses, header_of, sent_fields, sent_of, ack_fields, ack_of, lost_fields, lost_of, timer_fields, timer_of, discard_fields, discard_of, confirmed_of, keys_of, metric_values, metrics_of}
 use Rattle.qa_format.specs.format.Written as written
-use Rattle.qa_format.proofs.format.KeysWritten.{required_reads, optional_reads, both_reads, integer_from_reads, role_reads, unit_reads, controller_reads, space_reads, leave_reads, kind_reads, ranges_read, present_integer_reads}
+use Rattle.qa_format.proofs.format.KeysWritten.{required_reads, optional_reads, both_reads, integer_from_reads, role_reads, unit_reads, controller_reads, losses_read, space_reads, leave_reads, kind_reads, ranges_read, present_integer_reads}
 
 -- ---- several keys
 
@@ -85,7 +87,7 @@ third_unit_found d u w at_version at_unit at_window =
     (optional_found (string_among controller_named) NewReno key.Window d (λ v. written.string (controller_name v)) w at_window (λ v. refl) (controller_reads key.Window))
 
 -- version 1 has no options
-pub first_options_found : (d : Data) → get (codes "version") d ≡ Some (written.integer 1) → options d ≡ Ok no_options
+pub first_options_found : (d : Data) → get (codes "version") d ≡ Some (written.integer 1) → options d ≡ Ok (no_options, Some Must)
 first_options_found d at = ap (λ r. options_for r d) (version_found d 1 at)
 
 -- the values of options that are there, with their defaults
@@ -103,20 +105,28 @@ option_fields_found d limit refresh slack_us slack_bytes at_limit at_refresh at_
     (optional_found integer 0 key.ReportSlackBytes d written.integer slack_bytes at_slack_bytes (λ n. refl) (λ n. refl)) in
     both_reads _ _ _ _ timers slacks
 
-choice_fields_found : (d : Data) (overshoot eliciting : Option Bool) (threshold early : Option ℕ)
+-- what loss_by_number stands for, where it is there or not
+losses_found : (d : Data) (losses : Option LossByNumber) → get (codes "loss_by_number") d ≡ option_map (λ l. written.string (loss_by_number_name l)) losses
+    → optional (string_naming loss_by_number_named) (Some Must) key.LossByNumber d ≡ Ok (Some (unwrap_or losses Must))
+losses_found d None at = ap (λ g. read_or (string_naming loss_by_number_named) (Some Must) key.LossByNumber (option_and_then (λ v. if is_some (as_null v) then None else Some v) g)) at
+losses_found d (Some l) at =
+    optional_reads (string_naming loss_by_number_named) (Some Must) key.LossByNumber d (written.string (loss_by_number_name l)) (Some l) at refl (losses_read key.LossByNumber l)
+
+choice_fields_found : (d : Data) (overshoot eliciting : Option Bool) (threshold early : Option ℕ) (losses : Option LossByNumber)
     → get (codes "window_overshoot") d ≡ option_map written.boolean overshoot
     → get (codes "sample_eliciting_only") d ≡ option_map written.boolean eliciting
     → get (codes "packet_threshold") d ≡ option_map written.integer threshold
     → get (codes "timer_early_us") d ≡ option_map written.integer early
-    → choice_fields d ≡ Ok ((unwrap_or overshoot false, unwrap_or eliciting false), (unwrap_or threshold 3, unwrap_or early 0))
-choice_fields_found d overshoot eliciting threshold early at_overshoot at_eliciting at_threshold at_early =
+    → get (codes "loss_by_number") d ≡ option_map (λ l. written.string (loss_by_number_name l)) losses
+    → choice_fields d ≡ Ok ((unwrap_or overshoot false, unwrap_or eliciting false), ((unwrap_or threshold 3, unwrap_or early 0), Some (unwrap_or losses Must)))
+choice_fields_found d overshoot eliciting threshold early losses at_overshoot at_eliciting at_threshold at_early at_losses =
     let flags = both_reads _ _ (unwrap_or overshoot false) (unwrap_or eliciting false)
     (optional_found boolean false key.WindowOvershoot d written.boolean overshoot at_overshoot (λ b. refl) (λ b. refl))
     (optional_found boolean false key.SampleElicitingOnly d written.boolean eliciting at_eliciting (λ b. refl) (λ b. refl)) in
     let numbers = both_reads _ _ (unwrap_or threshold 3) (unwrap_or early 0)
     (optional_found integer 3 key.PacketThreshold d written.integer threshold at_threshold (λ n. refl) (λ n. refl))
     (optional_found integer 0 key.TimerEarlyUs d written.integer early at_early (λ n. refl) (λ n. refl)) in
-    both_reads _ _ _ _ flags numbers
+    both_reads _ _ _ _ flags (both_reads _ _ _ _ numbers (losses_found d losses at_losses))
 
 -- the options of version 2 are the values that are there, with their defaults
 pub second_options_found : (d : Data) (limit : Option ℕ) (refresh : Option Bool) (slack_us slack_bytes : Option ℕ)
@@ -125,14 +135,14 @@ pub second_options_found : (d : Data) (limit : Option ℕ) (refresh : Option Boo
     → get (codes "refresh_min_rtt") d ≡ option_map written.boolean refresh
     → get (codes "report_slack_us") d ≡ option_map written.integer slack_us
     → get (codes "report_slack_bytes") d ≡ option_map written.integer slack_bytes
-    → options d ≡ Ok (record no_options { timer_late = limit; refresh_min_rtt = unwrap_or refresh false; report_slack_us = unwrap_or slack_us 0; report_slack_bytes = unwrap_or slack_bytes 0 })
+    → options d ≡ Ok (record no_options { timer_late = limit; refresh_min_rtt = unwrap_or refresh false; report_slack_us = unwrap_or slack_us 0; report_slack_bytes = unwrap_or slack_bytes 0 }, Some Must)
 second_options_found d limit refresh slack_us slack_bytes at_version at_limit at_refresh at_slack_us at_slack_bytes =
     let second : options d ≡ second_options d = ap (λ r. options_for r d) (version_found d 2 at_version) in
     let fields = option_fields_found d limit refresh slack_us slack_bytes at_limit at_refresh at_slack_us at_slack_bytes in
     second ∙ then_reads _ _ ((limit, unwrap_or refresh false), (unwrap_or slack_us 0, unwrap_or slack_bytes 0)) _ fields refl
 
 -- and so are those of version 3
-pub third_options_found : (d : Data) (limit : Option ℕ) (refresh : Option Bool) (slack_us slack_bytes : Option ℕ) (overshoot eliciting : Option Bool) (threshold early : Option ℕ)
+pub third_options_found : (d : Data) (limit : Option ℕ) (refresh : Option Bool) (slack_us slack_bytes : Option ℕ) (overshoot eliciting : Option Bool) (threshold early : Option ℕ) (losses : Option LossByNumber)
     → get (codes "version") d ≡ Some (written.integer 3)
     → get (codes "timer_late_us") d ≡ option_map written.integer limit
     → get (codes "refresh_min_rtt") d ≡ option_map written.boolean refresh
@@ -142,26 +152,31 @@ pub third_options_found : (d : Data) (limit : Option ℕ) (refresh : Option Bool
     → get (codes "sample_eliciting_only") d ≡ option_map written.boolean eliciting
     → get (codes "packet_threshold") d ≡ option_map written.integer threshold
     → get (codes "timer_early_us") d ≡ option_map written.integer early
-    → options d ≡ Ok (record no_options {
-      timer_late = limit;
-      refresh_min_rtt = unwrap_or refresh false;
-      report_slack_us = unwrap_or slack_us 0;
-      report_slack_bytes = unwrap_or slack_bytes 0;
-      window_overshoot = unwrap_or overshoot false;
-      sample_eliciting_only = unwrap_or eliciting false;
-      packet_threshold = unwrap_or threshold 3;
-      timer_early_us = unwrap_or early 0;
-    })
-third_options_found d limit refresh slack_us slack_bytes overshoot eliciting threshold early at_version at_limit at_refresh at_slack_us at_slack_bytes at_overshoot at_eliciting at_threshold at_early =
+    → get (codes "loss_by_number") d ≡ option_map (λ l. written.string (loss_by_number_name l)) losses
+    → options d ≡ Ok (
+      record no_options {
+        timer_late = limit;
+        refresh_min_rtt = unwrap_or refresh false;
+        report_slack_us = unwrap_or slack_us 0;
+        report_slack_bytes = unwrap_or slack_bytes 0;
+        window_overshoot = unwrap_or overshoot false;
+        sample_eliciting_only = unwrap_or eliciting false;
+        packet_threshold = unwrap_or threshold 3;
+        timer_early_us = unwrap_or early 0;
+      },
+      Some (unwrap_or losses Must),
+    )
+third_options_found d limit refresh slack_us slack_bytes overshoot eliciting threshold early losses at_version at_limit at_refresh at_slack_us at_slack_bytes at_overshoot at_eliciting at_threshold at_early at_losses =
     let third : options d ≡ third_options d = ap (λ r. options_for r d) (version_found d 3 at_version) in
     let asked = option_fields_found d limit refresh slack_us slack_bytes at_limit at_refresh at_slack_us at_slack_bytes in
-    let chosen = choice_fields_found d overshoot eliciting threshold early at_overshoot at_eliciting at_threshold at_early in
+    let chosen = choice_fields_found d overshoot eliciting threshold early losses at_overshoot at_eliciting at_threshold at_early at_losses in
     third ∙ then_reads _ _
-    (((limit, unwrap_or refresh false), (unwrap_or slack_us 0, unwrap_or slack_bytes 0)), ((unwrap_or overshoot false, unwrap_or eliciting false), (unwrap_or threshold 3, unwrap_or early 0)))
+    (((limit, unwrap_or refresh false), (unwrap_or slack_us 0, unwrap_or slack_bytes 0)), ((unwrap_or overshoot false, unwrap_or eliciting false), ((unwrap_or threshold 3, unwrap_or early 0), Some (unwrap_or losses Must))))
     _ (both_reads _ _ _ _ asked chosen) refl
 
--- the settings are those of the values that are there, with their defaults, in the version of this number with these options
-pub header_found : (ms : Members) (n : ℕ) (asked : Options) (role : Role) (times : TimeUnit) (who : Controller) (max_datagram_size : ℕ) (max_ack_delay initial_rtt initial_window : Option ℕ) (s t : Settings)
+-- the settings are those of the values that are there, with their defaults, in the version of this number with these options and
+-- losses by number
+pub header_found : (ms : Members) (n : ℕ) (asked : Options) (losses : LossByNumber) (role : Role) (times : TimeUnit) (who : Controller) (max_datagram_size : ℕ) (max_ack_delay initial_rtt initial_window : Option ℕ) (s t : Settings)
     → get_member (codes "event") ms ≡ Some (written.string (codes "header"))
     → get_member (codes "version") ms ≡ Some (written.integer n)
     → get_member (codes "role") ms ≡ Some (written.string (role_name role))
@@ -170,12 +185,12 @@ pub header_found : (ms : Members) (n : ℕ) (asked : Options) (role : Role) (tim
     → get_member (codes "max_ack_delay") ms ≡ option_map written.integer max_ack_delay
     → get_member (codes "initial_rtt") ms ≡ option_map written.integer initial_rtt
     → get_member (codes "initial_window") ms ≡ option_map written.integer initial_window
-    → options (object ms) ≡ Ok asked
+    → options (object ms) ≡ Ok (asked, Some losses)
     → settings times role max_datagram_size max_ack_delay initial_rtt initial_window ≡ Ok s
-    → of_version n (record asked { controller = who }) s ≡ Ok t
+    → (of_version n (record asked { controller = who }) s >>= with_losses (Some losses)) ≡ Ok t
     → object_says reader_named (object ms) ≡ Ok (line.Header t)
 unfolding object_says header_of
-header_found ms n asked role times who max_datagram_size max_ack_delay initial_rtt initial_window s t named at_version at_role at_unit at_size at_delay at_rtt at_window asks are of =
+header_found ms n asked losses role times who max_datagram_size max_ack_delay initial_rtt initial_window s t named at_version at_role at_unit at_size at_delay at_rtt at_window asks are of =
     let d = object ms in
     let firsts = both_reads _ _ n role (version_found d n at_version)
     (required_reads (string_among role_named) key.Role d (written.string (role_name role)) role at_role refl (role_reads key.Role role)) in
@@ -185,8 +200,8 @@ header_found ms n asked role times who max_datagram_size max_ack_delay initial_r
     let starts = both_reads _ _ initial_rtt initial_window (present_integer_reads key.InitialRtt d initial_rtt at_rtt) (present_integer_reads key.InitialWindow d initial_window at_window) in
     let fields = both_reads _ _ _ _ firsts (both_reads _ _ _ _ at_unit (both_reads _ _ _ _ sizes starts)) in
     let says : header_of d ≡ Ok t = then_reads (both (header_fields d) (options d)) _
-    (((n, role), ((times, who), ((max_datagram_size, max_ack_delay), (initial_rtt, initial_window)))), asked) _ (both_reads _ _ _ _ fields asks)
-    (then_reads (settings times role max_datagram_size max_ack_delay initial_rtt initial_window) (of_version n (record asked { controller = who })) s t are of) in
+    (((n, role), ((times, who), ((max_datagram_size, max_ack_delay), (initial_rtt, initial_window)))), (asked, Some losses)) _ (both_reads _ _ _ _ fields asks)
+    (ap (λ r. r >>= of_version n (record asked { controller = who }) >>= with_losses (Some losses)) are ∙ of) in
     then_reads (required string key.Event d) _ (codes "header") (line.Header t) (named_found d (codes "header") named) (ap (λ r. r >>= λ u. Ok (line.Header u)) says)
 
 -- ---- packets

@@ -21,14 +21,16 @@ use Rattle.qa_base.specs.declared.space.Role.{Role}
 use Rattle.qa_base.specs.declared.space.Role.TheVariants.{Client, Server}
 use Rattle.qa_base.specs.declared.space.Space.{Space}
 use Rattle.qa_base.specs.declared.space.Space.TheVariants.{Initial, Handshake, App}
+use Rattle.qa_base.specs.declared.space.LossByNumber.{LossByNumber}
+use Rattle.qa_base.specs.declared.space.LossByNumber.TheVariants.{Must, May}
 use Rattle.qa_base.specs.declared.space.Controller.{Controller}
 use Rattle.qa_base.specs.declared.space.Controller.TheVariants.{NewReno, Reported}
 use Rattle.qa_base.specs.declared.space.TimeUnit.{TimeUnit}
 use Rattle.qa_base.specs.declared.space.TimeUnit.TheVariants.{Microseconds, Nanoseconds}
 use Rattle.qa_base.specs.values.Events.{has_ranges}
-use Rattle.qa_format.specs.format.Keys.{◌>>=◌, both, Kind, ranged, integer, integer_from, string_among, pairs_of, is_range, ranges, present, required, read_or, optional, if_present}
+use Rattle.qa_format.specs.format.Keys.{◌>>=◌, both, Kind, ranged, integer, integer_from, string_among, string_naming, pairs_of, is_range, ranges, present, required, read_or, optional, if_present}
 use Rattle.qa_base.specs.values.Limits.{max_packet_number}
-use Rattle.qa_base.specs.values.Names.{key_name, field_name, role_name, role_named, unit_name, controller_name, unit_named, controller_named, space_name, space_named, leave_name, leave_named, kind_name, kind_named}
+use Rattle.qa_base.specs.values.Names.{key_name, field_name, role_name, role_named, unit_name, controller_name, loss_by_number_name, unit_named, controller_named, loss_by_number_named, space_name, space_named, leave_name, leave_named, kind_name, kind_named}
 use Rattle.qa_format.specs.format.Proper.{IsRange, IsWord}
 pub use Rattle.qa_format.specs.format.Simple.{IsKept}
 use Rattle.qa_format.specs.format.Simple.{is_ascii, AreSimple, HaveSimple, IsBefore}
@@ -66,6 +68,10 @@ unit_reads k Nanoseconds = refl
 pub controller_reads : (k : Key) (w : Controller) → string_among controller_named k (written.string (controller_name w)) ≡ Ok w
 controller_reads k NewReno = refl
 controller_reads k Reported = refl
+
+pub losses_read : (k : Key) (l : LossByNumber) → string_naming loss_by_number_named k (written.string (loss_by_number_name l)) ≡ Ok (Some l)
+losses_read k Must = refl
+losses_read k May = refl
 
 pub space_reads : (k : Key) (s : Space) → string_among space_named k (written.string (space_name s)) ≡ Ok s
 space_reads k Initial = refl
@@ -155,6 +161,10 @@ unit_is_kept Nanoseconds = string_is_kept _ refl
 pub controller_is_kept : (w : Controller) → IsKept (written.string (controller_name w))
 controller_is_kept NewReno = string_is_kept _ refl
 controller_is_kept Reported = string_is_kept _ refl
+
+pub losses_are_kept : (l : LossByNumber) → IsKept (written.string (loss_by_number_name l))
+losses_are_kept Must = string_is_kept _ refl
+losses_are_kept May = string_is_kept _ refl
 
 pub space_is_kept : (s : Space) → IsKept (written.string (space_name s))
 space_is_kept Initial = string_is_kept _ refl

@@ -23,6 +23,8 @@ use Rattle.qa_base.specs.declared.rule.Field.TheVariants.{Window, Ssthresh, Byte
 use Rattle.qa_base.specs.declared.space.TimerKind.{TimerKind}
 use Rattle.qa_base.specs.declared.space.Leave.{Leave}
 use Rattle.qa_base.specs.declared.space.Space.{Space}
+use Rattle.qa_base.specs.declared.space.LossByNumber.{LossByNumber}
+use Rattle.qa_base.specs.declared.space.LossByNumber.TheVariants.{Must, May}
 use Rattle.qa_base.specs.declared.space.Controller.{Controller}
 use Rattle.qa_base.specs.declared.space.Controller.TheVariants.{NewReno, Reported}
 use Rattle.qa_base.specs.declared.space.TimeUnit.{TimeUnit}
@@ -31,17 +33,17 @@ use Rattle.qa_base.proofs.Units.{unit_high}
 use Rattle.qa_format.specs.format.Keys.{◌>>=◌}
 use Rattle.qa_format.specs.format.Lines.{has_lf}
 use Rattle.qa_base.specs.values.Limits.{max_time, max_packet_size, max_timer_late, max_report_slack_us, max_report_slack_bytes, min_packet_threshold, max_packet_threshold, max_timer_early_us}
-use Rattle.qa_base.specs.values.Names.{line_kind_name, role_name, unit_name, controller_name, space_name}
+use Rattle.qa_base.specs.values.Names.{line_kind_name, role_name, unit_name, controller_name, loss_by_number_name, space_name}
 use Rattle.qa_format.specs.format.Proper.{IsProperEvent, IsProperLine}
 use Rattle.qa_format.specs.format.Reading.{reader_named, object_says, json_of, reading_by, reading}
-use Rattle.qa_base.specs.values.Settings.{Settings, AreInRange, in_unit, is_outside, no_options, version_in, is_reported}
-use Rattle.qa_format.specs.format.Tables.{settings, of_version}
+use Rattle.qa_base.specs.values.Settings.{Settings, AreInRange, in_unit, is_outside, no_options, version_in, is_reported, is_may, spares_unreported}
+use Rattle.qa_format.specs.format.Tables.{settings, of_version, with_losses}
 use Rattle.qa_format.specs.format.Written as written
 use Rattle.qa_format.specs.format.Written.{Pairs, reported, header_pairs, event_pairs, members, object_of, written as text_of}
 use Rattle.qa_format.proofs.format.Compact.{IsSimple, read-compact_text, is_utf8-compact_text}
 use Rattle.qa_format.proofs.format.OneLine.{has_lf-compact_text}
 use Rattle.qa_format.proofs.format.KeysFound.{header_found, first_unit_found, second_unit_found, third_unit_found, first_options_found, second_options_found, third_options_found, sent_found, ack_found, lost_found, timer_found, discard_found, confirmed_found, keys_found, metrics_found}
-use Rattle.qa_format.proofs.format.KeysWritten.{past_reported, reported_stands, past_last, last_stands, IsKept, integer_is_kept, string_is_kept, boolean_is_kept, role_is_kept, unit_is_kept, controller_is_kept, space_is_kept, leave_is_kept, kind_is_kept, ranges_are_kept, Follow, none_follow, follow, follow_reported, follow_last}
+use Rattle.qa_format.proofs.format.KeysWritten.{past_reported, reported_stands, past_last, last_stands, IsKept, integer_is_kept, string_is_kept, boolean_is_kept, role_is_kept, unit_is_kept, controller_is_kept, losses_are_kept, space_is_kept, leave_is_kept, kind_is_kept, ranges_are_kept, Follow, none_follow, follow, follow_reported, follow_last}
 
 -- ---- a report of the sender's state
 
@@ -225,21 +227,38 @@ limit_is (Some n) hi high = high n refl
 
 -- options in their ranges pass the test of ranges
 pub options_pass : (s : Settings) (limit : Option ℕ) (refresh : Bool) (slack_us slack_bytes : ℕ) → AreInRange (second s limit refresh slack_us slack_bytes)
-    → of_version 2 (second s limit refresh slack_us slack_bytes).options (first s) ≡ Ok (second s limit refresh slack_us slack_bytes)
+    → (of_version 2 (second s limit refresh slack_us slack_bytes).options (first s) >>= with_losses (Some Must)) ≡ Ok (second s limit refresh slack_us slack_bytes)
 options_pass s limit refresh slack_us slack_bytes are = rw (
   inside 0 max_timer_late (unwrap_or limit 0) (omega arith) (limit_is limit max_timer_late are.late_high),
   inside 0 max_report_slack_us slack_us (omega arith) are.slack_us_high,
   inside 0 max_report_slack_bytes slack_bytes (omega arith) are.slack_bytes_high,
 ) refl
 
-pub third_options_pass : (s : Settings) (limit : Option ℕ) → AreInRange (third s limit) → of_version 3 (third s limit).options (started s) ≡ Ok (third s limit)
-third_options_pass s limit are = rw (
+-- and so do those of version 3
+chosen_pass : (s : Settings) (limit : Option ℕ) (losses : LossByNumber) (x : Settings) → AreInRange (third s limit)
+    → spares_unreported (record s.options { loss_by_number = losses }) ≡ false
+    → of_version 3 (record s.options { timer_late = limit; loss_by_number = losses }) x ≡ Ok (saying x x.unit Three (record s.options { timer_late = limit; loss_by_number = losses }))
+chosen_pass s limit losses x are reported = rw (
   inside 0 max_timer_late (unwrap_or limit 0) (omega arith) (limit_is limit max_timer_late are.late_high),
   inside 0 max_report_slack_us s.options.report_slack_us (omega arith) are.slack_us_high,
   inside 0 max_report_slack_bytes s.options.report_slack_bytes (omega arith) are.slack_bytes_high,
   inside min_packet_threshold max_packet_threshold s.options.packet_threshold are.threshold_low are.threshold_high,
   inside 0 max_timer_early_us s.options.timer_early_us (omega arith) are.early_high,
+  reported,
 ) refl
+
+-- first before losses by number are judged, and then with them
+losses_pass : (s : Settings) (limit : Option ℕ) (losses : LossByNumber) → s.options.loss_by_number ≡ losses → AreInRange (third s limit)
+    → with_losses (Some s.options.loss_by_number) (saying (started s) s.unit Three (record s.options { timer_late = limit; loss_by_number = Must })) ≡ Ok (third s limit)
+losses_pass s limit Must is are = rw is refl
+losses_pass s limit May is are =
+    let reported = rw is at are.spared_reported in
+    rw is (chosen_pass s limit May (saying (started s) s.unit Three (record s.options { timer_late = limit; loss_by_number = Must })) are reported)
+
+pub third_options_pass : (s : Settings) (limit : Option ℕ) → AreInRange (third s limit)
+    → (of_version 3 (record (third s limit).options { loss_by_number = Must }) (started s) >>= with_losses (Some s.options.loss_by_number)) ≡ Ok (third s limit)
+third_options_pass s limit are =
+    ap (λ r. r >>= with_losses (Some s.options.loss_by_number)) (chosen_pass s limit Must (started s) are refl) ∙ losses_pass s limit s.options.loss_by_number refl are
 
 -- the limit is there or not, and the version stands behind it
 pub limit_at : (s : Settings) (limit : Option ℕ) (refresh : Bool) (slack_us slack_bytes : ℕ)
@@ -276,8 +295,8 @@ third_overshoot_at s None = refl
 third_overshoot_at s (Some n) = refl
 
 -- these options, with others for those that version 2 has not
-abbrev asking : Options → Controller → Bool → Bool → ℕ → ℕ → Options
-asking o who overshoot only threshold early = record {
+abbrev asking : Options → Controller → Bool → Bool → ℕ → ℕ → LossByNumber → Options
+asking o who overshoot only threshold early losses = record {
   timer_late = o.timer_late;
   refresh_min_rtt = o.refresh_min_rtt;
   report_slack_us = o.report_slack_us;
@@ -287,17 +306,21 @@ asking o who overshoot only threshold early = record {
   sample_eliciting_only = only;
   packet_threshold = threshold;
   timer_early_us = early;
+  loss_by_number = losses;
 }
 
 -- options that version 2 can say have the default for those that it has not
-second_options_are : (o : Options) (who : Controller) (overshoot only : Bool) (threshold early : ℕ)
-    → (not (is_reported who) && not overshoot && not only && threshold == 3 && early == 0) ≡ true → asking o NewReno false false 3 0 ≡ asking o who overshoot only threshold early
-second_options_are o Reported overshoot only threshold early says = cc
-second_options_are o NewReno true only threshold early says = cc
-second_options_are o NewReno false true threshold early says = cc
-second_options_are o NewReno false false threshold early says =
-    let parts = and_parts (threshold == 3) (early == 0) says in
-    ap₂ (asking o NewReno false false) (sym (eqb-true threshold 3 parts.0)) (sym (eqb-true early 0 parts.1))
+second_options_are : (o : Options) (who : Controller) (overshoot only : Bool) (threshold early : ℕ) (losses : LossByNumber)
+    → (not (is_reported who) && not overshoot && not only && threshold == 3 && early == 0 && not (is_may losses)) ≡ true
+    → asking o NewReno false false 3 0 Must ≡ asking o who overshoot only threshold early losses
+second_options_are o Reported overshoot only threshold early losses says = cc
+second_options_are o NewReno true only threshold early losses says = cc
+second_options_are o NewReno false true threshold early losses says = cc
+second_options_are o NewReno false false threshold early Must says =
+    let parts = and_parts (threshold == 3) (early == 0) (and_parts (threshold == 3 && early == 0) true says).0 in
+    ap₂ (λ n m. asking o NewReno false false n m Must) (sym (eqb-true threshold 3 parts.0)) (sym (eqb-true early 0 parts.1))
+second_options_are o NewReno false false threshold early May says =
+    let parts = and_parts (threshold == 3 && early == 0) false says in cc
 
 -- what holds of headers as they are written in their version holds of all in their ranges
 pub of_each : (P : Settings → Type 0) (s : Settings) (v : Version) → s.version ≡ v → AreInRange s
@@ -312,7 +335,7 @@ of_each P s One is are of_first of_second of_third =
 of_each P s Two is are of_first of_second of_third =
     let o = s.options in
     let said = rw is at are.said in
-    let asked = second_options_are o o.controller o.window_overshoot o.sample_eliciting_only o.packet_threshold o.timer_early_us said.1 in
+    let asked = second_options_are o o.controller o.window_overshoot o.sample_eliciting_only o.packet_threshold o.timer_early_us o.loss_by_number said.1 in
     let same : second s o.timer_late o.refresh_min_rtt o.report_slack_us o.report_slack_bytes ≡ s = ap₂ (saying s Microseconds) (sym is) asked ∙ ap (λ u. saying s u s.version s.options) (sym said.0) in
     subst P same (of_second o.timer_late o.refresh_min_rtt o.report_slack_us o.report_slack_bytes (subst AreInRange (sym same) are))
 of_each P s Three is are of_first of_second of_third =
@@ -372,7 +395,26 @@ metrics_follow t v proper =
     (follow_reported _ Ssthresh v.ssthresh _ refl refl words.1
     (follow _ key.Time _ _ refl refl (time_is_kept t proper.in_time) (follow_last _ Window v.window refl refl words.0))))))))
 
--- the keys that each version has up to max_datagram_size
+-- the keys that each version has up to initial_window
+header_starts : (s : Settings) (ps : Pairs) → AreInRange s → Follow (codes "initial_window") ps
+    → Follow [] (
+    (key.Event, written.string (line_kind_name kinds.Header))
+    ∷ (key.InitialRtt, written.integer s.initial_rtt)
+    ∷ (key.InitialWindow, written.integer s.initial_window)
+    ∷ ps)
+header_starts s ps are more =
+    follow _ key.Event _ _ refl refl (string_is_kept _ refl)
+    (follow _ key.InitialRtt _ _ refl refl (integer_is_kept s.initial_rtt (let high = unit_high s.unit s.initial_rtt 1000000000 are.rtt_high in omega (arith, high)))
+    (follow _ key.InitialWindow _ _ refl refl (integer_is_kept s.initial_window (omega (arith, are.window_high))) more))
+
+-- and behind those up to max_datagram_size
+sizes_follow : (s : Settings) (j : List ℕ) (ps : Pairs) → AreInRange s → slice_cmp nat_cmp j (codes "max_ack_delay") ≡ Less → Follow (codes "max_datagram_size") ps
+    → Follow j ((key.MaxAckDelay, written.integer s.max_ack_delay) ∷ (key.MaxDatagramSize, written.integer s.max_datagram_size) ∷ ps)
+sizes_follow s j ps are less more =
+    follow j key.MaxAckDelay _ _ less refl (integer_is_kept s.max_ack_delay (let high = unit_high s.unit s.max_ack_delay 16383000 are.delay_high in omega (arith, high)))
+    (follow _ key.MaxDatagramSize _ _ refl refl (integer_is_kept s.max_datagram_size (omega (arith, are.datagram_high))) more)
+
+-- the keys of versions 1 and 2 up to max_datagram_size
 header_begins : (s : Settings) (ps : Pairs) → AreInRange s → Follow (codes "max_datagram_size") ps
     → Follow [] (
     (key.Event, written.string (line_kind_name kinds.Header))
@@ -381,12 +423,20 @@ header_begins : (s : Settings) (ps : Pairs) → AreInRange s → Follow (codes "
     ∷ (key.MaxAckDelay, written.integer s.max_ack_delay)
     ∷ (key.MaxDatagramSize, written.integer s.max_datagram_size)
     ∷ ps)
-header_begins s ps are more =
-    follow _ key.Event _ _ refl refl (string_is_kept _ refl)
-    (follow _ key.InitialRtt _ _ refl refl (integer_is_kept s.initial_rtt (let high = unit_high s.unit s.initial_rtt 1000000000 are.rtt_high in omega (arith, high)))
-    (follow _ key.InitialWindow _ _ refl refl (integer_is_kept s.initial_window (omega (arith, are.window_high)))
-    (follow _ key.MaxAckDelay _ _ refl refl (integer_is_kept s.max_ack_delay (let high = unit_high s.unit s.max_ack_delay 16383000 are.delay_high in omega (arith, high)))
-    (follow _ key.MaxDatagramSize _ _ refl refl (integer_is_kept s.max_datagram_size (omega (arith, are.datagram_high))) more))))
+header_begins s ps are more = header_starts s _ are (sizes_follow s _ ps are refl more)
+
+-- and those of version 3
+third_begins : (s : Settings) (ps : Pairs) → AreInRange s → Follow (codes "max_datagram_size") ps
+    → Follow [] (
+    (key.Event, written.string (line_kind_name kinds.Header))
+    ∷ (key.InitialRtt, written.integer s.initial_rtt)
+    ∷ (key.InitialWindow, written.integer s.initial_window)
+    ∷ (key.LossByNumber, written.string (loss_by_number_name s.options.loss_by_number))
+    ∷ (key.MaxAckDelay, written.integer s.max_ack_delay)
+    ∷ (key.MaxDatagramSize, written.integer s.max_datagram_size)
+    ∷ ps)
+third_begins s ps are more =
+    header_starts s _ are (follow _ key.LossByNumber _ _ refl refl (losses_are_kept s.options.loss_by_number) (sizes_follow s _ ps are refl more))
 
 version_follows : (j : List ℕ) (n : ℕ) → slice_cmp nat_cmp j (codes "version") ≡ Less → n ≤ 2 → Follow j ((key.Version, written.integer n) ∷ [])
 version_follows j n less small = follow j key.Version (written.integer n) [] less refl (integer_is_kept n (omega (arith, small))) (none_follow (codes "version"))
@@ -452,10 +502,10 @@ third_goes_on s limit ps are more =
     (follow _ key.TimerEarlyUs _ _ refl refl (integer_is_kept s.options.timer_early_us (omega (arith, are.early_high))) more))))))
 
 pub third_follows : (s : Settings) (limit : Option ℕ) → AreInRange (third s limit) → Follow [] (header_pairs (third s limit))
-third_follows s None are = header_begins (third s None) _ are (third_goes_on s None _ are (third_ends s _ refl))
+third_follows s None are = third_begins (third s None) _ are (third_goes_on s None _ are (third_ends s _ refl))
 third_follows s (Some n) are =
     let high = are.late_high n refl in
-    header_begins (third s (Some n)) _ are
+    third_begins (third s (Some n)) _ are
     (third_goes_on s (Some n) _ are (follow _ key.TimerLateUs _ _ refl refl (integer_is_kept n (omega (arith, high))) (third_ends s _ refl)))
 
 header_follows : (s : Settings) → AreInRange s → Follow [] (header_pairs s)
@@ -504,7 +554,7 @@ event_is_said (Metrics t v) proper = ap (λ ps. object_says reader_named (object
 first_is_said : (s : Settings) → AreInRange (first s) → object_says reader_named (object_of (header_pairs (first s))) ≡ Ok (line.Header (first s))
 first_is_said s are =
     let d = object_of (header_pairs (first s)) in
-    header_found (members (header_pairs (first s))) 1 no_options s.role Microseconds NewReno s.max_datagram_size (Some s.max_ack_delay) (Some s.initial_rtt) (Some s.initial_window) (first s) (first s)
+    header_found (members (header_pairs (first s))) 1 no_options Must s.role Microseconds NewReno s.max_datagram_size (Some s.max_ack_delay) (Some s.initial_rtt) (Some s.initial_window) (first s) (first s)
     refl refl refl (first_unit_found d refl) refl refl refl refl (first_options_found d refl) (settings_read (first s) are) refl
 
 second_is_said : (s : Settings) (limit : Option ℕ) (refresh : Bool) (slack_us slack_bytes : ℕ) → AreInRange (second s limit refresh slack_us slack_bytes)
@@ -514,7 +564,7 @@ second_is_said s limit refresh slack_us slack_bytes are =
     let d = object_of (header_pairs t) in
     let at_version = version_at s limit refresh slack_us slack_bytes in
     let asked = second_options_found d limit (Some refresh) (Some slack_us) (Some slack_bytes) at_version (limit_at s limit refresh slack_us slack_bytes) refl refl refl in
-    header_found (members (header_pairs t)) 2 t.options s.role Microseconds NewReno s.max_datagram_size (Some s.max_ack_delay) (Some s.initial_rtt) (Some s.initial_window) (first s) t
+    header_found (members (header_pairs t)) 2 t.options Must s.role Microseconds NewReno s.max_datagram_size (Some s.max_ack_delay) (Some s.initial_rtt) (Some s.initial_window) (first s) t
     refl at_version refl (second_unit_found d at_version) refl refl refl refl asked (settings_read t are) (options_pass s limit refresh slack_us slack_bytes are)
 
 third_is_said : (s : Settings) (limit : Option ℕ) → AreInRange (third s limit)
@@ -525,9 +575,9 @@ third_is_said s limit are =
     let o = s.options in
     let at_version = third_version_at s limit in
     let asked = third_options_found d limit (Some o.refresh_min_rtt) (Some o.report_slack_us) (Some o.report_slack_bytes)
-    (Some o.window_overshoot) (Some o.sample_eliciting_only) (Some o.packet_threshold) (Some o.timer_early_us)
-    at_version (third_limit_at s limit) refl refl refl (third_overshoot_at s limit) refl refl refl in
-    header_found (members (header_pairs t)) 3 (record t.options { controller = NewReno }) s.role s.unit s.options.controller s.max_datagram_size (Some s.max_ack_delay) (Some s.initial_rtt) (Some s.initial_window) (started s) t
+    (Some o.window_overshoot) (Some o.sample_eliciting_only) (Some o.packet_threshold) (Some o.timer_early_us) (Some o.loss_by_number)
+    at_version (third_limit_at s limit) refl refl refl (third_overshoot_at s limit) refl refl refl refl in
+    header_found (members (header_pairs t)) 3 (record t.options { controller = NewReno; loss_by_number = Must }) o.loss_by_number s.role s.unit s.options.controller s.max_datagram_size (Some s.max_ack_delay) (Some s.initial_rtt) (Some s.initial_window) (started s) t
     refl at_version refl (third_unit_found d (Some s.unit) (Some s.options.controller) at_version (third_unit_at s limit) (third_window_at s limit)) refl refl refl refl asked (settings_read t are) (third_options_pass s limit are)
 
 header_is_said : (s : Settings) → AreInRange s → object_says reader_named (object_of (header_pairs s)) ≡ Ok (line.Header s)

@@ -19,23 +19,25 @@ use Rattle.qa_format.specs.declared.line.Line.TheVariants as line
 use Rattle.qa_base.specs.declared.space.Leave.{Leave}
 use Rattle.qa_base.specs.declared.space.Leave.TheVariants.{Window}
 use Rattle.qa_base.specs.values.Constants.{default_initial_rtt, default_max_ack_delay}
-use Rattle.qa_base.specs.values.Names.{key_name, role_name, unit_name, controller_name, unit_named, controller_named, leave_name, leave_named}
+use Rattle.qa_base.specs.values.Names.{key_name, role_name, unit_name, controller_name, loss_by_number_name, unit_named, controller_named, loss_by_number_named, leave_name, leave_named}
 use Rattle.qa_format.specs.format.Proper.{IsProperEvent}
+use Rattle.qa_base.specs.declared.space.LossByNumber.{LossByNumber}
+use Rattle.qa_base.specs.declared.space.LossByNumber.TheVariants.{Must, May}
 use Rattle.qa_base.specs.declared.space.Controller.{Controller}
 use Rattle.qa_base.specs.declared.space.Controller.TheVariants.{NewReno}
 use Rattle.qa_base.specs.declared.space.TimeUnit.{TimeUnit}
 use Rattle.qa_base.specs.declared.space.TimeUnit.TheVariants.{Microseconds}
 use Rattle.qa_base.specs.values.Settings.{Settings, AreInRange, in_unit, default_window, no_options}
 use Rattle.qa_format.specs.format.AnyOrder.{IsAmong, AreOfLine, event_defaults, AreOf, header_defaults, AreOfHeader, text_of}
-use Rattle.qa_format.specs.format.Keys.{◌>>=◌, string_among}
+use Rattle.qa_format.specs.format.Keys.{◌>>=◌, string_among, string_naming}
 use Rattle.qa_format.specs.format.Reading.{reader_named, object_says, reading_by, reading}
 use Rattle.qa_format.specs.format.Simple.{IsBefore, HaveSimple, IsKept, AreKept, put_all}
-use Rattle.qa_format.specs.format.Tables.{unit_and_window, options, settings, of_version}
+use Rattle.qa_format.specs.format.Tables.{unit_and_window, options, settings, of_version, with_losses}
 use Rattle.qa_format.specs.format.Written as written
 use Rattle.qa_format.specs.format.Written.{Pairs, header_pairs, event_pairs, members}
 use Rattle.qa_format.proofs.format.AnyOrder.{json_of-members, get_put, get_put_other}
 use Rattle.qa_format.proofs.format.KeysFound.{header_found, first_unit_found, second_unit_found, third_unit_found, first_options_found, second_options_found, third_options_found, sent_found, ack_found, lost_found, timer_found, discard_found, confirmed_found, keys_found, metrics_found}
-use Rattle.qa_format.proofs.format.KeysWritten.{unit_reads, controller_reads, leave_reads, Follow}
+use Rattle.qa_format.proofs.format.KeysWritten.{unit_reads, controller_reads, losses_read, leave_reads, Follow}
 use Rattle.qa_format.proofs.format.LinesWritten.{started, first, second, third, of_each, settings_read, options_pass, third_options_pass, limit_at, version_at, third_limit_at, third_unit_at, third_window_at, third_version_at, third_overshoot_at, first_follows, second_follows, third_follows, event_follows, metrics_pairs_are, event_found, time_found, window_found, ssthresh_found, bytes_in_flight_found, latest_rtt_found, min_rtt_found, smoothed_rtt_found, rttvar_found}
 use Rattle.qa_format.proofs.format.PlainTexts.{key_is_ascii}
 
@@ -235,44 +237,18 @@ same_controller : (v w : Controller) → controller_data v ≡ controller_data w
 same_controller v w e =
     let both : Ok v ≡ Ok w = sym (controller_reads key.Window v) ∙ ap (string_among controller_named key.Window) e ∙ controller_reads key.Window w in cc
 
+abbrev losses_data : LossByNumber → Data
+losses_data l = written.string (loss_by_number_name l)
+
+same_losses : (l m : LossByNumber) → losses_data l ≡ losses_data m → l ≡ m
+same_losses l m e =
+    let both : Ok (Some l) ≡ Ok (Some m) = sym (losses_read key.LossByNumber l) ∙ ap (string_naming loss_by_number_named key.LossByNumber) e ∙ losses_read key.LossByNumber m in cc
+
 events_rise : Rise (members event_defaults)
 events_rise = ((refl, (refl, tt)), ((refl, tt), (tt, tt)))
 
 header_rises : (unit : TimeUnit) (size : ℕ) → Rise (members (header_defaults unit size))
-header_rises unit size = (
-  (refl, (refl, (refl, (refl, (refl, (refl, (refl, (refl, (refl, (refl, (refl, tt))))))))))),
-  (
-    (refl, (refl, (refl, (refl, (refl, (refl, (refl, (refl, (refl, (refl, tt)))))))))),
-    (
-      (refl, (refl, (refl, (refl, (refl, (refl, (refl, (refl, (refl, tt))))))))),
-      (
-        (refl, (refl, (refl, (refl, (refl, (refl, (refl, (refl, tt)))))))),
-        (
-          (refl, (refl, (refl, (refl, (refl, (refl, (refl, tt))))))),
-          (
-            (refl, (refl, (refl, (refl, (refl, (refl, tt)))))),
-            (
-              (refl, (refl, (refl, (refl, (refl, tt))))),
-              (
-                (refl, (refl, (refl, (refl, tt)))),
-                (
-                  (refl, (refl, (refl, tt))),
-                  (
-                    (refl, (refl, tt)),
-                    (
-                      (refl, tt),
-                      (tt, tt),
-                    ),
-                  ),
-                ),
-              ),
-            ),
-          ),
-        ),
-      ),
-    ),
-  ),
-)
+header_rises unit size = ((refl, (refl, (refl, (refl, (refl, (refl, (refl, (refl, (refl, (refl, (refl, (refl, tt)))))))))))), ((refl, (refl, (refl, (refl, (refl, (refl, (refl, (refl, (refl, (refl, (refl, tt))))))))))), ((refl, (refl, (refl, (refl, (refl, (refl, (refl, (refl, (refl, (refl, tt)))))))))), ((refl, (refl, (refl, (refl, (refl, (refl, (refl, (refl, (refl, tt))))))))), ((refl, (refl, (refl, (refl, (refl, (refl, (refl, (refl, tt)))))))), ((refl, (refl, (refl, (refl, (refl, (refl, (refl, tt))))))), ((refl, (refl, (refl, (refl, (refl, (refl, tt)))))), ((refl, (refl, (refl, (refl, (refl, tt))))), ((refl, (refl, (refl, (refl, tt)))), ((refl, (refl, (refl, tt))), ((refl, (refl, tt)), ((refl, tt), (tt, tt)))))))))))))
 
 -- ---- headers
 
@@ -293,8 +269,8 @@ header_given : (t : Settings) (n : ℕ) (own ps : Pairs) → AreInRange t → Fo
     → get_member (codes "initial_rtt") (members own) ≡ Some (written.integer t.initial_rtt)
     → get_member (codes "initial_window") (members own) ≡ Some (written.integer t.initial_window)
     → unit_and_window (object (put_all no_members (members ps))) ≡ Ok (t.unit, t.options.controller)
-    → options (object (put_all no_members (members ps))) ≡ Ok (record t.options { controller = NewReno })
-    → of_version n t.options (started t) ≡ Ok t
+    → options (object (put_all no_members (members ps))) ≡ Ok (record t.options { controller = NewReno; loss_by_number = Must }, Some t.options.loss_by_number)
+    → (of_version n (record t.options { loss_by_number = Must }) (started t) >>= with_losses (Some t.options.loss_by_number)) ≡ Ok t
     → reading (text_of ps) ≡ Ok (line.Header t)
 header_given t n own ps in_range follows are named at_version at_role at_size at_delay at_rtt at_window times asks of =
     let defaults = header_defaults t.unit t.max_datagram_size in
@@ -305,7 +281,7 @@ header_given t n own ps in_range follows are named at_version at_role at_size at
     let rtt = integer_at (in_unit t.unit default_initial_rtt) (codes "initial_rtt") t.initial_rtt same_integer at_rtt refl in
     let window = integer_at (default_window t.max_datagram_size) (codes "initial_window") t.initial_window same_integer at_window refl in
     text_reads own defaults ps follows rise are (line.Header t)
-    (header_found (put_all no_members (members ps)) n (record t.options { controller = NewReno }) t.role t.unit t.options.controller t.max_datagram_size delay.0 rtt.0 window.0 (started t) t
+    (header_found (put_all no_members (members ps)) n (record t.options { controller = NewReno; loss_by_number = Must }) t.options.loss_by_number t.role t.unit t.options.controller t.max_datagram_size delay.0 rtt.0 window.0 (started t) t
     (at (codes "event") _ named refl)
     (at (codes "version") _ at_version refl)
     (at (codes "role") _ at_role refl)
@@ -347,9 +323,9 @@ second_order_reads s ps limit refresh slack_us slack_bytes in_range are =
     let refreshes = optional_given own defaults ps follows rise are written.boolean no_options.refresh_min_rtt (codes "refresh_min_rtt") refresh same_boolean refl refl in
     let times = optional_given own defaults ps follows rise are written.integer no_options.report_slack_us (codes "report_slack_us") slack_us same_integer refl refl in
     let bytes = optional_given own defaults ps follows rise are written.integer no_options.report_slack_bytes (codes "report_slack_bytes") slack_bytes same_integer refl refl in
-    let asks : options d ≡ Ok t.options =
+    let asks : options d ≡ Ok (t.options, Some Must) =
     second_options_found d limit refreshes.0 times.0 bytes.0 at_version at_limit refreshes.1 times.1 bytes.1
-    ∙ ap (λ o. Ok o) (options_given limit refreshes.0 times.0 bytes.0 t.options refl refreshes.2 times.2 bytes.2) in
+    ∙ ap (λ o. Ok (o, Some Must)) (options_given limit refreshes.0 times.0 bytes.0 t.options refl refreshes.2 times.2 bytes.2) in
     header_given t 2 own ps in_range follows are refl own_version refl refl refl refl refl (second_unit_found d at_version) asks (options_pass s limit refresh slack_us slack_bytes in_range)
 
 third_options_given : (limit : Option ℕ) (refresh : Option Bool) (slack_us slack_bytes : Option ℕ) (overshoot eliciting : Option Bool) (threshold early : Option ℕ) (o : Options)
@@ -370,7 +346,7 @@ third_options_given : (limit : Option ℕ) (refresh : Option Bool) (slack_us sla
       sample_eliciting_only = unwrap_or eliciting false;
       packet_threshold = unwrap_or threshold 3;
       timer_early_us = unwrap_or early 0;
-    } ≡ record o { controller = NewReno }
+    } ≡ record o { controller = NewReno; loss_by_number = Must }
 third_options_given limit refresh slack_us slack_bytes overshoot eliciting threshold early o limits refreshes times bytes overshoots samples thresholds earlies =
     rw (limits, refreshes, times, bytes, overshoots, samples, thresholds, earlies) refl
 
@@ -398,12 +374,13 @@ third_order_reads s ps limit in_range are =
     let samples = boolean_at no_options.sample_eliciting_only (codes "sample_eliciting_only") o.sample_eliciting_only same_boolean refl refl in
     let thresholds = integer_at no_options.packet_threshold (codes "packet_threshold") o.packet_threshold same_integer refl refl in
     let earlies = integer_at no_options.timer_early_us (codes "timer_early_us") o.timer_early_us same_integer refl refl in
+    let losses = optional_given own defaults ps follows rise are losses_data Must (codes "loss_by_number") o.loss_by_number same_losses refl refl in
     let clocks : unit_and_window d ≡ Ok (s.unit, o.controller) = third_unit_found d units.0 windows.0 at_version units.1 windows.1 ∙ ap₂ (λ u w. Ok (u, w)) units.2 windows.2 in
-    let asks : options d ≡ Ok (record t.options { controller = NewReno }) =
-    third_options_found d limit refreshes.0 times.0 bytes.0 overshoots.0 samples.0 thresholds.0 earlies.0
-    at_version at_limit refreshes.1 times.1 bytes.1 overshoots.1 samples.1 thresholds.1 earlies.1
-    ∙ ap (λ p. Ok p) (third_options_given limit refreshes.0 times.0 bytes.0 overshoots.0 samples.0 thresholds.0 earlies.0 t.options
-    refl refreshes.2 times.2 bytes.2 overshoots.2 samples.2 thresholds.2 earlies.2) in
+    let asks : options d ≡ Ok (record t.options { controller = NewReno; loss_by_number = Must }, Some o.loss_by_number) =
+    third_options_found d limit refreshes.0 times.0 bytes.0 overshoots.0 samples.0 thresholds.0 earlies.0 losses.0
+    at_version at_limit refreshes.1 times.1 bytes.1 overshoots.1 samples.1 thresholds.1 earlies.1 losses.1
+    ∙ ap₂ (λ p l. Ok (p, Some l)) (third_options_given limit refreshes.0 times.0 bytes.0 overshoots.0 samples.0 thresholds.0 earlies.0 t.options
+    refl refreshes.2 times.2 bytes.2 overshoots.2 samples.2 thresholds.2 earlies.2) losses.2 in
     header_given t 3 own ps in_range follows are refl own_version refl refl refl refl refl clocks asks (third_options_pass s limit in_range)
 
 -- a header is read from its keys and values in any order, and with or without its defaults

@@ -20,6 +20,8 @@ use Rattle.qa_base.specs.declared.header.Options.{Options}
 use Rattle.qa_base.specs.declared.header.Version.{Version}
 use Rattle.qa_base.specs.declared.header.Version.TheVariants.{One, Two, Three}
 use Rattle.qa_base.specs.declared.rule.Field.TheVariants.{Window, Ssthresh, BytesInFlight, LatestRtt, MinRtt, SmoothedRtt, Rttvar}
+use Rattle.qa_base.specs.declared.space.LossByNumber.{LossByNumber}
+use Rattle.qa_base.specs.declared.space.LossByNumber.TheVariants.{Must, May}
 use Rattle.qa_base.specs.declared.space.Space.{Space}
 use Rattle.qa_base.specs.declared.space.Space.TheVariants.{Initial, Handshake, App}
 use Rattle.qa_base.specs.declared.space.Role.{Role}
@@ -35,8 +37,8 @@ use Rattle.qa_base.specs.values.Limits.{max_time, max_packet_number, max_packet_
 use Rattle.qa_base.specs.values.Names.{line_kind_named, discarded_named}
 use Rattle.qa_format.specs.format.Proper.{AreWords, IsProperEvent, IsProperLine}
 use Rattle.qa_format.specs.format.Reading.{Reader, header_line, event_line, reader_of, reader_named, object_says, json_of, is_blank, reading_by, reading}
-use Rattle.qa_base.specs.values.Settings.{Settings, AreInRange, IsSaidIn, are_second, is_outside, in_unit, default_window, no_options, checked, version_in, settings_in, version_with, in_version, with_options, choosing_options}
-use Rattle.qa_format.specs.format.Tables.{time, out_of_range, header_fields, options, settings, of_version, header_of, sent_fields, sent_of, ack_fields, ack_of, lost_fields, lost_of, timer_fields, timer_of, discard_fields, discard_of, confirmed_of, keys_of, metric, metric_values, metrics_of}
+use Rattle.qa_base.specs.values.Settings.{Settings, AreInRange, IsSaidIn, are_second, is_outside, in_unit, default_window, no_options, checked, version_in, settings_in, version_with, spares_unreported, in_version, with_options, choosing_options}
+use Rattle.qa_format.specs.format.Tables.{time, out_of_range, header_fields, options, settings, of_version, with_losses, header_of, sent_fields, sent_of, ack_fields, ack_of, lost_fields, lost_of, timer_fields, timer_of, discard_fields, discard_of, confirmed_of, keys_of, metric, metric_values, metrics_of}
 use Rattle.qa_format.specs.format.Written.{line_fits}
 use Rattle.qa_format.proofs.format.KeysRead.{bind_ok, both_ok, ok_is, required_stands, required_within, required_high, optional_is_word, present_is_word, ranges_are}
 use Rattle.qa_format.proofs.format.Sized.{IsSized, read-IsSized}
@@ -211,6 +213,7 @@ checked_is_in_range s t none said h =
       threshold_low = rw none (omega arith);
       threshold_high = rw none (omega arith);
       early_high = rw none (omega arith);
+      spared_reported = rw none refl;
       first_version = λ first. none;
       said = said;
     })
@@ -241,7 +244,8 @@ in_version_is v s t o h =
     let slack_bytes = past (is_outside 0 max_report_slack_bytes o.report_slack_bytes) _ _ t slack_us.1 in
     let threshold = past (is_outside min_packet_threshold max_packet_threshold o.packet_threshold) _ _ t slack_bytes.1 in
     let early = past (is_outside 0 max_timer_early_us o.timer_early_us) _ _ t threshold.1 in
-    ok_is_settings _ t early.1
+    let spared = past (spares_unreported o) _ _ t early.1 in
+    ok_is_settings _ t spared.1
 
 -- and they are in them
 in_version_in_range : (v : Version) (s t : Settings) (o : Options) → AreInRange s → IsSaidIn v s.unit o → in_version v s o ≡ Ok t → AreInRange t
@@ -251,6 +255,7 @@ in_version_in_range v s t o are said h =
     let slack_bytes = past (is_outside 0 max_report_slack_bytes o.report_slack_bytes) _ _ t slack_us.1 in
     let threshold = past (is_outside min_packet_threshold max_packet_threshold o.packet_threshold) _ _ t slack_bytes.1 in
     let early = past (is_outside 0 max_timer_early_us o.timer_early_us) _ _ t threshold.1 in
+    let spared = past (spares_unreported o) _ _ t early.1 in
     let late_in = inside 0 max_timer_late (unwrap_or o.timer_late 0) late.0 in
     let slack_us_in = inside 0 max_report_slack_us o.report_slack_us slack_us.0 in
     let slack_bytes_in = inside 0 max_report_slack_bytes o.report_slack_bytes slack_bytes.0 in
@@ -270,6 +275,7 @@ in_version_in_range v s t o are said h =
       threshold_low = threshold_in.0;
       threshold_high = threshold_in.1;
       early_high = early_in.1;
+      spared_reported = spared.0;
       first_version = said_first v s.unit o said;
       said = said;
     })
@@ -326,14 +332,25 @@ of_version_in_range n o s t are h = elim (versioned (n == 1) (n == 2) (n == 3) s
   ]
 ]
 
+with_losses_in_range : (losses : Option LossByNumber) (s t : Settings) → AreInRange s → with_losses losses s ≡ Ok t → AreInRange t
+with_losses_in_range None s t are h = cc
+with_losses_in_range (Some Must) s t are h = let same : s ≡ t = cc in rw (← same) are
+with_losses_in_range (Some May) s t are h =
+    let chosen : Options = record s.options { loss_by_number = May } in
+    in_version_in_range Three s t chosen are tt (unmapped (choosing_options s chosen) t h)
+
 header_is_proper : (d : Data) (s : Settings) → header_of d ≡ Ok s → AreInRange s
 unfolding header_of
 header_is_proper d s h =
     let read = bind_ok (both (header_fields d) (options d)) _ s h in
     let f = read.0.0 in
-    let asked : Options = record read.0.1 { controller = f.1.0.1 } in
-    let set = bind_ok (settings f.1.0.0 f.0.1 f.1.1.0.0 f.1.1.0.1 f.1.1.1.0 f.1.1.1.1) (of_version f.0.0 asked) s read.2 in
-    of_version_in_range f.0.0 asked set.0 s (set_is_in_range f.1.0.0 f.0.1 f.1.1.0.0 f.1.1.0.1 f.1.1.1.0 f.1.1.1.1 set.0 set.1) set.2
+    let asked : Options = record read.0.1.0 { controller = f.1.0.1 } in
+    let started = settings f.1.0.0 f.0.1 f.1.1.0.0 f.1.1.0.1 f.1.1.1.0 f.1.1.1.1 in
+    let last = bind_ok (started >>= of_version f.0.0 asked) (with_losses read.0.1.1) s read.2 in
+    let set = bind_ok started (of_version f.0.0 asked) last.0 last.1 in
+    with_losses_in_range read.0.1.1 last.0 s
+    (of_version_in_range f.0.0 asked set.0 last.0 (set_is_in_range f.1.0.0 f.0.1 f.1.1.0.0 f.1.1.0.1 f.1.1.1.0 f.1.1.1.1 set.0 set.1) set.2)
+    last.2
 
 -- ---- a line
 

@@ -11,7 +11,7 @@ use Rattle.qa_base.specs.declared.space.Leave.TheVariants.{Window}
 use Rattle.qa_base.specs.declared.space.TimeUnit.{TimeUnit}
 use Rattle.qa_base.specs.declared.space.TimeUnit.TheVariants.{Microseconds}
 use Rattle.qa_base.specs.values.Constants.{default_initial_rtt, default_max_ack_delay}
-use Rattle.qa_base.specs.values.Names.{leave_name, unit_name, controller_name}
+use Rattle.qa_base.specs.values.Names.{leave_name, unit_name, controller_name, loss_by_number_name}
 use Rattle.qa_base.specs.values.Settings.{Settings, in_unit, default_window, no_options}
 use Rattle.qa_format.specs.format.Written.{Pairs, integer, string, boolean, header_pairs, event_pairs, object_of}
 
@@ -44,6 +44,7 @@ abbrev pub header_defaults : TimeUnit → ℕ → Pairs
 header_defaults unit max_datagram_size =
     (key.InitialRtt, integer (in_unit unit default_initial_rtt))
     ∷ (key.InitialWindow, integer (default_window max_datagram_size))
+    ∷ (key.LossByNumber, string (loss_by_number_name no_options.loss_by_number))
     ∷ (key.MaxAckDelay, integer (in_unit unit default_max_ack_delay))
     ∷ (key.PacketThreshold, integer no_options.packet_threshold)
     ∷ (key.RefreshMinRtt, boolean no_options.refresh_min_rtt)

@@ -62,6 +62,10 @@ string k v = ok_or (as_str v) (WrongKind k)
 abbrev pub string_among : {A : Type 0} → (List ℕ → Option A) → Kind A
 string_among names k v = string k v >>= λ t. ranged k (names t)
 
+-- a string, and what it names, if anything
+abbrev pub string_naming : {A : Type 0} → (List ℕ → Option A) → Kind (Option A)
+string_naming names k v = string k v >>= λ t. Ok (names t)
+
 abbrev pub boolean : Kind Bool
 boolean k v = ok_or (as_bool v) (WrongKind k)
 

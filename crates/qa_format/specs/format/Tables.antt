@@ -1,5 +1,5 @@
 -- The keys of each kind of line, in the order in which their faults are looked for, and what the line then says.
-use Rattle.std.specs.Prelude.{ℕ, ◌==◌, ◌&&◌, not, List, Bool, false, Option, Result, Ok, Err, if◌then◌else◌}
+use Rattle.std.specs.Prelude.{ℕ, ◌==◌, ◌&&◌, not, List, Bool, false, Option, Some, None, Result, Ok, Err, if◌then◌else◌}
 use Rattle.std.specs.Result.{result_map_both}
 use Rattle.serde_json.specs.Data.{Data}
 use Rattle.qa_format.specs.declared.fault.Fault.{Fault}
@@ -16,6 +16,8 @@ use Rattle.qa_base.specs.declared.rule.Field.{Field}
 use Rattle.qa_base.specs.declared.rule.Field.TheVariants.{Window, Ssthresh, BytesInFlight, LatestRtt, MinRtt, SmoothedRtt, Rttvar}
 use Rattle.qa_base.specs.declared.space.Controller.{Controller}
 use Rattle.qa_base.specs.declared.space.Controller.TheVariants.{NewReno}
+use Rattle.qa_base.specs.declared.space.LossByNumber.{LossByNumber}
+use Rattle.qa_base.specs.declared.space.LossByNumber.TheVariants.{Must, May}
 use Rattle.qa_base.specs.declared.space.TimerKind.{TimerKind}
 use Rattle.qa_base.specs.declared.space.Leave.{Leave}
 use Rattle.qa_base.specs.declared.space.Leave.TheVariants as leaves
@@ -23,10 +25,10 @@ use Rattle.qa_base.specs.declared.space.Space.{Space}
 use Rattle.qa_base.specs.declared.space.Role.{Role}
 use Rattle.qa_base.specs.declared.space.TimeUnit.{TimeUnit}
 use Rattle.qa_base.specs.declared.space.TimeUnit.TheVariants.{Microseconds}
-use Rattle.qa_format.specs.format.Keys.{◌>>=◌, both, integer, integer_from, string_among, boolean, ranges, required, optional, if_present}
+use Rattle.qa_format.specs.format.Keys.{◌>>=◌, both, integer, integer_from, string_among, string_naming, boolean, ranges, required, optional, if_present}
 use Rattle.qa_base.specs.values.Constants.{default_packet_threshold}
 use Rattle.qa_base.specs.values.Limits.{max_time, max_packet_number, max_packet_size}
-use Rattle.qa_base.specs.values.Names.{version_number, role_named, unit_named, controller_named, space_named, discarded_named, leave_named, kind_named}
+use Rattle.qa_base.specs.values.Names.{version_number, role_named, unit_named, controller_named, loss_by_number_named, space_named, discarded_named, leave_named, kind_named}
 use Rattle.qa_base.specs.values.Settings.{Settings, no_options, settings_in, with_options, choosing_options}
 
 -- the keys that several kinds of line have
@@ -71,44 +73,54 @@ option_fields d =
     both (both (if_present integer key.TimerLateUs d) (optional boolean false key.RefreshMinRtt d))
     (both (optional integer 0 key.ReportSlackUs d) (optional integer 0 key.ReportSlackBytes d))
 
--- window_overshoot and sample_eliciting_only, packet_threshold and timer_early_us, likewise
-abbrev pub choice_fields : Data → Result ((Bool × Bool) × (ℕ × ℕ)) Fault
+-- window_overshoot and sample_eliciting_only, packet_threshold and timer_early_us, likewise; and loss_by_number, whose word is judged
+-- behind all numbers: what it names, if anything
+abbrev pub choice_fields : Data → Result ((Bool × Bool) × ((ℕ × ℕ) × Option LossByNumber)) Fault
 choice_fields d =
     both (both (optional boolean false key.WindowOvershoot d) (optional boolean false key.SampleElicitingOnly d))
-    (both (optional integer default_packet_threshold key.PacketThreshold d) (optional integer 0 key.TimerEarlyUs d))
+    (both (both (optional integer default_packet_threshold key.PacketThreshold d) (optional integer 0 key.TimerEarlyUs d))
+    (optional (string_naming loss_by_number_named) (Some Must) key.LossByNumber d))
 
--- the options of version 2
-abbrev pub second_options : Data → Result Options Fault
+-- the options of version 2, under which losses by number must be declared
+abbrev pub second_options : Data → Result (Options × Option LossByNumber) Fault
 second_options d =
-    option_fields d >>= λ ((timer_late, refresh_min_rtt), (report_slack_us, report_slack_bytes)). Ok (record no_options {
-      timer_late = timer_late;
-      refresh_min_rtt = refresh_min_rtt;
-      report_slack_us = report_slack_us;
-      report_slack_bytes = report_slack_bytes;
-    })
+    option_fields d >>= λ ((timer_late, refresh_min_rtt), (report_slack_us, report_slack_bytes)). Ok (
+      record no_options {
+        timer_late = timer_late;
+        refresh_min_rtt = refresh_min_rtt;
+        report_slack_us = report_slack_us;
+        report_slack_bytes = report_slack_bytes;
+      },
+      Some Must,
+    )
 
--- the options of version 3, but for the window
-abbrev pub third_options : Data → Result Options Fault
+-- the options of version 3, but for the window and for losses by number, which stand beside them
+abbrev pub third_options : Data → Result (Options × Option LossByNumber) Fault
 third_options d =
     both (option_fields d) (choice_fields d)
-    >>= λ (((timer_late, refresh_min_rtt), (report_slack_us, report_slack_bytes)), ((window_overshoot, sample_eliciting_only), (packet_threshold, timer_early_us))).
-    Ok (record no_options {
-      timer_late = timer_late;
-      refresh_min_rtt = refresh_min_rtt;
-      report_slack_us = report_slack_us;
-      report_slack_bytes = report_slack_bytes;
-      window_overshoot = window_overshoot;
-      sample_eliciting_only = sample_eliciting_only;
-      packet_threshold = packet_threshold;
-      timer_early_us = timer_early_us;
-    })
+    >>= λ (((timer_late, refresh_min_rtt), (report_slack_us, report_slack_bytes)), ((window_overshoot, sample_eliciting_only), ((packet_threshold, timer_early_us), by_number))).
+    Ok (
+      record no_options {
+        timer_late = timer_late;
+        refresh_min_rtt = refresh_min_rtt;
+        report_slack_us = report_slack_us;
+        report_slack_bytes = report_slack_bytes;
+        window_overshoot = window_overshoot;
+        sample_eliciting_only = sample_eliciting_only;
+        packet_threshold = packet_threshold;
+        timer_early_us = timer_early_us;
+      },
+      by_number,
+    )
 
-abbrev pub options_for : Result ℕ Fault → Data → Result Options Fault
-options_for (Ok n) d = if n == version_number Two then second_options d else (if n == version_number Three then third_options d else Ok no_options)
-options_for (Err e) d = Ok no_options
+abbrev pub options_for : Result ℕ Fault → Data → Result (Options × Option LossByNumber) Fault
+options_for (Ok n) d =
+    if n == version_number Two then second_options d else
+    (if n == version_number Three then third_options d else Ok (no_options, Some Must))
+options_for (Err e) d = Ok (no_options, Some Must)
 
 -- the keys of options, of which version 1 has none: they are looked at where the version has them
-abbrev pub options : Data → Result Options Fault
+abbrev pub options : Data → Result (Options × Option LossByNumber) Fault
 options d = options_for (version d) d
 
 -- the settings in this unit, each in its range
@@ -123,12 +135,20 @@ of_version n options s =
     (if n == version_number Two then out_of_range (with_options s options) else
     (if n == version_number Three then out_of_range (choosing_options s options) else Err fault.Version))
 
+-- the settings with the losses by number that the word names, which are judged after all numbers
+abbrev pub with_losses : Option LossByNumber → Settings → Result Settings Fault
+with_losses None s = Err (OutOfRange key.LossByNumber)
+with_losses (Some Must) s = Ok s
+with_losses (Some May) s = out_of_range (choosing_options s (record s.options { loss_by_number = May }))
+
 -- the version is judged after all other keys
 unfoldable pub header_of : Data → Result Settings Fault
 header_of d =
     both (header_fields d) (options d)
-    >>= λ (((version, role), ((unit, controller), ((max_datagram_size, max_ack_delay), (initial_rtt, initial_window)))), options).
-    settings unit role max_datagram_size max_ack_delay initial_rtt initial_window >>= of_version version (record options { controller = controller })
+    >>= λ (((version, role), ((unit, controller), ((max_datagram_size, max_ack_delay), (initial_rtt, initial_window)))), (options, by_number)).
+    settings unit role max_datagram_size max_ack_delay initial_rtt initial_window
+    >>= of_version version (record options { controller = controller })
+    >>= with_losses by_number
 
 -- ---- packets
 

@@ -16,7 +16,7 @@ use Rattle.qa_base.specs.declared.line_kind.LineKind.TheVariants as kinds
 use Rattle.qa_base.specs.declared.rule.Field.{Field}
 use Rattle.qa_base.specs.declared.rule.Field.TheVariants.{Window, Ssthresh, BytesInFlight, LatestRtt, MinRtt, SmoothedRtt, Rttvar}
 use Rattle.qa_base.specs.values.Events.{fits}
-use Rattle.qa_base.specs.values.Names.{key_name, line_kind_name, version_number, role_name, unit_name, controller_name, space_name, leave_name, kind_name}
+use Rattle.qa_base.specs.values.Names.{key_name, line_kind_name, version_number, role_name, unit_name, controller_name, loss_by_number_name, space_name, leave_name, kind_name}
 use Rattle.qa_base.specs.values.Settings.{Settings}
 
 -- ---- values
@@ -73,7 +73,8 @@ header_pairs s =
     (key.Event, string (line_kind_name kinds.Header))
     ∷ (key.InitialRtt, integer s.initial_rtt)
     ∷ (key.InitialWindow, integer s.initial_window)
-    ∷ (key.MaxAckDelay, integer s.max_ack_delay)
+    ∷ in_third s.version ((key.LossByNumber, string (loss_by_number_name s.options.loss_by_number)) ∷ [])
+    ++ (key.MaxAckDelay, integer s.max_ack_delay)
     ∷ (key.MaxDatagramSize, integer s.max_datagram_size)
     ∷ in_third s.version ((key.PacketThreshold, integer s.options.packet_threshold) ∷ [])
     ++ option_pairs s.version s.options

@@ -1,7 +1,7 @@
 use Rattle.std.proofs.Common.{◌≡◌, ◌∙◌, ℕ, Bool, true, false, sym, rules}
 use Rattle.qa_base.specs.machine.Numbers.{has_range}
 use Rattle.qa_base.specs.machine.Packets.{history_of}
-use Rattle.qa_plain.specs.Looks.{numbers_found}
+use Rattle.qa_plain.specs.Looks.{numbers_nameable}
 use Rattle.qa_plain.proofs.Turns.{each_next, not_each}
 use Rattle.qa_plain.proofs.named.has_all.Goals as goal
 use Rattle.qa_plain.proofs.named.has_all.Goals.{then-not-has_no_gap, else-not-has_no_gap}
@@ -9,7 +9,7 @@ use Rattle.qa_plain.proofs.named.has_all.Goals.{then-not-has_no_gap, else-not-ha
 pub loop-range-preserved : goal.loop-range-preserved
 loop-range-preserved c =
     let h = history_of c.args.events.now in
-    let test : ℕ × ℕ → Bool = has_range (numbers_found h c.args.look h) in
+    let test : ℕ × ℕ → Bool = has_range (numbers_nameable h c.args.look h) in
     let range = c.range-item.result in
     elim c.if-not-has_no_gap.branch [
       | then-not-has_no_gap w ↦ (

@@ -1,10 +1,10 @@
 use Rattle.std.proofs.Common.{◌∙◌, ◌∷◌, ℕ, List, [], Bool, Option, sym, ap, fold, arith}
 use Rattle.std.specs.Prelude.{if◌then◌else◌}
 use Rattle.qa_base.specs.declared.event.Event.{Event}
-use Rattle.qa_base.specs.machine.Loss.{owed, is_persistent}
+use Rattle.qa_base.specs.machine.Loss.{declared, is_persistent}
+use Rattle.qa_base.specs.machine.Moments.{detection_of, last_time}
 use Rattle.qa_base.specs.machine.Packets.{history_of, newly_acknowledged}
 use Rattle.qa_base.specs.machine.Reno.{Control, Move, moved, grows, collapses, is_app_limited}
-use Rattle.qa_base.specs.values.Events.{time_of}
 use Rattle.qa_plain.specs.Words.{last_sending, hits_at}
 use Rattle.qa_plain.proofs.Moved.{window_in_range, reno_moved}
 use Rattle.qa_plain.proofs.window.reno_after.Goals as goal
@@ -30,13 +30,13 @@ returns c =
     let h = history_of c.args.before.now in
     let after = λ (r : Control) (ms : List Move). fold (moved s.max_datagram_size) r ms in
     let grown : List Move = if is_app_limited e then [] else grows (newly_acknowledged (e ∷ h)) in
-    let lost = c.last_owed.ensures ∙ ap (λ (h : List Event). last_sending (owed s h)) c.requires.whole in
+    let lost = c.last_lost.ensures ∙ ap (λ (h : List Event). last_sending (declared s h)) c.requires.whole in
     let persistent = c.is_persistent.ensures ∙ ap (is_persistent s) c.requires.whole in
     let hit =
     c.hit_by-hit.ensures.value
-    ∙ (ap (λ (t : ℕ). after c.args.reno (hits_at t c.last_owed.result)) c.time.ensures.value
-    ∙ (ap (λ (o : Option ℕ). after c.args.reno (hits_at (time_of e) o)) lost
-    ∙ ap (λ (r : Control). after r (hits_at (time_of e) (last_sending (owed s (e ∷ h))))) c.requires.known)) in
+    ∙ (ap (λ (t : ℕ). after c.args.reno (hits_at t c.last_lost.result)) c.detected_at-now.ensures
+    ∙ (ap (λ (o : Option ℕ). after c.args.reno (hits_at (last_time (detection_of (e ∷ h))) o)) lost
+    ∙ ap (λ (r : Control). after r (hits_at (last_time (detection_of (e ∷ h))) (last_sending (declared s (e ∷ h))))) c.requires.known)) in
     let collapsed =
     c.collapsed-collapsed.ensures.value
     ∙ (ap (λ (b : Bool). after c.hit_by-hit.result (collapses b)) persistent

@@ -6,7 +6,7 @@ use Rattle.qa_base.specs.declared.key.Key.TheVariants as key
 use Rattle.qa_base.specs.declared.header.Version.{Version}
 use Rattle.qa_base.specs.declared.header.Version.TheVariants.{One, Two, Three}
 use Rattle.qa_base.specs.declared.line_kind.LineKind.TheVariants as kinds
-use Rattle.qa_base.specs.values.Names.{line_kind_name, role_name, unit_name, controller_name, version_number}
+use Rattle.qa_base.specs.values.Names.{line_kind_name, role_name, unit_name, controller_name, loss_by_number_name, version_number}
 use Rattle.qa_base.specs.values.Settings.{Settings}
 use Rattle.qa_format.specs.format.Written.{Pairs, members, string, integer, boolean, option_pairs, in_third, limit_pairs}
 use Rattle.qa_write.specs.Members.{with, with_settings, with_options, with_third}
@@ -24,7 +24,8 @@ pairs_of s version limit =
     (key.Event, string (line_kind_name kinds.Header))
     ∷ (key.InitialRtt, integer s.initial_rtt)
     ∷ (key.InitialWindow, integer s.initial_window)
-    ∷ (key.MaxAckDelay, integer s.max_ack_delay)
+    ∷ in_third version ((key.LossByNumber, string (loss_by_number_name s.options.loss_by_number)) ∷ [])
+    ++ (key.MaxAckDelay, integer s.max_ack_delay)
     ∷ (key.MaxDatagramSize, integer s.max_datagram_size)
     ∷ in_third version ((key.PacketThreshold, integer s.options.packet_threshold) ∷ [])
     ++ option_pairs version s.options
