@@ -5,6 +5,7 @@ use Rattle.qa_base.specs.declared.event.Event.TheVariants.{Sent, Ack, Lost, Time
 use Rattle.qa_base.specs.declared.space.TimerKind.TheVariants as kind
 use Rattle.qa_base.specs.declared.space.Controller.TheVariants.{Reported}
 use Rattle.qa_base.specs.declared.space.Leave.TheVariants as leave
+use Rattle.qa_base.specs.declared.space.LossByNumber.TheVariants.{May}
 use Rattle.qa_base.specs.declared.space.Role.TheVariants as role
 use Rattle.qa_base.specs.declared.space.Space.{Space}
 use Rattle.qa_base.specs.declared.header.Options.{Options}
@@ -39,6 +40,10 @@ choosing s options = record s { version = Three; options = options }
 -- in version 3, by the window that the sender reports, with this slack of bytes
 abbrev pub reporting : Settings → ℕ → Settings
 reporting s report_slack_bytes = choosing s (record no_options { controller = Reported; report_slack_bytes = report_slack_bytes })
+
+-- in version 3, by the window that the sender reports, which may spare packets that lie the packet threshold behind
+abbrev pub sparing : Settings → Settings
+sparing s = choosing s (record no_options { controller = Reported; loss_by_number = May })
 
 -- in version 3, with each time in nanoseconds
 abbrev pub in_nanoseconds : Settings → Settings

@@ -19,6 +19,7 @@ pub mod rtt
 pub mod rules
 pub mod second_version
 pub mod spaces
+pub mod spared
 pub mod third_version
 pub mod timer
 pub mod window

@@ -7,6 +7,7 @@ pub mod Deadline
 pub mod Detection
 pub mod Changes
 pub mod Closing
+pub mod LostNow
 pub mod Forgotten
 pub mod Walks
 pub mod Persistence
@@ -21,6 +22,7 @@ pub mod Passing
 pub mod BySpace
 pub mod Awaiting
 pub mod Bytes
+pub mod Free
 pub mod ConductOfLosses
 pub mod Near
 pub mod ConductOfWindows

@@ -7,5 +7,6 @@ pub mod Oldest
 pub mod Fates
 pub mod Sums
 pub mod Alike
+pub mod Declared
 pub mod Among
 pub mod Conduct

@@ -1,5 +1,5 @@
 //! What a sender does in every run: what it declares lost, what it sends, and its window.
-ghost use Rattle.std.specs.Prelude.{◌≡◌, ◌≢◌, ◌≤◌, ◌<◌, ◌+◌, ◌*◌, ◌++◌, ◌∷◌, [], List, ℕ, Bool, true, false, Some, Contains, sum_by, unwrap_or};
+ghost use Rattle.std.specs.Prelude.{◌≡◌, ◌≢◌, ◌≤◌, ◌<◌, ◌+◌, ◌*◌, ◌++◌, ◌∷◌, [], List, ℕ, Bool, true, false, None, Some, Contains, sum_by, unwrap_or};
 ghost use Rattle.std.specs.List.{AllByRecursion, list_any};
 ghost use Rattle.qa_base.specs.declared.event.Event.{Event};
 ghost use Rattle.qa_base.specs.declared.event.Event.TheVariants as events;
@@ -12,10 +12,12 @@ ghost use Rattle.qa_format.specs.declared.verdict.Verdict.TheVariants as verdict
 ghost use Rattle.qa_format.specs.format.Lines.{lines};
 ghost use Rattle.qa_format.specs.format.Reading.{reading};
 ghost use Rattle.qa_base.specs.machine.Breaches.{is_before, is_collapse_missing};
-ghost use Rattle.qa_base.specs.machine.Loss.{bytes_in_flight, is_persistent, owed};
+ghost use Rattle.qa_base.specs.machine.Loss.{bytes_in_flight, declared, detection, free, is_owed, is_persistent, owed};
+ghost use Rattle.qa_base.specs.machine.Moments.{before_last, detection_of, last_time};
 ghost use Rattle.qa_base.specs.machine.Packets.{Packet, history_of, largest_acknowledged, packets};
 ghost use Rattle.qa_base.specs.machine.Reno.{is_entry, reno};
-ghost use Rattle.qa_base.specs.machine.Estimates.{rtt};
+ghost use Rattle.qa_base.specs.machine.Detection.{is_old};
+ghost use Rattle.qa_base.specs.machine.Estimates.{rtt, sampled};
 ghost use Rattle.qa_base.specs.machine.Rtt.{loss_delay};
 ghost use Rattle.qa_base.specs.machine.Rules.{IsRun};
 ghost use Rattle.qa_base.specs.machine.Timer.{Due, deadline};
@@ -23,14 +25,16 @@ ghost use Rattle.qa_base.specs.machine.Window.{acknowledged_since_collapse, wind
 ghost use Rattle.qa_base.specs.values.Constants.{minimum_window, probe_datagrams};
 ghost use Rattle.qa_base.specs.values.Events.{is_named, time_of};
 ghost use Rattle.qa_format.specs.format.Proper.{IsProperEvent};
-ghost use Rattle.qa_base.specs.values.Settings.{Settings, AreInRange, granularity, is_reported};
+ghost use Rattle.qa_base.specs.values.Settings.{Settings, AreInRange, granularity, is_may, is_reported};
 ghost use Rattle.qa_format.specs.verdicts.Verdict.{sayings, trace_of, verdict};
+ghost use Rattle.qa_laws.specs.machine.Declared.{IsFarBelow, named_free};
 ghost use Rattle.qa_laws.specs.machine.Oldest.{is_flying};
 ghost use Rattle.qa_laws.specs.machine.Conduct.{is_entered_by, HasMoment, IsAmong, IsConduct, IsLostRightly, IsSentAfter, NoCollapse, is_probe, is_pto_event, is_recovery, probe_bytes};
 
 /// In a run each number that a Lost line names is that of an in-flight packet of its space that was
 /// sent before an acknowledged one of the space, and whose number is lower by the packet threshold at
 /// least, or which was at least as old as the loss delay when it was looked for (RFC 9002, section 6.1).
+/// So it is whether the line names what was owed or what was free.
 pub fn losses_are_right()
     ensures { (c : Settings) (h : List Event) (time : ℕ) (space : Space) (ranges : List (ℕ × ℕ))
         → IsRun c (events.Lost time space ranges ∷ h)
@@ -45,19 +49,49 @@ pub fn loss_timers_find_losses()
         → owed c (events.Timer time kinds.Loss space ∷ h) ≢ [] }
 {}
 
-/// In a run a packet that is open and in flight, and below the largest acknowledged number of its space, is
-/// less than the packet threshold below it (RFC 9002, section 6.1.1): what is at the threshold is found at
-/// once.
+/// In a run, where losses by number must be declared, a packet that is open and in flight, and below the
+/// largest acknowledged number of its space, is less than the packet threshold below it (RFC 9002,
+/// section 6.1.1): what is at the threshold is found at once. In any case such a packet is not old as of
+/// a detection of its space (section 6.1.2).
 pub fn open_packets_are_near()
-    ensures { (c : Settings) (h : List Event) → IsRun c h → AllByRecursion IsProperEvent h → (p : Packet)
+    ensures by_number { (c : Settings) (h : List Event) → is_may c.options.loss_by_number ≡ false
+        → IsRun c h → AllByRecursion IsProperEvent h → (p : Packet)
         → Contains (packets h) p → is_flying c h p ≡ true
         → (largest : ℕ) → largest_acknowledged h p.space ≡ Some largest → p.number < largest
         → largest < p.number + c.options.packet_threshold }
+    ensures by_age { (c : Settings) (h : List Event) (p : Packet) (now largest : ℕ) → is_flying c h p ≡ true
+        → detection c h ≡ Some (p.space, now)
+        → largest_acknowledged h p.space ≡ Some largest → p.number < largest
+        → is_old c (sampled c h) now p ≡ false }
+{}
+
+/// What is free lies below the largest acknowledged number of its space by the packet threshold or more,
+/// and is not old, so that it is not owed. In a run it is open and in flight. Nothing is free but behind a
+/// detection, and so nothing is behind a Lost line.
+pub fn free_packets_are_young()
+    ensures young { (c : Settings) (h : List Event) (p : Packet) (space : Space) (now : ℕ)
+        → detection c h ≡ Some (space, now) → Contains (free c h) p → is_old c (sampled c h) now p ≡ false }
+    ensures far { (c : Settings) (h : List Event) (p : Packet) → Contains (free c h) p
+        → IsFarBelow c h p }
+    ensures apart { (c : Settings) (h : List Event) (p : Packet) → Contains (free c h) p
+        → is_owed c h p ≡ false }
+    ensures flying { (c : Settings) (h : List Event) (p : Packet) → IsRun c h → Contains (free c h) p
+        → is_flying c h p ≡ true }
+    ensures behind { (c : Settings) (h : List Event) → detection c h ≡ None → free c h ≡ [] }
+{}
+
+/// A Lost line of a run takes off the bytes in flight the sizes of the packets that were free and that it
+/// names, and no others (RFC 9002, B.6): what was owed left them at its detection.
+pub fn lost_lines_take_what_was_free()
+    ensures { (c : Settings) (h : List Event) (time : ℕ) (space : Space) (ranges : List (ℕ × ℕ))
+        → IsRun c (events.Lost time space ranges ∷ h)
+        → bytes_in_flight c (events.Lost time space ranges ∷ h)
+        + sum_by (λ p. p.size) (named_free c (events.Lost time space ranges) h) ≡ bytes_in_flight c h }
 {}
 
 /// In a run a loss timer that goes off before its deadline, as the header may let it, finds only packets
 /// that were sent at one time, for which it was set: each is old at the deadline (RFC 9002, section 6.1.2). So
-/// it never establishes persistent congestion (section 7.6).
+/// it never establishes persistent congestion (section 7.6) by itself.
 pub fn early_timers_make_no_collapse()
     ensures one_time { (c : Settings) (h : List Event) (time : ℕ) (space : Space)
         → IsRun c (events.Timer time kinds.Loss space ∷ h) → AllByRecursion IsProperEvent h
@@ -101,27 +135,42 @@ pub fn sends_have_leave()
         → IsAmong (is_entry c) between (f ∷ h) }
 {}
 
-/// Of two entries into recovery in a run, with no collapse of the window between, the second has a loss
-/// that was sent after the first (RFC 9002, section 7.3.2).
+/// Of two entries into recovery in a run, by different detections and with no collapse of the window
+/// between, the second has a loss that was sent after the detection of the first (RFC 9002, section
+/// 7.3.2). Where losses by number must be declared, each entry is a detection.
 pub fn entries_need_later_losses()
-    ensures { (c : Settings) (e f : Event) (between h : List Event) → IsRun c (e ∷ between ++ f ∷ h)
+    ensures any { (c : Settings) (e f : Event) (between h : List Event) → IsRun c (e ∷ between ++ f ∷ h)
         → is_entry c (f ∷ h) ≡ true
+        → is_entry c (e ∷ between ++ f ∷ h) ≡ true
+        → detection_of (e ∷ between ++ f ∷ h) ≢ f ∷ h → NoCollapse c between (f ∷ h)
+        → IsSentAfter (last_time (detection_of (f ∷ h))) (declared c (e ∷ between ++ f ∷ h)) }
+    ensures must { (c : Settings) (e f : Event) (between h : List Event) → is_may c.options.loss_by_number ≡ false
+        → IsRun c (e ∷ between ++ f ∷ h) → is_entry c (f ∷ h) ≡ true
         → is_entry c (e ∷ between ++ f ∷ h) ≡ true → NoCollapse c between (f ∷ h)
         → IsSentAfter (time_of f) (owed c (e ∷ between ++ f ∷ h)) }
 {}
 
-/// An event enters recovery exactly where it found packets lost, the last of which was sent after recovery
-/// began, or there was no recovery (RFC 9002, section 7.3.2, B.6).
+/// An event enters recovery exactly where packets are lost by it, the last of which was sent after recovery
+/// began, or there was no recovery (RFC 9002, section 7.3.2, B.6): as of before their detection, which a
+/// Lost line may complete. Where losses by number must be declared, that is the event itself.
 pub fn entries_are_losses()
-    ensures { (c : Settings) (e : Event) (h : List Event)
+    ensures any { (c : Settings) (h : List Event)
+        → is_entry c h ≡ is_entered_by (reno c (before_last (detection_of h))).recovery_start_time (declared c h) }
+    ensures must { (c : Settings) (e : Event) (h : List Event) → is_may c.options.loss_by_number ≡ false
         → is_entry c (e ∷ h) ≡ is_entered_by (reno c h).recovery_start_time (owed c (e ∷ h)) }
 {}
 
-/// An event that lowers the window found a loss (RFC 9002, sections 7.3.2 and 7.6.2). Where the sender
-/// reports its window, the event is a report of the lower one.
+/// Packets are lost by an event that lowers the window (RFC 9002, sections 7.3.2 and 7.6.2). Where losses
+/// by number must be declared, as they must where no window is reported, the event found them lost. Where
+/// the sender reports its window, the event is a report of the lower one.
 pub fn windows_fall_by_losses()
     ensures own { (c : Settings) (e : Event) (h : List Event) → is_reported c.options.controller ≡ false
+        → window c (e ∷ h) < window c h → declared c (e ∷ h) ≢ [] }
+    ensures must { (c : Settings) (e : Event) (h : List Event) → is_may c.options.loss_by_number ≡ false
+        → is_reported c.options.controller ≡ false
         → window c (e ∷ h) < window c h → owed c (e ∷ h) ≢ [] }
+    ensures in_range { (c : Settings) → AreInRange c → is_reported c.options.controller ≡ false
+        → is_may c.options.loss_by_number ≡ false }
     ensures reported { (c : Settings) (e : Event) (h : List Event) → is_reported c.options.controller ≡ true
         → window c (e ∷ h) < window c h → window_in e ≡ Some (window c (e ∷ h)) }
 {}

@@ -20,8 +20,8 @@ ghost use Rattle.qa_base.specs.machine.Breaches.{is_before, is_collapse_missing,
 ghost use Rattle.qa_base.specs.machine.Detection.{is_old};
 ghost use Rattle.qa_base.specs.machine.Estimates.{rtt, sampled};
 ghost use Rattle.qa_base.specs.machine.FirstVersion.{exact_tests, rtt_by_samples};
-ghost use Rattle.qa_base.specs.machine.Loss.{bytes_in_flight, detection, owed};
-ghost use Rattle.qa_base.specs.machine.Numbers.{AreRanges, Names, NamesOnly, has_all, names_exactly};
+ghost use Rattle.qa_base.specs.machine.Loss.{bytes_in_flight, declared, detection, free, nameable, owed};
+ghost use Rattle.qa_base.specs.machine.Numbers.{AreRanges, NamesBetween, NamesOnly, has_all, names_between};
 ghost use Rattle.qa_base.specs.machine.Order.{NumbersFall};
 ghost use Rattle.qa_base.specs.machine.Packets.{Packet, packets, is_discarded, newly_acknowledged};
 ghost use Rattle.qa_format.specs.format.Proper.{IsProperEvent, IsProperLine};
@@ -34,7 +34,7 @@ ghost use Rattle.qa_base.specs.machine.Slack.{with_slacks};
 ghost use Rattle.qa_base.specs.machine.State.{totals};
 ghost use Rattle.qa_base.specs.values.Constants.{minimum_window, time_threshold_divisor, time_threshold_parts};
 ghost use Rattle.qa_base.specs.values.Limits.{max_packet_size};
-ghost use Rattle.qa_base.specs.values.Settings.{Settings, AreInRange, choosing_options, granularity, is_reported, no_options};
+ghost use Rattle.qa_base.specs.values.Settings.{Settings, AreInRange, choosing_options, granularity, is_may, is_reported, no_options};
 ghost use Rattle.qa_base.specs.machine.Timer.{deadline, pto_count};
 ghost use Rattle.qa_format.specs.verdicts.Verdict.{Reading, IsFixed, IsTraceOfRun, verdict};
 ghost use Rattle.qa_format.specs.format.Written.{Pairs, written};
@@ -94,13 +94,19 @@ pub fn sent_adds_its_size()
         ≡ bytes_in_flight c h + (if in_flight && not (is_discarded h space) then size else 0) }
 {}
 
-/// An event that is no acknowledgment, no timer and no discard leaves the RTT, the moves of the
-/// window and the PTO count as they were.
+/// An event that is no acknowledgment, no timer and no discard, and by which no packet is lost, leaves
+/// the RTT, the moves of the window and the PTO count as they were. By such an event none is lost,
+/// unless it is a Lost line that completes a detection; and none ever is where losses by number must be
+/// declared.
 pub fn quiet_events_change_little()
     ensures rtt { (c : Settings) (e : Event) (h : List Event) → is_quiet e ≡ true
-        → rtt c (e ∷ h) ≡ rtt c h }
+        → declared c (e ∷ h) ≡ [] → rtt c (e ∷ h) ≡ rtt c h }
     ensures moves { (c : Settings) (e : Event) (h : List Event) → is_quiet e ≡ true
-        → moves c (e ∷ h) ≡ moves c h }
+        → declared c (e ∷ h) ≡ [] → moves c (e ∷ h) ≡ moves c h }
+    ensures must { (c : Settings) (e : Event) (h : List Event) → is_may c.options.loss_by_number ≡ false
+        → is_quiet e ≡ true → declared c (e ∷ h) ≡ [] }
+    ensures unnamed { (c : Settings) (e : Event) (h : List Event) → is_quiet e ≡ true
+        → free c h ≡ [] → declared c (e ∷ h) ≡ [] }
     ensures pto_count { (c : Settings) (e : Event) (h : List Event) → is_quiet e ≡ true
         → pto_count c (e ∷ h) ≡ pto_count c h }
 {}
@@ -114,12 +120,22 @@ pub fn numbers_rise()
 {}
 
 /// The tests of ranges are what they stand for, over all numbers: that no number is named but
-/// these, and that exactly these are.
+/// these, and that all of some are named, and none but some.
 pub fn ranges_name()
     ensures only { (numbers : List ℕ) (ranges : List (ℕ × ℕ)) → AreRanges ranges
         → (has_all numbers ranges ≡ true) ↔ NamesOnly ranges numbers }
-    ensures exactly { (ranges : List (ℕ × ℕ)) (numbers : List ℕ) → AreRanges ranges
-        → (names_exactly ranges numbers ≡ true) ↔ Names ranges numbers }
+    ensures between { (ranges : List (ℕ × ℕ)) (least most : List ℕ) → AreRanges ranges
+        → (names_between ranges least most ≡ true) ↔ NamesBetween ranges least most }
+{}
+
+/// Where losses by number must be declared, nothing is free: a Lost line may name what is owed and no
+/// more, and what is lost by an event is what it finds lost.
+pub fn losses_must_be_declared()
+    ensures free { (c : Settings) (h : List Event) → is_may c.options.loss_by_number ≡ false → free c h ≡ [] }
+    ensures nameable { (c : Settings) (h : List Event) → is_may c.options.loss_by_number ≡ false
+        → nameable c h ≡ owed c h }
+    ensures declared { (c : Settings) (e : Event) (h : List Event) → is_may c.options.loss_by_number ≡ false
+        → declared c (e ∷ h) ≡ owed c (e ∷ h) }
 {}
 
 /// A packet is old exactly when the loss delay has passed since it was sent. That the loss delay is

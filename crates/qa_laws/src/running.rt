@@ -18,8 +18,9 @@ ghost use Rattle.qa_base.specs.machine.Rtt.{Estimate, persistent_after};
 ghost use Rattle.qa_base.specs.machine.Rules.{IsRun};
 ghost use Rattle.qa_base.specs.machine.Timer.{awaits_acknowledgment, loss_due};
 ghost use Rattle.qa_base.specs.values.Events.{acknowledges, is_quiet, is_space};
-ghost use Rattle.qa_base.specs.values.Settings.{Settings, granularity};
+ghost use Rattle.qa_base.specs.values.Settings.{Settings, granularity, is_may};
 ghost use Rattle.qa_laws.specs.machine.Among.{counts_as_end, finds_apart, is_persistent_among};
+ghost use Rattle.qa_laws.specs.machine.Declared.{is_named_free, named_free};
 ghost use Rattle.qa_laws.specs.machine.Fates.{fate, fate_next, is_unacknowledged};
 ghost use Rattle.qa_laws.specs.machine.Latest.{first_if_numbered, is_first_at_or_above, time_of_first};
 ghost use Rattle.qa_laws.specs.machine.Oldest.{NoneFlies, due_of, is_asked, is_flying, is_passed};
@@ -60,9 +61,9 @@ pub fn past_threshold_falls()
 {}
 
 /// In a run a packet that is not open is not open after one more event, and the packets declared
-/// lost after it are those that were and those that were owed. One that is open stays so unless the
-/// event newly acknowledges it, finds it lost or discards its space. What is below the largest
-/// acknowledged number stays below it.
+/// lost after it are those that were, those that were owed, and those that were free and that it names.
+/// One that is open stays so unless the event newly acknowledges it, finds it lost, discards its space or
+/// names it where it was free. What is below the largest acknowledged number stays below it.
 pub fn closed_stays_closed()
     ensures closed { (c : Settings) (e : Event) (h : List Event) → IsRun c (e ∷ h) → (p : Packet)
         → Contains (packets h) p
@@ -70,12 +71,13 @@ pub fn closed_stays_closed()
     ensures stays { (c : Settings) (e : Event) (h : List Event) → IsRun c (e ∷ h) → (p : Packet)
         → Contains (packets h) p
         → is_newly_acknowledged e h p ≡ false → is_owed c (e ∷ h) p ≡ false
-        → is_discarded_by c e h p ≡ false → is_open c (e ∷ h) p ≡ is_open c h p }
+        → is_discarded_by c e h p ≡ false → is_named_free c e h p ≡ false
+        → is_open c (e ∷ h) p ≡ is_open c h p }
     ensures covered { (e : Event) (h : List Event) (p : Packet) → Contains (packets h) p
         → is_acknowledged (e ∷ h) p ≡ (acknowledges p.space p.number e || is_acknowledged h p) }
     ensures lost { (c : Settings) (e : Event) (h : List Event) → IsRun c (e ∷ h) → (p : Packet)
         → Contains (packets h) p
-        → is_declared_lost (e ∷ h) p ≡ (is_owed c h p || is_declared_lost h p) }
+        → is_declared_lost (e ∷ h) p ≡ (is_owed c h p || is_named_free c e h p || is_declared_lost h p) }
     ensures largest { (e : Event) (h : List Event) (s : Space) (n : ℕ)
         → is_below_largest n (largest_acknowledged h s) ≡ true
         → is_below_largest n (largest_acknowledged (e ∷ h) s) ≡ true }
@@ -121,19 +123,21 @@ pub fn losses_are_a_front()
 {}
 
 /// In a run one more event adds the packet that it sends to a sum over the open packets, and takes
-/// off those that it newly acknowledges, that it finds lost and whose space it discards.
+/// off those that it newly acknowledges, that it finds lost, whose space it discards, and that were free
+/// and that it names.
 pub fn sums_after_an_event()
     ensures { (weight : Packet → ℕ) (c : Settings) (e : Event) (h : List Event) → IsRun c (e ∷ h)
         → open_sum weight c (e ∷ h)
         + (sum_by weight (newly_acknowledged (e ∷ h)) + sum_by weight (owed c (e ∷ h))
-        + sum_by weight (discarded c e h))
+        + sum_by weight (discarded c e h) + sum_by weight (named_free c e h))
         ≡ open_sum weight c h + sum_by weight (packet_of (length h) e) }
 {}
 
 /// In a run, packets before all others that are closed before an event are not newly acknowledged
 /// by it, nor found lost, and stay closed. Persistent congestion (RFC 9002, section 7.6) is what the
-/// packets behind them establish alone, and what one walk finds over those in the order of sending.
-/// Sums over the open packets are theirs. The packet that the event sends stands last.
+/// packets behind them establish alone, and what one walk finds over those in the order of sending, where
+/// none of them is owed; and whether or not, where losses by number must be declared. Sums over the open
+/// packets are theirs. The packet that the event sends stands last.
 pub fn closed_are_forgotten()
     ensures newly { (c : Settings) (e : Event) (h : List Event) → IsRun c (e ∷ h)
         → (gone kept : List Packet) → reverse (packets h) ≡ gone ++ kept → AreClosed c h gone
@@ -142,11 +146,20 @@ pub fn closed_are_forgotten()
         → (gone kept : List Packet) → reverse (packets h) ≡ gone ++ kept → AreClosed c h gone
         → reverse (owed c (e ∷ h)) ≡ filter (is_owed c (e ∷ h)) kept }
     ensures persistent { (c : Settings) (e : Event) (h : List Event) → IsRun c (e ∷ h)
-        → (gone kept : List Packet) → reverse (packets h) ≡ gone ++ kept → AreClosed c h gone
+        → (gone kept : List Packet) → reverse (packets h) ≡ gone ++ kept → AreDropped c h gone
         → is_persistent c (e ∷ h)
         ≡ finds_apart (is_acknowledged (e ∷ h)) (counts_as_end c (e ∷ h)) (persistent_after (granularity c) (sampled c (e ∷ h)) c.max_ack_delay) None kept }
     ensures among { (c : Settings) (e : Event) (h : List Event) → IsRun c (e ∷ h)
-        → (kept gone : List Packet) → packets h ≡ kept ++ gone → AreClosed c h gone
+        → (kept gone : List Packet) → packets h ≡ kept ++ gone → AreDropped c h gone
+        → is_persistent c (e ∷ h) ≡ is_persistent_among c (e ∷ h) kept }
+    ensures must_persistent { (c : Settings) (e : Event) (h : List Event) → IsRun c (e ∷ h)
+        → (gone kept : List Packet) → reverse (packets h) ≡ gone ++ kept
+        → is_may c.options.loss_by_number ≡ false → AreClosed c h gone
+        → is_persistent c (e ∷ h)
+        ≡ finds_apart (is_acknowledged (e ∷ h)) (counts_as_end c (e ∷ h)) (persistent_after (granularity c) (sampled c (e ∷ h)) c.max_ack_delay) None kept }
+    ensures must_among { (c : Settings) (e : Event) (h : List Event) → IsRun c (e ∷ h)
+        → (kept gone : List Packet) → packets h ≡ kept ++ gone
+        → is_may c.options.loss_by_number ≡ false → AreClosed c h gone
         → is_persistent c (e ∷ h) ≡ is_persistent_among c (e ∷ h) kept }
     ensures sums { (weight : Packet → ℕ) (c : Settings) (h : List Event) (gone kept : List Packet)
         → reverse (packets h) ≡ gone ++ kept → AreClosed c h gone
@@ -168,12 +181,12 @@ pub fn kept_are_counted()
 {}
 
 /// In a run one more event makes a packet acknowledged that it acknowledges, makes one owed that it finds lost,
-/// and declares lost one that was owed. A packet is open that is not acknowledged, unless its space was discarded.
+/// and declares lost one that was owed, or that was free and that it names. A packet is open that is not acknowledged, unless its space was discarded.
 pub fn fates_after_an_event()
     ensures fate { (c : Settings) (e : Event) (h : List Event) → IsRun c (e ∷ h) → (p : Packet)
         → Contains (packets h) p
         → fate c (e ∷ h) p
-        ≡ fate_next (acknowledges p.space p.number e) (is_owed c (e ∷ h) p) (fate c h p) }
+        ≡ fate_next (acknowledges p.space p.number e) (is_owed c (e ∷ h) p) (is_named_free c e h p) (fate c h p) }
     ensures opened { (c : Settings) (h : List Event) (p : Packet)
         → is_open c h p ≡ (is_unacknowledged (fate c h p) && not (is_discarded h p.space)) }
 {}
@@ -210,7 +223,8 @@ pub fn closed_are_of_one_space()
 
 /// In a run an acknowledgment takes off the bytes in flight what it newly acknowledges and what it finds
 /// lost, a timer what it finds lost, and a discard what was open in its space (RFC 9002, B.5, B.6 and
-/// B.9). Any other event adds the packet that it sends, where it sends one (B.4).
+/// B.9). Any other event adds the packet that it sends, where it sends one (B.4), and takes off what was free
+/// and what it names.
 pub fn bytes_after_an_event()
     ensures ack { (c : Settings) (h : List Event) (time : ℕ) (space : Space) (ranges : List (ℕ
         × ℕ)) (delay : ℕ) (app_limited : Bool)
@@ -228,7 +242,8 @@ pub fn bytes_after_an_event()
         + sum_by bytes (discarded c (events.Discard time space) h) ≡ bytes_in_flight c h }
     ensures quiet { (c : Settings) (e : Event) (h : List Event) → IsRun c (e ∷ h)
         → is_quiet e ≡ true
-        → bytes_in_flight c (e ∷ h) ≡ bytes_in_flight c h + sum_by bytes (packet_of (length h) e) }
+        → bytes_in_flight c (e ∷ h) + sum_by bytes (named_free c e h)
+        ≡ bytes_in_flight c h + sum_by bytes (packet_of (length h) e) }
 {}
 
 /// In a run the latest packet decides: the packet with the largest number of an acknowledgment, where it
@@ -249,7 +264,7 @@ pub fn latest_packets_decide()
 /// As many packets of a history are of use as were sent since the first that is open or owed. In a run a
 /// packet that is of no use is of none after one more event, so that what is of use after an event that
 /// sends nothing is found among what was, and is no more. It is as much where that is no acknowledgment,
-/// timer or discard, and nothing was owed. A packet that is sent is one more.
+/// timer or discard, nothing was owed, and it names nothing that was free. A packet that is sent is one more.
 pub fn kept_after_an_event()
     ensures is { (c : Settings) (h : List Event)
         → kept_count c h ≡ length (from_first (is_kept c h) (reverse (packets h))) }
@@ -269,7 +284,8 @@ pub fn kept_after_an_event()
         → kept_count c (e ∷ h) ≤ kept_count c h }
     ensures stays { (c : Settings) (e : Event) (h : List Event) → IsRun c (e ∷ h)
         → is_quiet e ≡ true → packet_of (length h) e ≡ []
-        → is_some_packet (owed c h) ≡ false → kept_count c (e ∷ h) ≡ kept_count c h }
+        → is_some_packet (owed c h) ≡ false → is_some_packet (named_free c e h) ≡ false
+        → kept_count c (e ∷ h) ≡ kept_count c h }
 {}
 
 /// In a run a packet that is sent begins one run of numbers more, unless the number before its own was

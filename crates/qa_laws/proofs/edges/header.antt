@@ -6,6 +6,7 @@ use Rattle.qa_base.specs.declared.key.Key.{Key}
 use Rattle.qa_base.specs.declared.key.Key.TheVariants as key
 use Rattle.qa_base.specs.declared.key.RangeFault.{RangeFault}
 use Rattle.qa_base.specs.declared.space.Controller.TheVariants.{Reported}
+use Rattle.qa_base.specs.declared.space.LossByNumber.TheVariants.{May}
 use Rattle.qa_base.specs.declared.space.Role.TheVariants.{Client}
 use Rattle.qa_base.specs.declared.space.TimeUnit.TheVariants.{Microseconds, Nanoseconds}
 use Rattle.qa_base.specs.values.Settings.{Settings, choosing_options, no_options, settings_in, settings_of, with_options}
@@ -131,3 +132,14 @@ pub a_header_gets_the_first_version_that_says_its_options :
     × (with_options (record (client 1200 12000) { version = Three }) no_options ≡ Ok (record (client 1200 12000) { version = Three }))
     × (choosing_options (client 1200 12000) no_options ≡ Ok (record (client 1200 12000) { version = Three }))
 a_header_gets_the_first_version_that_says_its_options = (refl, refl, refl, refl, refl, refl, refl, refl, refl, refl, refl, refl)
+
+-- Packets may be spared only where the window is a reported one, and only version 3 says so. It is judged behind all numbers.
+pub spared_packets_need_a_reported_window :
+    (choosing_options (client 1200 12000) (record no_options { loss_by_number = May }) ≡ refused key.LossByNumber)
+    × (choosing_options (client 1200 12000) (record no_options { controller = Reported; loss_by_number = May }) ≡ Ok (record (client 1200 12000) { version = Three; options = record no_options { controller = Reported; loss_by_number = May } }))
+    × (choosing_options (client 1200 12000) (record no_options { controller = Reported }) ≡ Ok (record (client 1200 12000) { version = Three; options = record no_options { controller = Reported } }))
+    × (choosing_options (in_nanoseconds (client 1200 12000)) (record no_options { loss_by_number = May }) ≡ refused key.LossByNumber)
+    × (with_options (client 1200 12000) (record no_options { loss_by_number = May }) ≡ refused key.LossByNumber)
+    × (with_options (client 1200 12000) (record no_options { controller = Reported; loss_by_number = May }) ≡ Ok (record (client 1200 12000) { version = Three; options = record no_options { controller = Reported; loss_by_number = May } }))
+    × (choosing_options (client 1200 12000) (record no_options { timer_early_us = 1000000001; loss_by_number = May }) ≡ refused key.TimerEarlyUs)
+spared_packets_need_a_reported_window = (refl, refl, refl, refl, refl, refl, refl)

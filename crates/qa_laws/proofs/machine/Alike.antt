@@ -12,22 +12,23 @@ use Rattle.qa_base.specs.declared.space.Leave.TheVariants.{Recovery}
 use Rattle.qa_base.specs.declared.space.Space.{Space}
 use Rattle.qa_base.specs.declared.space.Space.TheVariants.{Initial, Handshake, App}
 use Rattle.qa_base.specs.machine.Breaches.{is_loss_owed, is_loss_not_owed, numbers, is_other_loss_set, is_over, is_past_recovery, is_timer_not_set, is_other, is_timer_other}
-use Rattle.qa_base.specs.machine.Detection.{are_ends, detection_by, found_at, is_found_at, is_unsettled, looks_at, old_at}
+use Rattle.qa_base.specs.machine.Detection.{are_ends, detection_by, found_at, is_found_at, is_left_at, is_unsettled, looks_at, old_at}
 use Rattle.qa_base.specs.machine.Estimates.{refreshed_by, rtt, sampled}
 use Rattle.qa_base.specs.machine.Handshake.{is_confirmed, is_validated, has_keys}
 use Rattle.qa_base.specs.machine.Leave.{is_recovery_packet, recovery_spent}
-use Rattle.qa_base.specs.machine.Loss.{bytes_in_flight, detection, is_open, is_owed, is_persistent, owed}
-use Rattle.qa_base.specs.machine.Moments.{moments, since}
-use Rattle.qa_base.specs.machine.Numbers.{names_exactly}
+use Rattle.qa_base.specs.machine.Loss.{bytes_in_flight, declared, detection, is_free, is_open, is_owed, is_persistent, nameable, owed}
+use Rattle.qa_base.specs.machine.Moments.{before_last, detection_of, last_time, moments, since}
+use Rattle.qa_base.specs.machine.Numbers.{names_between}
 use Rattle.qa_base.specs.machine.Packets.{Packet, packets, packets_of, is_of, is_discarded, is_some_packet, newly_acknowledged, largest_acknowledged, least_of, is_below_largest}
 use Rattle.qa_base.specs.machine.Reno.{Control, hits, collapses, grows, is_app_limited, moves_of_last, moves, moved, start, reno, enters, is_entry}
 use Rattle.qa_base.specs.machine.Rtt.{Estimate, sample_of, updated, refreshed, pto_base, loss_delay}
 use Rattle.qa_base.specs.machine.State.{totals}
 use Rattle.qa_base.specs.machine.Timer.{pto_count, earlier, awaits_loss, loss_due, earliest_loss, awaits_acknowledgment, last_eliciting, pto_due, earliest_pto, last_set, anti_deadlock, deadline, packet_deadline, is_same_due, set_since}
 use Rattle.qa_base.specs.machine.Window.{acknowledged_bytes, acknowledged_since_collapse, changes_window, reported_window, ssthresh, ssthresh_by, window, window_by}
-use Rattle.qa_base.specs.values.Events.{time_of}
+use Rattle.qa_base.specs.values.Events.{declares_lost, time_of}
 use Rattle.qa_base.specs.values.Settings.{Settings, early, granularity, per_microsecond}
 use Rattle.qa_base.proofs.machine.Collapses.{since_collapse_after}
+use Rattle.qa_base.proofs.machine.Declared.{declared_is}
 use Rattle.qa_laws.specs.machine.Alike.{AreAlike}
 
 -- ---- alike headers
@@ -71,6 +72,7 @@ like c t = record {
     sample_eliciting_only = c.options.sample_eliciting_only;
     packet_threshold = c.options.packet_threshold;
     timer_early_us = t.timer_early_us;
+    loss_by_number = c.options.loss_by_number;
   };
 }
 
@@ -86,6 +88,7 @@ like_is c d a = rw (
   sym a.controller,
   sym a.sample_eliciting_only,
   sym a.packet_threshold,
+  sym a.loss_by_number,
 ) refl
 
 -- behind each event of the history losses are looked for in the same place, as of the same time
@@ -107,35 +110,73 @@ pub agree_if_equally_early : (c : Settings) (t : Tolerances) (h : List Event) �
 agree_if_equally_early c t [] same = tt
 agree_if_equally_early c t (e ∷ h) same = (agree_if_equally_early c t h same, equally_early c t (sampled c (e ∷ h)) (e ∷ h) same)
 
--- ---- the estimate, and what is found lost by it
+-- ---- the estimate, and what is lost by it
 
-same_refresh : (refresh : Bool) (c : Settings) (t : Tolerances) (h : List Event) (r : Estimate) → detection_by (like c t) r h ≡ detection_by c r h
-    → refreshed_by refresh (like c t) h r ≡ refreshed_by refresh c h r
-same_refresh true c t h r same = ap (λ d. if list_any (λ p. list_any (are_ends r c h p) (found_at c r h d)) (found_at c r h d) then refreshed r else r) same
-same_refresh false c t h r same = refl
+-- where losses are looked for, given that the samples gave the same
+detection_by_samples : (c : Settings) (t : Tolerances) (h : List Event) → Agree c t h → sampled (like c t) h ≡ sampled c h → detection (like c t) h ≡ detection c h
+detection_by_samples c t [] agree same = refl
+detection_by_samples c t (e ∷ h) agree same = ap (λ r. detection_by (like c t) r (e ∷ h)) same ∙ agree.1
+
+owed_by_samples : (c : Settings) (t : Tolerances) (h : List Event) → Agree c t h → sampled (like c t) h ≡ sampled c h → owed (like c t) h ≡ owed c h
+owed_by_samples c t h agree same = ap₂ (λ r d. found_at c r h d) same (detection_by_samples c t h agree same)
+
+is_owed_by_samples : (c : Settings) (t : Tolerances) (h : List Event) → Agree c t h → sampled (like c t) h ≡ sampled c h → (p : Packet) → is_owed (like c t) h p ≡ is_owed c h p
+is_owed_by_samples c t h agree same p = ap₂ (λ r d. is_found_at c r h p d) same (detection_by_samples c t h agree same)
+
+is_free_by_samples : (c : Settings) (t : Tolerances) (h : List Event) → Agree c t h → sampled (like c t) h ≡ sampled c h → (p : Packet) → is_free (like c t) h p ≡ is_free c h p
+is_free_by_samples c t h agree same p = ap₂ (λ r d. is_left_at c r h p d) same (detection_by_samples c t h agree same)
+
+lost_by_samples : (c : Settings) (t : Tolerances) (e : Event) (h : List Event) → Agree c t (e ∷ h) → sampled (like c t) h ≡ sampled c h → sampled (like c t) (e ∷ h) ≡ sampled c (e ∷ h)
+    → declared (like c t) (e ∷ h) ≡ declared c (e ∷ h)
+lost_by_samples c t (Lost time space ranges) h agree before now =
+    let e = Lost time space ranges in
+    declared_is (like c t) time space ranges h
+    ∙ ap₂ (λ (frees owes : Packet → Bool). if list_any (λ p. frees p && declares_lost p.space p.number e) (packets h) then filter (λ p. owes p || (frees p && declares_lost p.space p.number e)) (packets h) else [])
+    (fun_ext (is_free_by_samples c t h agree.0 before)) (fun_ext (is_owed_by_samples c t h agree.0 before))
+    ∙ sym (declared_is c time space ranges h)
+lost_by_samples c t e h agree before now = owed_by_samples c t (e ∷ h) agree now
+
+refreshed_same : (refresh : Bool) (c : Settings) (t : Tolerances) (h : List Event) → sampled (like c t) h ≡ sampled c h → declared (like c t) h ≡ declared c h
+    → refreshed_by refresh (like c t) h (sampled (like c t) h) ≡ refreshed_by refresh c h (sampled c h)
+refreshed_same true c t h same lost = ap₂ (λ r ps. if list_any (λ p. list_any (are_ends r c h p) ps) ps then refreshed r else r) same lost
+refreshed_same false c t h same lost = same
+
+-- the samples give the same, and the estimate is the same, and so is what is lost by the last event
+record SameEstimate (c : Settings) (t : Tolerances) (h : List Event) : Type 0 where
+  samples : sampled (like c t) h ≡ sampled c h
+  estimate : rtt (like c t) h ≡ rtt c h
+  lost : declared (like c t) h ≡ declared c h
+
+same_estimate : (c : Settings) (t : Tolerances) (h : List Event) → Agree c t h → SameEstimate c t h
+same_estimate c t [] agree = record { samples = refl; estimate = refl; lost = refl }
+same_estimate c t (e ∷ h) agree =
+    let before = same_estimate c t h agree.0 in
+    let samples : sampled (like c t) (e ∷ h) ≡ sampled c (e ∷ h) = ap (λ r. updated r (sample_of c (e ∷ h))) before.estimate in
+    let lost = lost_by_samples c t e h agree before.samples samples in
+    record { samples = samples; estimate = refreshed_same c.options.refresh_min_rtt c t (e ∷ h) samples lost; lost = lost }
 
 pub same_rtt : (c : Settings) (t : Tolerances) (h : List Event) → Agree c t h → rtt (like c t) h ≡ rtt c h
-same_rtt c t [] agree = refl
-same_rtt c t (e ∷ h) agree =
-    ap (λ r. refreshed_by c.options.refresh_min_rtt (like c t) (e ∷ h) (updated r (sample_of c (e ∷ h)))) (same_rtt c t h agree.0)
-    ∙ same_refresh c.options.refresh_min_rtt c t (e ∷ h) (sampled c (e ∷ h)) agree.1
+same_rtt c t h agree = (same_estimate c t h agree).estimate
 
 same_sampled : (c : Settings) (t : Tolerances) (h : List Event) → Agree c t h → sampled (like c t) h ≡ sampled c h
-same_sampled c t [] agree = refl
-same_sampled c t (e ∷ h) agree = ap (λ r. updated r (sample_of c (e ∷ h))) (same_rtt c t h agree.0)
+same_sampled c t h agree = (same_estimate c t h agree).samples
 
-same_detection : (c : Settings) (t : Tolerances) (h : List Event) → Agree c t h → detection (like c t) h ≡ detection c h
-same_detection c t [] agree = refl
-same_detection c t (e ∷ h) agree = ap (λ r. detection_by (like c t) r (e ∷ h)) (same_sampled c t (e ∷ h) agree) ∙ agree.1
+same_declared : (c : Settings) (t : Tolerances) (h : List Event) → Agree c t h → declared (like c t) h ≡ declared c h
+same_declared c t h agree = (same_estimate c t h agree).lost
 
 pub same_owed : (c : Settings) (t : Tolerances) (h : List Event) → Agree c t h → owed (like c t) h ≡ owed c h
-same_owed c t h agree = ap₂ (λ r d. found_at c r h d) (same_sampled c t h agree) (same_detection c t h agree)
+same_owed c t h agree = owed_by_samples c t h agree (same_sampled c t h agree)
 
 same_is_owed : (c : Settings) (t : Tolerances) (h : List Event) → Agree c t h → (p : Packet) → is_owed (like c t) h p ≡ is_owed c h p
-same_is_owed c t h agree p = ap₂ (λ r d. is_found_at c r h p d) (same_sampled c t h agree) (same_detection c t h agree)
+same_is_owed c t h agree p = is_owed_by_samples c t h agree (same_sampled c t h agree) p
+
+same_nameable : (c : Settings) (t : Tolerances) (h : List Event) → Agree c t h → nameable (like c t) h ≡ nameable c h
+same_nameable c t h agree =
+    ap₂ (λ (frees owes : Packet → Bool). filter (λ p. owes p || frees p) (packets h))
+    (fun_ext (is_free_by_samples c t h agree (same_sampled c t h agree))) (fun_ext (same_is_owed c t h agree))
 
 same_persistent : (c : Settings) (t : Tolerances) (h : List Event) → Agree c t h → is_persistent (like c t) h ≡ is_persistent c h
-same_persistent c t h agree = ap₂ (λ r ps. list_any (λ p. list_any (are_ends r c h p) ps) ps) (same_sampled c t h agree) (same_owed c t h agree)
+same_persistent c t h agree = ap₂ (λ r ps. list_any (λ p. list_any (are_ends r c h p) ps) ps) (same_sampled c t h agree) (same_declared c t h agree)
 
 same_open : (c : Settings) (t : Tolerances) (h : List Event) → Agree c t h → (p : Packet) → is_open (like c t) h p ≡ is_open c h p
 same_open c t h agree p = ap (λ is. is_unsettled h p && not is && not (is_discarded h p.space)) (same_is_owed c t h agree p)
@@ -148,8 +189,8 @@ same_bytes c t h agree = ap (λ (f : Packet → ℕ). sum_by f (packets h)) (fun
 same_moves_of_last : (c : Settings) (t : Tolerances) (h : List Event) → Agree c t h → moves_of_last (like c t) h ≡ moves_of_last c h
 same_moves_of_last c t [] agree = refl
 same_moves_of_last c t (e ∷ h) agree =
-    ap₂ (λ ps persistent. hits (time_of e) ps ++ collapses persistent ++ (if is_app_limited e then [] else grows (newly_acknowledged (e ∷ h))))
-    (same_owed c t (e ∷ h) agree) (same_persistent c t (e ∷ h) agree)
+    ap₂ (λ ps persistent. hits (last_time (detection_of (e ∷ h))) ps ++ collapses persistent ++ (if is_app_limited e then [] else grows (newly_acknowledged (e ∷ h))))
+    (same_declared c t (e ∷ h) agree) (same_persistent c t (e ∷ h) agree)
 
 same_moves : (c : Settings) (t : Tolerances) (h : List Event) → Agree c t h → moves (like c t) h ≡ moves c h
 same_moves c t [] agree = refl
@@ -168,7 +209,7 @@ pub same_collapse : (c : Settings) (t : Tolerances) (h : List Event) → Agree c
 same_collapse c t [] agree = refl
 same_collapse c t (e ∷ h) agree =
     since_collapse_after (like c t) e h
-    ∙ ap₂ (λ persistent before. if persistent then Some (acknowledged_bytes (e ∷ h))
+    ∙ ap₂ (λ persistent before. if persistent then Some (acknowledged_bytes (detection_of (e ∷ h)))
     else (if changes_window c (e ∷ h) then None else option_map (λ n. acknowledged_bytes (e ∷ h) + n) before))
     (same_persistent c t (e ∷ h) agree) (same_collapse c t h agree.0)
     ∙ sym (since_collapse_after c e h)
@@ -188,10 +229,15 @@ since_moment : (test other : List Event → Bool) (h : List Event) → SameAt te
 since_moment test other [] same = refl
 since_moment test other (e ∷ h) same = ap₂ (λ here rest. if here then [] else (e ∷ h) ∷ rest) same.0 (since_moment test other h same.1)
 
+reno_before : (c : Settings) (t : Tolerances) (e : Event) (h : List Event) → Agree c t (e ∷ h) → reno (like c t) (before_last (detection_of (e ∷ h))) ≡ reno c (before_last (detection_of (e ∷ h)))
+reno_before c t (Lost time space ranges) [] agree = refl
+reno_before c t (Lost time space ranges) (d ∷ h) agree = same_reno c t h agree.0.0
+reno_before c t e h agree = same_reno c t h agree.0
+
 same_entries : (c : Settings) (t : Tolerances) (h : List Event) → Agree c t h → SameAt (is_entry (like c t)) (is_entry c) h
 same_entries c t [] agree = tt
 same_entries c t (e ∷ h) agree = (
-  ap₂ (λ (k : Control) ms. enters k.recovery_start_time ms) (same_reno c t h agree.0) (same_moves_of_last c t (e ∷ h) agree),
+  ap₂ (λ (k : Control) ms. enters k.recovery_start_time ms) (reno_before c t e h agree) (same_moves_of_last c t (e ∷ h) agree),
   same_entries c t h agree.0,
 )
 
@@ -259,11 +305,11 @@ same_loss_owed c t h agree (Lost time space ranges) = refl
 same_loss_owed c t h agree _ = ap is_some_packet (same_owed c t h agree)
 
 pub same_loss_not_owed : (c : Settings) (t : Tolerances) (h : List Event) → Agree c t h → (e : Event) → is_loss_not_owed (like c t) h e ≡ is_loss_not_owed c h e
-same_loss_not_owed c t h agree (Lost time space ranges) = ap (λ ps. not (list_any (is_of space) ps)) (same_owed c t h agree)
+same_loss_not_owed c t h agree (Lost time space ranges) = ap (λ ps. not (list_any (is_of space) ps)) (same_nameable c t h agree)
 same_loss_not_owed c t h agree _ = refl
 
 pub same_loss_set : (c : Settings) (t : Tolerances) (h : List Event) → Agree c t h → (e : Event) → is_other_loss_set (like c t) h e ≡ is_other_loss_set c h e
-same_loss_set c t h agree (Lost time space ranges) = ap (λ ps. not (names_exactly ranges (numbers ps))) (same_owed c t h agree)
+same_loss_set c t h agree (Lost time space ranges) = ap₂ (λ least most. not (names_between ranges (numbers least) (numbers most))) (same_owed c t h agree) (same_nameable c t h agree)
 same_loss_set c t h agree _ = refl
 
 pub same_past_recovery : (c : Settings) (t : Tolerances) (h : List Event) → Agree c t h → (e : Event) → is_past_recovery (like c t) h e ≡ is_past_recovery c h e

@@ -1,6 +1,6 @@
 -- What one more event closes, and what it takes from a sum over the open packets.
 use Rattle.std.proofs.Common.{◌≡◌, ◌∙◌, ◌+◌, ℕ, List, [], ◌∷◌, length, Bool, true, false, ◌&&◌, ◌||◌, not, Option, Some, None, refl, sym, ap, arith, Contains, filter, sum_by, zero-add, add-zero}
-use Rattle.std.proofs.lemmas.Bool.{and_parts, and_right, or_left, or_from, not-true, both_ways, false_from_ne_true}
+use Rattle.std.proofs.lemmas.Bool.{and_parts, and_right, or_left, or_right, or_from, not-true, both_ways, false_from_ne_true}
 use Rattle.std.proofs.lemmas.List.Sums.{sum_by-cons}
 use Rattle.std.specs.List.{AllByRecursion}
 use Rattle.std.specs.Prelude.{if◌then◌else◌}
@@ -8,19 +8,20 @@ use Rattle.qa_base.specs.declared.event.Event.{Event}
 use Rattle.qa_base.specs.declared.event.Event.TheVariants.{Sent, Ack, Lost, Timer, Discard, Confirmed, Keys, Metrics}
 use Rattle.qa_base.specs.declared.space.Leave.{Leave}
 use Rattle.qa_base.specs.declared.space.Space.{Space}
-use Rattle.qa_base.specs.values.Events.{acknowledges, declares_lost, discards}
+use Rattle.qa_base.specs.values.Events.{acknowledges, discards}
 use Rattle.qa_base.specs.machine.Estimates.{sampled}
 use Rattle.qa_base.specs.machine.Detection.{is_found, is_found_at, found_at, is_unsettled}
-use Rattle.qa_base.specs.machine.Loss.{owed, is_owed, is_open, flight_size, bytes_in_flight, detection}
+use Rattle.qa_base.specs.machine.Loss.{owed, is_owed, is_free, is_open, flight_size, bytes_in_flight, detection}
 use Rattle.qa_base.specs.machine.Packets.{Packet, packets, packet_of, is_of, is_acknowledged, is_declared_lost, is_discarded, is_newly_acknowledged, newly_acknowledged}
 use Rattle.qa_base.specs.machine.Rules.{IsRun}
 use Rattle.qa_base.specs.values.Settings.{Settings}
+use Rattle.qa_laws.specs.machine.Declared.{is_named_free, named_free}
 use Rattle.qa_laws.specs.machine.Sums.{counted, open_sum, is_discarded_by, discarded, bytes}
 use Rattle.qa_laws.proofs.machine.Pairs.{of_each, same_part, part_of_part, none_left}
 use Rattle.qa_base.proofs.machine.Quiet.{same_sum, not_followed}
 use Rattle.qa_base.proofs.machine.RunLaws.{all_hold}
 use Rattle.qa_laws.proofs.machine.Settled.{opens_is, open_before, covered_settles}
-use Rattle.qa_laws.proofs.machine.Changes.{covered_after, lost_after, open_not_named, owed_was_flying, newly_was_open, found_unsettled}
+use Rattle.qa_laws.proofs.machine.Changes.{covered_after, lost_after, named_if_free, named_was_open, owed_was_flying, newly_was_open, found_unsettled}
 
 -- ---- which packets an event closes
 
@@ -31,31 +32,37 @@ is_closed_by c e before p = is_open c before p && not (is_open c (e ∷ before) 
 abbrev closed_by : Settings → Event → List Event → List Packet
 closed_by c e before = filter (is_closed_by c e before) (packets before)
 
-by_tests : (names declares found discards_it was_covered was_lost was_gone covered_now lost_now : Bool) → covered_now ≡ (names || was_covered) → lost_now ≡ (declares || was_lost) → was_covered ≡ false → was_lost ≡ false → was_gone ≡ false → declares ≡ false
-    → not (not covered_now && not lost_now && not found && not (discards_it || was_gone)) ≡ ((names && not was_covered && not was_lost) || found || (discards_it && true))
-by_tests true declares found discards_it was_covered was_lost was_gone covered_now lost_now covered_is lost_is not_covered not_lost not_gone not_declared = rw (covered_is, not_covered, not_lost) refl
-by_tests false declares true discards_it was_covered was_lost was_gone covered_now lost_now covered_is lost_is not_covered not_lost not_gone not_declared = rw (covered_is, lost_is, not_covered, not_lost, not_declared) refl
-by_tests false declares false true was_covered was_lost was_gone covered_now lost_now covered_is lost_is not_covered not_lost not_gone not_declared = rw (covered_is, lost_is, not_covered, not_lost, not_declared) refl
-by_tests false declares false false was_covered was_lost was_gone covered_now lost_now covered_is lost_is not_covered not_lost not_gone not_declared = rw (covered_is, lost_is, not_covered, not_lost, not_gone, not_declared) refl
+by_tests : (names named found discards_it was_covered was_lost was_gone covered_now lost_now : Bool) → covered_now ≡ (names || was_covered) → lost_now ≡ (named || was_lost) → was_covered ≡ false → was_lost ≡ false → was_gone ≡ false
+    → not (not covered_now && not lost_now && not found && not (discards_it || was_gone)) ≡ ((names && not was_covered && not was_lost) || found || (discards_it && true) || named)
+by_tests true named found discards_it was_covered was_lost was_gone covered_now lost_now covered_is lost_is not_covered not_lost not_gone = rw (covered_is, not_covered, not_lost) refl
+by_tests false true found discards_it was_covered was_lost was_gone covered_now lost_now covered_is lost_is not_covered not_lost not_gone =
+    rw (covered_is, lost_is, not_covered) (sym (or_right (found || (discards_it && true)) true refl))
+by_tests false false true discards_it was_covered was_lost was_gone covered_now lost_now covered_is lost_is not_covered not_lost not_gone = rw (covered_is, lost_is, not_covered, not_lost) refl
+by_tests false false false true was_covered was_lost was_gone covered_now lost_now covered_is lost_is not_covered not_lost not_gone = rw (covered_is, lost_is, not_covered, not_lost) refl
+by_tests false false false false was_covered was_lost was_gone covered_now lost_now covered_is lost_is not_covered not_lost not_gone = rw (covered_is, lost_is, not_covered, not_lost, not_gone) refl
 
 closes_if : (c : Settings) (e : Event) (h : List Event) → IsRun c (e ∷ h) → (p : Packet) → Contains (packets h) p → (was : Bool) → is_open c h p ≡ was
-    → (was && not (is_open c (e ∷ h) p)) ≡ (is_newly_acknowledged e h p || is_owed c (e ∷ h) p || (discards p.space e && was))
+    → (was && not (is_open c (e ∷ h) p)) ≡ (is_newly_acknowledged e h p || is_owed c (e ∷ h) p || (discards p.space e && was) || is_named_free c e h p)
 closes_if c e h run p has true is =
     let o = opens_is c h p is in
     let covered_not = not-true (is_acknowledged h p) (and_parts (not (is_acknowledged h p)) (not (is_declared_lost h p)) o.unsettled).0 in
     let lost_not = not-true (is_declared_lost h p) (and_parts (not (is_acknowledged h p)) (not (is_declared_lost h p)) o.unsettled).1 in
-    by_tests (acknowledges p.space p.number e) (declares_lost p.space p.number e) (is_owed c (e ∷ h) p) (discards p.space e)
+    let lost_is = lost_after e h p has ∙ ap (λ (b : Bool). b || is_declared_lost h p) (named_if_free c e h run p has o.free) in
+    by_tests (acknowledges p.space p.number e) (is_named_free c e h p) (is_owed c (e ∷ h) p) (discards p.space e)
     (is_acknowledged h p) (is_declared_lost h p) (is_discarded h p.space) (is_acknowledged (e ∷ h) p) (is_declared_lost (e ∷ h) p)
-    (covered_after e h p has) (lost_after e h p has) covered_not lost_not o.there (open_not_named c e h run p has o.free)
+    (covered_after e h p has) lost_is covered_not lost_not o.there
 closes_if c e h run p has false is =
     let not_newly = false_from_ne_true (is_newly_acknowledged e h p) (λ newly. both_ways (is_open c h p) is (newly_was_open c e h run p has newly)) in
     let not_owed = false_from_ne_true (is_owed c (e ∷ h) p) (λ found. both_ways (is_open c h p) is (and_parts p.in_flight (is_open c h p) (owed_was_flying c e h run p has found)).1) in
-    sym (or_from (is_newly_acknowledged e h p || is_owed c (e ∷ h) p) (discards p.space e && false)
-    (or_from (is_newly_acknowledged e h p) (is_owed c (e ∷ h) p) not_newly not_owed) (and_right (discards p.space e) false refl))
+    let not_named = false_from_ne_true (is_named_free c e h p) (λ named. both_ways (is_open c h p) is (named_was_open c e h run p named)) in
+    sym (or_from (is_newly_acknowledged e h p || is_owed c (e ∷ h) p || (discards p.space e && false)) (is_named_free c e h p)
+    (or_from (is_newly_acknowledged e h p || is_owed c (e ∷ h) p) (discards p.space e && false)
+    (or_from (is_newly_acknowledged e h p) (is_owed c (e ∷ h) p) not_newly not_owed) (and_right (discards p.space e) false refl)) not_named)
 
--- in a run an event closes the open packets that it newly acknowledges, that it finds lost and whose space it discards, and no others
+-- in a run an event closes the open packets that it newly acknowledges, that it finds lost, whose space it discards, and that were free
+-- and that it names, and no others
 pub closes_is : (c : Settings) (e : Event) (h : List Event) → IsRun c (e ∷ h) → (p : Packet) → Contains (packets h) p
-    → is_closed_by c e h p ≡ (is_newly_acknowledged e h p || is_owed c (e ∷ h) p || is_discarded_by c e h p)
+    → is_closed_by c e h p ≡ (is_newly_acknowledged e h p || is_owed c (e ∷ h) p || is_discarded_by c e h p || is_named_free c e h p)
 closes_is c e h run p has = closes_if c e h run p has (is_open c h p) refl
 
 -- ---- sums
@@ -128,19 +135,28 @@ not_both_discarded : (c : Settings) (e : Event) (h : List Event) (p : Packet) �
 not_both_discarded c (Discard time space) h p either = cc
 not_both_discarded c _ h p either = refl
 
+-- an event that names what is free is a Lost line, which does nothing else to it
+not_both_named : (c : Settings) (e : Event) (h : List Event) (p : Packet) → (is_newly_acknowledged e h p || is_owed c (e ∷ h) p || is_discarded_by c e h p) ≡ true → is_named_free c e h p ≡ false
+not_both_named c (Lost time space ranges) h p either = cc
+not_both_named c _ h p either = and_right (is_free c h p) false refl
+
 -- the weights of what an event closes
 closed_sum : (weight : Packet → ℕ) (c : Settings) (e : Event) (h : List Event) → IsRun c (e ∷ h)
-    → sum_by weight (closed_by c e h) ≡ sum_by weight (newly_acknowledged (e ∷ h)) + sum_by weight (owed c (e ∷ h)) + sum_by weight (discarded c e h)
+    → sum_by weight (closed_by c e h) ≡ sum_by weight (newly_acknowledged (e ∷ h)) + sum_by weight (owed c (e ∷ h)) + sum_by weight (discarded c e h) + sum_by weight (named_free c e h)
 closed_sum weight c e h run =
     let newly = is_newly_acknowledged e h in
     let found = is_owed c (e ∷ h) in
     let gone = is_discarded_by c e h in
+    let named = is_named_free c e h in
     let ps = packets h in
-    ap (sum_by weight) (same_part (is_closed_by c e h) (λ p. newly p || found p || gone p) ps (of_each (λ p. is_closed_by c e h p ≡ (newly p || found p || gone p)) ps (λ p has. closes_is c e h run p has)))
-    ∙ (sum_of_either weight (λ p. newly p || found p) gone ps (of_each (λ p. (newly p || found p) ≡ true → gone p ≡ false) ps (λ p has either. not_both_discarded c e h p either))
+    ap (sum_by weight) (same_part (is_closed_by c e h) (λ p. newly p || found p || gone p || named p) ps
+    (of_each (λ p. is_closed_by c e h p ≡ (newly p || found p || gone p || named p)) ps (λ p has. closes_is c e h run p has)))
+    ∙ (sum_of_either weight (λ p. newly p || found p || gone p) named ps (of_each (λ p. (newly p || found p || gone p) ≡ true → named p ≡ false) ps (λ p has either. not_both_named c e h p either))
+    ∙ ap (λ n. n + sum_by weight (filter named ps))
+    (sum_of_either weight (λ p. newly p || found p) gone ps (of_each (λ p. (newly p || found p) ≡ true → gone p ≡ false) ps (λ p has either. not_both_discarded c e h p either))
     ∙ ap (λ n. n + sum_by weight (filter gone ps))
     (sum_of_either weight newly found ps (of_each (λ p. newly p ≡ true → found p ≡ false) ps (λ p has is. newly_not_owed c e h p has is))
-    ∙ ap (λ qs. sum_by weight (filter newly ps) + sum_by weight qs) (owed_among c e h)))
+    ∙ ap (λ qs. sum_by weight (filter newly ps) + sum_by weight qs) (owed_among c e h))))
 
 -- a packet is open that was just sent, unless its space is gone
 pub sent_is_open : (c : Settings) (h : List Event) (time : ℕ) (space : Space) (number size : ℕ) (eliciting in_flight : Bool) (leave : Leave) (p : Packet)
@@ -175,9 +191,9 @@ sum_after weight c (Sent time space number size eliciting in_flight leave) h run
 sum_after weight c e h run = sym (zero-add _)
 
 -- in a run one more event adds the packet that it sends to a sum over the open packets, and takes off those that it newly
--- acknowledges, that it finds lost and whose space it discards
+-- acknowledges, that it finds lost, whose space it discards, and that were free and that it names
 pub open_sum_after : (weight : Packet → ℕ) (c : Settings) (e : Event) (h : List Event) → IsRun c (e ∷ h)
-    → open_sum weight c (e ∷ h) + (sum_by weight (newly_acknowledged (e ∷ h)) + sum_by weight (owed c (e ∷ h)) + sum_by weight (discarded c e h))
+    → open_sum weight c (e ∷ h) + (sum_by weight (newly_acknowledged (e ∷ h)) + sum_by weight (owed c (e ∷ h)) + sum_by weight (discarded c e h) + sum_by weight (named_free c e h))
     ≡ open_sum weight c h + sum_by weight (packet_of (length h) e)
 open_sum_after weight c e h run =
     let after = sum_after weight c e h run in

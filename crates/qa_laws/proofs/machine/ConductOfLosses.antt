@@ -1,5 +1,5 @@
 -- What a run declares lost was lost.
-use Rattle.std.proofs.Common.{◌≡◌, ◌∙◌, ◌+◌, ◌-◌, ◌<◌, ◌≤◌, ℕ, max, List, [], ◌∷◌, ◌++◌, length, Bool, true, false, ◌&&◌, ◌||◌, Option, Some, None, refl, sym, ap, arith, subst, Contains, inl, inr, ◌⊎◌}
+use Rattle.std.proofs.Common.{◌≡◌, ◌∙◌, ◌+◌, ◌-◌, ◌<◌, ◌≤◌, ℕ, max, List, [], ◌∷◌, ◌++◌, length, Bool, true, false, ◌&&◌, ◌||◌, not, Option, Some, None, refl, sym, ap, arith, subst, Contains, inl, inr, ◌⊎◌}
 use Rattle.std.proofs.lemmas.Bool.{and_parts, and_from, or_left, or_right, or_cases, not-false, leb-true, leb-false, ltb-true, lt-ltb, le-leb}
 use Rattle.std.specs.List.{list_all, AllByRecursion}
 use Rattle.std.specs.Prelude.{nat_lt, nat_le, if◌then◌else◌}
@@ -10,21 +10,21 @@ use Rattle.qa_base.specs.machine.Breaches.{numbers}
 use Rattle.qa_laws.specs.machine.Conduct.{IsLostRightly}
 use Rattle.qa_base.specs.values.Events.{is_space, is_named, acknowledges, has_ranges}
 use Rattle.qa_base.specs.machine.Estimates.{sampled}
-use Rattle.qa_base.specs.machine.Detection.{is_found, is_found_at, is_past_threshold, is_old, is_unsettled}
-use Rattle.qa_base.specs.machine.Loss.{owed, detection}
+use Rattle.qa_base.specs.machine.Detection.{is_found, is_found_at, is_past_threshold, is_old, is_unsettled, may_be_spared}
+use Rattle.qa_base.specs.machine.Loss.{owed, is_owed, is_free, nameable, is_nameable, detection}
 use Rattle.qa_base.specs.machine.Numbers.{has_all}
 use Rattle.qa_base.specs.machine.Packets.{Packet, packet_of, packets, packets_of, is_of, is_acknowledged, greatest, greatest_in, largest_acknowledged}
 use Rattle.qa_format.specs.format.Proper.{IsRange, IsProperEvent}
 use Rattle.qa_base.specs.machine.Rules.{IsRun}
-use Rattle.qa_base.specs.values.Settings.{Settings, granularity}
+use Rattle.qa_base.specs.values.Settings.{Settings, granularity, is_may}
 use Rattle.qa_base.specs.machine.Rtt.{loss_delay}
-use Rattle.qa_laws.proofs.machine.Changes.{one_of_numbers}
+use Rattle.qa_laws.proofs.machine.Changes.{free_is_left, one_of_numbers}
 use Rattle.qa_laws.proofs.machine.Courses.{in_order, is_space_same, is_space_is}
 use Rattle.qa_base.proofs.machine.WindowBound.{placed}
 use Rattle.qa_laws.proofs.machine.Pairs.{at_one, has_later, part_is, two_of}
 use Rattle.qa_base.proofs.machine.Ranges.{has_all_names}
 use Rattle.qa_base.proofs.machine.RunLaws.{all_hold, old_is_after_loss_delay}
-use Rattle.qa_laws.proofs.machine.Settled.{raised, largest_after, covered_stays, owed_is, owed_space, names_all}
+use Rattle.qa_laws.proofs.machine.Settled.{raised, largest_after, covered_stays, nameable_is, nameable_space, names_all}
 use Rattle.qa_laws.specs.machine.Sequence.{WasSentBefore}
 
 -- ---- the largest acknowledged number is that of an acknowledged packet
@@ -131,20 +131,40 @@ place_of c h run p q has_p has_q same lower = elim (two_of WasSentBefore (packet
   | inr (inr behind) ↦ behind.place
 ]
 
-late_by : (c : Settings) (h : List Event) (now m : ℕ) (p : Packet) → p.number < m → (nat_le c.options.packet_threshold (m - p.number) || is_old c (sampled c h) now p) ≡ true
-    → (p.number + c.options.packet_threshold ≤ m) ⊎ (loss_delay (granularity c) (sampled c h) ≤ now - p.time)
-late_by c h now m p below is = elim (or_cases (nat_le c.options.packet_threshold (m - p.number)) (is_old c (sampled c h) now p) is) [
-  | inl far ↦ (let three = leb-true c.options.packet_threshold (m - p.number) far in inl (omega (arith, three, below)))
-  | inr old ↦ inr ((old_is_after_loss_delay c (sampled c h) now p).0 old)
-]
+-- below a number, and lower than it by the packet threshold, or old
+abbrev IsLate : Settings → List Event → ℕ → Packet → Option ℕ → Type 0
+IsLate c h now p None = ⊥
+IsLate c h now p (Some m) = (p.number < m) × ((p.number + c.options.packet_threshold ≤ m) ⊎ (loss_delay (granularity c) (sampled c h) ≤ now - p.time))
+
+late_if_found : (c : Settings) (h : List Event) (now : ℕ) (most : Option ℕ) (p : Packet) → is_past_threshold c (sampled c h) now most p ≡ true → IsLate c h now p most
+late_if_found c h now None p is = cc
+late_if_found c h now (Some m) p is =
+    let far = nat_le c.options.packet_threshold (m - p.number) in
+    let both = and_parts (nat_lt p.number m) ((not (is_may c.options.loss_by_number) && far) || is_old c (sampled c h) now p) is in
+    let below = ltb-true p.number m both.0 in (
+      below,
+      elim (or_cases (not (is_may c.options.loss_by_number) && far) (is_old c (sampled c h) now p) both.1) [
+        | inl by_number ↦ (let three = leb-true c.options.packet_threshold (m - p.number) (and_parts (not (is_may c.options.loss_by_number)) far by_number).1 in inl (omega (arith, three, below)))
+        | inr old ↦ inr ((old_is_after_loss_delay c (sampled c h) now p).0 old)
+      ],
+    )
+
+late_if_spared : (c : Settings) (h : List Event) (now : ℕ) (most : Option ℕ) (p : Packet) → may_be_spared c (sampled c h) now most p ≡ true → IsLate c h now p most
+late_if_spared c h now None p is = cc
+late_if_spared c h now (Some m) p is =
+    let far = nat_le c.options.packet_threshold (m - p.number) in
+    let young = and_parts (nat_lt p.number m && (is_may c.options.loss_by_number && far)) (not (is_old c (sampled c h) now p)) is in
+    let both = and_parts (nat_lt p.number m) (is_may c.options.loss_by_number && far) young.0 in
+    let below = ltb-true p.number m both.0 in
+    let three = leb-true c.options.packet_threshold (m - p.number) (and_parts (is_may c.options.loss_by_number) far both.1).1 in
+    (below, inl (omega (arith, three, below)))
 
 lost_by : (c : Settings) (h : List Event) → IsRun c h → AllByRecursion IsProperEvent h → (p : Packet) → Contains (packets h) p → (s : Space) (now : ℕ)
-    → detection c h ≡ Some (s, now) → p.space ≡ s → p.in_flight ≡ true → (most : Option ℕ) → largest_acknowledged h s ≡ most → is_past_threshold c (sampled c h) now most p ≡ true
+    → detection c h ≡ Some (s, now) → p.space ≡ s → p.in_flight ≡ true → (most : Option ℕ) → largest_acknowledged h s ≡ most → IsLate c h now p most
     → IsLostRightly c h s p.number
-lost_by c h run proper p has s now at of_space flying None largest late = cc
+lost_by c h run proper p has s now at of_space flying None largest late = absurd late
 lost_by c h run proper p has s now at of_space flying (Some m) largest late =
-    let both = and_parts (nat_lt p.number m) (nat_le c.options.packet_threshold (m - p.number) || is_old c (sampled c h) now p) late in
-    let below = ltb-true p.number m both.0 in
+    let below = late.0 in
     let ack = largest_is_acknowledged c h run proper s m largest in
     let lower : p.number < ack.0.number = omega (arith, below, ack.3) in
     record {
@@ -161,28 +181,40 @@ lost_by c h run proper p has s now at of_space flying (Some m) largest late =
       lower = lower;
       now = now;
       detected = at;
-      late = subst (λ (k : ℕ). (p.number + c.options.packet_threshold ≤ k) ⊎ (loss_delay (granularity c) (sampled c h) ≤ now - p.time)) (sym ack.3) (late_by c h now m p below both.1);
+      late = subst (λ (k : ℕ). (p.number + c.options.packet_threshold ≤ k) ⊎ (loss_delay (granularity c) (sampled c h) ≤ now - p.time)) (sym ack.3) late.1;
     }
 
-found_rightly : (c : Settings) (h : List Event) → IsRun c h → AllByRecursion IsProperEvent h → (p : Packet) → Contains (packets h) p → (space : Space) → p.space ≡ space
-    → (d : Option (Space × ℕ)) → detection c h ≡ d → is_found_at c (sampled c h) h p d ≡ true → IsLostRightly c h space p.number
-found_rightly c h run proper p has space of_space None at is = cc
-found_rightly c h run proper p has space of_space (Some (s, now)) at is =
+found_rightly : (c : Settings) (h : List Event) → IsRun c h → AllByRecursion IsProperEvent h → (p : Packet) → Contains (packets h) p
+    → (d : Option (Space × ℕ)) → detection c h ≡ d → is_found_at c (sampled c h) h p d ≡ true → IsLostRightly c h p.space p.number
+found_rightly c h run proper p has None at is = cc
+found_rightly c h run proper p has (Some (s, now)) at is =
     let parts = and_parts (is_of s p) (is_found c (sampled c h) h now s p) is in
     let more = and_parts (p.in_flight && is_unsettled h p) (is_past_threshold c (sampled c h) now (largest_acknowledged h s) p) parts.1 in
     let flying = (and_parts p.in_flight (is_unsettled h p) more.0).0 in
     let of_s : p.space ≡ s = sym (is_space_is s p.space parts.0) in
-    subst (λ (t : Space). IsLostRightly c h t p.number) (sym of_s ∙ of_space)
-    (lost_by c h run proper p has s now at of_s flying (largest_acknowledged h s) refl more.1)
+    subst (λ (t : Space). IsLostRightly c h t p.number) (sym of_s)
+    (lost_by c h run proper p has s now at of_s flying (largest_acknowledged h s) refl (late_if_found c h now (largest_acknowledged h s) p more.1))
+
+-- what is free is lost where the sender says so
+free_rightly : (c : Settings) (h : List Event) → IsRun c h → AllByRecursion IsProperEvent h → (p : Packet) → Contains (packets h) p → is_free c h p ≡ true → IsLostRightly c h p.space p.number
+free_rightly c h run proper p has is =
+    let left = free_is_left c h p is in
+    lost_by c h run proper p has p.space left.now left.at refl left.in_flight (largest_acknowledged h p.space) refl (late_if_spared c h left.now (largest_acknowledged h p.space) p left.spared)
+
+nameable_rightly : (c : Settings) (h : List Event) → IsRun c h → AllByRecursion IsProperEvent h → (p : Packet) → Contains (packets h) p → is_nameable c h p ≡ true → IsLostRightly c h p.space p.number
+nameable_rightly c h run proper p has is = elim (or_cases (is_owed c h p) (is_free c h p) is) [
+  | inl owed_then ↦ found_rightly c h run proper p has (detection c h) refl owed_then
+  | inr free_then ↦ free_rightly c h run proper p has free_then
+]
 
 -- in a run each number that a Lost line names is that of a packet that was lost
 pub lost_rightly : (c : Settings) (h : List Event) (time : ℕ) (space : Space) (ranges : List (ℕ × ℕ)) → IsRun c (Lost time space ranges ∷ h) → AllByRecursion IsProperEvent h
     → (n : ℕ) → is_named ranges n ≡ true → IsLostRightly c h space n
 lost_rightly c h time space ranges run proper n named =
-    let exactly = names_all c h time space ranges run in
-    let all = (and_parts (has_all (numbers (owed c h)) ranges) (list_all (is_named ranges) (numbers (owed c h))) exactly).0 in
-    let one = one_of_numbers (owed c h) n (has_all_names (numbers (owed c h)) ranges all n named) in
+    let between = names_all c h time space ranges run in
+    let all = (and_parts (has_all (numbers (nameable c h)) ranges) (list_all (is_named ranges) (numbers (owed c h))) between).0 in
+    let one = one_of_numbers (nameable c h) n (has_all_names (numbers (nameable c h)) ranges all n named) in
     let p = one.0 in
-    let is = owed_is c h p one.1 in
+    let is = nameable_is c h p one.1 in
     subst (λ (k : ℕ). IsLostRightly c h space k) one.2
-    (found_rightly c h run.0 proper p is.0 space (owed_space c h time space ranges run p is.1) (detection c h) refl is.1)
+    (subst (λ (s : Space). IsLostRightly c h s p.number) (nameable_space c h time space ranges run p is.1) (nameable_rightly c h run.0 proper p is.0 is.1))

@@ -1,5 +1,5 @@
 -- After a loss timer a loss is owed.
-use Rattle.std.proofs.Common.{◌≡◌, ◌∙◌, ◌+◌, ◌-◌, ◌≤◌, ℕ, List, [], ◌∷◌, Bool, true, false, ◌&&◌, ◌||◌, Option, Some, None, option_map, max, min, refl, sym, ap, arith, subst, Contains, inl, inr}
+use Rattle.std.proofs.Common.{◌≡◌, ◌∙◌, ◌+◌, ◌-◌, ◌≤◌, ℕ, List, [], ◌∷◌, Bool, true, false, ◌&&◌, ◌||◌, Option, Some, None, option_map, max, min, refl, sym, ap, arith, subst, Contains, inl, inr, not}
 use Rattle.std.proofs.lemmas.Bool.{and_parts, and_from, or_right, ltb-false}
 use Rattle.std.specs.Option.{option_or}
 use Rattle.std.specs.Prelude.{nat_lt, nat_le}
@@ -16,7 +16,7 @@ use Rattle.qa_base.specs.machine.Loss.{owed, is_open}
 use Rattle.qa_laws.specs.machine.Oldest.{is_flying, due_of}
 use Rattle.qa_base.specs.machine.Packets.{Packet, packets_of, largest_acknowledged, is_below_largest}
 use Rattle.qa_base.specs.machine.Rules.{IsRun}
-use Rattle.qa_base.specs.values.Settings.{Settings, early, granularity}
+use Rattle.qa_base.specs.values.Settings.{Settings, early, granularity, is_may}
 use Rattle.qa_base.specs.machine.Timer.{Due, deadline, earlier, earliest_loss, earliest_pto, anti_deadlock, loss_due}
 use Rattle.qa_laws.proofs.machine.Awaiting.{earliest_of_space, old_at_is}
 use Rattle.qa_laws.proofs.machine.Courses.{is_space_is}
@@ -64,7 +64,7 @@ earliest_awaits c h run due is = elim (earlier_is (loss_due c h Initial) (earlie
 late_from : (c : Settings) (r : Estimate) (now : ℕ) (p : Packet) (most : Option ℕ) → is_below_largest p.number most ≡ true → is_old c r now p ≡ true → is_past_threshold c r now most p ≡ true
 late_from c r now p None below old = cc
 late_from c r now p (Some m) below old =
-    and_from (nat_lt p.number m) (nat_le c.options.packet_threshold (m - p.number) || is_old c r now p) below (or_right (nat_le c.options.packet_threshold (m - p.number)) (is_old c r now p) old)
+    and_from (nat_lt p.number m) ((not (is_may c.options.loss_by_number) && nat_le c.options.packet_threshold (m - p.number)) || is_old c r now p) below (or_right (not (is_may c.options.loss_by_number) && nat_le c.options.packet_threshold (m - p.number)) (is_old c r now p) old)
 
 none_has : (ps : List Packet) (p : Packet) → Contains ps p → ps ≡ [] → ⊥
 none_has [] p (k, within, is) none = omega arith

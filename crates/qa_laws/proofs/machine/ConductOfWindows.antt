@@ -1,17 +1,23 @@
 -- What a run does with its window: it falls only by losses, and is halved once for the losses of one flight.
-use Rattle.std.proofs.Common.{◌≡◌, ◌∙◌, ◌+◌, ◌<◌, ◌≤◌, ℕ, List, [], ◌∷◌, ◌++◌, map, fold, filter, reverse, Bool, true, false, Option, Some, refl, ap, arith}
+use Rattle.std.proofs.Common.{◌≡◌, ◌∙◌, ◌+◌, ◌<◌, ◌≤◌, ℕ, List, [], ◌∷◌, ◌++◌, map, fold, filter, reverse, Bool, true, false, Option, Some, None, length, refl, ap, arith, subst, inl, inr, ◌⊎◌}
 use Rattle.std.proofs.lemmas.Bool.{both_ways, ltb-true, ltb-false}
 use Rattle.std.specs.Prelude.{nat_lt, if◌then◌else◌}
 use Rattle.qa_base.specs.declared.event.Event.{Event}
 use Rattle.qa_laws.specs.machine.Conduct.{NoCollapse, IsSentAfter, is_entered_by}
 use Rattle.qa_base.specs.values.Events.{time_of}
-use Rattle.qa_base.specs.machine.Loss.{owed, is_persistent}
+use Rattle.qa_base.specs.machine.Loss.{declared, owed, is_persistent}
+use Rattle.qa_base.specs.machine.Estimates.{sampled}
+use Rattle.qa_base.specs.machine.Moments.{before_last, detection_of, last_time}
 use Rattle.qa_base.specs.machine.Packets.{Packet, newly_acknowledged}
-use Rattle.qa_base.specs.machine.Reno.{Control, is_outside_recovery, hit, growth, Move, Grow, latest_sent, hits, collapses, grows, is_app_limited, moves_of_last, moved, reno, enters, is_entry}
+use Rattle.qa_base.specs.machine.Reno.{Control, is_outside_recovery, hit, collapse, growth, Move, Grow, latest_sent, hits, collapses, grows, is_app_limited, moves_of_last, moved, reno, enters, is_entry}
 use Rattle.qa_base.specs.machine.Rules.{IsRun}
-use Rattle.qa_base.specs.values.Settings.{Settings}
+use Rattle.qa_base.specs.values.Settings.{Settings, is_may}
 use Rattle.qa_laws.proofs.machine.Pairs.{has_first, has_later}
-use Rattle.qa_base.proofs.machine.RunLaws.{all_hold}
+use Rattle.qa_base.proofs.machine.Declared.{must_declared_by}
+use Rattle.qa_base.proofs.machine.Quiet.{not_persistent}
+use Rattle.qa_base.proofs.machine.RunLaws.{all_hold, prefix_of_run}
+use Rattle.std.proofs.lemmas.List.{length-append}
+use Rattle.qa_base.specs.declared.event.Event.TheVariants.{Lost}
 use Rattle.qa_base.proofs.machine.Steps.{reno_after}
 use Rattle.qa_base.proofs.machine.WindowBound.{grow_at_least}
 
@@ -27,8 +33,8 @@ grown d r (p ∷ ps) =
     let rest = grown d (moved d r (Grow p.size p.time)) ps in
     omega (arith, here, rest)
 
-not_persistent : (c : Settings) (h : List Event) → owed c h ≡ [] → is_persistent c h ≡ false
-not_persistent c h none = rw none refl
+no_collapse : (c : Settings) (h : List Event) → declared c h ≡ [] → is_persistent c h ≡ false
+no_collapse c h none = not_persistent (sampled c h) c h none
 
 grown_if : (d : ℕ) (r : Control) (app_limited : Bool) (new : List Packet) → r.window ≤ (fold (moved d) r (if app_limited then [] else grows new)).window
 grown_if d r true new = omega arith
@@ -40,11 +46,11 @@ unless_lost d now r [] false app_limited new none calm = grown_if d r app_limite
 unless_lost d now r [] true app_limited new none calm = cc
 unless_lost d now r (p ∷ ps) persistent app_limited new none calm = cc
 
--- where an event leaves a lower window, it found a loss
-pub lower_by_loss : (c : Settings) (e : Event) (h : List Event) → (reno c (e ∷ h)).window < (reno c h).window → owed c (e ∷ h) ≡ [] → ⊥
+-- where an event leaves a lower window, packets are lost by it
+pub lower_by_loss : (c : Settings) (e : Event) (h : List Event) → (reno c (e ∷ h)).window < (reno c h).window → declared c (e ∷ h) ≡ [] → ⊥
 lower_by_loss c e h lower none =
     let least : (reno c h).window ≤ (fold (moved c.max_datagram_size) (reno c h) (moves_of_last c (e ∷ h))).window =
-    unless_lost c.max_datagram_size (time_of e) (reno c h) (owed c (e ∷ h)) (is_persistent c (e ∷ h)) (is_app_limited e) (newly_acknowledged (e ∷ h)) none (not_persistent c (e ∷ h) none) in
+    unless_lost c.max_datagram_size (last_time (detection_of (e ∷ h))) (reno c h) (declared c (e ∷ h)) (is_persistent c (e ∷ h)) (is_app_limited e) (newly_acknowledged (e ∷ h)) none (no_collapse c (e ∷ h) none) in
     let same : (reno c (e ∷ h)).window ≡ (fold (moved c.max_datagram_size) (reno c h) (moves_of_last c (e ∷ h))).window = ap (λ (r : Control). r.window) (reno_after c e h) in
     omega (arith, lower, least, same)
 
@@ -73,17 +79,24 @@ abbrev begun : Option ℕ → ℕ → List Packet → Option ℕ
 begun recovery now [] = recovery
 begun recovery now (p ∷ ps) = if is_outside_recovery recovery (latest_sent (p ∷ ps)) then Some now else recovery
 
-begun_by : (d now : ℕ) (r : Control) (ps : List Packet) (persistent app_limited : Bool) (new : List Packet) → persistent ≡ false
-    → (fold (moved d) r (hits now ps ++ collapses persistent ++ (if app_limited then [] else grows new))).recovery_start_time ≡ begun r.recovery_start_time now ps
-begun_by d now r ps true app_limited new calm = cc
-begun_by d now r [] false app_limited new calm = growths_if d r app_limited new
-begun_by d now r (p ∷ ps) false app_limited new calm =
+recovery_by : (d now : ℕ) (r : Control) (ps : List Packet) (persistent app_limited : Bool) (new : List Packet)
+    → (fold (moved d) r (hits now ps ++ collapses persistent ++ (if app_limited then [] else grows new))).recovery_start_time ≡ (if persistent then None else begun r.recovery_start_time now ps)
+recovery_by d now r [] true app_limited new = growths_if d (collapse d r) app_limited new
+recovery_by d now r (p ∷ ps) true app_limited new = growths_if d (collapse d (hit d (latest_sent (p ∷ ps)) now r)) app_limited new
+recovery_by d now r [] false app_limited new = growths_if d r app_limited new
+recovery_by d now r (p ∷ ps) false app_limited new =
     growths_if d (hit d (latest_sent (p ∷ ps)) now r) app_limited new ∙ hit_by d (latest_sent (p ∷ ps)) now r (is_outside_recovery r.recovery_start_time (latest_sent (p ∷ ps))) refl
 
-recovery_after : (c : Settings) (e : Event) (h : List Event) → is_persistent c (e ∷ h) ≡ false → (reno c (e ∷ h)).recovery_start_time ≡ begun (reno c h).recovery_start_time (time_of e) (owed c (e ∷ h))
-recovery_after c e h calm =
+recovery_is : (c : Settings) (e : Event) (h : List Event)
+    → (reno c (e ∷ h)).recovery_start_time ≡ (if is_persistent c (e ∷ h) then None else begun (reno c h).recovery_start_time (last_time (detection_of (e ∷ h))) (declared c (e ∷ h)))
+recovery_is c e h =
     ap (λ (r : Control). r.recovery_start_time) (reno_after c e h)
-    ∙ begun_by c.max_datagram_size (time_of e) (reno c h) (owed c (e ∷ h)) (is_persistent c (e ∷ h)) (is_app_limited e) (newly_acknowledged (e ∷ h)) calm
+    ∙ recovery_by c.max_datagram_size (last_time (detection_of (e ∷ h))) (reno c h) (declared c (e ∷ h)) (is_persistent c (e ∷ h)) (is_app_limited e) (newly_acknowledged (e ∷ h))
+
+recovery_after : (c : Settings) (e : Event) (h : List Event) → is_persistent c (e ∷ h) ≡ false
+    → (reno c (e ∷ h)).recovery_start_time ≡ begun (reno c h).recovery_start_time (last_time (detection_of (e ∷ h))) (declared c (e ∷ h))
+recovery_after c e h calm =
+    recovery_is c e h ∙ ap (λ (b : Bool). if b then None else begun (reno c h).recovery_start_time (last_time (detection_of (e ∷ h))) (declared c (e ∷ h))) calm
 
 -- ---- entries
 
@@ -95,7 +108,7 @@ never_by_growths : (recovery : Option ℕ) (app_limited : Bool) (new : List Pack
 never_by_growths recovery true new = refl
 never_by_growths recovery false new = never_by_growth recovery (reverse (filter (λ p. p.in_flight) new))
 
--- packets were found lost of which the last was sent outside recovery
+-- packets are lost of which the last was sent outside recovery
 abbrev Enters : Option ℕ → List Packet → Type 0
 Enters recovery ps = (p : Packet) × (rest : List Packet) × (ps ≡ p ∷ rest) × (is_outside_recovery recovery (latest_sent ps) ≡ true)
 
@@ -105,9 +118,11 @@ enters_by recovery now [] false app_limited new calm is = absurd (both_ways (ent
 enters_by recovery now [] true app_limited new calm is = let never = calm refl in cc
 enters_by recovery now (p ∷ ps) persistent app_limited new calm is = (p, ps, refl, is)
 
-entry_is : (c : Settings) (e : Event) (h : List Event) → is_entry c (e ∷ h) ≡ true → Enters (reno c h).recovery_start_time (owed c (e ∷ h))
-entry_is c e h is =
-    enters_by (reno c h).recovery_start_time (time_of e) (owed c (e ∷ h)) (is_persistent c (e ∷ h)) (is_app_limited e) (newly_acknowledged (e ∷ h)) (not_persistent c (e ∷ h)) is
+entry_is : (c : Settings) (h : List Event) → is_entry c h ≡ true → Enters (reno c (before_last (detection_of h))).recovery_start_time (declared c h)
+entry_is c [] is = cc
+entry_is c (e ∷ h) is =
+    enters_by (reno c (before_last (detection_of (e ∷ h)))).recovery_start_time (last_time (detection_of (e ∷ h))) (declared c (e ∷ h)) (is_persistent c (e ∷ h)) (is_app_limited e) (newly_acknowledged (e ∷ h))
+    (no_collapse c (e ∷ h)) is
 
 begun_now : (recovery : Option ℕ) (now : ℕ) (ps : List Packet) → Enters recovery ps → begun recovery now ps ≡ Some now
 begun_now recovery now [] (p, rest, some, outside) = cc
@@ -131,16 +146,70 @@ times_rise c e f (d ∷ between) h run =
     let rest = times_rise c d f between h run.0 in
     omega (arith, here, rest)
 
+-- the detection of what is lost by an event is no later than it
+detection_before : (c : Settings) (f : Event) (h : List Event) → IsRun c (f ∷ h) → last_time (detection_of (f ∷ h)) ≤ time_of f
+detection_before c (Lost time space ranges) [] run = omega arith
+detection_before c (Lost time space ranges) (d ∷ h) run = ltb-false time (time_of d) (all_hold c (d ∷ h) (Lost time space ranges) run.1).time_back
+detection_before c f h run = omega arith
+
+last_behind : (c : Settings) (f : Event) (between h : List Event) → IsRun c (between ++ f ∷ h) → time_of f ≤ last_time (between ++ f ∷ h)
+last_behind c f [] h run = omega arith
+last_behind c f (d ∷ between) h run = times_rise c d f between h run
+
+-- and no earlier than what stands before that
+detection_behind : (c : Settings) (e f : Event) (between h : List Event) → IsRun c (e ∷ between ++ f ∷ h) → time_of f ≤ last_time (detection_of (e ∷ between ++ f ∷ h))
+detection_behind c (Lost time space ranges) f between h run = last_behind c f between h run.0
+detection_behind c e f between h run = times_rise c e f between h run
+
+begun_either : (recovery : Option ℕ) (now : ℕ) (ps : List Packet) → (begun recovery now ps ≡ recovery) ⊎ (begun recovery now ps ≡ Some now)
+begun_either recovery now [] = inl refl
+begun_either recovery now (p ∷ ps) = either_if (is_outside_recovery recovery (latest_sent (p ∷ ps)))
+  where
+    either_if : (b : Bool) → ((if b then Some now else recovery) ≡ recovery) ⊎ ((if b then Some now else recovery) ≡ Some now)
+    either_if true = inr refl
+    either_if false = inl refl
+
+begun_again : (now : ℕ) (ps : List Packet) → begun (Some now) now ps ≡ Some now
+begun_again now ps = elim (begun_either (Some now) now ps) [
+  | inl same ↦ same
+  | inr anew ↦ anew
+]
+
+-- a detection that is completed enters by when recovery began before it, whatever the detection itself did
+begun_twice : (now : ℕ) (before recovery : Option ℕ) (found lost : List Packet) (persistent : Bool) → recovery ≡ (if persistent then None else begun before now found) → Enters before lost
+    → begun recovery now lost ≡ Some now
+begun_twice now before recovery found lost true is (p, rest, some, outside) = rw (is, some) refl
+begun_twice now before recovery found lost false is enter = elim (begun_either before now found) [
+  | inl same ↦ rw (is ∙ same) (begun_now before now lost enter)
+  | inr anew ↦ rw (is ∙ anew) (begun_again now lost)
+]
+
+completes_nothing : (A : Type 0) (p : Packet) (rest : List Packet) → ◌≡◌ {A = List Packet} [] (p ∷ rest) → A
+completes_nothing A p rest is = cc
+
+-- recovery begins at the detection of what is lost by an entry
+begins_there : (c : Settings) (f : Event) (h : List Event) → Enters (reno c (before_last (detection_of (f ∷ h)))).recovery_start_time (declared c (f ∷ h))
+    → begun (reno c h).recovery_start_time (last_time (detection_of (f ∷ h))) (declared c (f ∷ h)) ≡ Some (last_time (detection_of (f ∷ h)))
+begins_there c (Lost time space ranges) [] enter = begun_now (reno c []).recovery_start_time 0 (declared c (Lost time space ranges ∷ [])) enter
+begins_there c (Lost time space ranges) (Lost before others numbers ∷ h) (p, rest, some, outside) =
+    completes_nothing (begun (reno c (Lost before others numbers ∷ h)).recovery_start_time before [] ≡ Some before) p rest some
+begins_there c (Lost time space ranges) (d ∷ h) enter =
+    begun_twice (time_of d) (reno c h).recovery_start_time (reno c (d ∷ h)).recovery_start_time (declared c (d ∷ h)) (declared c (Lost time space ranges ∷ d ∷ h)) (is_persistent c (d ∷ h)) (recovery_is c d h) enter
+begins_there c f h enter = begun_now (reno c h).recovery_start_time (time_of f) (declared c (f ∷ h)) enter
+
 began : (c : Settings) (f : Event) (between h : List Event) → IsRun c (between ++ f ∷ h) → is_entry c (f ∷ h) ≡ true → NoCollapse c between (f ∷ h)
-    → BeganSince (time_of f) (reno c (between ++ f ∷ h)).recovery_start_time
+    → BeganSince (last_time (detection_of (f ∷ h))) (reno c (between ++ f ∷ h)).recovery_start_time
 began c f [] h run first calm =
-    (time_of f, recovery_after c f h (calm [] [] refl) ∙ begun_now (reno c h).recovery_start_time (time_of f) (owed c (f ∷ h)) (entry_is c f h first), (omega arith))
+    (last_time (detection_of (f ∷ h)), recovery_after c f h (calm [] [] refl) ∙ begins_there c f h (entry_is c (f ∷ h) first), (omega arith))
 began c f (d ∷ between) h run first calm =
     let before = began c f between h run.0 first (λ later earlier is. calm (d ∷ later) earlier (ap (λ k. d ∷ k) is)) in
     let g = between ++ f ∷ h in
+    let now = last_time (detection_of (d ∷ g)) in
+    let start = detection_before c f h (prefix_of_run c between (f ∷ h) run.0) in
+    let late = detection_behind c d f between h run in
     rw (recovery_after c d g (calm [] (d ∷ between) refl))
-    (begun_since (time_of f) (time_of d) (reno c g).recovery_start_time (owed c (d ∷ g)) (is_outside_recovery (reno c g).recovery_start_time (latest_sent (owed c (d ∷ g)))) refl
-    (times_rise c d f between h run) before)
+    (begun_since (last_time (detection_of (f ∷ h))) now (reno c g).recovery_start_time (declared c (d ∷ g)) (is_outside_recovery (reno c g).recovery_start_time (latest_sent (declared c (d ∷ g)))) refl
+    (omega (arith, start, late)) before)
 
 later_if : (t : ℕ) (p : Packet) (ps : List Packet) (here : Bool) → nat_lt t p.time ≡ here → t < latest_sent (p ∷ ps) → (t < latest_sent ps → IsSentAfter t ps)
     → IsSentAfter t (p ∷ ps)
@@ -154,18 +223,28 @@ some_later : (t : ℕ) (ps : List Packet) → t < latest_sent ps → IsSentAfter
 some_later t [] late = absurd (omega (arith, late))
 some_later t (p ∷ ps) late = later_if t p ps (nat_lt t p.time) refl late (some_later t ps)
 
--- of two entries with no collapse between, the second has a loss that was sent after the first
-pub halved_once : (c : Settings) (e f : Event) (between h : List Event) → IsRun c (e ∷ between ++ f ∷ h) → is_entry c (f ∷ h) ≡ true → is_entry c (e ∷ between ++ f ∷ h) ≡ true
-    → NoCollapse c between (f ∷ h) → IsSentAfter (time_of f) (owed c (e ∷ between ++ f ∷ h))
-halved_once c e f between h run first second calm =
-    let g = between ++ f ∷ h in
-    let began_at = began c f between h run.0 first calm in
-    let enter = entry_is c e g second in
-    let late : is_outside_recovery (Some began_at.0) (latest_sent (owed c (e ∷ g))) ≡ true = rw began_at.1 at enter.3 in
-    let after = ltb-true began_at.0 (latest_sent (owed c (e ∷ g))) late in
-    some_later (time_of f) (owed c (e ∷ g)) (omega (arith, after, began_at.2))
+later_from : (first : ℕ) (recovery : Option ℕ) (ps : List Packet) → BeganSince first recovery → Enters recovery ps → IsSentAfter first ps
+later_from first recovery ps (t, at, since) (p, rest, some, outside) =
+    let late : is_outside_recovery (Some t) (latest_sent ps) ≡ true = rw at at outside in
+    let after = ltb-true t (latest_sent ps) late in
+    some_later first ps (omega (arith, after, since))
 
--- ---- an event enters recovery by what it found lost
+-- of two entries of different detections, with no collapse between, the second has a loss that was sent after the detection of the first
+pub halved_once : (c : Settings) (e f : Event) (between h : List Event) → IsRun c (e ∷ between ++ f ∷ h) → is_entry c (f ∷ h) ≡ true → is_entry c (e ∷ between ++ f ∷ h) ≡ true
+    → (detection_of (e ∷ between ++ f ∷ h) ≡ f ∷ h → ⊥) → NoCollapse c between (f ∷ h)
+    → IsSentAfter (last_time (detection_of (f ∷ h))) (declared c (e ∷ between ++ f ∷ h))
+halved_once c (Lost time space ranges) f [] h run first second other calm = absurd (other refl)
+halved_once c (Lost time space ranges) f (d ∷ between) h run first second other calm =
+    let g = between ++ f ∷ h in
+    let e = Lost time space ranges in
+    later_from (last_time (detection_of (f ∷ h))) (reno c g).recovery_start_time (declared c (e ∷ d ∷ g))
+    (began c f between h run.0.0 first (λ later earlier is. calm (d ∷ later) earlier (ap (λ k. d ∷ k) is)))
+    (entry_is c (e ∷ d ∷ g) second)
+halved_once c e f between h run first second other calm =
+    let g = between ++ f ∷ h in
+    later_from (last_time (detection_of (f ∷ h))) (reno c g).recovery_start_time (declared c (e ∷ g)) (began c f between h run.0 first calm) (entry_is c (e ∷ g) second)
+
+-- ---- an event enters recovery by what is lost by it
 
 no_entry : (recovery : Option ℕ) (is_collapse is_app_limited : Bool) (ps : List Packet)
     → enters recovery ([] ++ collapses is_collapse ++ (if is_app_limited then [] else growths ps)) ≡ false
@@ -179,7 +258,45 @@ entered_by : (recovery : Option ℕ) (now : ℕ) (lost : List Packet) (is_collap
 entered_by recovery now [] is_collapse is_app_limited ps = no_entry recovery is_collapse is_app_limited ps
 entered_by recovery now (p ∷ lost) is_collapse is_app_limited ps = refl
 
-pub entry_by_losses : (c : Settings) (e : Event) (h : List Event) → is_entry c (e ∷ h) ≡ is_entered_by (reno c h).recovery_start_time (owed c (e ∷ h))
-entry_by_losses c e h =
-    entered_by (reno c h).recovery_start_time (time_of e) (owed c (e ∷ h)) (is_persistent c (e ∷ h)) (is_app_limited e)
+pub entry_by_losses : (c : Settings) (h : List Event) → is_entry c h ≡ is_entered_by (reno c (before_last (detection_of h))).recovery_start_time (declared c h)
+entry_by_losses c [] = refl
+entry_by_losses c (e ∷ h) =
+    entered_by (reno c (before_last (detection_of (e ∷ h)))).recovery_start_time (last_time (detection_of (e ∷ h))) (declared c (e ∷ h)) (is_persistent c (e ∷ h)) (is_app_limited e)
     (reverse (filter (λ p. p.in_flight) (newly_acknowledged (e ∷ h))))
+
+-- ---- where losses by number must be declared
+
+-- what an event finds lost is what is lost by it
+pub must_entry_by_losses : (c : Settings) (e : Event) (h : List Event) → is_may c.options.loss_by_number ≡ false → is_entry c (e ∷ h) ≡ is_entered_by (reno c h).recovery_start_time (owed c (e ∷ h))
+must_entry_by_losses c (Lost time space ranges) h must =
+    let e = Lost time space ranges in
+    entry_by_losses c (e ∷ h) ∙ ap (is_entered_by (reno c (before_last h)).recovery_start_time) (must_declared_by c (sampled c (e ∷ h)) e h must)
+must_entry_by_losses c e h must = entry_by_losses c (e ∷ h) ∙ ap (is_entered_by (reno c h).recovery_start_time) (must_declared_by c (sampled c (e ∷ h)) e h must)
+
+-- so a Lost line is no entry
+must_time : (c : Settings) (f : Event) (h : List Event) → is_may c.options.loss_by_number ≡ false → is_entry c (f ∷ h) ≡ true → last_time (detection_of (f ∷ h)) ≡ time_of f
+must_time c (Lost time space ranges) h must first = let never = must_entry_by_losses c (Lost time space ranges) h must in absurd (both_ways (is_entry c (Lost time space ranges ∷ h)) never first)
+must_time c f h must first = refl
+
+longer : (e f : Event) (between h : List Event) → e ∷ between ++ f ∷ h ≡ f ∷ h → ⊥
+longer e f between h is =
+    let more : length (between ++ f ∷ h) ≡ length between + length (f ∷ h) = length-append between (f ∷ h) in
+    let same : length (e ∷ between ++ f ∷ h) ≡ length (f ∷ h) = ap length is in
+    omega (arith, more, same)
+
+must_differ : (c : Settings) (e f : Event) (between h : List Event) → is_may c.options.loss_by_number ≡ false → is_entry c (e ∷ between ++ f ∷ h) ≡ true → detection_of (e ∷ between ++ f ∷ h) ≡ f ∷ h → ⊥
+must_differ c (Lost time space ranges) f between h must second is =
+    let never = must_entry_by_losses c (Lost time space ranges) (between ++ f ∷ h) must in both_ways (is_entry c (Lost time space ranges ∷ between ++ f ∷ h)) never second
+must_differ c e f between h must second is = longer e f between h is
+
+pub must_halve_once : (c : Settings) (e f : Event) (between h : List Event) → is_may c.options.loss_by_number ≡ false → IsRun c (e ∷ between ++ f ∷ h) → is_entry c (f ∷ h) ≡ true
+    → is_entry c (e ∷ between ++ f ∷ h) ≡ true → NoCollapse c between (f ∷ h) → IsSentAfter (time_of f) (owed c (e ∷ between ++ f ∷ h))
+must_halve_once c e f between h must run first second calm =
+    let g = between ++ f ∷ h in
+    subst (λ (t : ℕ). IsSentAfter t (owed c (e ∷ g))) (must_time c f h must first)
+    (subst (λ (ps : List Packet). IsSentAfter (last_time (detection_of (f ∷ h))) ps) (must_declared_by c (sampled c (e ∷ g)) e g must)
+    (halved_once c e f between h run first second (must_differ c e f between h must second) calm))
+
+-- and only what it finds lost lowers the window
+pub must_lower_by_loss : (c : Settings) (e : Event) (h : List Event) → is_may c.options.loss_by_number ≡ false → (reno c (e ∷ h)).window < (reno c h).window → owed c (e ∷ h) ≡ [] → ⊥
+must_lower_by_loss c e h must lower none = lower_by_loss c e h lower (must_declared_by c (sampled c (e ∷ h)) e h must ∙ none)

@@ -1,5 +1,5 @@
 -- What a loss timer finds that goes off before its deadline was sent at one time, so that it makes no collapse.
-use Rattle.std.proofs.Common.{◌≡◌, ◌∙◌, ◌+◌, ◌-◌, ◌<◌, ◌≤◌, ℕ, min, List, [], ◌∷◌, map, Bool, true, false, ◌&&◌, ◌||◌, Option, Some, None, option_map, unwrap_or, refl, sym, ap, arith, subst, Contains, inl, inr}
+use Rattle.std.proofs.Common.{◌≡◌, ◌∙◌, ◌+◌, ◌-◌, ◌<◌, ◌≤◌, ℕ, min, List, [], ◌∷◌, map, Bool, true, false, ◌&&◌, ◌||◌, not, Option, Some, None, option_map, unwrap_or, refl, sym, ap, arith, subst, Contains, inl, inr}
 use Rattle.std.proofs.lemmas.Bool.{and_parts, and_from, false_from_ne_true, ltb-true}
 use Rattle.std.specs.List.{AllByRecursion, filter}
 use Rattle.std.specs.Prelude.{nat_lt, nat_le}
@@ -17,7 +17,7 @@ use Rattle.qa_base.specs.machine.Packets.{Packet, is_below_largest, is_of, large
 use Rattle.qa_base.specs.machine.Rtt.{Estimate, loss_delay}
 use Rattle.qa_base.specs.machine.Rules.{IsRun}
 use Rattle.qa_base.specs.machine.Timer.{Due, deadline}
-use Rattle.qa_base.specs.values.Settings.{Settings, early, granularity, in_unit}
+use Rattle.qa_base.specs.values.Settings.{Settings, early, granularity, in_unit, is_may}
 use Rattle.qa_base.proofs.machine.RunLaws.{old_is_after_loss_delay}
 use Rattle.qa_format.specs.format.Proper.{IsProperEvent}
 use Rattle.qa_laws.proofs.machine.ConductOfTimers.{set_for}
@@ -68,17 +68,20 @@ sets_from (Some sent) delay due is = (sent, refl, one_number (sent + delay) due 
 
 -- ---- what is found by age alone
 
-old_unless_far : (c : Settings) (r : Estimate) (now : ℕ) (most : Option ℕ) (p : Packet) → is_past_threshold c r now most p ≡ true → is_far c p most ≡ false
+old_unless_far : (c : Settings) (r : Estimate) (now : ℕ) (most : Option ℕ) (p : Packet) → is_past_threshold c r now most p ≡ true
+    → (is_may c.options.loss_by_number ≡ false → is_far c p most ≡ false)
     → (is_old c r now p ≡ true) × (is_below_largest p.number most ≡ true)
 old_unless_far c r now None p past near = cc
 old_unless_far c r now (Some m) p past near =
-    let both = and_parts (nat_lt p.number m) (nat_le c.options.packet_threshold (m - p.number) || is_old c r now p) past in
-    (by_age (nat_lt p.number m) (nat_le c.options.packet_threshold (m - p.number)) (is_old c r now p) both.0 near both.1, both.0)
+    let far = nat_le c.options.packet_threshold (m - p.number) in
+    let both = and_parts (nat_lt p.number m) ((not (is_may c.options.loss_by_number) && far) || is_old c r now p) past in
+    (by_age (nat_lt p.number m) (is_may c.options.loss_by_number) far (is_old c r now p) both.0 near both.1, both.0)
   where
-    by_age : (below far old : Bool) → below ≡ true → (below && far) ≡ false → (far || old) ≡ true → old ≡ true
-    by_age true true old is near either = cc
-    by_age true false old is near either = either
-    by_age false far old is near either = cc
+    by_age : (below may far old : Bool) → below ≡ true → (may ≡ false → (below && far) ≡ false) → ((not may && far) || old) ≡ true → old ≡ true
+    by_age below true far old is near either = either
+    by_age true false true old is near either = let no = near refl in cc
+    by_age true false false old is near either = either
+    by_age false false far old is near either = cc
 
 long : (unit : TimeUnit) → 1 ≤ in_unit unit 1000
 long Microseconds = omega arith
@@ -123,7 +126,8 @@ early_finds c h time space run proper soon =
             let flies = and_parts p.in_flight (is_unsettled (e ∷ h) p) parts.0 in
             let of_space : space ≡ p.space = is_space_is space p.space both.0 in
             let flying = asked_was_flying c e h run space now refl p found.0 (and_from (is_of space p) (p.in_flight && is_unsettled (e ∷ h) p) both.0 parts.0) in
-            let near = subst (λ (s : Space). is_far c p (largest_acknowledged h s) ≡ false) (sym of_space) (flying_is_near c h run.0 proper p found.0 flying) in
+            let near : is_may c.options.loss_by_number ≡ false → is_far c p (largest_acknowledged h space) ≡ false =
+            λ must. subst (λ (s : Space). is_far c p (largest_acknowledged h s) ≡ false) (sym of_space) (flying_is_near c h must run.0 proper p found.0 flying) in
             let old = old_unless_far c r now (largest_acknowledged h space) p parts.1 near in
             let waited : delay ≤ now - p.time = (old_is_after_loss_delay c r now p).0 old.0 in
             let below : is_below_largest p.number (largest_acknowledged h p.space) ≡ true = subst (λ (s : Space). is_below_largest p.number (largest_acknowledged h s) ≡ true) of_space old.1 in

@@ -1,4 +1,7 @@
 -- Closed packets before the oldest open one may be forgotten.
+use Rattle.qa_laws.proofs.machine.LostNow.{closed_not_lost, dropped_not_lost, lost_now_among}
+use Rattle.qa_base.specs.machine.Kept.{is_kept}
+use Rattle.qa_laws.specs.machine.Declared.{is_lost_now}
 use Rattle.std.proofs.Common.{◌≡◌, ◌∙◌, ◌<◌, ◌+◌, ◌-◌, ℕ, List, [], ◌∷◌, ◌++◌, Bool, true, false, ◌&&◌, ◌||◌, not, add-zero, zero-add, refl, sym, ap, arith, subst, Contains, inl, inr, filter, sum_by}
 use Rattle.std.proofs.lemmas.Bool.{and_parts, both_ways, false_from_ne_true, le-ltb}
 use Rattle.std.proofs.lemmas.List.{append-nil}
@@ -12,18 +15,18 @@ use Rattle.qa_base.specs.declared.event.Event.TheVariants.{Sent}
 use Rattle.qa_laws.specs.machine.Among.{are_ends_among, is_persistent_among}
 use Rattle.qa_base.specs.machine.Estimates.{sampled}
 use Rattle.qa_base.specs.machine.Detection.{is_end, are_ends}
-use Rattle.qa_base.specs.machine.Loss.{owed, is_owed, is_open, is_persistent}
+use Rattle.qa_base.specs.machine.Loss.{owed, is_owed, is_open, is_persistent, declared}
 use Rattle.qa_laws.specs.machine.Sequence.{EachTwo, WasSentBefore}
 use Rattle.qa_base.specs.machine.Packets.{Packet, packets, is_acknowledged, is_newly_acknowledged, newly_acknowledged}
 use Rattle.qa_base.specs.machine.Rtt.{persistent_after}
 use Rattle.qa_base.specs.machine.Rules.{IsRun}
-use Rattle.qa_base.specs.values.Settings.{Settings, granularity}
+use Rattle.qa_base.specs.values.Settings.{Settings, granularity, is_may}
 use Rattle.qa_laws.specs.machine.Sums.{counted, open_sum}
 use Rattle.qa_laws.proofs.machine.Closing.{owed_among}
 use Rattle.qa_laws.proofs.machine.Changes.{owed_was_flying, newly_was_open}
 use Rattle.qa_laws.proofs.machine.Courses.{in_order}
 use Rattle.qa_laws.proofs.machine.Pairs.{at_one, of_each, part_is, none_left, each_weaker, first_or_rest}
-use Rattle.qa_laws.specs.machine.Parts.{AreClosed}
+use Rattle.qa_laws.specs.machine.Parts.{AreClosed, AreDropped}
 
 -- ---- by parts of a list
 
@@ -96,23 +99,46 @@ pub owed_of_kept : (c : Settings) (e : Event) (h : List Event) → IsRun c (e �
 owed_of_kept c e h run kept gone parts closed =
     sym (owed_among c e h) ∙ (ap (filter (is_owed c (e ∷ h))) parts ∙ part_of_first (is_owed c (e ∷ h)) kept gone (closed_not_owed c e h kept gone run parts closed))
 
-persistent_if : (c : Settings) (e : Event) (h : List Event) (kept gone : List Packet) → IsRun c (e ∷ h) → packets (e ∷ h) ≡ packets h → packets h ≡ kept ++ gone → AreClosed c h gone
-    → is_persistent c (e ∷ h) ≡ is_persistent_among c (e ∷ h) kept
-persistent_if c e h kept gone run same parts closed =
-    let found = filter (is_owed c (e ∷ h)) kept in
-    let two : EachTwo WasSentBefore (kept ++ gone) = subst (λ (ps : List Packet). EachTwo WasSentBefore ps) parts (in_order c h run.0) in
-    let behind : AllByRecursion (λ p. AllByRecursion (WasSentBefore p) gone) found = of_each (λ p. AllByRecursion (WasSentBefore p) gone) found
-    (λ p has. all_behind WasSentBefore kept gone two p (part_is (is_owed c (e ∷ h)) kept p has).0) in
-    ap (λ found. list_any (λ p. list_any (are_ends (sampled c (e ∷ h)) c (e ∷ h) p) found) found) (owed_of_kept c e h run kept gone parts closed)
-    ∙ pairs_of_kept c (e ∷ h) kept gone found (same ∙ parts) two behind
+-- nor lost by it where none is
+lost_of_kept : (c : Settings) (e : Event) (h : List Event) (kept gone : List Packet) → packets h ≡ kept ++ gone → AllByRecursion (λ p. is_lost_now c (e ∷ h) p ≡ false) gone
+    → declared c (e ∷ h) ≡ filter (is_lost_now c (e ∷ h)) kept
+lost_of_kept c e h kept gone parts none =
+    sym (lost_now_among c e h) ∙ (ap (filter (is_lost_now c (e ∷ h))) parts ∙ part_of_first (is_lost_now c (e ∷ h)) kept gone none)
 
--- in a run, packets before all others that are closed before an event have no part in whether it establishes persistent congestion
-pub persistent_of_kept : (c : Settings) (e : Event) (h : List Event) → IsRun c (e ∷ h) → (kept gone : List Packet) → packets h ≡ kept ++ gone → AreClosed c h gone
-    → is_persistent c (e ∷ h) ≡ is_persistent_among c (e ∷ h) kept
-persistent_of_kept c (Sent time space number size eliciting in_flight leave) h run kept gone parts closed =
+persistent_if : (c : Settings) (e : Event) (h : List Event) (kept gone : List Packet) → IsRun c (e ∷ h) → packets (e ∷ h) ≡ packets h → packets h ≡ kept ++ gone
+    → AllByRecursion (λ p. is_lost_now c (e ∷ h) p ≡ false) gone → is_persistent c (e ∷ h) ≡ is_persistent_among c (e ∷ h) kept
+persistent_if c e h kept gone run same parts none =
+    let lost = filter (is_lost_now c (e ∷ h)) kept in
+    let two : EachTwo WasSentBefore (kept ++ gone) = subst (λ (ps : List Packet). EachTwo WasSentBefore ps) parts (in_order c h run.0) in
+    let behind : AllByRecursion (λ p. AllByRecursion (WasSentBefore p) gone) lost = of_each (λ p. AllByRecursion (WasSentBefore p) gone) lost
+    (λ p has. all_behind WasSentBefore kept gone two p (part_is (is_lost_now c (e ∷ h)) kept p has).0) in
+    ap (λ found. list_any (λ p. list_any (are_ends (sampled c (e ∷ h)) c (e ∷ h) p) found) found) (lost_of_kept c e h kept gone parts none)
+    ∙ pairs_of_kept c (e ∷ h) kept gone lost (same ∙ parts) two behind
+
+-- in a run, packets before all others of which an event loses none have no part in whether it establishes persistent congestion
+pub persistent_unless_lost : (c : Settings) (e : Event) (h : List Event) → IsRun c (e ∷ h) → (kept gone : List Packet) → packets h ≡ kept ++ gone
+    → AllByRecursion (λ p. is_lost_now c (e ∷ h) p ≡ false) gone → is_persistent c (e ∷ h) ≡ is_persistent_among c (e ∷ h) kept
+persistent_unless_lost c (Sent time space number size eliciting in_flight leave) h run kept gone parts none =
     ap (λ found. list_any (λ p. list_any (are_ends_among c (Sent time space number size eliciting in_flight leave ∷ h) kept p) found) found)
-    (owed_of_kept c (Sent time space number size eliciting in_flight leave) h run kept gone parts closed)
-persistent_of_kept c e h run kept gone parts closed = persistent_if c e h kept gone run refl parts closed
+    (lost_of_kept c (Sent time space number size eliciting in_flight leave) h kept gone parts none)
+persistent_unless_lost c e h run kept gone parts none = persistent_if c e h kept gone run refl parts none
+
+gone_has : (h : List Event) (kept gone : List Packet) (p : Packet) → packets h ≡ kept ++ gone → Contains gone p → Contains (packets h) p
+gone_has h kept gone p parts has = subst (λ (ps : List Packet). Contains ps p) (sym parts) (Contains-append_right kept gone p has)
+
+-- so it is of packets of no use
+pub persistent_of_kept : (c : Settings) (e : Event) (h : List Event) → IsRun c (e ∷ h) → (kept gone : List Packet) → packets h ≡ kept ++ gone → AreDropped c h gone
+    → is_persistent c (e ∷ h) ≡ is_persistent_among c (e ∷ h) kept
+persistent_of_kept c e h run kept gone parts dropped =
+    persistent_unless_lost c e h run kept gone parts (of_each (λ p. is_lost_now c (e ∷ h) p ≡ false) gone
+    (λ p has. dropped_not_lost c e h run p (gone_has h kept gone p parts has) (at_one (λ q. is_kept c h q ≡ false) gone p dropped has)))
+
+-- and of closed ones, where losses by number must be declared
+pub must_persistent_of_kept : (c : Settings) (e : Event) (h : List Event) → IsRun c (e ∷ h) → (kept gone : List Packet) → packets h ≡ kept ++ gone → is_may c.options.loss_by_number ≡ false
+    → AreClosed c h gone → is_persistent c (e ∷ h) ≡ is_persistent_among c (e ∷ h) kept
+must_persistent_of_kept c e h run kept gone parts must closed =
+    persistent_unless_lost c e h run kept gone parts (of_each (λ p. is_lost_now c (e ∷ h) p ≡ false) gone
+    (λ p has. closed_not_lost c e h run p (gone_has h kept gone p parts has) must (at_one (λ q. is_open c h q ≡ false) gone p closed has)))
 
 -- ---- what else is never asked of them
 

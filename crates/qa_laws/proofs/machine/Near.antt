@@ -1,25 +1,27 @@
--- In a run a packet that is open and in flight lies less than the packet threshold below the largest acknowledged number.
+-- In a run, where losses by number must be declared, a packet that is open and in flight lies less than the packet threshold below the
+-- largest acknowledged number.
 use Rattle.std.proofs.Common.{◌≡◌, ◌∙◌, ◌+◌, ◌-◌, ◌<◌, ◌≤◌, ℕ, List, [], ◌∷◌, length, Bool, true, false, ◌&&◌, ◌||◌, not, Option, Some, None, refl, sym, ap, arith, subst, Contains, inl, inr, ◌⊎◌}
-use Rattle.std.proofs.lemmas.Bool.{and_parts, and_from, both_ways, le-leb, le-ltb, leb-false, leb-true, lt-ltb, ltb-true, not-true, or_cases, or_left}
+use Rattle.std.proofs.lemmas.Bool.{and_parts, and_from, both_ways, le-leb, le-ltb, leb-false, leb-true, lt-ltb, ltb-true, not-true, not_from_false, or_cases, or_left}
 use Rattle.std.specs.List.{AllByRecursion}
 use Rattle.std.specs.Prelude.{nat_lt, nat_le, if◌then◌else◌}
 use Rattle.qa_base.specs.declared.event.Event.{Event}
 use Rattle.qa_base.specs.declared.event.Event.TheVariants.{Sent, Ack}
 use Rattle.qa_base.specs.declared.space.Space.{Space}
-use Rattle.qa_base.specs.machine.Detection.{is_found, is_found_at, is_old, is_past_threshold, is_unsettled}
+use Rattle.qa_base.specs.machine.Detection.{is_found, is_found_at, is_old, is_past_threshold, is_unsettled, may_be_spared}
 use Rattle.qa_base.specs.machine.Estimates.{sampled}
-use Rattle.qa_base.specs.machine.Loss.{detection, is_open, is_owed}
+use Rattle.qa_base.specs.machine.Loss.{detection, is_free, is_open, is_owed}
 use Rattle.qa_base.specs.machine.Order.{IsLower, NumbersFall}
 use Rattle.qa_base.specs.machine.Packets.{Packet, acknowledges_new, greatest, greatest_in, is_acknowledged, is_declared_lost, is_followed_by, is_newly_acknowledged, is_of, largest_acknowledged, newly_acknowledged, packets}
 use Rattle.qa_base.specs.machine.Rtt.{Estimate}
 use Rattle.qa_base.specs.machine.Rules.{IsRun}
 use Rattle.qa_base.specs.values.Events.{acknowledges, declares_lost, is_named, is_space}
-use Rattle.qa_base.specs.values.Settings.{Settings}
+use Rattle.qa_base.specs.values.Settings.{Settings, is_may}
 use Rattle.qa_base.proofs.machine.Quiet.{not_followed}
 use Rattle.qa_base.proofs.machine.RunLaws.{numbers_fall}
 use Rattle.qa_format.specs.format.Proper.{IsProperEvent}
+use Rattle.qa_laws.specs.machine.Declared.{is_named_free}
 use Rattle.qa_laws.specs.machine.Oldest.{is_flying}
-use Rattle.qa_laws.proofs.machine.Changes.{covered_after, lost_is_owed}
+use Rattle.qa_laws.proofs.machine.Changes.{covered_after, free_is_left, lost_is_taken}
 use Rattle.qa_laws.proofs.machine.ConductOfLosses.{Acknowledged, largest_is_acknowledged}
 use Rattle.qa_laws.proofs.machine.Courses.{is_space_is, is_space_same}
 use Rattle.qa_laws.proofs.machine.Pairs.{at_one, first_or_rest, part_has}
@@ -92,7 +94,7 @@ acknowledged_at_most _ h q is = cc
 past_at_most : (c : Settings) (r : Estimate) (now : ℕ) (most : Option ℕ) (q : Packet) → is_past_threshold c r now most q ≡ true → IsAtMost q.number most
 past_at_most c r now None q is = cc
 past_at_most c r now (Some m) q is =
-    let less = ltb-true q.number m (and_parts (nat_lt q.number m) (nat_le c.options.packet_threshold (m - q.number) || is_old c r now q) is).0 in
+    let less = ltb-true q.number m (and_parts (nat_lt q.number m) ((not (is_may c.options.loss_by_number) && nat_le c.options.packet_threshold (m - q.number)) || is_old c r now q) is).0 in
     omega (arith, less)
 
 found_at_most : (c : Settings) (h : List Event) (q : Packet) (d : Option (Space × ℕ)) → is_found_at c (sampled c h) h q d ≡ true → IsAtMost q.number (largest_acknowledged h q.space)
@@ -102,6 +104,25 @@ found_at_most c h q (Some (s, now)) is =
     let both = and_parts (is_of s q) (is_found c r h now s q) is in
     let past = and_parts (q.in_flight && is_unsettled h q) (is_past_threshold c r now (largest_acknowledged h s) q) both.1 in
     subst (λ (t : Space). IsAtMost q.number (largest_acknowledged h t)) (is_space_is s q.space both.0) (past_at_most c r now (largest_acknowledged h s) q past.1)
+
+spared_at_most : (c : Settings) (r : Estimate) (now : ℕ) (most : Option ℕ) (q : Packet) → may_be_spared c r now most q ≡ true → IsAtMost q.number most
+spared_at_most c r now None q is = cc
+spared_at_most c r now (Some m) q is =
+    let by_number = is_may c.options.loss_by_number && nat_le c.options.packet_threshold (m - q.number) in
+    let young = and_parts (nat_lt q.number m && by_number) (not (is_old c r now q)) is in
+    let less = ltb-true q.number m (and_parts (nat_lt q.number m) by_number young.0).0 in
+    omega (arith, less)
+
+free_at_most : (c : Settings) (h : List Event) (q : Packet) → is_free c h q ≡ true → IsAtMost q.number (largest_acknowledged h q.space)
+free_at_most c h q is =
+    let left = free_is_left c h q is in
+    spared_at_most c (sampled c h) left.now (largest_acknowledged h q.space) q left.spared
+
+taken_at_most : (c : Settings) (e : Event) (h : List Event) (q : Packet) → (is_owed c h q || is_named_free c e h q) ≡ true → IsAtMost q.number (largest_acknowledged h q.space)
+taken_at_most c e h q is = elim (or_cases (is_owed c h q) (is_named_free c e h q) is) [
+  | inl owed_then ↦ found_at_most c h q (detection c h) owed_then
+  | inr named ↦ free_at_most c h q (and_parts (is_free c h q) (declares_lost q.space q.number e) named).0
+]
 
 or_other : (a b : Bool) → (a || b) ≡ true → b ≡ false → a ≡ true
 or_other true b is none = refl
@@ -116,8 +137,8 @@ settled_if c e h run q has true was settled before =
     elim (settled_parts (e ∷ h) q settled) [
       | inl covered ↦ acknowledged_at_most e h q
           (or_other (acknowledges q.space q.number e) (is_acknowledged h q) (sym (covered_after e h q has) ∙ covered) (not-true (is_acknowledged h q) neither.0))
-      | inr lost ↦ at_most_stays e h q.space q.number (found_at_most c h q (detection c h)
-          (or_other (is_owed c h q) (is_declared_lost h q) (sym (lost_is_owed c e h run q has) ∙ lost) (not-true (is_declared_lost h q) neither.1)))
+      | inr lost ↦ at_most_stays e h q.space q.number (taken_at_most c e h q
+          (or_other (is_owed c h q || is_named_free c e h q) (is_declared_lost h q) (sym (lost_is_taken c e h run q has) ∙ lost) (not-true (is_declared_lost h q) neither.1)))
     ]
 
 new_unsettled : (e : Event) (h : List Event) (q : Packet) → length h ≤ q.place → is_unsettled (e ∷ h) q ≡ true
@@ -133,17 +154,18 @@ settled_at_most c (e ∷ h) run q has settled = elim (sent_or_before e h q has) 
 
 -- ---- how far below the largest acknowledged number
 
--- past the packet threshold
+-- past the packet threshold, by which packets must be lost where the header does not let the sender spare them
 abbrev pub is_far : Settings → Packet → Option ℕ → Bool
 is_far c p None = false
 is_far c p (Some m) = nat_lt p.number m && nat_le c.options.packet_threshold (m - p.number)
 
-far_is_past : (c : Settings) (r : Estimate) (now : ℕ) (most : Option ℕ) (p : Packet) → is_far c p most ≡ true → is_past_threshold c r now most p ≡ true
-far_is_past c r now None p is = cc
-far_is_past c r now (Some m) p is =
+far_is_past : (c : Settings) (r : Estimate) (now : ℕ) (most : Option ℕ) (p : Packet) → is_may c.options.loss_by_number ≡ false → is_far c p most ≡ true → is_past_threshold c r now most p ≡ true
+far_is_past c r now None p must is = cc
+far_is_past c r now (Some m) p must is =
     let both = and_parts (nat_lt p.number m) (nat_le c.options.packet_threshold (m - p.number)) is in
-    and_from (nat_lt p.number m) (nat_le c.options.packet_threshold (m - p.number) || is_old c r now p) both.0
-    (or_left (nat_le c.options.packet_threshold (m - p.number)) (is_old c r now p) both.1)
+    and_from (nat_lt p.number m) ((not (is_may c.options.loss_by_number) && nat_le c.options.packet_threshold (m - p.number)) || is_old c r now p) both.0
+    (or_left (not (is_may c.options.loss_by_number) && nat_le c.options.packet_threshold (m - p.number)) (is_old c r now p)
+    (and_from (not (is_may c.options.loss_by_number)) (nat_le c.options.packet_threshold (m - p.number)) (not_from_false (is_may c.options.loss_by_number) must) both.1))
 
 far_from_more : (c : Settings) (p : Packet) (m : ℕ) (most : Option ℕ) → is_far c p (Some m) ≡ true → IsAtMost m most → is_far c p most ≡ true
 far_from_more c p m None is le = absurd le
@@ -156,29 +178,29 @@ far_from_more c p m (Some k) is le =
 
 -- ---- an acknowledgment of something new finds what is far
 
-owed_by_ack : (c : Settings) (e : Event) (h : List Event) (q p : Packet) → acknowledges q.space q.number e ≡ true → acknowledges_new (e ∷ h) ≡ true → p.space ≡ q.space → p.in_flight ≡ true
+owed_by_ack : (c : Settings) (e : Event) (h : List Event) (q p : Packet) → is_may c.options.loss_by_number ≡ false → acknowledges q.space q.number e ≡ true → acknowledges_new (e ∷ h) ≡ true → p.space ≡ q.space → p.in_flight ≡ true
     → is_unsettled (e ∷ h) p ≡ true → is_far c p (largest_acknowledged (e ∷ h) p.space) ≡ true → is_owed c (e ∷ h) p ≡ true
-owed_by_ack c (Ack time space ranges delay app_limited) h q p acks new same flies unsettled far =
+owed_by_ack c (Ack time space ranges delay app_limited) h q p must acks new same flies unsettled far =
     let e = Ack time space ranges delay app_limited in
     let r = sampled c (e ∷ h) in
     let of_space : p.space ≡ space = same ∙ is_space_is q.space space (and_parts (is_space q.space space) (is_named ranges q.number) acks).0 in
     let past : is_past_threshold c r time (largest_acknowledged (e ∷ h) space) p ≡ true =
-    subst (λ (s : Space). is_past_threshold c r time (largest_acknowledged (e ∷ h) s) p ≡ true) of_space (far_is_past c r time (largest_acknowledged (e ∷ h) p.space) p far) in
+    subst (λ (s : Space). is_past_threshold c r time (largest_acknowledged (e ∷ h) s) p ≡ true) of_space (far_is_past c r time (largest_acknowledged (e ∷ h) p.space) p must far) in
     let here : is_of space p ≡ true = rw of_space (is_space_same space) in
     ap (λ b. is_found_at c r (e ∷ h) p (if◌then◌else◌ {A = Option (Space × ℕ)} b (Some (space, time)) None)) new
     ∙ and_from (is_of space p) (is_found c r (e ∷ h) time space p) here
     (and_from (p.in_flight && is_unsettled (e ∷ h) p) (is_past_threshold c r time (largest_acknowledged (e ∷ h) space) p) (and_from p.in_flight (is_unsettled (e ∷ h) p) flies unsettled) past)
-owed_by_ack c _ h q p acks new same flies unsettled far = cc
+owed_by_ack c _ h q p must acks new same flies unsettled far = cc
 
 -- ---- no packet that is open and in flight is far
 
-far_before : (c : Settings) (e : Event) (h : List Event) (p q : Packet) (m : ℕ) → IsRun c (e ∷ h) → is_flying c (e ∷ h) p ≡ true → is_far c p (largest_acknowledged (e ∷ h) p.space) ≡ true
+far_before : (c : Settings) (e : Event) (h : List Event) (p q : Packet) (m : ℕ) → is_may c.options.loss_by_number ≡ false → IsRun c (e ∷ h) → is_flying c (e ∷ h) p ≡ true → is_far c p (largest_acknowledged (e ∷ h) p.space) ≡ true
     → is_far c p (Some m) ≡ true → Contains (packets h) q → q.space ≡ p.space → q.number ≡ m → is_acknowledged (e ∷ h) q ≡ true → (was : Bool) → is_unsettled h q ≡ was
     → is_far c p (largest_acknowledged h p.space) ≡ true
-far_before c e h p q m run flying far_now far has same number covered false was =
+far_before c e h p q m must run flying far_now far has same number covered false was =
     far_from_more c p m (largest_acknowledged h p.space) far
     (subst (λ (n : ℕ). IsAtMost n (largest_acknowledged h p.space)) number (subst (λ (s : Space). IsAtMost q.number (largest_acknowledged h s)) same (settled_at_most c h run.0 q has was)))
-far_before c e h p q m run flying far_now far has same number covered true was =
+far_before c e h p q m must run flying far_now far has same number covered true was =
     let neither = and_parts (not (is_acknowledged h q)) (not (is_declared_lost h q)) was in
     let acks = or_other (acknowledges q.space q.number e) (is_acknowledged h q) (sym (covered_after e h q has) ∙ covered) (not-true (is_acknowledged h q) neither.0) in
     let newly : is_newly_acknowledged e h q ≡ true = and_from (acknowledges q.space q.number e && not (is_acknowledged h q)) (not (is_declared_lost h q))
@@ -186,7 +208,7 @@ far_before c e h p q m run flying far_now far has same number covered true was =
     let new : acknowledges_new (e ∷ h) ≡ true = has_some (newly_acknowledged (e ∷ h)) q (part_has (is_newly_acknowledged e h) (packets h) q has newly) in
     let flies = and_parts p.in_flight (is_open c (e ∷ h) p) flying in
     let opens = opens_is c (e ∷ h) p flies.1 in
-    absurd (both_ways (is_owed c (e ∷ h) p) opens.free (owed_by_ack c e h q p acks new (sym same) flies.0 opens.unsettled far_now))
+    absurd (both_ways (is_owed c (e ∷ h) p) opens.free (owed_by_ack c e h q p must acks new (sym same) flies.0 opens.unsettled far_now))
 
 new_is_near : (c : Settings) (e : Event) (h : List Event) (p q : Packet) (m : ℕ) → IsRun c (e ∷ h) → packets (e ∷ h) ≡ p ∷ packets h → Contains (packets h) q → q.space ≡ p.space → q.number ≡ m
     → is_far c p (Some m) ≡ true → ⊥
@@ -196,12 +218,12 @@ new_is_near c e h p q m run all has same number far =
     let above = ltb-true p.number m (and_parts (nat_lt p.number m) (nat_le c.options.packet_threshold (m - p.number)) far).0 in
     omega (arith, lower, above, number)
 
-never_far : (c : Settings) (e : Event) (h : List Event) → IsRun c (e ∷ h) → (p : Packet) → Contains (packets (e ∷ h)) p → is_flying c (e ∷ h) p ≡ true
+never_far : (c : Settings) (e : Event) (h : List Event) → is_may c.options.loss_by_number ≡ false → IsRun c (e ∷ h) → (p : Packet) → Contains (packets (e ∷ h)) p → is_flying c (e ∷ h) p ≡ true
     → (Contains (packets h) p → is_far c p (largest_acknowledged h p.space) ≡ false) → (most : Option ℕ) → largest_acknowledged (e ∷ h) p.space ≡ most
     → ((m : ℕ) → largest_acknowledged (e ∷ h) p.space ≡ Some m → Acknowledged (e ∷ h) p.space m) → (far : Bool) → is_far c p most ≡ far → far ≡ false
-never_far c e h run p has flying before most largest covers false far = refl
-never_far c e h run p has flying before None largest covers true far = cc
-never_far c e h run p has flying before (Some m) largest covers true far =
+never_far c e h must run p has flying before most largest covers false far = refl
+never_far c e h must run p has flying before None largest covers true far = cc
+never_far c e h must run p has flying before (Some m) largest covers true far =
     let one = covers m largest in
     let q = one.0 in
     let far_now : is_far c p (largest_acknowledged (e ∷ h) p.space) ≡ true = ap (is_far c p) largest ∙ far in
@@ -210,7 +232,7 @@ never_far c e h run p has flying before (Some m) largest covers true far =
       | inr has_q ↦ elim (sent_or_before e h p has) [
         | inl sent ↦ absurd (new_is_near c e h p q m run sent.all has_q one.2 one.3 far)
         | inr has_p ↦ absurd (both_ways (is_far c p (largest_acknowledged h p.space)) (before has_p)
-            (far_before c e h p q m run flying far_now far has_q one.2 one.3 one.4 (is_unsettled h q) refl))
+            (far_before c e h p q m must run flying far_now far has_q one.2 one.3 one.4 (is_unsettled h q) refl))
       ]
     ]
 
@@ -220,11 +242,11 @@ flying_before c e h run p has flying =
     and_from p.in_flight (is_open c h p) both.0 (open_before c e h run p has both.1)
 
 -- in a run, where lines can say its events
-pub flying_is_near : (c : Settings) (h : List Event) → IsRun c h → AllByRecursion IsProperEvent h → (p : Packet) → Contains (packets h) p → is_flying c h p ≡ true
+pub flying_is_near : (c : Settings) (h : List Event) → is_may c.options.loss_by_number ≡ false → IsRun c h → AllByRecursion IsProperEvent h → (p : Packet) → Contains (packets h) p → is_flying c h p ≡ true
     → is_far c p (largest_acknowledged h p.space) ≡ false
-flying_is_near c [] run proper p has flying = refl
-flying_is_near c (e ∷ h) run proper p has flying =
-    never_far c e h run p has flying (λ was. flying_is_near c h run.0 proper.1 p was (flying_before c e h run p was flying)) (largest_acknowledged (e ∷ h) p.space) refl
+flying_is_near c [] must run proper p has flying = refl
+flying_is_near c (e ∷ h) must run proper p has flying =
+    never_far c e h must run p has flying (λ was. flying_is_near c h must run.0 proper.1 p was (flying_before c e h run p was flying)) (largest_acknowledged (e ∷ h) p.space) refl
     (λ m most. largest_is_acknowledged c (e ∷ h) run proper p.space m most) (is_far c p (largest_acknowledged (e ∷ h) p.space)) refl
 
 near_if : (c : Settings) (p : Packet) (m : ℕ) (far : Bool) → nat_le c.options.packet_threshold (m - p.number) ≡ far → (nat_lt p.number m && far) ≡ false → p.number < m → m < p.number + c.options.packet_threshold
@@ -232,7 +254,7 @@ near_if c p m true is none less = absurd (both_ways (nat_lt p.number m && true) 
 near_if c p m false is none less = let close = leb-false c.options.packet_threshold (m - p.number) is in omega (arith, less, close)
 
 -- so it is by numbers
-pub flying_below : (c : Settings) (h : List Event) → IsRun c h → AllByRecursion IsProperEvent h → (p : Packet) → Contains (packets h) p → is_flying c h p ≡ true
+pub flying_below : (c : Settings) (h : List Event) → is_may c.options.loss_by_number ≡ false → IsRun c h → AllByRecursion IsProperEvent h → (p : Packet) → Contains (packets h) p → is_flying c h p ≡ true
     → (m : ℕ) → largest_acknowledged h p.space ≡ Some m → p.number < m → m < p.number + c.options.packet_threshold
-flying_below c h run proper p has flying m largest less =
-    near_if c p m (nat_le c.options.packet_threshold (m - p.number)) refl (sym (ap (is_far c p) largest) ∙ flying_is_near c h run proper p has flying) less
+flying_below c h must run proper p has flying m largest less =
+    near_if c p m (nat_le c.options.packet_threshold (m - p.number)) refl (sym (ap (is_far c p) largest) ∙ flying_is_near c h must run proper p has flying) less

@@ -1,5 +1,5 @@
 -- NewReno's own window shows each collapse: it is at most two datagrams and what was acknowledged since.
-use Rattle.std.proofs.Common.{◌≡◌, ◌+◌, ◌*◌, ◌<◌, ◌≤◌, ◌&&◌, ◌==◌, ℕ, List, [], ◌∷◌, ◌++◌, map, fold, filter, reverse, Bool, true, false, Option, Some, None, option_map, refl, sym, arith, subst, sum_by}
+use Rattle.std.proofs.Common.{◌≡◌, ◌+◌, ◌*◌, ◌<◌, ◌≤◌, ◌&&◌, ◌==◌, ℕ, List, [], ◌∷◌, ◌++◌, map, fold, filter, reverse, Bool, true, false, Option, Some, None, option_map, refl, sym, ap, arith, subst, sum_by}
 use Rattle.std.proofs.lemmas.Bool.{le-ltb}
 use Rattle.std.proofs.lemmas.List.Sums.{sum_by-cons}
 use Rattle.std.specs.Prelude.{if◌then◌else◌}
@@ -7,11 +7,13 @@ use Rattle.qa_base.specs.declared.event.Event.{Event}
 use Rattle.qa_base.specs.declared.event.Event.TheVariants.{Metrics}
 use Rattle.qa_base.specs.declared.event.MetricValues.{MetricValues}
 use Rattle.qa_base.specs.machine.Breaches.{is_above_collapse, is_collapse_missing}
-use Rattle.qa_base.specs.machine.Loss.{is_persistent, owed}
+use Rattle.qa_base.specs.machine.Loss.{declared, is_persistent}
 use Rattle.qa_base.specs.machine.Packets.{Packet, newly_acknowledged}
 use Rattle.qa_base.specs.machine.Reno.{Control, Grow, Move, collapse, collapses, grows, hit, hits, is_app_limited, is_outside_recovery, latest_sent, moved, reno}
 use Rattle.qa_base.specs.machine.Window.{acknowledged_bytes, acknowledged_since_collapse, changes_window, other_window, reported_window, unless_same}
-use Rattle.qa_base.specs.values.Events.{time_of}
+use Rattle.qa_base.specs.machine.Moments.{detection_of, last_time}
+use Rattle.qa_base.proofs.machine.Quiet.{newly-quiet}
+use Rattle.qa_base.specs.declared.event.Event.TheVariants.{Lost}
 use Rattle.qa_base.specs.values.Settings.{AreInRange, Settings, is_reported}
 use Rattle.qa_base.proofs.machine.Collapses.{since_collapse_after}
 use Rattle.qa_base.proofs.machine.Steps.{reno_after}
@@ -83,12 +85,18 @@ abbrev Within : ℕ → ℕ → Option ℕ → Type 0
 Within d window None = Unit {0}
 Within d window (Some n) = window ≤ 2 * d + n
 
-within_by : (d bytes before after : ℕ) (persistent changed : Bool) (sum : Option ℕ) → after ≤ (if persistent then 2 * d else before) + bytes → Within d before sum
-    → Within d after (if persistent then Some bytes else (if changed then None else option_map (λ n. bytes + n) sum))
-within_by d bytes before after true changed sum most within = most
-within_by d bytes before after false true sum most within = tt
-within_by d bytes before after false false None most within = tt
-within_by d bytes before after false false (Some n) most within = omega (arith, most, within)
+within_by : (d first bytes before after : ℕ) (persistent changed : Bool) (sum : Option ℕ) → bytes ≤ first → after ≤ (if persistent then 2 * d else before) + bytes → Within d before sum
+    → Within d after (if persistent then Some first else (if changed then None else option_map (λ n. bytes + n) sum))
+within_by d first bytes before after true changed sum fewer most within = omega (arith, fewer, most)
+within_by d first bytes before after false true sum fewer most within = tt
+within_by d first bytes before after false false None fewer most within = tt
+within_by d first bytes before after false false (Some n) fewer most within = omega (arith, most, within)
+
+-- a Lost line newly acknowledges nothing
+of_detection : (e : Event) (h : List Event) → acknowledged_bytes (e ∷ h) ≤ acknowledged_bytes (detection_of (e ∷ h))
+of_detection (Lost time space ranges) h =
+    let none : acknowledged_bytes (Lost time space ranges ∷ h) ≡ 0 = ap (sum_by in_flight_size) (newly-quiet (Lost time space ranges) h refl) in omega (arith, none)
+of_detection e h = omega arith
 
 within : (c : Settings) (h : List Event) → AreInRange c → Within c.max_datagram_size (reno c h).window (acknowledged_since_collapse c h)
 within c [] range = tt
@@ -96,11 +104,12 @@ within c (e ∷ h) range =
     let d = c.max_datagram_size in
     let low = window_low c h range in
     let least = range.datagram_low in
-    let moves = moved_by d (time_of e) (reno c h) (owed c (e ∷ h)) (is_persistent c (e ∷ h)) (is_app_limited e) (newly_acknowledged (e ∷ h)) (omega (arith, least)) low in
+    let moves = moved_by d (last_time (detection_of (e ∷ h))) (reno c h) (declared c (e ∷ h)) (is_persistent c (e ∷ h)) (is_app_limited e) (newly_acknowledged (e ∷ h)) (omega (arith, least)) low in
     let most : (reno c (e ∷ h)).window ≤ (if is_persistent c (e ∷ h) then 2 * d else (reno c h).window) + acknowledged_bytes (e ∷ h) =
     subst (λ (r : Control). r.window ≤ (if is_persistent c (e ∷ h) then 2 * d else (reno c h).window) + acknowledged_bytes (e ∷ h)) (sym (reno_after c e h)) moves in
     rw (since_collapse_after c e h)
-    (within_by d (acknowledged_bytes (e ∷ h)) (reno c h).window (reno c (e ∷ h)).window (is_persistent c (e ∷ h)) (changes_window c (e ∷ h)) (acknowledged_since_collapse c h) most (within c h range))
+    (within_by d (acknowledged_bytes (detection_of (e ∷ h))) (acknowledged_bytes (e ∷ h)) (reno c h).window (reno c (e ∷ h)).window (is_persistent c (e ∷ h)) (changes_window c (e ∷ h)) (acknowledged_since_collapse c h)
+    (of_detection e h) most (within c h range))
 
 by_sum : (d window n : ℕ) (sum : Option ℕ) → sum ≡ Some n → Within d window sum → window ≤ 2 * d + n
 by_sum d window n None is le = cc

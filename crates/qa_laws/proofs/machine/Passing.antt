@@ -9,6 +9,7 @@ use Rattle.qa_base.specs.declared.space.Space.{Space}
 use Rattle.qa_base.specs.machine.Estimates.{sampled}
 use Rattle.qa_base.specs.machine.Detection.{is_past_threshold}
 use Rattle.qa_base.specs.machine.Loss.{owed, is_owed, is_open, detection}
+use Rattle.qa_laws.specs.machine.Declared.{is_named_free}
 use Rattle.qa_laws.specs.machine.Oldest.{is_flying, is_asked, is_passed, NoneFlies}
 use Rattle.qa_base.specs.machine.Packets.{Packet, packets, is_of, is_newly_acknowledged, largest_acknowledged}
 use Rattle.qa_base.specs.machine.Rules.{IsRun}
@@ -86,10 +87,12 @@ open_if true false closed is none before = absurd (both_ways closed none (sym is
 open_if false true closed is none before = let no = before refl in cc
 open_if false false closed is none before = refl
 
--- in a run a packet is as open as it was that the event does not newly acknowledge, nor find lost, nor discard
+-- in a run a packet is as open as it was that the event does not newly acknowledge, nor find lost, nor discard, nor name where it was free
 pub stays_open : (c : Settings) (e : Event) (h : List Event) → IsRun c (e ∷ h) → (p : Packet) → Contains (packets h) p
-    → is_newly_acknowledged e h p ≡ false → is_owed c (e ∷ h) p ≡ false → is_discarded_by c e h p ≡ false → is_open c (e ∷ h) p ≡ is_open c h p
-stays_open c e h run p has not_newly not_owed there =
-    open_if (is_open c h p) (is_open c (e ∷ h) p) (is_newly_acknowledged e h p || is_owed c (e ∷ h) p || is_discarded_by c e h p) (closes_is c e h run p has)
-    (or_from (is_newly_acknowledged e h p || is_owed c (e ∷ h) p) (is_discarded_by c e h p) (or_from (is_newly_acknowledged e h p) (is_owed c (e ∷ h) p) not_newly not_owed) there)
+    → is_newly_acknowledged e h p ≡ false → is_owed c (e ∷ h) p ≡ false → is_discarded_by c e h p ≡ false → is_named_free c e h p ≡ false
+    → is_open c (e ∷ h) p ≡ is_open c h p
+stays_open c e h run p has not_newly not_owed there unnamed =
+    open_if (is_open c h p) (is_open c (e ∷ h) p) (is_newly_acknowledged e h p || is_owed c (e ∷ h) p || is_discarded_by c e h p || is_named_free c e h p) (closes_is c e h run p has)
+    (or_from (is_newly_acknowledged e h p || is_owed c (e ∷ h) p || is_discarded_by c e h p) (is_named_free c e h p)
+    (or_from (is_newly_acknowledged e h p || is_owed c (e ∷ h) p) (is_discarded_by c e h p) (or_from (is_newly_acknowledged e h p) (is_owed c (e ∷ h) p) not_newly not_owed) there) unnamed)
     (open_before c e h run p has)

@@ -1,4 +1,6 @@
 -- Persistent congestion is two packets that lie apart.
+use Rattle.qa_laws.proofs.machine.LostNow.{declared_from, declared_has, lost_now_uncovered}
+use Rattle.qa_laws.specs.machine.Declared.{is_lost_now}
 use Rattle.std.proofs.Common.{◌≡◌, ◌<◌, ◌-◌, ℕ, List, [], ◌∷◌, Bool, true, false, ◌&&◌, not, sym, arith, subst, Contains, inl, inr}
 use Rattle.std.proofs.lemmas.Bool.{and_parts, and_from, or_left, or_right, both_ways, false_from_ne_true, not-true, not_from_false, lt-ltb, ltb-true}
 use Rattle.std.specs.List.{list_any}
@@ -7,13 +9,11 @@ use Rattle.qa_base.specs.declared.event.Event.{Event}
 use Rattle.qa_laws.specs.machine.Among.{counts_as_end}
 use Rattle.qa_base.specs.machine.Estimates.{sampled}
 use Rattle.qa_base.specs.machine.Detection.{is_end, are_ends, is_acknowledged_between}
-use Rattle.qa_base.specs.machine.Loss.{owed, is_owed, is_persistent, detection}
-use Rattle.qa_base.specs.machine.Packets.{Packet, packets, is_acknowledged, is_declared_lost}
+use Rattle.qa_base.specs.machine.Loss.{is_persistent, declared}
+use Rattle.qa_base.specs.machine.Packets.{Packet, packets, is_acknowledged}
 use Rattle.qa_base.specs.machine.Rtt.{persistent_after}
 use Rattle.qa_base.specs.values.Settings.{Settings, granularity}
-use Rattle.qa_laws.proofs.machine.Changes.{found_unsettled}
 use Rattle.qa_laws.proofs.machine.Pairs.{first_or_rest, some_one}
-use Rattle.qa_laws.proofs.machine.Settled.{owed_has, owed_is}
 
 -- ---- what some packet passes
 
@@ -47,12 +47,12 @@ pub apart_of : (c : Settings) (h : List Event) → is_persistent c h ≡ true
     → (p : Packet) × (q : Packet) × AreApart (is_acknowledged h) (counts_as_end c h) (persistent_after (granularity c) (sampled c h) c.max_ack_delay) (packets h) p q
 apart_of c h is =
     let limit = persistent_after (granularity c) (sampled c h) c.max_ack_delay in
-    let one = some_one (λ p. list_any (are_ends (sampled c h) c h p) (owed c h)) (owed c h) is in
+    let one = some_one (λ p. list_any (are_ends (sampled c h) c h p) (declared c h)) (declared c h) is in
     let p = one.0 in
-    let two = some_one (are_ends (sampled c h) c h p) (owed c h) one.2 in
+    let two = some_one (are_ends (sampled c h) c h p) (declared c h) one.2 in
     let q = two.0 in
-    let of_p = owed_is c h p one.1 in
-    let of_q = owed_is c h q two.1 in
+    let of_p = declared_from c h p one.1 in
+    let of_q = declared_from c h q two.1 in
     let parts = and_parts (is_end (sampled c h) p && is_end (sampled c h) q && nat_lt limit (q.time - p.time)) (not (is_acknowledged_between h p q)) two.2 in
     let more = and_parts (is_end (sampled c h) p && is_end (sampled c h) q) (nat_lt limit (q.time - p.time)) parts.0 in
     let ends = and_parts (is_end (sampled c h) p) (is_end (sampled c h) q) more.0 in
@@ -62,8 +62,8 @@ apart_of c h is =
       record {
         has_p = of_p.0;
         has_q = of_q.0;
-        counts_p = and_from (is_owed c h p) (is_end (sampled c h) p) of_p.1 ends.0;
-        counts_q = and_from (is_owed c h q) (is_end (sampled c h) q) of_q.1 ends.1;
+        counts_p = and_from (is_lost_now c h p) (is_end (sampled c h) p) of_p.1 ends.0;
+        counts_q = and_from (is_lost_now c h q) (is_end (sampled c h) q) of_q.1 ends.1;
         far = ltb-true limit (q.time - p.time) more.1;
         clear = λ m inside after before. false_from_ne_true (is_acknowledged h m) (λ covered.
             both_ways (nat_lt p.place m.place && nat_lt m.place q.place && is_acknowledged h m)
@@ -77,22 +77,20 @@ pub of_apart : (c : Settings) (h : List Event) (p q : Packet) → AreApart (is_a
     → is_persistent c h ≡ true
 of_apart c h p q apart =
     let limit = persistent_after (granularity c) (sampled c h) c.max_ack_delay in
-    let of_p = and_parts (is_owed c h p) (is_end (sampled c h) p) apart.counts_p in
-    let of_q = and_parts (is_owed c h q) (is_end (sampled c h) q) apart.counts_q in
+    let of_p = and_parts (is_lost_now c h p) (is_end (sampled c h) p) apart.counts_p in
+    let of_q = and_parts (is_lost_now c h q) (is_end (sampled c h) q) apart.counts_q in
     let none : is_acknowledged_between h p q ≡ false = none_from (λ k. nat_lt p.place k.place && nat_lt k.place q.place && is_acknowledged h k) (packets h) (λ m inside.
     false_from_ne_true (nat_lt p.place m.place && nat_lt m.place q.place && is_acknowledged h m) (λ is.
     let parts = and_parts (nat_lt p.place m.place && nat_lt m.place q.place) (is_acknowledged h m) is in
     let places = and_parts (nat_lt p.place m.place) (nat_lt m.place q.place) parts.0 in
     both_ways (is_acknowledged h m) (apart.clear m inside (ltb-true p.place m.place places.0) (ltb-true m.place q.place places.1)) parts.1)) in
-    some_from (λ p. list_any (are_ends (sampled c h) c h p) (owed c h)) (owed c h) p (owed_has c h p apart.has_p of_p.0)
-    (some_from (are_ends (sampled c h) c h p) (owed c h) q (owed_has c h q apart.has_q of_q.0)
+    some_from (λ p. list_any (are_ends (sampled c h) c h p) (declared c h)) (declared c h) p (declared_has c h p apart.has_p of_p.0)
+    (some_from (are_ends (sampled c h) c h p) (declared c h) q (declared_has c h q apart.has_q of_q.0)
     (and_from (is_end (sampled c h) p && is_end (sampled c h) q && nat_lt limit (q.time - p.time)) (not (is_acknowledged_between h p q))
     (and_from (is_end (sampled c h) p && is_end (sampled c h) q) (nat_lt limit (q.time - p.time))
     (and_from (is_end (sampled c h) p) (is_end (sampled c h) q) of_p.1 of_q.1) (lt-ltb limit (q.time - p.time) apart.far))
     (not_from_false (is_acknowledged_between h p q) none)))
 
--- a packet found lost is not covered
+-- a packet that is lost by the last event is not covered
 pub owed_not_covered : (c : Settings) (h : List Event) (p : Packet) → counts_as_end c h p ≡ true → is_acknowledged h p ≡ false
-owed_not_covered c h p is =
-    let open_here = found_unsettled c h p (detection c h) (and_parts (is_owed c h p) (is_end (sampled c h) p) is).0 in
-    not-true (is_acknowledged h p) (and_parts (not (is_acknowledged h p)) (not (is_declared_lost h p)) open_here).0
+owed_not_covered c h p is = lost_now_uncovered c h p (and_parts (is_lost_now c h p) (is_end (sampled c h) p) is).0

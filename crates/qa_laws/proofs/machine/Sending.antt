@@ -1,6 +1,9 @@
 -- The same in the order of sending: what is asked of the packets that are kept, which stand behind closed ones.
+use Rattle.qa_laws.proofs.machine.LostNow.{closed_not_lost, dropped_not_lost}
+use Rattle.qa_base.specs.machine.Kept.{is_kept}
+use Rattle.qa_laws.specs.machine.Declared.{is_lost_now}
 use Rattle.std.proofs.Common.{◌≡◌, ◌∙◌, ℕ, List, [], ◌∷◌, ◌++◌, Bool, true, false, None, refl, sym, ap, subst, Contains, filter, reverse, sum_by, add_comm, ◌+◌, length, append_assoc}
-use Rattle.std.proofs.lemmas.Bool.{and_parts, and_left, both_ways, false_from_ne_true}
+use Rattle.std.proofs.lemmas.Bool.{and_left}
 use Rattle.std.proofs.lemmas.List.{reverse-reverse, reverse-append, append-nil}
 use Rattle.std.proofs.lemmas.List.Elements.{Contains-append_left}
 use Rattle.std.specs.List.{AllByRecursion}
@@ -13,16 +16,15 @@ use Rattle.qa_base.specs.machine.Loss.{owed, is_owed, is_open, is_persistent}
 use Rattle.qa_base.specs.machine.Packets.{Packet, packets, packet_of, is_acknowledged, is_newly_acknowledged, newly_acknowledged}
 use Rattle.qa_base.specs.machine.Rtt.{persistent_after}
 use Rattle.qa_base.specs.machine.Rules.{IsRun}
-use Rattle.qa_base.specs.values.Settings.{Settings, granularity}
+use Rattle.qa_base.specs.values.Settings.{Settings, granularity, is_may}
 use Rattle.qa_laws.specs.machine.Sums.{counted, open_sum}
-use Rattle.qa_laws.proofs.machine.Changes.{owed_was_flying}
 use Rattle.qa_laws.proofs.machine.Forgotten.{newly_of_kept, owed_of_kept, open_sum_of_kept}
 use Rattle.qa_laws.proofs.machine.Forward.{persistent_is_forward}
 use Rattle.qa_laws.proofs.machine.Pairs.{at_one, of_each, each_turned, part_turned, turned}
 use Rattle.std.proofs.lemmas.List.Sums.{sum_by-cons, sum_by_push}
 use Rattle.qa_laws.proofs.machine.Settled.{closed_stays}
 use Rattle.qa_laws.proofs.machine.Walks.{turned_has}
-use Rattle.qa_laws.specs.machine.Parts.{AreClosed}
+use Rattle.qa_laws.specs.machine.Parts.{AreClosed, AreDropped}
 
 -- ---- the parts of a list that is turned
 
@@ -64,29 +66,45 @@ none_found : (covered counts : Packet → Bool) (limit : ℕ) (ps : List Packet)
 none_found covered counts limit [] none = refl
 none_found covered counts limit (p ∷ ps) none = front_step covered counts limit p ps (covered p) refl none.0 ∙ none_found covered counts limit ps none.1
 
-gone_counts_not : (c : Settings) (e : Event) (h : List Event) → IsRun c (e ∷ h) → (gone kept : List Packet) → reverse (packets h) ≡ gone ++ kept → AreClosed c h gone
+gone_counts_not : (c : Settings) (e : Event) (h : List Event) (gone : List Packet) → AllByRecursion (λ p. is_lost_now c (e ∷ h) p ≡ false) gone
     → AllByRecursion (λ p. counts_as_end c (e ∷ h) p ≡ false) gone
-gone_counts_not c e h run gone kept parts closed = of_each (λ p. counts_as_end c (e ∷ h) p ≡ false) gone (λ p has.
-    let inside : Contains (packets h) p = turned_has (packets h) p (subst (λ (ps : List Packet). Contains ps p) (sym parts) (Contains-append_left gone kept p has)) in
-    let shut : is_open c h p ≡ false = at_one (λ q. is_open c h q ≡ false) gone p closed has in
-    and_left (is_owed c (e ∷ h) p) (is_end (sampled c (e ∷ h)) p)
-    (false_from_ne_true (is_owed c (e ∷ h) p) (λ is. both_ways (is_open c h p) shut (and_parts p.in_flight (is_open c h p) (owed_was_flying c e h run p inside is)).1)))
+gone_counts_not c e h gone none = of_each (λ p. counts_as_end c (e ∷ h) p ≡ false) gone (λ p has.
+    and_left (is_lost_now c (e ∷ h) p) (is_end (sampled c (e ∷ h)) p) (at_one (λ q. is_lost_now c (e ∷ h) q ≡ false) gone p none has))
 
-walk_if : (c : Settings) (e : Event) (h : List Event) → IsRun c (e ∷ h) → (gone kept : List Packet) → packets (e ∷ h) ≡ packets h → reverse (packets h) ≡ gone ++ kept → AreClosed c h gone
+walk_if : (c : Settings) (e : Event) (h : List Event) → IsRun c (e ∷ h) → (gone kept : List Packet) → packets (e ∷ h) ≡ packets h → reverse (packets h) ≡ gone ++ kept
+    → AllByRecursion (λ p. is_lost_now c (e ∷ h) p ≡ false) gone
     → is_persistent c (e ∷ h) ≡ finds_apart (is_acknowledged (e ∷ h)) (counts_as_end c (e ∷ h)) (persistent_after (granularity c) (sampled c (e ∷ h)) c.max_ack_delay) None kept
-walk_if c e h run gone kept same parts closed =
+walk_if c e h run gone kept same parts none =
     let limit = persistent_after (granularity c) (sampled c (e ∷ h)) c.max_ack_delay in
     persistent_is_forward c (e ∷ h) run
     ∙ (ap (finds_apart (is_acknowledged (e ∷ h)) (counts_as_end c (e ∷ h)) limit None) (ap reverse same ∙ parts)
-    ∙ front_dropped (is_acknowledged (e ∷ h)) (counts_as_end c (e ∷ h)) limit gone kept (gone_counts_not c e h run gone kept parts closed))
+    ∙ front_dropped (is_acknowledged (e ∷ h)) (counts_as_end c (e ∷ h)) limit gone kept (gone_counts_not c e h gone none))
 
--- in a run an event establishes persistent congestion exactly where a walk over the packets kept finds it, in the order of sending
-pub persistent_is_walk_of_kept : (c : Settings) (e : Event) (h : List Event) → IsRun c (e ∷ h) → (gone kept : List Packet) → reverse (packets h) ≡ gone ++ kept → AreClosed c h gone
+walk_of_kept : (c : Settings) (e : Event) (h : List Event) → IsRun c (e ∷ h) → (gone kept : List Packet) → reverse (packets h) ≡ gone ++ kept
+    → AllByRecursion (λ p. is_lost_now c (e ∷ h) p ≡ false) gone
     → is_persistent c (e ∷ h) ≡ finds_apart (is_acknowledged (e ∷ h)) (counts_as_end c (e ∷ h)) (persistent_after (granularity c) (sampled c (e ∷ h)) c.max_ack_delay) None kept
-persistent_is_walk_of_kept c (Sent time space number size eliciting in_flight leave) h run gone kept parts closed =
+walk_of_kept c (Sent time space number size eliciting in_flight leave) h run gone kept parts none =
     let e = Sent time space number size eliciting in_flight leave in
     sym (none_found (is_acknowledged (e ∷ h)) (counts_as_end c (e ∷ h)) (persistent_after (granularity c) (sampled c (e ∷ h)) c.max_ack_delay) kept (of_each (λ p. counts_as_end c (e ∷ h) p ≡ false) kept (λ p has. refl)))
-persistent_is_walk_of_kept c e h run gone kept parts closed = walk_if c e h run gone kept refl parts closed
+walk_of_kept c e h run gone kept parts none = walk_if c e h run gone kept refl parts none
+
+gone_has : (h : List Event) (gone kept : List Packet) (p : Packet) → reverse (packets h) ≡ gone ++ kept → Contains gone p → Contains (packets h) p
+gone_has h gone kept p parts has = turned_has (packets h) p (subst (λ (ps : List Packet). Contains ps p) (sym parts) (Contains-append_left gone kept p has))
+
+-- in a run an event establishes persistent congestion exactly where a walk over the packets kept finds it, in the order of sending
+pub persistent_is_walk_of_kept : (c : Settings) (e : Event) (h : List Event) → IsRun c (e ∷ h) → (gone kept : List Packet) → reverse (packets h) ≡ gone ++ kept → AreDropped c h gone
+    → is_persistent c (e ∷ h) ≡ finds_apart (is_acknowledged (e ∷ h)) (counts_as_end c (e ∷ h)) (persistent_after (granularity c) (sampled c (e ∷ h)) c.max_ack_delay) None kept
+persistent_is_walk_of_kept c e h run gone kept parts dropped =
+    walk_of_kept c e h run gone kept parts (of_each (λ p. is_lost_now c (e ∷ h) p ≡ false) gone
+    (λ p has. dropped_not_lost c e h run p (gone_has h gone kept p parts has) (at_one (λ q. is_kept c h q ≡ false) gone p dropped has)))
+
+-- and so it does where closed packets are left out, where losses by number must be declared
+pub must_persistent_is_walk_of_kept : (c : Settings) (e : Event) (h : List Event) → IsRun c (e ∷ h) → (gone kept : List Packet) → reverse (packets h) ≡ gone ++ kept → is_may c.options.loss_by_number ≡ false
+    → AreClosed c h gone
+    → is_persistent c (e ∷ h) ≡ finds_apart (is_acknowledged (e ∷ h)) (counts_as_end c (e ∷ h)) (persistent_after (granularity c) (sampled c (e ∷ h)) c.max_ack_delay) None kept
+must_persistent_is_walk_of_kept c e h run gone kept parts must closed =
+    walk_of_kept c e h run gone kept parts (of_each (λ p. is_lost_now c (e ∷ h) p ≡ false) gone
+    (λ p has. closed_not_lost c e h run p (gone_has h gone kept p parts has) must (at_one (λ q. is_open c h q ≡ false) gone p closed has)))
 
 -- ---- sums
 

@@ -1,5 +1,5 @@
 -- What is settled stays so, and what is owed is declared lost next: a packet that is not open never is again.
-use Rattle.std.proofs.Common.{◌≡◌, ◌∙◌, ◌<◌, ℕ, max, List, [], ◌∷◌, ◌++◌, length, Bool, true, false, ◌&&◌, not, Option, Some, None, unwrap_or, refl, sym, arith, Contains, flat_map, inl, inr, ◌⊎◌}
+use Rattle.std.proofs.Common.{◌≡◌, ◌∙◌, ◌<◌, ℕ, max, List, [], ◌∷◌, ◌++◌, length, Bool, true, false, ◌&&◌, not, Option, Some, None, unwrap_or, refl, sym, arith, Contains, flat_map, inl, inr, ◌⊎◌, ◌||◌}
 use Rattle.std.proofs.lemmas.Bool.{and_parts, and_from, or_left, or_right, ltb-true, lt-ltb, not-false, not-true, and_cases, both_ways, and_left, and_right, not_from_true, true_from_ne_false, false_from_ne_true}
 use Rattle.std.specs.List.{list_any, list_all}
 use Rattle.std.specs.Prelude.{nat_lt, if◌then◌else◌}
@@ -9,9 +9,9 @@ use Rattle.qa_base.specs.declared.space.Space.{Space}
 use Rattle.qa_base.specs.machine.Breaches.{numbers}
 use Rattle.qa_base.specs.values.Events.{is_space, is_named, acknowledges, declares_lost, discards}
 use Rattle.qa_base.specs.machine.Estimates.{sampled}
-use Rattle.qa_base.specs.machine.Detection.{is_found, is_found_at, found_at, is_unsettled}
-use Rattle.qa_base.specs.machine.Loss.{owed, is_owed, is_open, detection}
-use Rattle.qa_base.specs.machine.Numbers.{has_all, names_exactly}
+use Rattle.qa_base.specs.machine.Detection.{is_found, is_found_at, found_at, is_left, is_left_at, is_unsettled}
+use Rattle.qa_base.specs.machine.Loss.{owed, is_owed, is_free, nameable, is_nameable, is_open, detection}
+use Rattle.qa_base.specs.machine.Numbers.{has_all, names_between}
 use Rattle.qa_base.specs.machine.Packets.{Packet, packets, packets_of, is_of, is_some_packet, is_acknowledged, is_declared_lost, is_discarded, greatest, greatest_in, greatest_of, largest_acknowledged, is_below_largest}
 use Rattle.qa_base.specs.machine.Rules.{IsRun}
 use Rattle.qa_base.specs.values.Settings.{Settings}
@@ -79,16 +79,26 @@ owed_has c h p has is = found_has c h p (detection c h) has is
 pub owed_is : (c : Settings) (h : List Event) (p : Packet) → Contains (owed c h) p → Contains (packets h) p × (is_owed c h p ≡ true)
 owed_is c h p has = found_is c h p (detection c h) has
 
-found_of_one : (c : Settings) (h : List Event) (p q : Packet) (d : Option (Space × ℕ)) → is_found_at c (sampled c h) h p d ≡ true → is_found_at c (sampled c h) h q d ≡ true → p.space ≡ q.space
-found_of_one c h p q None is_p is_q = cc
-found_of_one c h p q (Some (s, now)) is_p is_q =
-    let of_p = is_space_is s p.space (and_parts (is_of s p) (is_found c (sampled c h) h now s p) is_p).0 in
-    let of_q = is_space_is s q.space (and_parts (is_of s q) (is_found c (sampled c h) h now s q) is_q).0 in
+of_either : (a b c : Bool) → ((a && b) || (a && c)) ≡ true → a ≡ true
+of_either true b c is = refl
+of_either false b c is = cc
+
+nameable_of_one : (c : Settings) (h : List Event) (p q : Packet) (d : Option (Space × ℕ))
+    → (is_found_at c (sampled c h) h p d || is_left_at c (sampled c h) h p d) ≡ true
+    → (is_found_at c (sampled c h) h q d || is_left_at c (sampled c h) h q d) ≡ true → p.space ≡ q.space
+nameable_of_one c h p q None is_p is_q = cc
+nameable_of_one c h p q (Some (s, now)) is_p is_q =
+    let of_p = is_space_is s p.space (of_either (is_of s p) (is_found c (sampled c h) h now s p) (is_left c (sampled c h) h now s p) is_p) in
+    let of_q = is_space_is s q.space (of_either (is_of s q) (is_found c (sampled c h) h now s q) (is_left c (sampled c h) h now s q) is_q) in
     sym of_p ∙ of_q
 
--- all of one space
-pub owed_of_one : (c : Settings) (h : List Event) (p q : Packet) → is_owed c h p ≡ true → is_owed c h q ≡ true → p.space ≡ q.space
-owed_of_one c h p q is_p is_q = found_of_one c h p q (detection c h) is_p is_q
+-- what may be named is all of one space
+pub named_of_one : (c : Settings) (h : List Event) (p q : Packet) → is_nameable c h p ≡ true → is_nameable c h q ≡ true → p.space ≡ q.space
+named_of_one c h p q is_p is_q = nameable_of_one c h p q (detection c h) is_p is_q
+
+-- the packets that may be named are those of which it is so
+pub nameable_is : (c : Settings) (h : List Event) (p : Packet) → Contains (nameable c h) p → Contains (packets h) p × (is_nameable c h p ≡ true)
+nameable_is c h p has = part_is (is_nameable c h) (packets h) p has
 
 pub has_some : (ps : List Packet) (p : Packet) → Contains ps p → is_some_packet ps ≡ true
 has_some [] p (k, within, is) = absurd (omega arith)
@@ -107,23 +117,27 @@ not_while_owed : (c : Settings) (h : List Event) (p : Packet) (G : Type 0) → C
 not_while_owed c h p G has is none = absurd (both_ways (is_some_packet (owed c h)) none (has_some (owed c h) p (owed_has c h p has is)))
 
 -- the space of a Lost line in a run
+pub nameable_space : (c : Settings) (h : List Event) (time : ℕ) (space : Space) (ranges : List (ℕ × ℕ)) → IsRun c (Lost time space ranges ∷ h)
+    → (p : Packet) → is_nameable c h p ≡ true → p.space ≡ space
+nameable_space c h time space ranges run p is =
+    let holds = all_hold c h (Lost time space ranges) run.1 in
+    let one = some_one (is_of space) (nameable c h) (not-false (list_any (is_of space) (nameable c h)) holds.loss_not_owed) in
+    named_of_one c h p one.0 is (nameable_is c h one.0 one.1).1 ∙ sym (is_space_is space one.0.space one.2)
+
 pub owed_space : (c : Settings) (h : List Event) (time : ℕ) (space : Space) (ranges : List (ℕ × ℕ)) → IsRun c (Lost time space ranges ∷ h)
     → (p : Packet) → is_owed c h p ≡ true → p.space ≡ space
-owed_space c h time space ranges run p is =
-    let holds = all_hold c h (Lost time space ranges) run.1 in
-    let one = some_one (is_of space) (owed c h) (not-false (list_any (is_of space) (owed c h)) holds.loss_not_owed) in
-    owed_of_one c h p one.0 is (owed_is c h one.0 one.1).1 ∙ sym (is_space_is space one.0.space one.2)
+owed_space c h time space ranges run p is = nameable_space c h time space ranges run p (or_left (is_owed c h p) (is_free c h p) is)
 
 pub names_all : (c : Settings) (h : List Event) (time : ℕ) (space : Space) (ranges : List (ℕ × ℕ)) → IsRun c (Lost time space ranges ∷ h)
-    → names_exactly ranges (numbers (owed c h)) ≡ true
-names_all c h time space ranges run = not-false (names_exactly ranges (numbers (owed c h))) (all_hold c h (Lost time space ranges) run.1).loss_set
+    → names_between ranges (numbers (owed c h)) (numbers (nameable c h)) ≡ true
+names_all c h time space ranges run = not-false (names_between ranges (numbers (owed c h)) (numbers (nameable c h))) (all_hold c h (Lost time space ranges) run.1).loss_set
 
 -- a Lost line of a run declares each packet lost that is owed
 pub owed_is_named : (c : Settings) (h : List Event) (time : ℕ) (space : Space) (ranges : List (ℕ × ℕ)) → IsRun c (Lost time space ranges ∷ h)
     → (p : Packet) → Contains (packets h) p → is_owed c h p ≡ true → declares_lost p.space p.number (Lost time space ranges) ≡ true
 owed_is_named c h time space ranges run p has is =
-    let exactly = names_all c h time space ranges run in
-    let named = named_at ranges (owed c h) p (and_parts (has_all (numbers (owed c h)) ranges) (list_all (is_named ranges) (numbers (owed c h))) exactly).1 (owed_has c h p has is) in
+    let between = names_all c h time space ranges run in
+    let named = named_at ranges (owed c h) p (and_parts (has_all (numbers (nameable c h)) ranges) (list_all (is_named ranges) (numbers (owed c h))) between).1 (owed_has c h p has is) in
     and_from (is_space p.space space) (is_named ranges p.number) (rw (owed_space c h time space ranges run p is) (is_space_same space)) named
 
 -- in a run, what is owed is declared lost by the event that comes next

@@ -1,4 +1,6 @@
 -- How many packets are still of use after one more event.
+use Rattle.qa_laws.proofs.machine.Bytes.{names_nothing}
+use Rattle.qa_laws.specs.machine.Declared.{is_named_free, named_free}
 use Rattle.std.proofs.Common.{◌≡◌, ◌∙◌, ◌≤◌, ◌+◌, ℕ, List, [], ◌∷◌, ◌++◌, length, Bool, true, false, ◌||◌, refl, sym, ap, arith, subst, reverse, Contains, append_assoc}
 use Rattle.std.proofs.lemmas.Bool.{and_parts, or_left, or_from, or_parts, both_ways, false_from_ne_true}
 use Rattle.std.proofs.lemmas.List.{length-append}
@@ -23,9 +25,9 @@ use Rattle.qa_laws.specs.machine.Useful.{from_first}
 use Rattle.qa_laws.proofs.machine.Changes.{not_owed_now, owed_was_flying}
 use Rattle.qa_laws.proofs.machine.Closing.{sent_is_open}
 use Rattle.qa_laws.proofs.machine.KeptCount.{kept_count_is}
-use Rattle.qa_laws.proofs.machine.Pairs.{at_one, of_each, turned, has_first}
+use Rattle.qa_laws.proofs.machine.Pairs.{at_one, of_each, turned, has_first, part_has}
 use Rattle.qa_laws.proofs.machine.Passing.{stays_open}
-use Rattle.qa_laws.proofs.machine.Settled.{closed_stays}
+use Rattle.qa_laws.proofs.machine.Settled.{closed_stays, has_some}
 use Rattle.qa_laws.proofs.machine.Walks.{turned_has}
 
 -- ---- the walk
@@ -119,6 +121,10 @@ same_rest f g (p ∷ ps) same = rw (same.0, same_rest f g ps same.1) refl
 abbrev LeavesIt : Settings → Event → List Event → Packet → Type 0
 LeavesIt c e h p = (is_newly_acknowledged e h p ≡ false) × (is_owed c (e ∷ h) p ≡ false) × (is_discarded_by c e h p ≡ false)
 
+none_named : (c : Settings) (e : Event) (h : List Event) (p : Packet) → Contains (packets h) p → is_some_packet (named_free c e h) ≡ false → is_named_free c e h p ≡ false
+none_named c e h p has none =
+    false_from_ne_true (is_named_free c e h p) (λ is. both_ways (is_some_packet (named_free c e h)) none (has_some (named_free c e h) p (part_has (is_named_free c e h) (packets h) p has is)))
+
 quiet_leaves : (c : Settings) (e : Event) (h : List Event) (p : Packet) → is_quiet e ≡ true → LeavesIt c e h p
 quiet_leaves c (Ack time space ranges delay app_limited) h p quiet = cc
 quiet_leaves c (Timer time kind space) h p quiet = cc
@@ -128,22 +134,22 @@ quiet_leaves c _ h p quiet = (refl, refl, refl)
 same_with : (is was owed_now owed_then : Bool) → is ≡ was → owed_now ≡ false → owed_then ≡ false → (is || owed_now) ≡ (was || owed_then)
 same_with is was owed_now owed_then same free freed = rw (same, free, freed) refl
 
--- in a run a quiet event, before which nothing is owed, leaves of use what was
-quiet_use : (c : Settings) (e : Event) (h : List Event) → IsRun c (e ∷ h) → is_quiet e ≡ true → is_some_packet (owed c h) ≡ false
+-- in a run a quiet event, before which nothing is owed, and which names nothing that is free, leaves of use what was
+quiet_use : (c : Settings) (e : Event) (h : List Event) → IsRun c (e ∷ h) → is_quiet e ≡ true → is_some_packet (owed c h) ≡ false → is_some_packet (named_free c e h) ≡ false
     → (p : Packet) → Contains (packets h) p → is_kept c (e ∷ h) p ≡ is_kept c h p
-quiet_use c e h run quiet none p has =
+quiet_use c e h run quiet none unnamed p has =
     let closes = quiet_leaves c e h p quiet in
     same_with (is_open c (e ∷ h) p) (is_open c h p) (is_owed c (e ∷ h) p) (is_owed c h p)
-    (stays_open c e h run p has closes.0 closes.1 closes.2) closes.1 (not_owed_now c e h p has none)
+    (stays_open c e h run p has closes.0 closes.1 closes.2 (none_named c e h p has unnamed)) closes.1 (not_owed_now c e h p has none)
 
 -- so where it sends nothing as much is of use as before
 pub kept_stays : (c : Settings) (e : Event) (h : List Event) → IsRun c (e ∷ h) → is_quiet e ≡ true → packet_of (length h) e ≡ [] → is_some_packet (owed c h) ≡ false
-    → kept_count c (e ∷ h) ≡ kept_count c h
-kept_stays c e h run quiet none free =
+    → is_some_packet (named_free c e h) ≡ false → kept_count c (e ∷ h) ≡ kept_count c h
+kept_stays c e h run quiet none free unnamed =
     let ps = reverse (packets h) in
     let same : packets (e ∷ h) ≡ packets h = ap (λ (qs : List Packet). qs ++ packets h) none in
     let tests : AllByRecursion (λ p. is_kept c (e ∷ h) p ≡ is_kept c h p) ps =
-    of_each (λ p. is_kept c (e ∷ h) p ≡ is_kept c h p) ps (λ p has. quiet_use c e h run quiet free p (turned_has (packets h) p has)) in
+    of_each (λ p. is_kept c (e ∷ h) p ≡ is_kept c h p) ps (λ p has. quiet_use c e h run quiet free unnamed p (turned_has (packets h) p has)) in
     kept_is c (e ∷ h) ∙ (ap (λ (qs : List Packet). length (from_first (is_kept c (e ∷ h)) (reverse qs))) same
     ∙ (ap length (same_rest (is_kept c (e ∷ h)) (is_kept c h) ps tests) ∙ sym (kept_is c h)))
 
@@ -176,5 +182,5 @@ kept_sent c h time space number size eliciting in_flight leave run =
     let opens = sent_is_open c h time space number size eliciting in_flight leave p refl refl (all_hold c h e run.1).space_gone in
     let is : is_kept c (e ∷ h) p ≡ true = or_left (is_open c (e ∷ h) p) (is_owed c (e ∷ h) p) opens in
     kept_count_is c (e ∷ h) all.0 (kept ++ p ∷ []) split (front_stays c e h run all.0 kept all.1 all.2)
-    (begins_sent c (e ∷ h) h p kept is (λ q has. quiet_use c e h run refl (all_hold c h e run.1).loss_owed q (rest_has h all.0 kept all.1 q has)) (begins c h (reverse (packets h))))
+    (begins_sent c (e ∷ h) h p kept is (λ q has. quiet_use c e h run refl (all_hold c h e run.1).loss_owed (ap is_some_packet (names_nothing c e h (λ p. refl))) q (rest_has h all.0 kept all.1 q has)) (begins c h (reverse (packets h))))
     ∙ (length-append kept (p ∷ []) ∙ ap (λ n. n + 1) (sym (kept_is c h)))

@@ -1,5 +1,5 @@
 -- The window by which packets are judged is NewReno's, unless the sender reports its own.
-use Rattle.std.proofs.Common.{◌≡◌, ◌∙◌, ◌+◌, ◌*◌, ◌<◌, ◌≤◌, ℕ, List, [], ◌∷◌, Bool, true, false, ◌&&◌, ◌==◌, Option, Some, None, unwrap_or, refl, sym, ap, arith, subst}
+use Rattle.std.proofs.Common.{◌≡◌, ◌∙◌, ◌+◌, ◌*◌, ◌<◌, ◌≤◌, ℕ, List, [], ◌∷◌, Bool, true, false, ◌&&◌, ◌==◌, Option, Some, None, unwrap_or, refl, sym, ap, arith, subst, not}
 use Rattle.std.proofs.lemmas.Bool.{ltb-false, ne_eqb}
 use Rattle.std.specs.List.{AllByRecursion}
 use Rattle.qa_base.specs.declared.event.Event.{Event}
@@ -8,12 +8,14 @@ use Rattle.qa_base.specs.declared.event.MetricValues.{MetricValues}
 use Rattle.qa_base.specs.declared.space.Controller.{Controller}
 use Rattle.qa_base.specs.declared.space.Controller.TheVariants.{NewReno, Reported}
 use Rattle.qa_base.specs.machine.Breaches.{is_above_collapse, is_collapse_missing}
-use Rattle.qa_base.specs.machine.Loss.{owed}
+use Rattle.qa_base.specs.machine.Loss.{declared, owed}
 use Rattle.qa_base.specs.machine.Reno.{reno}
 use Rattle.qa_base.specs.machine.Rules.{IsRun, broken, first_broken}
 use Rattle.qa_base.specs.machine.Widths.{Fits, acknowledged_count}
 use Rattle.qa_base.specs.machine.Window.{acknowledged_since_collapse, other_window, reported_window, unless_same, window, window_by, window_in}
-use Rattle.qa_base.specs.values.Settings.{Settings, AreInRange, is_reported}
+use Rattle.qa_base.specs.values.Settings.{Settings, AreInRange, is_may, is_reported}
+use Rattle.qa_base.proofs.machine.Declared.{must_declared_by}
+use Rattle.qa_base.specs.machine.Estimates.{sampled}
 use Rattle.qa_base.proofs.machine.RunLaws.{rules_hold}
 use Rattle.qa_base.proofs.machine.WindowBound.{window_high, window_low}
 use Rattle.qa_laws.proofs.machine.ConductOfWindows.{lower_by_loss}
@@ -35,11 +37,23 @@ pub greatest_window : (c : Settings) (h : List Event) → is_reported c.options.
     → window c h ≤ c.initial_window + 65527 * acknowledged_count h
 greatest_window c h own in_range fit = subst (λ (n : ℕ). n ≤ c.initial_window + 65527 * acknowledged_count h) (sym (own_window c h own)) (window_high c h in_range fit)
 
-pub falls_by_loss : (c : Settings) (e : Event) (h : List Event) → is_reported c.options.controller ≡ false → window c (e ∷ h) < window c h → owed c (e ∷ h) ≡ [] → ⊥
+pub falls_by_loss : (c : Settings) (e : Event) (h : List Event) → is_reported c.options.controller ≡ false → window c (e ∷ h) < window c h → declared c (e ∷ h) ≡ [] → ⊥
 falls_by_loss c e h own lower none =
     let here = own_window c (e ∷ h) own in
     let before = own_window c h own in
     lower_by_loss c e h (omega (arith, lower, here, before)) none
+
+pub must_fall_by_loss : (c : Settings) (e : Event) (h : List Event) → is_may c.options.loss_by_number ≡ false → is_reported c.options.controller ≡ false → window c (e ∷ h) < window c h
+    → owed c (e ∷ h) ≡ [] → ⊥
+must_fall_by_loss c e h must own lower none = falls_by_loss c e h own lower (must_declared_by c (sampled c (e ∷ h)) e h must ∙ none)
+
+must_by : (may reported : Bool) → (may && not reported) ≡ false → reported ≡ false → may ≡ false
+must_by true reported said own = let no = rw own at said in cc
+must_by false reported said own = refl
+
+-- no header in its ranges lets a sender spare packets whose window is not reported
+pub unreported_must : (c : Settings) → AreInRange c → is_reported c.options.controller ≡ false → is_may c.options.loss_by_number ≡ false
+unreported_must c range own = must_by (is_may c.options.loss_by_number) (is_reported c.options.controller) range.spared_reported own
 
 -- ---- one that is reported
 

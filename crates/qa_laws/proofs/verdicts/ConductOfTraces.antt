@@ -64,9 +64,9 @@ conduct_of_run c h run proper = record {
   sent = λ after before time space number size eliciting leave is past.
       past_window_by_leave c before time space number size eliciting leave
       (prefix_of_run c after (Sent time space number size eliciting true leave ∷ before) (subst (λ (k : List Event). IsRun c k) is run)) past;
-  halved = λ after between before second first is enters_first enters_second calm.
+  halved = λ after between before second first is enters_first enters_second other calm.
       halved_once c second first between before
-      (prefix_of_run c after (second ∷ between ++ first ∷ before) (subst (λ (k : List Event). IsRun c k) is run)) enters_first enters_second calm;
+      (prefix_of_run c after (second ∷ between ++ first ∷ before) (subst (λ (k : List Event). IsRun c k) is run)) enters_first enters_second other calm;
 }
 
 -- ---- and of bytes that are accepted

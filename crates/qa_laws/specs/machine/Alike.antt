@@ -15,6 +15,7 @@ pub record AreAlike (c d : Settings) : Type 0 where
   pub controller : d.options.controller ≡ c.options.controller
   pub sample_eliciting_only : d.options.sample_eliciting_only ≡ c.options.sample_eliciting_only
   pub packet_threshold : d.options.packet_threshold ≡ c.options.packet_threshold
+  pub loss_by_number : d.options.loss_by_number ≡ c.options.loss_by_number
 
 -- a limit that is no less, or no limit
 abbrev pub IsNoLess : Option ℕ → Option ℕ → Type 0

@@ -1,10 +1,10 @@
 -- Persistent congestion (RFC 9002, section 7.6), asked of a part of the packets that were sent.
+use Rattle.qa_laws.specs.machine.Declared.{is_lost_now}
 use Rattle.std.specs.Prelude.{ℕ, ◌-◌, ◌&&◌, ◌||◌, not, nat_lt, Bool, false, List, [], ◌∷◌, filter, Option, Some, None, if◌then◌else◌}
 use Rattle.std.specs.List.{list_any}
 use Rattle.qa_base.specs.declared.event.Event.{Event}
 use Rattle.qa_base.specs.machine.Estimates.{sampled}
 use Rattle.qa_base.specs.machine.Detection.{is_end}
-use Rattle.qa_base.specs.machine.Loss.{is_owed}
 use Rattle.qa_base.specs.machine.Packets.{Packet, is_acknowledged}
 use Rattle.qa_base.specs.machine.Rtt.{persistent_after}
 use Rattle.qa_base.specs.values.Settings.{Settings, granularity}
@@ -22,13 +22,13 @@ are_ends_among c h ps p q =
 
 -- the last event establishes persistent congestion by two of these packets
 abbrev pub is_persistent_among : Settings → List Event → List Packet → Bool
-is_persistent_among c h ps = list_any (λ p. list_any (are_ends_among c h ps p) (filter (is_owed c h) ps)) (filter (is_owed c h) ps)
+is_persistent_among c h ps = list_any (λ p. list_any (are_ends_among c h ps p) (filter (is_lost_now c h) ps)) (filter (is_lost_now c h) ps)
 
 -- ---- in one walk in the order of sending
 
--- the last event found the packet lost, and it may be an end (section 7.6.2)
+-- the packet is lost by the last event, and may be an end (section 7.6.2)
 abbrev pub counts_as_end : Settings → List Event → Packet → Bool
-counts_as_end c h p = is_owed c h p && is_end (sampled c h) p
+counts_as_end c h p = is_lost_now c h p && is_end (sampled c h) p
 
 -- sent more than so long after the packet at hand, where there is one
 abbrev pub is_far_from : ℕ → Option ℕ → ℕ → Bool

@@ -1,5 +1,5 @@
 -- What a sender does in a run, in the words of the RFC.
-use Rattle.std.specs.Prelude.{◌≡◌, ℕ, ◌+◌, ◌-◌, ◌*◌, ◌⊎◌, ◌<◌, ◌≤◌, Bool, true, false, List, [], ◌∷◌, ◌++◌, Option, Some, sum_by, Contains, if◌then◌else◌}
+use Rattle.std.specs.Prelude.{◌≡◌, ◌≢◌, ℕ, ◌+◌, ◌-◌, ◌*◌, ◌⊎◌, ◌<◌, ◌≤◌, Bool, true, false, List, [], ◌∷◌, ◌++◌, Option, Some, sum_by, Contains, if◌then◌else◌}
 use Rattle.std.specs.List.{list_any}
 use Rattle.qa_base.specs.declared.event.Event.{Event}
 use Rattle.qa_base.specs.declared.event.Event.TheVariants.{Sent, Lost, Timer}
@@ -8,9 +8,10 @@ use Rattle.qa_base.specs.declared.space.Leave.{Leave}
 use Rattle.qa_base.specs.declared.space.Leave.TheVariants.{Window, Probe, Recovery}
 use Rattle.qa_base.specs.declared.space.Space.{Space}
 use Rattle.qa_base.specs.values.Constants.{probe_datagrams}
-use Rattle.qa_base.specs.values.Events.{is_named, time_of}
+use Rattle.qa_base.specs.values.Events.{is_named}
 use Rattle.qa_base.specs.machine.Estimates.{sampled}
-use Rattle.qa_base.specs.machine.Loss.{owed, bytes_in_flight, is_persistent, detection}
+use Rattle.qa_base.specs.machine.Loss.{declared, bytes_in_flight, is_persistent, detection}
+use Rattle.qa_base.specs.machine.Moments.{detection_of, last_time}
 use Rattle.qa_base.specs.machine.Packets.{Packet, packets, is_acknowledged}
 use Rattle.qa_base.specs.machine.Reno.{is_entry, is_outside_recovery, latest_sent}
 use Rattle.qa_base.specs.values.Settings.{Settings, granularity}
@@ -62,7 +63,7 @@ abbrev pub is_recovery : Event → Bool
 is_recovery (Sent time space number size eliciting in_flight Recovery) = in_flight
 is_recovery _ = false
 
--- packets that were found lost enter recovery: the last of them was sent after recovery began, or there is no recovery
+-- packets that are lost enter recovery: the last of them was sent after recovery began, or there is no recovery
 abbrev pub is_entered_by : Option ℕ → List Packet → Bool
 is_entered_by recovery [] = false
 is_entered_by recovery (p ∷ ps) = is_outside_recovery recovery (latest_sent (p ∷ ps))
@@ -88,7 +89,7 @@ pub record IsAmong (test : List Event → Bool) (events h : List Event) : Type 0
 abbrev pub NoCollapse : Settings → List Event → List Event → Type 0
 NoCollapse c events h = (later earlier : List Event) → events ≡ later ++ earlier → is_persistent c (earlier ++ h) ≡ false
 
--- a packet that was found lost was sent after this time
+-- a packet that is lost was sent after this time
 pub record IsSentAfter (time : ℕ) (lost : List Packet) : Type 0 where
   pub packet : Packet
   pub found : Contains lost packet
@@ -128,8 +129,8 @@ HasLeave c h size Recovery = HasEntryLeft c h
 
 -- ---- the conduct of a run
 
--- what is declared lost was lost; what is sent past the window has its leave; and of two entries into recovery with no collapse
--- of the window between, the second has a loss that was sent after the first
+-- what is declared lost was lost; what is sent past the window has its leave; and of two entries into recovery by different
+-- detections, with no collapse of the window between, the second has a loss that was sent after the detection of the first
 pub record IsConduct (c : Settings) (h : List Event) : Type 0 where
   pub lost : (after before : List Event) (time : ℕ) (space : Space) (ranges : List (ℕ × ℕ)) → h ≡ after ++ Lost time space ranges ∷ before
       → (n : ℕ) → is_named ranges n ≡ true → IsLostRightly c before space n
@@ -137,5 +138,6 @@ pub record IsConduct (c : Settings) (h : List Event) : Type 0 where
       → h ≡ after ++ Sent time space number size eliciting true leave ∷ before
       → window c before < bytes_in_flight c before + size → HasLeave c before size leave
   pub halved : (after between before : List Event) (second first : Event) → h ≡ after ++ (second ∷ between ++ first ∷ before)
-      → is_entry c (first ∷ before) ≡ true → is_entry c (second ∷ between ++ first ∷ before) ≡ true → NoCollapse c between (first ∷ before)
-      → IsSentAfter (time_of first) (owed c (second ∷ between ++ first ∷ before))
+      → is_entry c (first ∷ before) ≡ true → is_entry c (second ∷ between ++ first ∷ before) ≡ true
+      → detection_of (second ∷ between ++ first ∷ before) ≢ first ∷ before → NoCollapse c between (first ∷ before)
+      → IsSentAfter (last_time (detection_of (first ∷ before))) (declared c (second ∷ between ++ first ∷ before))

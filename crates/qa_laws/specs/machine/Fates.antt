@@ -28,11 +28,12 @@ abbrev pub declared : Fate → Fate
 declared Owed = DeclaredLost
 declared f = f
 
--- what one more event makes of it that acknowledges the packet, or finds it lost
-abbrev pub fate_next : (acknowledged found : Bool) → Fate → Fate
-fate_next true found f = Acknowledged
-fate_next false true f = Owed
-fate_next false false f = declared f
+-- what one more event makes of it that acknowledges the packet, or finds it lost, or names it where it was free
+abbrev pub fate_next : (acknowledged found named : Bool) → Fate → Fate
+fate_next true found named f = Acknowledged
+fate_next false true named f = Owed
+fate_next false false true f = DeclaredLost
+fate_next false false false f = declared f
 
 -- neither acknowledged nor found lost
 abbrev pub is_unacknowledged : Fate → Bool

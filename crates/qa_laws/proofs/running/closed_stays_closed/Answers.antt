@@ -8,6 +8,6 @@ returns c = record {
   closed = settled.closed_stays;
   stays = passing.stays_open;
   covered = changes.covered_after;
-  lost = changes.lost_is_owed;
+  lost = changes.lost_is_taken;
   largest = settled.below_largest_stays;
 }

@@ -1,0 +1,42 @@
+-- The conformance trace `named-and-owed-are-one-entry`: V9 past-recovery.
+use Rattle.std.specs.Prelude.{◌≡◌, List, [], ◌∷◌, Some, None, refl}
+use Rattle.qa_base.specs.declared.event.Event.{Event}
+use Rattle.qa_base.specs.declared.rule.Rule.TheVariants as rule
+use Rattle.qa_base.specs.declared.space.Controller.TheVariants.{Reported}
+use Rattle.qa_base.specs.declared.space.LossByNumber.TheVariants.{May}
+use Rattle.qa_base.specs.declared.space.Space.TheVariants.{App}
+use Rattle.qa_base.specs.machine.Rules.{first_broken, IsRun}
+use Rattle.qa_base.specs.values.Settings.{Settings, no_options}
+use Rattle.qa_base.specs.machine.State.{totals}
+use Rattle.qa_laws.proofs.Shorthand.{server, choosing, sent, recovery, ack, lost}
+
+abbrev settings : Settings
+settings = choosing (server 1200 12000) (record no_options { controller = Reported; loss_by_number = May })
+
+abbrev history : List Event
+history =
+    recovery App 7 150000 1200 ∷
+    lost App ((0, 3) ∷ []) 150000 ∷
+    ack App ((6, 6) ∷ []) 150000 ∷
+    sent App 6 50000 1200 ∷
+    sent App 5 50000 1200 ∷
+    sent App 4 50000 1200 ∷
+    sent App 3 50000 1200 ∷
+    sent App 2 50000 1200 ∷
+    sent App 1 50000 1200 ∷
+    sent App 0 0 1200 ∷ []
+
+pub named_and_owed_are_one_entry : IsRun settings history × (totals settings history ≡ record {
+  events = 10;
+  window = 12000;
+  ssthresh = None;
+  bytes_in_flight = 3600;
+  latest_rtt = 100000;
+  min_rtt = 100000;
+  smoothed_rtt = 100000;
+  rttvar = 50000;
+  pto_count = 0;
+  owed = 0;
+}) × (first_broken settings history (recovery App 8 150000 1200) ≡ Some rule.PastRecovery)
+unfolding first_broken
+named_and_owed_are_one_entry = (((((((((((tt, refl), refl), refl), refl), refl), refl), refl), refl), refl), refl), refl, refl)

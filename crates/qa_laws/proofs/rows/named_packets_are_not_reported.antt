@@ -1,0 +1,40 @@
+-- The conformance trace `named-packets-are-not-reported`: V16 metric bytes_in_flight.
+use Rattle.std.specs.Prelude.{◌≡◌, List, [], ◌∷◌, Some, None, refl}
+use Rattle.qa_base.specs.declared.event.Event.{Event}
+use Rattle.qa_base.specs.declared.rule.Rule.TheVariants as rule
+use Rattle.qa_base.specs.declared.rule.Field.TheVariants as field
+use Rattle.qa_base.specs.declared.space.Controller.TheVariants.{Reported}
+use Rattle.qa_base.specs.declared.space.LossByNumber.TheVariants.{May}
+use Rattle.qa_base.specs.declared.space.Space.TheVariants.{App}
+use Rattle.qa_base.specs.machine.Rules.{first_broken, IsRun}
+use Rattle.qa_base.specs.values.Settings.{Settings, no_options}
+use Rattle.qa_base.specs.machine.State.{totals}
+use Rattle.qa_laws.proofs.Shorthand.{server, choosing, sent, ack, lost, metrics}
+
+abbrev settings : Settings
+settings = choosing (server 1200 12000) (record no_options { controller = Reported; loss_by_number = May })
+
+abbrev history : List Event
+history =
+    lost App ((0, 1) ∷ []) 100000 ∷
+    ack App ((4, 4) ∷ []) 100000 ∷
+    sent App 4 0 1200 ∷
+    sent App 3 0 1200 ∷
+    sent App 2 0 1200 ∷
+    sent App 1 0 1200 ∷
+    sent App 0 0 1200 ∷ []
+
+pub named_packets_are_not_reported : IsRun settings history × (totals settings history ≡ record {
+  events = 7;
+  window = 12000;
+  ssthresh = None;
+  bytes_in_flight = 2400;
+  latest_rtt = 100000;
+  min_rtt = 100000;
+  smoothed_rtt = 100000;
+  rttvar = 50000;
+  pto_count = 0;
+  owed = 0;
+}) × (first_broken settings history (metrics 100000 None None (Some 4800) None None None None) ≡ Some (rule.Metric field.BytesInFlight))
+unfolding first_broken
+named_packets_are_not_reported = ((((((((tt, refl), refl), refl), refl), refl), refl), refl), refl, refl)

@@ -1,0 +1,45 @@
+-- The conformance trace `recovery-begins-at-the-detection`: accepted.
+use Rattle.std.specs.Prelude.{◌≡◌, List, [], ◌∷◌, None, refl}
+use Rattle.qa_base.specs.declared.event.Event.{Event}
+use Rattle.qa_base.specs.declared.space.Controller.TheVariants.{Reported}
+use Rattle.qa_base.specs.declared.space.LossByNumber.TheVariants.{May}
+use Rattle.qa_base.specs.declared.space.Space.TheVariants.{App}
+use Rattle.qa_base.specs.machine.Rules.{first_broken, IsRun, IsComplete}
+use Rattle.qa_base.specs.values.Settings.{Settings, no_options}
+use Rattle.qa_base.specs.machine.State.{totals}
+use Rattle.qa_laws.proofs.Shorthand.{server, choosing, sent, recovery, ack, lost}
+
+abbrev settings : Settings
+settings = choosing (server 1200 12000) (record no_options { controller = Reported; loss_by_number = May })
+
+abbrev history : List Event
+history =
+    recovery App 9 200001 1200 ∷
+    lost App ((2, 3) ∷ (5, 5) ∷ []) 200001 ∷
+    ack App ((8, 8) ∷ []) 200001 ∷
+    sent App 8 100001 1200 ∷
+    sent App 7 100001 1200 ∷
+    sent App 6 100001 1200 ∷
+    recovery App 5 100001 1200 ∷
+    lost App ((0, 1) ∷ []) 100001 ∷
+    ack App ((4, 4) ∷ []) 100000 ∷
+    sent App 4 0 1200 ∷
+    sent App 3 0 1200 ∷
+    sent App 2 0 1200 ∷
+    sent App 1 0 1200 ∷
+    sent App 0 0 1200 ∷ []
+
+pub recovery_begins_at_the_detection : IsRun settings history × (totals settings history ≡ record {
+  events = 14;
+  window = 12000;
+  ssthresh = None;
+  bytes_in_flight = 3600;
+  latest_rtt = 100000;
+  min_rtt = 100000;
+  smoothed_rtt = 100000;
+  rttvar = 37500;
+  pto_count = 0;
+  owed = 0;
+}) × IsComplete settings history
+unfolding first_broken
+recovery_begins_at_the_detection = (((((((((((((((tt, refl), refl), refl), refl), refl), refl), refl), refl), refl), refl), refl), refl), refl), refl), refl, refl)

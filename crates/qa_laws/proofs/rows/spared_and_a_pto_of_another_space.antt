@@ -1,0 +1,36 @@
+-- The conformance trace `spared-and-a-pto-of-another-space`: V12 timer-other.
+use Rattle.std.specs.Prelude.{◌≡◌, List, [], ◌∷◌, Some, None, refl}
+use Rattle.qa_base.specs.declared.event.Event.{Event}
+use Rattle.qa_base.specs.declared.rule.Rule.TheVariants as rule
+use Rattle.qa_base.specs.declared.space.Controller.TheVariants.{Reported}
+use Rattle.qa_base.specs.declared.space.LossByNumber.TheVariants.{May}
+use Rattle.qa_base.specs.declared.space.Space.TheVariants.{Initial, App}
+use Rattle.qa_base.specs.machine.Rules.{first_broken, IsRun}
+use Rattle.qa_base.specs.values.Settings.{Settings, no_options}
+use Rattle.qa_base.specs.machine.State.{totals}
+use Rattle.qa_laws.proofs.Shorthand.{server, choosing, sent, ack, pto_fires}
+
+abbrev settings : Settings
+settings = choosing (server 1200 12000) (record no_options { controller = Reported; loss_by_number = May })
+
+abbrev history : List Event
+history =
+    ack App ((3, 3) ∷ []) 100000 ∷
+    sent App 3 0 1200 ∷
+    sent App 0 0 1200 ∷
+    sent Initial 0 0 1200 ∷ []
+
+pub spared_and_a_pto_of_another_space : IsRun settings history × (totals settings history ≡ record {
+  events = 4;
+  window = 12000;
+  ssthresh = None;
+  bytes_in_flight = 2400;
+  latest_rtt = 100000;
+  min_rtt = 100000;
+  smoothed_rtt = 100000;
+  rttvar = 50000;
+  pto_count = 0;
+  owed = 0;
+}) × (first_broken settings history (pto_fires Initial 300000) ≡ Some rule.TimerOther)
+unfolding first_broken
+spared_and_a_pto_of_another_space = (((((tt, refl), refl), refl), refl), refl, refl)

@@ -1,0 +1,38 @@
+-- The conformance trace `spared-and-acknowledged`: accepted.
+use Rattle.std.specs.Prelude.{◌≡◌, List, [], ◌∷◌, None, refl}
+use Rattle.qa_base.specs.declared.event.Event.{Event}
+use Rattle.qa_base.specs.declared.space.Controller.TheVariants.{Reported}
+use Rattle.qa_base.specs.declared.space.LossByNumber.TheVariants.{May}
+use Rattle.qa_base.specs.declared.space.Space.TheVariants.{App}
+use Rattle.qa_base.specs.machine.Rules.{first_broken, IsRun, IsComplete}
+use Rattle.qa_base.specs.values.Settings.{Settings, no_options}
+use Rattle.qa_base.specs.machine.State.{totals}
+use Rattle.qa_laws.proofs.Shorthand.{server, choosing, sent, ack}
+
+abbrev settings : Settings
+settings = choosing (server 1200 12000) (record no_options { controller = Reported; loss_by_number = May })
+
+abbrev history : List Event
+history =
+    ack App ((0, 0) ∷ []) 105000 ∷
+    ack App ((4, 4) ∷ []) 100000 ∷
+    sent App 4 0 1200 ∷
+    sent App 3 0 1200 ∷
+    sent App 2 0 1200 ∷
+    sent App 1 0 1200 ∷
+    sent App 0 0 1200 ∷ []
+
+pub spared_and_acknowledged : IsRun settings history × (totals settings history ≡ record {
+  events = 7;
+  window = 12000;
+  ssthresh = None;
+  bytes_in_flight = 3600;
+  latest_rtt = 105000;
+  min_rtt = 100000;
+  smoothed_rtt = 100625;
+  rttvar = 38750;
+  pto_count = 0;
+  owed = 0;
+}) × IsComplete settings history
+unfolding first_broken
+spared_and_acknowledged = ((((((((tt, refl), refl), refl), refl), refl), refl), refl), refl, refl)

@@ -1,0 +1,36 @@
+-- The conformance trace `spared-and-left-out-at-its-loss-timer`: V2 loss-owed.
+use Rattle.std.specs.Prelude.{◌≡◌, List, [], ◌∷◌, Some, None, refl}
+use Rattle.qa_base.specs.declared.event.Event.{Event}
+use Rattle.qa_base.specs.declared.rule.Rule.TheVariants as rule
+use Rattle.qa_base.specs.declared.space.Controller.TheVariants.{Reported}
+use Rattle.qa_base.specs.declared.space.LossByNumber.TheVariants.{May}
+use Rattle.qa_base.specs.declared.space.Space.TheVariants.{App}
+use Rattle.qa_base.specs.machine.Rules.{first_broken, IsRun}
+use Rattle.qa_base.specs.values.Settings.{Settings, no_options}
+use Rattle.qa_base.specs.machine.State.{totals}
+use Rattle.qa_laws.proofs.Shorthand.{server, choosing, sent, ack, loss_fires, metrics}
+
+abbrev settings : Settings
+settings = choosing (server 1200 12000) (record no_options { controller = Reported; loss_by_number = May })
+
+abbrev history : List Event
+history =
+    loss_fires App 112500 ∷
+    ack App ((3, 3) ∷ []) 100000 ∷
+    sent App 3 0 1200 ∷
+    sent App 0 0 1200 ∷ []
+
+pub spared_and_left_out_at_its_loss_timer : IsRun settings history × (totals settings history ≡ record {
+  events = 4;
+  window = 12000;
+  ssthresh = None;
+  bytes_in_flight = 0;
+  latest_rtt = 100000;
+  min_rtt = 100000;
+  smoothed_rtt = 100000;
+  rttvar = 50000;
+  pto_count = 0;
+  owed = 1;
+}) × (first_broken settings history (metrics 112500 None None None None None None None) ≡ Some rule.LossOwed)
+unfolding first_broken
+spared_and_left_out_at_its_loss_timer = (((((tt, refl), refl), refl), refl), refl, refl)

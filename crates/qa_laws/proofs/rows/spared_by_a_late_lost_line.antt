@@ -1,0 +1,42 @@
+-- The conformance trace `spared-by-a-late-lost-line`: accepted.
+use Rattle.std.specs.Prelude.{◌≡◌, List, [], ◌∷◌, None, refl}
+use Rattle.qa_base.specs.declared.event.Event.{Event}
+use Rattle.qa_base.specs.declared.space.Controller.TheVariants.{Reported}
+use Rattle.qa_base.specs.declared.space.LossByNumber.TheVariants.{May}
+use Rattle.qa_base.specs.declared.space.Space.TheVariants.{App}
+use Rattle.qa_base.specs.machine.Rules.{first_broken, IsRun, IsComplete}
+use Rattle.qa_base.specs.values.Settings.{Settings, no_options}
+use Rattle.qa_base.specs.machine.State.{totals}
+use Rattle.qa_laws.proofs.Shorthand.{server, choosing, sent, ack, lost, loss_fires}
+
+abbrev settings : Settings
+settings = choosing (server 1200 12000) (record no_options { controller = Reported; loss_by_number = May })
+
+abbrev history : List Event
+history =
+    lost App ((1, 5) ∷ []) 170000 ∷
+    loss_fires App 170000 ∷
+    lost App ((0, 0) ∷ []) 170000 ∷
+    ack App ((6, 6) ∷ []) 150000 ∷
+    sent App 6 50000 1200 ∷
+    sent App 5 50000 1200 ∷
+    sent App 4 50000 1200 ∷
+    sent App 3 50000 1200 ∷
+    sent App 2 50000 1200 ∷
+    sent App 1 50000 1200 ∷
+    sent App 0 0 1200 ∷ []
+
+pub spared_by_a_late_lost_line : IsRun settings history × (totals settings history ≡ record {
+  events = 11;
+  window = 12000;
+  ssthresh = None;
+  bytes_in_flight = 0;
+  latest_rtt = 100000;
+  min_rtt = 100000;
+  smoothed_rtt = 100000;
+  rttvar = 50000;
+  pto_count = 0;
+  owed = 0;
+}) × IsComplete settings history
+unfolding first_broken
+spared_by_a_late_lost_line = ((((((((((((tt, refl), refl), refl), refl), refl), refl), refl), refl), refl), refl), refl), refl, refl)
