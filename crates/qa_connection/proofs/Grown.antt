@@ -8,11 +8,11 @@ use Rattle.std.specs.List.{AllByRecursion}
 use Rattle.std.specs.Prelude.{if◌then◌else◌, nat_le}
 use Rattle.qa_base.specs.declared.event.Event.{Event}
 use Rattle.qa_base.specs.declared.event.Event.TheVariants.{Sent}
-use Rattle.qa_base.specs.machine.Loss.{owed, is_persistent}
+use Rattle.qa_base.specs.machine.Loss.{declared, is_persistent}
+use Rattle.qa_base.specs.machine.Moments.{detection_of, last_time}
 use Rattle.qa_base.specs.machine.Packets.{Packet, packets, packet_of, is_newly_acknowledged, newly_acknowledged}
 use Rattle.qa_base.specs.machine.Reno.{Control, Move, Grow, collapses, grow, grows, hits, is_app_limited, is_outside_recovery, moved, reno}
 use Rattle.qa_base.specs.machine.Widths.{Fits}
-use Rattle.qa_base.specs.values.Events.{time_of}
 use Rattle.qa_base.specs.values.Settings.{Settings, AreInRange}
 use Rattle.qa_base.proofs.machine.Steps.{reno_after}
 use Rattle.qa_base.proofs.machine.WindowBound.{each_append, each_of_part, grow_at_least, grown_little, window_bound}
@@ -169,28 +169,29 @@ grown_is c e h d r some fit few is =
     grown_all c h d (reverse new) r some all is.0 (omega (arith, high, fewer, many, few))
     ∙ ap (λ (ps : List Packet). fold (moved d) r (map growing ps)) (part_turned new)
 
--- the window after an event, from what it newly acknowledges and what it found lost
+-- the window after an event, from what it newly acknowledges and what is lost by it
 pub reno_is : (c : Settings) (e : Event) (h : List Event) → AreInRange c → AllByRecursion Fits h → length h < 2 ^ 32
-    → steps.reno_after c.max_datagram_size (reno c h) e (acknowledged_by c e h) (last_sent (owed c (e ∷ h))) (is_persistent c (e ∷ h)) ≡ reno c (e ∷ h)
+    → steps.reno_after c.max_datagram_size (reno c h) (last_time (detection_of (e ∷ h))) e (acknowledged_by c e h) (last_sent (declared c (e ∷ h))) (is_persistent c (e ∷ h)) ≡ reno c (e ∷ h)
 reno_is c e h range fit few =
     let d = c.max_datagram_size in
     let datagram_low = range.datagram_low in
-    let last = last_sent (owed c (e ∷ h)) in
+    let now = last_time (detection_of (e ∷ h)) in
+    let last = last_sent (declared c (e ∷ h)) in
     let b = is_persistent c (e ∷ h) in
-    let hit : Control = fold (moved d) (reno c h) (hits_at (time_of e) last) in
+    let hit : Control = fold (moved d) (reno c h) (hits_at now last) in
     let collapsed : Control = fold (moved d) hit (collapses b) in
     let bound = window_bound c h range fit few in
-    let between : IsBetween d (2 ^ 60) collapsed = collapse_between d (2 ^ 60) hit b (hit_between d (2 ^ 60) (time_of e) (reno c h) last bound) in
+    let between : IsBetween d (2 ^ 60) collapsed = collapse_between d (2 ^ 60) hit b (hit_between d (2 ^ 60) now (reno c h) last bound) in
     let ys = collapses b in
     let zs : List Move = if is_app_limited e then [] else grows (newly_acknowledged (e ∷ h)) in
     growth_if c e h d collapsed (is_app_limited e) (grown_is c e h d collapsed (omega (arith, datagram_low)) fit few between)
-    ∙ (ap (λ (xs : List Move). fold (moved d) (fold (moved d) (fold (moved d) (reno c h) xs) ys) zs) (sym (hits_is (time_of e) (owed c (e ∷ h))))
-    ∙ (sym (three d (reno c h) (hits (time_of e) (owed c (e ∷ h))) ys zs) ∙ sym (reno_after c e h)))
+    ∙ (ap (λ (xs : List Move). fold (moved d) (fold (moved d) (fold (moved d) (reno c h) xs) ys) zs) (sym (hits_is now (declared c (e ∷ h))))
+    ∙ (sym (three d (reno c h) (hits now (declared c (e ∷ h))) ys zs) ∙ sym (reno_after c e h)))
 
 -- .. from what is told of it
-pub reno_of : (c : Settings) (e : Event) (h : List Event) (header : Settings) (before : Control) (acknowledged : List SentPacket) (last : Option ℕ) (persistent : Bool)
-    → header ≡ c → before ≡ reno c h → acknowledged ≡ acknowledged_by c e h → last ≡ last_sent (owed c (e ∷ h)) → persistent ≡ is_persistent c (e ∷ h)
+pub reno_of : (c : Settings) (e : Event) (h : List Event) (header : Settings) (before : Control) (now : ℕ) (acknowledged : List SentPacket) (last : Option ℕ) (persistent : Bool)
+    → header ≡ c → before ≡ reno c h → now ≡ last_time (detection_of (e ∷ h)) → acknowledged ≡ acknowledged_by c e h → last ≡ last_sent (declared c (e ∷ h)) → persistent ≡ is_persistent c (e ∷ h)
     → AreInRange c → AllByRecursion Fits h → length h < 2 ^ 32
-    → steps.reno_after header.max_datagram_size before e acknowledged last persistent ≡ reno c (e ∷ h)
-reno_of c e h header before acknowledged last persistent is_header is are is_last is_persistent_then range fit few =
-    rw (is_header, is, are, is_last, is_persistent_then) (reno_is c e h range fit few)
+    → steps.reno_after header.max_datagram_size before now e acknowledged last persistent ≡ reno c (e ∷ h)
+reno_of c e h header before now acknowledged last persistent is_header is is_now are is_last is_persistent_then range fit few =
+    rw (is_header, is, is_now, are, is_last, is_persistent_then) (reno_is c e h range fit few)

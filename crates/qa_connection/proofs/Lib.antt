@@ -8,4 +8,5 @@ pub mod Ended
 pub mod Timers
 pub mod Due
 pub mod States
+pub mod Detections
 pub mod OneMore

@@ -1,5 +1,5 @@
 -- What one event more makes of a connection, once the event's steps are made: each part is that of the history with the event.
-use Rattle.std.proofs.Common.{◌≡◌, ◌∙◌, ◌≤◌, ◌+◌, ℕ, suc, List, [], ◌∷◌, ◌++◌, length, Bool, true, false, ◌&&◌, Some, refl, sym, ap, arith, fold, map, reverse}
+use Rattle.std.proofs.Common.{◌≡◌, ◌∙◌, ◌≤◌, ◌+◌, ℕ, suc, List, [], ◌∷◌, ◌++◌, length, Bool, true, false, ◌&&◌, Option, Some, refl, sym, ap, arith, fold, map, reverse}
 use Rattle.std.specs.List.{list_any}
 use Rattle.std.specs.Prelude.{if◌then◌else◌}
 use Rattle.qa_base.specs.declared.event.Event.{Event}
@@ -12,18 +12,21 @@ use Rattle.qa_base.specs.machine.Detection.{are_ends}
 use Rattle.qa_base.specs.machine.Estimates.{rtt, sampled}
 use Rattle.qa_base.specs.machine.Handshake.{is_validated}
 use Rattle.qa_base.specs.machine.Leave.{answers_pto, is_recovery_packet, probe_size}
-use Rattle.qa_base.specs.machine.Loss.{is_persistent, owed}
+use Rattle.qa_base.specs.machine.Loss.{declared, is_persistent, owed}
+use Rattle.qa_base.specs.machine.Moments.{before_last, detection_of, last_time}
 use Rattle.qa_base.specs.machine.Packets.{Packet, acknowledges_new, greatest, is_some_packet, newly_acknowledged, packets}
 use Rattle.qa_base.specs.machine.Reno.{Control, collapses, grows, hits, is_app_limited, moved, reno}
 use Rattle.qa_base.specs.machine.Timer.{sets_timer}
+use Rattle.qa_base.specs.machine.Window.{acknowledged_bytes}
 use Rattle.qa_base.specs.values.Events.{is_quiet, time_of}
 use Rattle.qa_base.specs.values.Settings.{AreInRange, Settings}
-use Rattle.qa_base.proofs.machine.Quiet.{is_pto-quiet, newly-quiet, none_passes, not_refreshed, owed-quiet, resets_count-quiet, rtt-quiet}
+use Rattle.qa_base.proofs.machine.Quiet.{is_pto-quiet, newly-quiet, none_passes, not_refreshed, resets_count-quiet, rtt-quiet}
 use Rattle.qa_base.proofs.machine.Steps.{reno_after}
-use Rattle.qa_connection.specs.Changes.{acknowledged, counted, discarded, grown, probing, reported, restarted, sent, with_collapse, with_hit, with_sample}
+use Rattle.qa_connection.specs.Changes.{acknowledged, completed, counted, discarded, grown, probing, reported, restarted, sent, with_collapse, with_hit, with_sample}
 use Rattle.qa_connection.specs.Handshaking.{acknowledged_in, discarded_in, handshake_after, sent_in}
 use Rattle.qa_connection.specs.Known.{HasParts, IsMeasured, IsOf, IsProperRun, acknowledged_by}
-use Rattle.qa_connection.specs.Reporting.{acknowledging, collapsed_if, reported_after, reporting}
+use Rattle.qa_connection.specs.Detecting.{detection_after}
+use Rattle.qa_connection.specs.Reporting.{acknowledging, collapsed_with, reported_after, reporting}
 use Rattle.qa_connection.specs.Spaces.{space_after}
 use Rattle.qa_connection.specs.Spending.{hit, spent}
 use Rattle.qa_connection.specs.Steps.{capped, last_sent}
@@ -31,13 +34,14 @@ use Rattle.qa_connection.specs.Timing.{answered_in, timer_after}
 use Rattle.qa_connection.specs.Timing as timers
 use Rattle.qa_connection.specs.declared.allowances.Allowances.{Allowances}
 use Rattle.qa_connection.specs.declared.connection.Connection.{Connection}
+use Rattle.qa_connection.specs.declared.detection.Detection.{Detection}
 use Rattle.qa_connection.specs.declared.handshake.HandshakeState.{HandshakeState}
 use Rattle.qa_connection.specs.declared.reported.ReportedWindow.{ReportedWindow}
 use Rattle.qa_connection.specs.declared.timer.TimerState.{TimerState}
 use Rattle.qa_connection.proofs.Ended.{rtt_of, sampled_of, validated_is}
 use Rattle.qa_connection.proofs.Entries.{entry_of}
 use Rattle.qa_connection.proofs.Grown.{reno_of}
-use Rattle.qa_connection.proofs.Reports.{reported_acked, reported_found, reported_is, reported_stays}
+use Rattle.qa_connection.proofs.Reports.{no_bytes, reported_acked, reported_found, reported_is, reported_stays}
 use Rattle.qa_connection.proofs.Spent.{allowances_sent, allowances_stay, allowances_unhit}
 use Rattle.qa_connection.proofs.States.{spaces_acked, spaces_discarded, spaces_sent}
 use Rattle.qa_connection.proofs.Timers.{timer_fired, timer_probing, timer_restarted, timer_sent, timer_stays}
@@ -51,13 +55,14 @@ one_more : (n long : ℕ) → n ≡ long → long ≤ 4294967294 → capped (n +
 one_more n long is few = omega (arith, is, few)
 
 -- once the event is counted, it is kept of the history with the event
-pub counted_is : (c : Settings) (e : Event) (h : List Event) (k : Connection) → k.events ≡ length h → IsProperRun c (e ∷ h) → HasParts k c (e ∷ h)
-    → IsOf (counted (time_of e) k) c (e ∷ h)
-counted_is c e h k events run parts =
+pub counted_is : (c : Settings) (e : Event) (h : List Event) (k : Connection) (d : Option Detection) → d ≡ detection_after c (e ∷ h) → k.events ≡ length h → IsProperRun c (e ∷ h)
+    → HasParts k c (e ∷ h) → IsOf (counted (time_of e) d k) c (e ∷ h)
+counted_is c e h k d is events run parts =
     let long = run.few in
     record {
       events = one_more k.events (length h) events (omega (arith, long));
       last_time = refl;
+      detection = is;
       parts = record {
         header = parts.header;
         handshake = parts.handshake;
@@ -70,24 +75,24 @@ counted_is c e h k events run parts =
       };
     }
 
--- ---- the window and the estimate, where nothing is found lost nor newly acknowledged
+-- ---- the window and the estimate, where nothing is lost nor newly acknowledged by the event
 
 no_move : (d : ℕ) (app_limited : Bool) (r : Control) → fold (moved d) r (if app_limited then [] else []) ≡ r
 no_move d true r = refl
 no_move d false r = refl
 
-not_persistent : (c : Settings) (h : List Event) → owed c h ≡ [] → is_persistent c h ≡ false
+not_persistent : (c : Settings) (h : List Event) → declared c h ≡ [] → is_persistent c h ≡ false
 not_persistent c h free = ap (λ ps. list_any (λ p. list_any (are_ends (sampled c h) c h p) ps) ps) free
 
-reno_stays : (c : Settings) (e : Event) (h : List Event) → owed c (e ∷ h) ≡ [] → newly_acknowledged (e ∷ h) ≡ [] → reno c (e ∷ h) ≡ reno c h
+reno_stays : (c : Settings) (e : Event) (h : List Event) → declared c (e ∷ h) ≡ [] → newly_acknowledged (e ∷ h) ≡ [] → reno c (e ∷ h) ≡ reno c h
 reno_stays c e h free none =
     let d = c.max_datagram_size in
     reno_after c e h
-    ∙ (ap (λ ps. fold (moved d) (reno c h) ((hits (time_of e) ps ++ collapses (is_persistent c (e ∷ h))) ++ (if is_app_limited e then [] else grows (newly_acknowledged (e ∷ h))))) free
+    ∙ (ap (λ ps. fold (moved d) (reno c h) ((hits (last_time (detection_of (e ∷ h))) ps ++ collapses (is_persistent c (e ∷ h))) ++ (if is_app_limited e then [] else grows (newly_acknowledged (e ∷ h))))) free
     ∙ (ap (λ b. fold (moved d) (reno c h) (([] ++ collapses b) ++ (if is_app_limited e then [] else grows (newly_acknowledged (e ∷ h))))) (not_persistent c (e ∷ h) free)
     ∙ (ap (λ ps. fold (moved d) (reno c h) (if is_app_limited e then [] else grows ps)) none ∙ no_move d (is_app_limited e) (reno c h))))
 
-rtt_stays : (c : Settings) (e : Event) (h : List Event) → owed c (e ∷ h) ≡ [] → rtt c (e ∷ h) ≡ sampled c (e ∷ h)
+rtt_stays : (c : Settings) (e : Event) (h : List Event) → declared c (e ∷ h) ≡ [] → rtt c (e ∷ h) ≡ sampled c (e ∷ h)
 rtt_stays c e h free = not_refreshed c.options.refresh_min_rtt c (e ∷ h) (sampled c (e ∷ h)) (not_persistent c (e ∷ h) free)
 
 none_of : (ps : List Packet) → is_some_packet ps ≡ false → ps ≡ []
@@ -129,8 +134,8 @@ acked_is c h time space ranges delay app_limited old covers samples loses grows 
       header = measured.header;
       handshake = rw (is_sampled, is_acknowledged) shakes;
       rtt = rtt_of c e h samples.header (is_persistent c (e ∷ h)) samples.rtt measured.header refl measured.rtt;
-      reno = rw (is_sampled, is_acknowledged) (reno_of c e h old.header old.reno ps (last_sent (owed c (e ∷ h))) (is_persistent c (e ∷ h)) of.header of.reno are refl refl range run.fit.1 (omega (arith, long)));
-      reported = rw (is_sampled, is_acknowledged) (ap (λ (r : ReportedWindow). acknowledging ps (collapsed_if (is_persistent c (e ∷ h)) r)) of.reported ∙ reported_acked c h time space ranges delay app_limited ps are run.fit.1 (omega (arith, long)));
+      reno = rw (is_sampled, is_acknowledged) (reno_of c e h old.header old.reno time ps (last_sent (owed c (e ∷ h))) (is_persistent c (e ∷ h)) of.header of.reno refl are refl refl range run.fit.1 (omega (arith, long)));
+      reported = rw (is_sampled, is_acknowledged) (ap (λ (r : ReportedWindow). acknowledging ps (collapsed_with 0 (is_persistent c (e ∷ h)) r)) of.reported ∙ reported_acked c h time space ranges delay app_limited ps are run.fit.1 (omega (arith, long)));
       timer = rw (is_sampled, is_acknowledged) (ap (timers.restarted time _) of.timer ∙ timer_restarted c e h _ refl resets some (λ s. some));
       allowances = rw (is_sampled, is_acknowledged) (ap (λ b. hit b old.allowances) entered ∙ (ap (hit _) of.allowances ∙ sym (allowances_stay c e h refl refl)));
       spaces = measured.spaces;
@@ -214,8 +219,8 @@ timed_is c h time space k of run range =
       header = of.header;
       handshake = of.handshake;
       rtt = rtt_of c e h k.header (is_persistent c (e ∷ h)) k.rtt of.header refl of.rtt;
-      reno = reno_of c e h k.header k.reno [] last (is_persistent c (e ∷ h)) of.header of.reno are refl refl range run.fit.1 (omega (arith, long));
-      reported = ap (collapsed_if (is_persistent c (e ∷ h))) of.reported ∙ reported_found c e h refl (none_passes (packets h));
+      reno = reno_of c e h k.header k.reno time [] last (is_persistent c (e ∷ h)) of.header of.reno refl are refl refl range run.fit.1 (omega (arith, long));
+      reported = ap (collapsed_with 0 (is_persistent c (e ∷ h))) of.reported ∙ reported_found c e h 0 (sym (no_bytes e h (none_passes (packets h)))) refl (none_passes (packets h));
       timer = ap (λ (t : TimerState). record t { last_set = Some time }) of.timer ∙ timer_fired c h time space;
       allowances = ap (λ b. hit b k.allowances) (entry_of c e h k.reno last of.reno refl) ∙ (ap (hit _) of.allowances ∙ sym (allowances_stay c e h refl refl));
       spaces = of.spaces;
@@ -240,17 +245,16 @@ discarded_is c h time space k of =
 -- ---- events that change the handshake at most
 
 quiet_is : (c : Settings) (e : Event) (h : List Event) → is_quiet e ≡ true → sets_timer (e ∷ h) ≡ acknowledges_new (e ∷ h) → ((s : Space) → answers_pto s (e ∷ h) ≡ acknowledges_new (e ∷ h))
-    → probe_size (e ∷ h) ≡ 0 → is_recovery_packet (e ∷ h) ≡ false
+    → probe_size (e ∷ h) ≡ 0 → is_recovery_packet (e ∷ h) ≡ false → declared c (e ∷ h) ≡ []
     → (k : Connection) → HasParts k c h → (shakes : HandshakeState) → shakes ≡ handshake_after (e ∷ h) → (reports : ReportedWindow) → reports ≡ reported_after c (e ∷ h)
     → ((s : Space) → of_space s k.spaces ≡ space_after (e ∷ h) s) → HasParts (record k { handshake = shakes; reported = reports }) c (e ∷ h)
-quiet_is c e h quiet sets answers probes recovers k of shakes handshake reports reported spaces =
+quiet_is c e h quiet sets answers probes recovers free k of shakes handshake reports reported spaces =
     let none : acknowledges_new (e ∷ h) ≡ false = ap is_some_packet (newly-quiet e h quiet) in
     let other = is_pto-quiet e h quiet in
-    let free = owed-quiet c e h quiet in
     record {
       header = of.header;
       handshake = handshake;
-      rtt = of.rtt ∙ sym (rtt-quiet c e h quiet);
+      rtt = of.rtt ∙ sym (rtt-quiet c e h quiet free);
       reno = of.reno ∙ sym (reno_stays c e h free (newly-quiet e h quiet));
       reported = reported;
       timer = of.timer ∙ sym (timer_stays c e h other (resets_count-quiet c e h quiet) (sets ∙ none) (λ s. answers s ∙ none));
@@ -258,25 +262,48 @@ quiet_is c e h quiet sets answers probes recovers k of shakes handshake reports 
       spaces = spaces;
     }
 
--- a Lost line
-pub lost_is : (c : Settings) (h : List Event) (time : ℕ) (space : Space) (ranges : List (ℕ × ℕ)) (k : Connection) → HasParts k c h → HasParts k c (Lost time space ranges ∷ h)
-lost_is c h time space ranges k of =
-    quiet_is c (Lost time space ranges) h refl refl (λ s. refl) refl refl k of k.handshake of.handshake k.reported (of.reported ∙ sym (reported_stays c (Lost time space ranges) h refl (none_passes (packets h)) refl)) of.spaces
+-- a Lost line that completes no detection
+pub lost_is : (c : Settings) (h : List Event) (time : ℕ) (space : Space) (ranges : List (ℕ × ℕ)) (k : Connection) → declared c (Lost time space ranges ∷ h) ≡ [] → HasParts k c h
+    → HasParts k c (Lost time space ranges ∷ h)
+lost_is c h time space ranges k free of =
+    let e = Lost time space ranges in
+    quiet_is c e h refl refl (λ s. refl) refl refl free k of k.handshake of.handshake k.reported (of.reported ∙ sym (reported_stays c e h refl (none_passes (packets h)) (not_persistent c (e ∷ h) free))) of.spaces
+
+-- a Lost line that completes the detection in front of it
+pub completed_is : (c : Settings) (h : List Event) (time : ℕ) (space : Space) (ranges : List (ℕ × ℕ)) (k : Connection) (d : Detection) → HasParts k c h → IsProperRun c (Lost time space ranges ∷ h) → AreInRange c
+    → d.time ≡ last_time h → d.before ≡ reno c (before_last h) → d.acknowledged ≡ acknowledged_bytes h
+    → HasParts (completed d (last_sent (declared c (Lost time space ranges ∷ h))) (is_persistent c (Lost time space ranges ∷ h)) k) c (Lost time space ranges ∷ h)
+completed_is c h time space ranges k d of run range is_time is_before is_acknowledged =
+    let e = Lost time space ranges in
+    let long = run.few in
+    let last = last_sent (declared c (e ∷ h)) in
+    let are : [] ≡ acknowledged_by c e h = sym (ap (λ ps. map (sent_of c h) (reverse ps)) (none_passes (packets h))) in
+    let none : acknowledges_new (e ∷ h) ≡ false = ap is_some_packet (none_passes (packets h)) in
+    record {
+      header = of.header;
+      handshake = of.handshake;
+      rtt = rtt_of c e h k.header (is_persistent c (e ∷ h)) k.rtt of.header refl of.rtt;
+      reno = reno_of c e h k.header k.reno d.time [] last (is_persistent c (e ∷ h)) of.header of.reno is_time are refl refl range run.fit.1 (omega (arith, long));
+      reported = ap (collapsed_with d.acknowledged (is_persistent c (e ∷ h))) of.reported ∙ reported_found c e h d.acknowledged is_acknowledged refl (none_passes (packets h));
+      timer = of.timer ∙ sym (timer_stays c e h refl (resets_count-quiet c e h refl) none (λ s. none));
+      allowances = ap (λ b. hit b k.allowances) (entry_of c e h d.before last is_before refl) ∙ (ap (hit _) of.allowances ∙ sym (allowances_stay c e h refl refl));
+      spaces = of.spaces;
+    }
 
 -- the handshake is confirmed
 pub confirmed_is : (c : Settings) (h : List Event) (time : ℕ) (k : Connection) → HasParts k c h → HasParts (record k { handshake = record k.handshake { confirmed = true } }) c (Confirmed time ∷ h)
 confirmed_is c h time k of =
-    quiet_is c (Confirmed time) h refl refl (λ s. refl) refl refl k of (record k.handshake { confirmed = true }) (ap (λ (x : HandshakeState). record x { confirmed = true }) of.handshake)
+    quiet_is c (Confirmed time) h refl refl (λ s. refl) refl refl refl k of (record k.handshake { confirmed = true }) (ap (λ (x : HandshakeState). record x { confirmed = true }) of.handshake)
     k.reported (of.reported ∙ sym (reported_stays c (Confirmed time) h refl (none_passes (packets h)) refl)) of.spaces
 
 -- keys of the Handshake space are there
 pub keys_are : (c : Settings) (h : List Event) (time : ℕ) (k : Connection) → HasParts k c h → HasParts (record k { handshake = record k.handshake { has_keys = true } }) c (Keys time ∷ h)
 keys_are c h time k of =
-    quiet_is c (Keys time) h refl refl (λ s. refl) refl refl k of (record k.handshake { has_keys = true }) (ap (λ (x : HandshakeState). record x { has_keys = true }) of.handshake)
+    quiet_is c (Keys time) h refl refl (λ s. refl) refl refl refl k of (record k.handshake { has_keys = true }) (ap (λ (x : HandshakeState). record x { has_keys = true }) of.handshake)
     k.reported (of.reported ∙ sym (reported_stays c (Keys time) h refl (none_passes (packets h)) refl)) of.spaces
 
 -- a report
 pub metrics_are : (c : Settings) (h : List Event) (time : ℕ) (values : MetricValues) (k : Connection) → HasParts k c h → HasParts (reported values.window k) c (Metrics time values ∷ h)
 metrics_are c h time values k of =
-    quiet_is c (Metrics time values) h refl refl (λ s. refl) refl refl k of k.handshake of.handshake
+    quiet_is c (Metrics time values) h refl refl (λ s. refl) refl refl refl k of k.handshake of.handshake
     (reporting values.window k.reported) (ap (reporting values.window) of.reported ∙ reported_is c h time values values.window refl) of.spaces

@@ -11,6 +11,7 @@ use Rattle.qa_base.specs.declared.event.Event.TheVariants.{Ack, Metrics}
 use Rattle.qa_base.specs.declared.event.MetricValues.{MetricValues}
 use Rattle.qa_base.specs.declared.space.Space.{Space}
 use Rattle.qa_base.specs.machine.Loss.{is_persistent}
+use Rattle.qa_base.specs.machine.Moments.{detection_of}
 use Rattle.qa_base.specs.machine.Packets.{Packet, packets, is_newly_acknowledged, newly_acknowledged}
 use Rattle.qa_base.specs.machine.Widths.{Fits, acknowledged_count}
 use Rattle.qa_base.specs.machine.Window.{acknowledged_bytes, acknowledged_since_collapse, changes_window, reported_window, unless_same, window_in}
@@ -19,7 +20,7 @@ use Rattle.qa_base.proofs.machine.Collapses.{IsAtMost, in_flight_size, size_if, 
 use Rattle.qa_base.proofs.machine.Quiet.{none_passes}
 use Rattle.qa_base.proofs.machine.WindowBound.{IsSized, acknowledged_few, each_append, each_of_part, sized}
 use Rattle.qa_connection.specs.Known.{acknowledged_by}
-use Rattle.qa_connection.specs.Reporting.{acknowledging, collapsed_if, reported_after, reporting, with_bytes}
+use Rattle.qa_connection.specs.Reporting.{acknowledging, collapsed_with, reported_after, reporting, with_bytes}
 use Rattle.qa_connection.specs.Steps.{capped}
 use Rattle.qa_connection.specs.declared.reported.ReportedWindow.{ReportedWindow}
 use Rattle.qa_connection.proofs.Grown.{newly_few}
@@ -41,27 +42,28 @@ no_change c e h none = ap (λ o. is_some (unless_same (reported_window c h) o)) 
 same_window : (c : Settings) (e : Event) (h : List Event) → window_in e ≡ None → reported_window c (e ∷ h) ≡ reported_window c h
 same_window c e h none = ap (λ o. unwrap_or o (reported_window c h)) none
 
-no_bytes : (e : Event) (h : List Event) → newly_acknowledged (e ∷ h) ≡ [] → acknowledged_bytes (e ∷ h) ≡ 0
+pub no_bytes : (e : Event) (h : List Event) → newly_acknowledged (e ∷ h) ≡ [] → acknowledged_bytes (e ∷ h) ≡ 0
 no_bytes e h none = ap (sum_by in_flight_size) none
 
-since_by : (bytes : ℕ) (acknowledged : Option ℕ) (persistent changed : Bool) → bytes ≡ 0 → changed ≡ false
-    → (if persistent then Some bytes else (if changed then None else option_map (λ n. bytes + n) acknowledged)) ≡ (if persistent then Some 0 else acknowledged)
-since_by bytes acknowledged true changed none same = ap Some none
-since_by bytes acknowledged false changed none same = rw (same, none) (nothing_more acknowledged)
+since_by : (first bytes : ℕ) (acknowledged : Option ℕ) (persistent changed : Bool) → bytes ≡ 0 → changed ≡ false
+    → (if persistent then Some first else (if changed then None else option_map (λ n. bytes + n) acknowledged)) ≡ (if persistent then Some first else acknowledged)
+since_by first bytes acknowledged true changed none same = refl
+since_by first bytes acknowledged false changed none same = rw (same, none) (nothing_more acknowledged)
 
--- a loss timer
-pub reported_found : (c : Settings) (e : Event) (h : List Event) → window_in e ≡ None → newly_acknowledged (e ∷ h) ≡ []
-    → collapsed_if (is_persistent c (e ∷ h)) (reported_after c h) ≡ reported_after c (e ∷ h)
-reported_found c e h none nothing =
-    ap₂ of (sym (same_window c e h none))
+-- a loss timer, and a Lost line: the detection newly acknowledged so many bytes
+pub reported_found : (c : Settings) (e : Event) (h : List Event) (first : ℕ) → first ≡ acknowledged_bytes (detection_of (e ∷ h)) → window_in e ≡ None → newly_acknowledged (e ∷ h) ≡ []
+    → collapsed_with first (is_persistent c (e ∷ h)) (reported_after c h) ≡ reported_after c (e ∷ h)
+reported_found c e h first is none nothing =
+    rw is (ap₂ of (sym (same_window c e h none))
     (sym (since_collapse_after c e h
-    ∙ since_by (acknowledged_bytes (e ∷ h)) (acknowledged_since_collapse c h) (is_persistent c (e ∷ h)) (changes_window c (e ∷ h)) (no_bytes e h nothing) (no_change c e h none)))
+    ∙ since_by (acknowledged_bytes (detection_of (e ∷ h))) (acknowledged_bytes (e ∷ h)) (acknowledged_since_collapse c h) (is_persistent c (e ∷ h)) (changes_window c (e ∷ h))
+    (no_bytes e h nothing) (no_change c e h none))))
 
 -- any other
 pub reported_stays : (c : Settings) (e : Event) (h : List Event) → window_in e ≡ None → newly_acknowledged (e ∷ h) ≡ [] → is_persistent c (e ∷ h) ≡ false
     → reported_after c (e ∷ h) ≡ reported_after c h
 reported_stays c e h none nothing calm =
-    sym (reported_found c e h none nothing) ∙ ap (λ b. collapsed_if b (reported_after c h)) calm
+    sym (reported_found c e h (acknowledged_bytes (detection_of (e ∷ h))) refl none nothing) ∙ ap (λ b. collapsed_with (acknowledged_bytes (detection_of (e ∷ h))) b (reported_after c h)) calm
 
 -- ---- a report
 
@@ -140,10 +142,14 @@ acked_by c e h false (Some n) fit few small = ap Some (with_all_is c e h n fit f
 
 pub reported_acked : (c : Settings) (h : List Event) (time : ℕ) (space : Space) (ranges : List (ℕ × ℕ)) (delay : ℕ) (app_limited : Bool) (ps : List SentPacket)
     → ps ≡ acknowledged_by c (Ack time space ranges delay app_limited) h → AllByRecursion Fits h → length h < 2 ^ 32
-    → acknowledging ps (collapsed_if (is_persistent c (Ack time space ranges delay app_limited ∷ h)) (reported_after c h)) ≡ reported_after c (Ack time space ranges delay app_limited ∷ h)
+    → acknowledging ps (collapsed_with 0 (is_persistent c (Ack time space ranges delay app_limited ∷ h)) (reported_after c h)) ≡ reported_after c (Ack time space ranges delay app_limited ∷ h)
 reported_acked c h time space ranges delay app_limited ps are fit few =
     let e = Ack time space ranges delay app_limited in
     rw are (ap (of (reported_window c h)) (
     acked_by c e h (is_persistent c (e ∷ h)) (acknowledged_since_collapse c h) fit few (since_collapse_small c h fit)
     ∙ sym (since_collapse_after c e h)
     ))
+
+-- the bytes of what an acknowledgment newly acknowledges, as they are told
+pub new_bytes_are : (c : Settings) (e : Event) (h : List Event) → AllByRecursion Fits h → length h < 2 ^ 32 → fold with_bytes 0 (acknowledged_by c e h) ≡ acknowledged_bytes (e ∷ h)
+new_bytes_are c e h fit few = with_all_is c e h 0 fit few (omega arith) ∙ omega arith

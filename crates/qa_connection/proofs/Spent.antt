@@ -9,7 +9,7 @@ use Rattle.qa_base.specs.declared.space.Leave.{Leave}
 use Rattle.qa_base.specs.declared.space.Leave.TheVariants.{Window, Probe, Recovery}
 use Rattle.qa_base.specs.declared.space.Space.{Space}
 use Rattle.qa_base.specs.machine.Leave.{is_recovery_packet, probe_size, probe_spent, recovery_spent}
-use Rattle.qa_base.specs.machine.Loss.{owed}
+use Rattle.qa_base.specs.machine.Loss.{declared}
 use Rattle.qa_base.specs.machine.Reno.{is_entry}
 use Rattle.qa_base.specs.machine.Timer.{is_pto}
 use Rattle.qa_base.specs.machine.Widths.{Fits}
@@ -88,8 +88,8 @@ pub allowances_stay : (c : Settings) (e : Event) (h : List Event) → probe_size
     → allowances_after c (e ∷ h) ≡ hit (is_entry c (e ∷ h)) (allowances_of (if is_pto (e ∷ h) then Some 0 else probe_spent h) (recovery_spent c h))
 allowances_stay c e h no_probe no_recovery = ap₂ allowances_of (probes_stay e h no_probe) (recovery_stays c e h no_recovery)
 
--- .. and where nothing is found lost, but for a probe timeout
-pub allowances_unhit : (c : Settings) (e : Event) (h : List Event) (pto : Bool) → is_pto (e ∷ h) ≡ pto → probe_size (e ∷ h) ≡ 0 → is_recovery_packet (e ∷ h) ≡ false → owed c (e ∷ h) ≡ []
+-- .. and where nothing is lost by it, but for a probe timeout
+pub allowances_unhit : (c : Settings) (e : Event) (h : List Event) (pto : Bool) → is_pto (e ∷ h) ≡ pto → probe_size (e ∷ h) ≡ 0 → is_recovery_packet (e ∷ h) ≡ false → declared c (e ∷ h) ≡ []
     → allowances_after c (e ∷ h) ≡ allowances_of (if pto then Some 0 else probe_spent h) (recovery_spent c h)
 allowances_unhit c e h pto is no_probe no_recovery free =
     allowances_stay c e h no_probe no_recovery ∙ ap₂ (λ entered b. hit entered (allowances_of (if b then Some 0 else probe_spent h) (recovery_spent c h))) (no_entry c e h free) is

@@ -2,16 +2,17 @@
 use Rattle.std.specs.Prelude.{ℕ, ◌+◌, fold, Bool, true, List, [], Option, Some, if◌then◌else◌}
 use Rattle.qa_base.specs.declared.space.Leave.{Leave}
 use Rattle.qa_base.specs.declared.space.Space.{Space}
-use Rattle.qa_base.specs.machine.Reno.{collapses, moved}
+use Rattle.qa_base.specs.machine.Reno.{Control, collapses, moved}
 use Rattle.qa_base.specs.machine.Rtt.{updated}
 use Rattle.qa_connection.specs.Handshaking.{acknowledged_in, discarded_in, is_validated, sent_in}
-use Rattle.qa_connection.specs.Reporting.{acknowledging, collapsed_if, reporting}
+use Rattle.qa_connection.specs.Reporting.{acknowledging, collapsed_with, reporting}
 use Rattle.qa_connection.specs.Spaces.{changed_in, with_discarded, with_eliciting, with_largest}
 use Rattle.qa_connection.specs.Spending.{hit, spent}
 use Rattle.qa_connection.specs.Steps.{capped, enters_at, grown_by, hits_at, limited_delay, refreshed_if, sample_by}
 use Rattle.qa_connection.specs.Timing.{answered_in}
 use Rattle.qa_connection.specs.Timing as timers
 use Rattle.qa_connection.specs.declared.connection.Connection.{Connection}
+use Rattle.qa_connection.specs.declared.detection.Detection.{Detection}
 use Rattle.qa_sent.specs.declared.packet.SentPacket.{SentPacket}
 
 -- ---- an acknowledgment
@@ -29,20 +30,32 @@ with_sample now delay largest ps k = record k {
   rtt = updated k.rtt (sample_by k.header.options.sample_eliciting_only now (limited_delay k.header.max_ack_delay k.handshake.confirmed delay) largest ps);
 }
 
--- packets were found lost now, the last of which was sent at a time, where there are any
-abbrev pub with_hit : ℕ → Option ℕ → Connection → Connection
-with_hit now last k = record k {
+-- packets are lost by a detection at a time before which NewReno was this, the last of them sent at a time, where there are any
+abbrev pub with_hit_since : Control → ℕ → Option ℕ → Connection → Connection
+with_hit_since before now last k = record k {
   reno = fold (moved k.header.max_datagram_size) k.reno (hits_at now last);
-  allowances = hit (enters_at k.reno.recovery_start_time last) k.allowances;
+  allowances = hit (enters_at before.recovery_start_time last) k.allowances;
 }
 
--- they establish persistent congestion, or not
-abbrev pub with_collapse : Bool → Connection → Connection
-with_collapse persistent k = record k {
+-- .. now
+abbrev pub with_hit : ℕ → Option ℕ → Connection → Connection
+with_hit now last k = with_hit_since k.reno now last k
+
+-- they establish persistent congestion, or not, and the detection newly acknowledged so many bytes
+abbrev pub with_collapse_of : ℕ → Bool → Connection → Connection
+with_collapse_of bytes persistent k = record k {
   rtt = refreshed_if k.header.options.refresh_min_rtt persistent k.rtt;
   reno = fold (moved k.header.max_datagram_size) k.reno (collapses persistent);
-  reported = collapsed_if persistent k.reported;
+  reported = collapsed_with bytes persistent k.reported;
 }
+
+-- .. before what it newly acknowledged is taken in
+abbrev pub with_collapse : Bool → Connection → Connection
+with_collapse persistent k = with_collapse_of 0 persistent k
+
+-- a Lost line completes the detection: by it these are lost, the last of them sent at a time
+abbrev pub completed : Detection → Option ℕ → Bool → Connection → Connection
+completed d last persistent k = with_collapse_of d.acknowledged persistent (with_hit_since d.before d.time last k)
 
 -- these packets were acknowledged, by a sender that was limited or not
 abbrev pub grown : Bool → List SentPacket → Connection → Connection
@@ -94,6 +107,6 @@ discarded space now k = record k {
 abbrev pub reported : Option ℕ → Connection → Connection
 reported window k = record k { reported = reporting window k.reported }
 
--- one event more, at a time
-abbrev pub counted : ℕ → Connection → Connection
-counted time k = record k { events = capped (k.events + 1); last_time = Some time }
+-- one event more, at a time, which is a detection or is none
+abbrev pub counted : ℕ → Option Detection → Connection → Connection
+counted time detection k = record k { events = capped (k.events + 1); last_time = Some time; detection = detection }

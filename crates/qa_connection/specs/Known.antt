@@ -11,6 +11,7 @@ use Rattle.qa_base.specs.machine.Rules.{IsRun}
 use Rattle.qa_base.specs.machine.Timer as timers
 use Rattle.qa_base.specs.machine.Widths.{Fits, IsTimely}
 use Rattle.qa_base.specs.values.Settings.{Settings}
+use Rattle.qa_connection.specs.Detecting.{detection_after}
 use Rattle.qa_connection.specs.Handshaking.{handshake_after}
 use Rattle.qa_connection.specs.Reporting.{reported_after}
 use Rattle.qa_connection.specs.Spaces.{space_after}
@@ -47,6 +48,7 @@ pub record HasParts (k : Connection) (c : Settings) (h : List Event) : Type 0 wh
 pub record IsOf (k : Connection) (c : Settings) (h : List Event) : Type 0 where
   pub events : k.events ≡ length h
   pub last_time : k.last_time ≡ timers.time_of_moment h
+  pub detection : k.detection ≡ detection_after c h
   pub parts : HasParts k c h
 
 -- ---- what is told of an event
@@ -55,9 +57,9 @@ pub record IsOf (k : Connection) (c : Settings) (h : List Event) : Type 0 where
 abbrev pub acknowledged_by : Settings → Event → List Event → List SentPacket
 acknowledged_by c e h = map (sent_of c h) (reverse (newly_acknowledged (e ∷ h)))
 
--- what the event found lost
+-- what is lost by the event
 pub record AreLosses (o : Losses) (c : Settings) (h : List Event) : Type 0 where
-  pub last_owed : o.last_owed ≡ last_sent (loss.owed c h)
+  pub last_lost : o.last_lost ≡ last_sent (loss.declared c h)
   pub is_persistent : o.is_persistent ≡ loss.is_persistent c h
 
 -- ---- the histories of which it is kept

@@ -5,5 +5,6 @@ pub mod Timing
 pub mod Spending
 pub mod Spaces
 pub mod Steps
+pub mod Detecting
 pub mod Reporting
 pub mod Changes

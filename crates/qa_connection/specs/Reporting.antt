@@ -14,9 +14,9 @@ reported_after c h = record {
   acknowledged = acknowledged_since_collapse c h;
 }
 
--- persistent congestion was established, or not
-abbrev pub collapsed_if : Bool → ReportedWindow → ReportedWindow
-collapsed_if persistent r = record r { acknowledged = if persistent then Some 0 else r.acknowledged }
+-- persistent congestion was established or not, by a detection that newly acknowledged so many bytes
+abbrev pub collapsed_with : ℕ → Bool → ReportedWindow → ReportedWindow
+collapsed_with bytes persistent r = record r { acknowledged = if persistent then Some bytes else r.acknowledged }
 
 -- so many bytes with those of a packet, where it is in flight
 abbrev pub with_bytes : ℕ → SentPacket → ℕ

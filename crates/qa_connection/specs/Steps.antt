@@ -5,7 +5,6 @@ use Rattle.qa_base.specs.declared.event.Event.{Event}
 use Rattle.qa_base.specs.machine.Packets.{Packet}
 use Rattle.qa_base.specs.machine.Reno.{Control, Move, Hit, collapses, grow, is_app_limited, is_outside_recovery, latest_sent, moved}
 use Rattle.qa_base.specs.machine.Rtt.{Estimate, Sample, refreshed}
-use Rattle.qa_base.specs.values.Events.{time_of}
 use Rattle.qa_base.specs.values.Limits.{min_datagram_size, max_packet_size}
 use Rattle.qa_sent.specs.declared.packet.SentPacket.{SentPacket}
 
@@ -68,9 +67,9 @@ abbrev pub grown_by : ℕ → Control → SentPacket → Control
 grown_by max_datagram_size r p =
     if p.in_flight && can_grow r.window p.size then grow max_datagram_size p.size p.time r else r
 
--- the window after an event: first its loss counts, then persistent congestion, then growth
-abbrev pub reno_after : ℕ → Control → Event → List SentPacket → Option ℕ → Bool → Control
-reno_after max_datagram_size r e ps last is_persistent =
-    let after_losses = fold (moved max_datagram_size) r (hits_at (time_of e) last) in
+-- the window after an event: first the loss by a detection at a time counts, then persistent congestion, then growth
+abbrev pub reno_after : ℕ → Control → ℕ → Event → List SentPacket → Option ℕ → Bool → Control
+reno_after max_datagram_size r now e ps last is_persistent =
+    let after_losses = fold (moved max_datagram_size) r (hits_at now last) in
     let after_collapse = fold (moved max_datagram_size) after_losses (collapses is_persistent) in
     fold (grown_by max_datagram_size) after_collapse (if is_app_limited e then [] else ps)

@@ -12,11 +12,11 @@ use qa_sent::SentPacket;
 /// The greatest window that grows, 2^62 bytes. No run reaches it: its window is below 2^49.
 const MAX_WINDOW: u64 = 4_611_686_018_427_387_904;
 
-/// What an event found lost (RFC 9002, A.10).
+/// What is lost by an event (RFC 9002, A.10).
 #[derive(Clone, Copy)]
 pub struct Losses {
-    /// When the last packet was sent that it found lost, where it found one.
-    pub last_owed: Option<Ticks>,
+    /// When the last packet was sent that is lost by it, where there is one.
+    pub last_lost: Option<Ticks>,
     /// Whether they establish persistent congestion (section 7.6).
     pub is_persistent: bool,
 }

@@ -1,15 +1,17 @@
 //! What is kept of a connection beside the packets that were sent.
-ghost use Rattle.std.specs.Prelude.{◌≡◌, []};
+ghost use Rattle.std.specs.Prelude.{◌≡◌, [], fold};
 ghost use Rattle.qa_base.specs.machine.Window.{ssthresh_by, window_by};
 ghost use Rattle.qa_base.specs.values.Settings.{AreInRange};
 ghost use Rattle.qa_connection.specs.Changes as steps;
-ghost use Rattle.qa_connection.specs.Changes.{with_collapse, with_hit, with_sample};
+ghost use Rattle.qa_connection.specs.Changes.{with_collapse, with_collapse_of, with_hit, with_hit_since, with_sample};
 ghost use Rattle.qa_connection.specs.Known.{IsOf};
+ghost use Rattle.qa_connection.specs.Reporting.{with_bytes};
 
 use crate::allowances::Allowances;
 use crate::congestion::Losses;
+use crate::detection::Detection;
 use crate::handshake::HandshakeState;
-use crate::reported::ReportedWindow;
+use crate::reported::{ReportedWindow, with_all};
 use crate::spaces::SpaceState;
 use crate::timer::TimerState;
 use crate::{congestion, sampling, spaces};
@@ -27,6 +29,8 @@ pub struct Connection {
     pub events: u64,
     /// When the last event happened.
     pub last_time: Option<Ticks>,
+    /// The last event, where it looked for losses.
+    pub detection: Option<Detection>,
     /// How far the handshake is.
     pub handshake: HandshakeState,
     /// The estimate of the round-trip time.
@@ -52,6 +56,7 @@ impl Connection {
             header,
             events: 0,
             last_time: None,
+            detection: None,
             handshake: HandshakeState::start(),
             rtt: sampling::start(&header),
             reno: congestion::start(&header),
@@ -100,27 +105,26 @@ impl Connection {
         sampling::acknowledge(&mut self.rtt, acknowledged, largest, delay, now, only);
     }
 
-    /// Packets were found lost, the last of which was sent at `last_sent`, where there are any (RFC
-    /// 9002, B.6): the window falls, and a recovery packet may go out, where that was after
-    /// recovery began.
-    fn hit(&mut self, last_sent: Option<Ticks>, now: Ticks)
-        ensures { self.new ≡ with_hit now last_sent self.old }
+    /// Packets are lost by a detection, the last of which was sent at `last_sent`, where there are any
+    /// (RFC 9002, B.6): the window falls where that was after recovery began, and a recovery packet
+    /// may go out where it was by what NewReno was before the detection.
+    fn hit(&mut self, last_sent: Option<Ticks>, detected: Ticks, before: &Reno)
+        ensures { self.new ≡ with_hit_since before.now detected last_sent self.old }
     {
         let Some(last_sent) = last_sent else {
             return;
         };
-        if self
-            .reno
-            .hit(last_sent, now, self.header.max_datagram_size())
-        {
+        self.reno
+            .hit(last_sent, detected, self.header.max_datagram_size());
+        if before.is_outside_recovery(last_sent) {
             self.allowances.recovery_spent = Some(0);
         }
     }
 
-    /// The losses that were found establish persistent congestion, or not (B.8). It sets `min_rtt`
-    /// anew where the header asks for that (section 5.2).
-    fn collapse(&mut self, is_persistent: bool)
-        ensures value { self.new ≡ with_collapse is_persistent self.old }
+    /// What is lost by a detection that newly acknowledged so many bytes establishes persistent
+    /// congestion, or not (B.8). It sets `min_rtt` anew where the header asks for that (section 5.2).
+    fn collapse(&mut self, is_persistent: bool, acknowledged: u64)
+        ensures value { self.new ≡ with_collapse_of acknowledged is_persistent self.old }
         ensures range { AreInRange self.old.header }
     {
         sampling::refresh(&mut self.rtt, &self.header, is_persistent);
@@ -129,16 +133,47 @@ impl Connection {
             is_persistent,
             self.header.max_datagram_size(),
         );
-        self.reported.collapse(is_persistent);
+        self.reported.collapse(is_persistent, acknowledged);
     }
 
-    /// Takes in what a detection found lost (B.8).
+    /// Takes in what a detection found lost (B.8), before what it newly acknowledged.
     pub fn lose(&mut self, losses: Losses, now: Ticks)
-        ensures value { self.new ≡ with_collapse losses.is_persistent (with_hit now losses.last_owed self.old) }
+        ensures value { self.new ≡ with_collapse losses.is_persistent (with_hit now losses.last_lost self.old) }
         ensures range { AreInRange self.old.header }
     {
-        self.hit(losses.last_owed, now);
-        self.collapse(losses.is_persistent);
+        let before = self.reno;
+        self.hit(losses.last_lost, now, &before);
+        self.collapse(losses.is_persistent, 0);
+    }
+
+    /// Takes in what is lost by the detection of the event before, once a Lost line declares packets
+    /// beyond what was owed: as if the detection had found all of them (B.8).
+    pub fn complete(&mut self, losses: Losses, detection: &Detection)
+        ensures value { self.new ≡ steps.completed detection.now losses.last_lost losses.is_persistent self.old }
+        ensures range { AreInRange self.old.header }
+    {
+        self.hit(losses.last_lost, detection.time, &detection.before);
+        self.collapse(losses.is_persistent, detection.acknowledged);
+    }
+
+    /// What is kept of a detection in a space, as of `looked`, by an event that is happening now and
+    /// newly acknowledges these packets. NewReno is what it was before the event.
+    pub fn detected(
+        &self,
+        space: Space,
+        looked: u64,
+        time: Ticks,
+        acknowledged: &[SentPacket],
+    ) -> Detection
+        ensures { result ≡ record { space = space; looked = looked; time = time; before = self.now.reno; acknowledged = fold with_bytes 0 acknowledged.now } }
+    {
+        Detection {
+            space,
+            looked,
+            time,
+            before: self.reno,
+            acknowledged: with_all(0, acknowledged),
+        }
     }
 
     /// The window grows by the packets that an acknowledgment newly acknowledges, in the order of
@@ -232,11 +267,12 @@ impl Connection {
         self.reported.report(window);
     }
 
-    /// One event more happened, at this time.
-    pub fn count(&mut self, now: Ticks)
-        ensures { self.new ≡ steps.counted now self.old }
+    /// One event more happened, at this time, which looked for losses or did not.
+    pub fn count(&mut self, now: Ticks, detection: Option<Detection>)
+        ensures { self.new ≡ steps.counted now detection self.old }
     {
         self.events = self.events.saturating_add(1);
         self.last_time = Some(now);
+        self.detection = detection;
     }
 }

@@ -27,12 +27,13 @@ impl ReportedWindow {
         }
     }
 
-    /// Persistent congestion was established, or not.
-    pub(crate) fn collapse(&mut self, is_persistent: bool)
-        ensures { self.new ≡ steps.collapsed_if is_persistent self.old }
+    /// Persistent congestion was established or not, by a detection that newly acknowledged so many
+    /// bytes in flight.
+    pub(crate) fn collapse(&mut self, is_persistent: bool, acknowledged: u64)
+        ensures { self.new ≡ steps.collapsed_with acknowledged is_persistent self.old }
     {
         if is_persistent {
-            self.acknowledged = Some(0);
+            self.acknowledged = Some(acknowledged);
         }
     }
 
@@ -73,7 +74,7 @@ fn with_bytes(bytes: u64, packet: &SentPacket) -> u64
 }
 
 /// So many bytes with those of all packets that are in flight.
-fn with_all(before: u64, packets: &[SentPacket]) -> u64
+pub(crate) fn with_all(before: u64, packets: &[SentPacket]) -> u64
     ensures { result ≡ fold steps.with_bytes before packets.now }
 {
     let mut bytes = before;

@@ -1,15 +1,15 @@
 -- What a detection makes of the packets.
-use Rattle.std.proofs.Common.{◌≡◌, ◌∙◌, ℕ, ◌+◌, ◌-◌, ◌*◌, ◌≤◌, ◌<◌, Bool, true, false, ◌&&◌, ◌||◌, max, List, [], ◌∷◌, ◌++◌, length, get_or, set, map, take, drop, count_by, Option, Some, None, refl, sym, ap, subst, arith, inl, inr}
+use Rattle.std.proofs.Common.{◌≡◌, ◌∙◌, ℕ, ◌+◌, ◌-◌, ◌*◌, ◌≤◌, ◌<◌, Bool, true, false, ◌&&◌, ◌||◌, not, max, List, [], ◌∷◌, ◌++◌, length, get_or, set, map, take, drop, count_by, Option, Some, None, refl, sym, ap, subst, arith, inl, inr}
 use Rattle.std.specs.Prelude.{if◌then◌else◌, nat_le, nat_lt}
 use Rattle.std.specs.List.{AllByRecursion}
 use Rattle.std.proofs.lemmas.Bool.{and_parts, and_from, both_ways, false_from_ne_true, le-leb, leb-true, lt-ltb, ltb-true, or_cases, or_left, or_right}
 use Rattle.std.proofs.lemmas.List.{drop_at, length-map, length-take-le, map-append, take-append-drop, take-map}
 use Rattle.qa_base.specs.declared.space.Space.{Space}
-use Rattle.qa_base.specs.machine.Detection.{is_past_threshold, is_old}
+use Rattle.qa_base.specs.machine.Detection.{is_far_below, is_past_threshold, is_old}
 use Rattle.qa_base.specs.machine.Packets.{Packet}
 use Rattle.qa_base.specs.machine.Rtt.{Estimate, loss_delay}
 use Rattle.qa_base.specs.values.Events.{is_space}
-use Rattle.qa_base.specs.values.Settings.{Settings, granularity}
+use Rattle.qa_base.specs.values.Settings.{Settings, granularity, is_may}
 use Rattle.qa_sent.specs.Detection.{IsEnd, lost_in}
 use Rattle.qa_sent.specs.Lanes.{awaiting_count}
 use Rattle.qa_sent.specs.Fates.{flight_bytes, is_flying, is_open, is_owed, is_unacknowledged, is_waiting}
@@ -115,14 +115,17 @@ earlier_is_past_threshold : (c : Settings) (r : Estimate) (now : ℕ) (largest :
     → is_past_threshold c r now largest p ≡ true → is_past_threshold c r now largest q ≡ true
 earlier_is_past_threshold c r now None p q lower earlier late = cc
 earlier_is_past_threshold c r now (Some largest) p q lower earlier late =
-    let both = and_parts (nat_lt p.number largest) (nat_le c.options.packet_threshold (largest - p.number) || is_old c r now p) late in
+    let must = not (is_may c.options.loss_by_number) in
+    let both = and_parts (nat_lt p.number largest) ((must && is_far_below c largest p) || is_old c r now p) late in
     let below = ltb-true p.number largest both.0 in
-    and_from (nat_lt q.number largest) (nat_le c.options.packet_threshold (largest - q.number) || is_old c r now q)
+    and_from (nat_lt q.number largest) ((must && is_far_below c largest q) || is_old c r now q)
     (lt-ltb q.number largest (omega (arith, below, lower)))
-    (elim (or_cases (nat_le c.options.packet_threshold (largest - p.number)) (is_old c r now p) both.1) [
-      | inl far ↦ (let three = leb-true c.options.packet_threshold (largest - p.number) far in
-          or_left (nat_le c.options.packet_threshold (largest - q.number)) (is_old c r now q) (le-leb c.options.packet_threshold (largest - q.number) (omega (arith, three, lower))))
-      | inr old ↦ or_right (nat_le c.options.packet_threshold (largest - q.number)) (is_old c r now q) (earlier_is_old c r now p q earlier old)
+    (elim (or_cases (must && is_far_below c largest p) (is_old c r now p) both.1) [
+      | inl far ↦ (let parts = and_parts must (is_far_below c largest p) far in
+          let three = leb-true c.options.packet_threshold (largest - p.number) parts.1 in
+          or_left (must && is_far_below c largest q) (is_old c r now q)
+          (and_from must (is_far_below c largest q) parts.0 (le-leb c.options.packet_threshold (largest - q.number) (omega (arith, three, lower)))))
+      | inr old ↦ or_right (must && is_far_below c largest q) (is_old c r now q) (earlier_is_old c r now p q earlier old)
     ])
 
 -- behind a packet of the space that is not late none is found

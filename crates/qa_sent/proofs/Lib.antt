@@ -16,3 +16,4 @@ pub mod Settled
 pub mod Sound
 pub mod Sums
 pub mod Totals
+pub mod Taken

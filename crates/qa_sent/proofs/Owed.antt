@@ -118,7 +118,7 @@ off_by true none = absurd (omega (arith, none))
 off_by false none = refl
 
 -- where their count is 0 there are none
-counted_none : (ps : List SentPacket) → count_by (λ p. is_owed p.fate) ps ≡ 0 → NoneOwed ps
+pub counted_none : (ps : List SentPacket) → count_by (λ p. is_owed p.fate) ps ≡ 0 → NoneOwed ps
 counted_none [] none = tt
 counted_none (p ∷ ps) none =
     let sum : count_by (λ q. is_owed q.fate) (p ∷ ps) ≡ cond (is_owed p.fate) 1 0 + count_by (λ q. is_owed q.fate) ps = sum_by-cons (λ q. cond (is_owed q.fate) 1 0) p ps in

@@ -9,3 +9,4 @@ pub mod Told
 pub mod Lanes
 pub mod Covering
 pub mod Naming
+pub mod Free

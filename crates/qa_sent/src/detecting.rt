@@ -45,8 +45,8 @@ impl Model for Thresholds {
 }
 
 impl Thresholds {
-    /// Whether the packet is below the largest acknowledged number, by the packet threshold or for
-    /// long enough (RFC 9002, sections 6.1.1 and 6.1.2).
+    /// Whether the packet is below the largest acknowledged number, for long enough or, where such
+    /// packets must be lost, by the packet threshold (RFC 9002, sections 6.1.1 and 6.1.2).
     fn is_past_threshold(&self, packet: &SentPacket) -> bool
         ensures { result ≡ is_past_threshold_by self.entry.now packet.now }
     {
@@ -54,8 +54,10 @@ impl Thresholds {
             None => false,
             Some(largest) => {
                 let number = packet.number.get();
+                let is_optional = self.header.options().loss_by_number.is_may();
                 number < largest.get()
-                    && (is_far_below(self.header, number, largest.get()) || self.is_old(packet))
+                    && ((!is_optional && is_far_below(self.header, number, largest.get()))
+                        || self.is_old(packet))
             }
         }
     }

@@ -4,12 +4,14 @@
 
 mod acknowledging;
 mod advancing;
+mod asking;
 mod covering;
 mod declaring;
 mod detecting;
 mod discarding;
 mod dropping;
 mod fate;
+mod free;
 mod lane;
 mod named;
 mod naming;
@@ -17,8 +19,10 @@ mod owing;
 mod packet;
 mod packets;
 mod pushing;
+mod taking;
 
 pub use detecting::Thresholds;
 pub use fate::Fate;
+pub use free::FreePackets;
 pub use packet::SentPacket;
 pub use packets::SentPackets;

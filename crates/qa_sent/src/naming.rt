@@ -1,51 +1,81 @@
-//! Whether ranges name the packets that are owed, and no others.
-ghost use Rattle.std.specs.Prelude.{◌≤◌, ◌↔◌, ◌∷◌, List, true, length, slice_range, IsTrue};
+//! Whether ranges name the packets that are owed, and none that may not be named.
+ghost use Rattle.std.specs.Prelude.{◌≡◌, ◌≤◌, length, slice_range};
+ghost use Rattle.std.specs.List.{list_all};
+ghost use Rattle.qa_base.specs.machine.Numbers.{has_all, is_in};
 ghost use Rattle.qa_base.specs.values.Events.{is_named};
-ghost use Rattle.qa_sent.specs.Naming.{AreNext, IsWalk};
+ghost use Rattle.qa_sent.specs.Free.{AreOwedIn, nameable_numbers};
+ghost use Rattle.qa_sent.specs.Held.{AreOrdered, IsIndexed};
 ghost use Rattle.qa_sent.specs.Walks.{owed_numbers};
-ghost use Rattle.qa_sent.specs.declared.packet.SentPacket.{SentPacket};
 
+use crate::asking::NamedTest;
+use crate::covering::first_in;
+use crate::free::FreePackets;
+use crate::lane::Lane;
 use crate::named::NamedNumbers;
 use crate::packet::SentPacket;
 use qa_base::Span;
 use std::collections::VecDeque;
 use std::ops::Range;
 
-/// Whether the walk comes by the numbers of the packets in this part that are owed, and no others.
-pub(crate) fn are_next(
+/// Whether a packet that is owed or free has this number, by the lane of the space.
+pub(crate) fn has_nameable(
     packets: &VecDeque<SentPacket>,
-    part: Range<usize>,
-    spans: &[Span],
-    named: NamedNumbers,
+    dropped: u64,
+    lane: &Lane,
+    free: FreePackets,
+    number: u64,
 ) -> bool
-    requires order { part.start ≤ part.end }
-    requires within { part.end ≤ length packets.now.items }
-    requires walk { IsWalk spans.now named }
-    ensures { IsTrue result
-        ↔ AreNext (is_named spans.now) named.from (owed_numbers (slice_range packets.now.items part.start part.end)) }
+    requires indexed { IsIndexed free.space dropped packets.now.items lane.now }
+    requires ordered { AreOrdered packets.now.items }
+    requires of_space { AreOwedIn free.space packets.now.items }
+    ensures { result ≡ is_in (nameable_numbers free packets.now.items) number }
 {
-    let mut named = named;
-    for packet in packets.range(part) {
-        if !is_next(packet, spans, &mut named) {
+    match first_in(&lane.unacknowledged, number, number) {
+        None => false,
+        Some(entry) => {
+            let packet = &packets[(entry.1 - dropped) as usize];
+            packet.is_owed() || free.has(packet)
+        }
+    }
+}
+
+/// Whether each number that the spans name is that of a packet that is owed or free.
+pub(crate) fn are_nameable(
+    packets: &VecDeque<SentPacket>,
+    dropped: u64,
+    lane: &Lane,
+    free: FreePackets,
+    spans: &[Span],
+) -> bool
+    requires indexed { IsIndexed free.space dropped packets.now.items lane.now }
+    requires ordered { AreOrdered packets.now.items }
+    requires of_space { AreOwedIn free.space packets.now.items }
+    ensures { result ≡ has_all (nameable_numbers free packets.now.items) spans.now }
+{
+    let mut named = NamedNumbers::start(spans);
+    while let Some(number) = named.next(spans) {
+        if !has_nameable(packets, dropped, lane, free, number) {
             return false;
         }
     }
-    named.next(spans).is_none()
+    true
 }
 
-/// Whether the packet, if it is owed, has the next number of the walk, which goes on to it.
-pub(crate) fn is_next(packet: &SentPacket, spans: &[Span], named: &mut NamedNumbers) -> bool
-    requires { IsWalk spans.now named.old }
-    ensures walk { IsWalk spans.now named.new }
-    ensures next { (ps : List SentPacket)
-        → AreNext (is_named spans.now) named.old.from (owed_numbers (packet.now ∷ ps))
-        ↔ (IsTrue result × AreNext (is_named spans.now) named.new.from (owed_numbers ps)) }
+/// Whether the spans name each packet in this part that is owed.
+pub(crate) fn are_named(
+    packets: &VecDeque<SentPacket>,
+    part: Range<usize>,
+    spans: &[Span],
+) -> bool
+    requires order { part.start ≤ part.end }
+    requires within { part.end ≤ length packets.now.items }
+    ensures { result ≡ list_all (is_named spans.now) (owed_numbers (slice_range packets.now.items part.start part.end)) }
 {
-    if !packet.is_owed() {
-        return true;
+    let mut test = NamedTest::start(spans);
+    for packet in packets.range(part) {
+        if packet.is_owed() && !test.names(spans, packet.number) {
+            return false;
+        }
     }
-    match named.next(spans) {
-        None => false,
-        Some(number) => number == packet.number.get(),
-    }
+    true
 }

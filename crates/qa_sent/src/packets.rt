@@ -1,10 +1,11 @@
 //! The packets that are kept, and where each can be found.
 ghost use Rattle.qa_base.specs.declared.space.Space.TheVariants.{Initial, Handshake, App};
-ghost use Rattle.qa_base.specs.machine.Numbers.{names_exactly};
+ghost use Rattle.qa_base.specs.machine.Numbers.{names_between};
 ghost use Rattle.qa_base.specs.values.Limits.{max_lines, max_packet_size};
 ghost use Rattle.qa_sent.specs.Covering.{AreApart};
 ghost use Rattle.qa_sent.specs.Dropping.{is_first_closed};
 ghost use Rattle.qa_sent.specs.Fates.{is_new, is_owed, is_owed_in, flight_bytes, is_awaiting, is_flying};
+ghost use Rattle.qa_sent.specs.Free.{AreOwedIn, is_free_by, nameable_numbers, taken_by};
 ghost use Rattle.qa_sent.specs.Held.{IsBefore, unacknowledged_in};
 ghost use Rattle.qa_sent.specs.Owing.{IsOwedPart, first_space};
 ghost use Rattle.qa_sent.specs.Steps.{covered_by, found_by, declared, discarded_in, trimmed};
@@ -21,11 +22,12 @@ use crate::declaring::declare_in;
 use crate::detecting::{Thresholds, detect_in_lane};
 use crate::discarding::discard_all;
 use crate::lane::Lane;
-use crate::named::NamedNumbers;
-use crate::naming::are_next;
+use crate::free::FreePackets;
+use crate::naming::{are_named, are_nameable};
 use crate::owing::{are_apart_in, last_owed_in, owed_numbers_in};
 use crate::packet::SentPacket;
 use crate::pushing::{add, are_before};
+use crate::taking::take_in_lane;
 use qa_base::{PacketNumber, PerSpace, Space, Span, Ticks};
 use std::alloc::{AllocError, Global};
 use std::collections::VecDeque;
@@ -43,6 +45,32 @@ pub(crate) struct Losses {
     pub(crate) from: u64,
     /// and none at this place or behind it.
     pub(crate) to: u64,
+}
+
+impl Losses {
+    ghost use Rattle.qa_sent.specs.Free.{widened};
+
+    /// With one more, at this place.
+    pub(crate) fn with(self, place: u64) -> Losses
+        requires count { self.count ≤ max_lines }
+        requires place { place ≤ max_lines }
+        ensures { result ≡ widened place self }
+    {
+        if self.count == 0 {
+            return Losses {
+                space: self.space,
+                count: 1,
+                from: place,
+                to: place + 1,
+            };
+        }
+        Losses {
+            space: self.space,
+            count: self.count + 1,
+            from: self.from.min(place),
+            to: self.to.max(place + 1),
+        }
+    }
 }
 
 /// The packets that were sent since the oldest that is still of use, in the order of sending.
@@ -228,17 +256,46 @@ impl SentPackets {
         are_apart_in(&self.packets, self.owed_part(), limit, first)
     }
 
-    /// Whether the spans name exactly the packets that are owed. They may overlap, and stand in any
-    /// order.
-    ///
-    /// Takes no memory, and one walk along the packets that were passed by the detection that found
-    /// these losses. Where the spans rise or fall it walks along them once too, however many numbers
-    /// they have; else once for each stretch of numbers that it finds to be owed.
-    pub fn names_owed(&self, spans: &[Span]) -> bool
-        ensures { result ≡ names_exactly spans.now (owed_numbers self.now.packets) }
+    /// Whether a packet is free. Takes constant time: the first in flight is, if any is.
+    pub fn has_free(&self, free: FreePackets) -> bool
+        ensures { result ≡ list_any (is_free_by free) self.now.packets }
     {
-        let named = NamedNumbers::start(spans);
-        are_next(&self.packets, self.owed_part(), spans, named)
+        // What is kept stands in the order of sending.
+        let _kept = self.packets.len();
+        match self.first_flying(free.space) {
+            None => false,
+            Some(packet) => packet.number.get() < free.end,
+        }
+    }
+
+    /// Whether the spans name all packets that are owed, and no others but those that are free. They may
+    /// overlap, and stand in any order. What is owed has to be of the space of those.
+    ///
+    /// Takes no memory, a look at each number that is named until one may not be, and one walk
+    /// along the packets that were passed by the detection that found these losses. Where the spans
+    /// rise or fall it walks along them twice, however many numbers they have; else once for each
+    /// stretch of numbers that it finds.
+    pub fn names_losses(&self, spans: &[Span], free: FreePackets) -> bool
+        requires { AreOwedIn free.space self.now.packets }
+        ensures { result ≡ names_between spans.now (owed_numbers self.now.packets) (nameable_numbers free self.now.packets) }
+    {
+        let lane = self.lanes.of(free.space);
+        are_nameable(&self.packets, self.dropped, lane, free, spans)
+            && are_named(&self.packets, self.owed_part(), spans)
+    }
+
+    /// The free packets that some span names are owed from now on. What is owed before has to be of their
+    /// space. Takes no memory, and visits these packets alone.
+    pub fn take(&mut self, spans: &[Span], free: FreePackets)
+        requires { AreOwedIn free.space self.old.packets }
+        ensures { self.new ≡ record { dropped = self.old.dropped; packets = map (taken_by free spans.now) self.old.packets } }
+    {
+        let losses = Losses {
+            space: free.space,
+            ..self.losses
+        };
+        let lane = self.lanes.of_mut(free.space);
+        self.losses = take_in_lane(&mut self.packets, self.dropped, lane, losses, free, spans);
     }
 
     /// The packets that are owed are declared lost: an acknowledgment would still cover them, but

@@ -1,0 +1,14 @@
+use Rattle.std.proofs.Common.{◌≡◌, ◌∙◌, Some, sym, ap, subst}
+use Rattle.std.specs.List.{list_any}
+use Rattle.std.specs.Prelude.{find, nat_lt}
+use Rattle.qa_sent.specs.Fates.{is_flying}
+use Rattle.qa_sent.specs.Free.{is_free_by}
+use Rattle.qa_sent.specs.Held.{AreOrdered, Held}
+use Rattle.qa_sent.proofs.Numbers.{first_tells, none_free}
+use Rattle.qa_sent.proofs.packets.SentPackets.has_free.Goals as goal
+
+pub returns-in-None : goal.returns-in-None
+returns-in-None c = none_free c.args.free c.args.self.now.packets (sym c.first_flying.ensures ∙ c.in-None.is)
+
+pub returns-in-Some : goal.returns-in-Some
+returns-in-Some c = ap (λ n. nat_lt n c.args.free.end) c.get.ensures.value ∙ first_tells c.args.free c.args.self.now.packets c.in-Some.packet (subst (λ (h : Held). AreOrdered h.packets) c.self.view_is c.self.invariant.ordered) (sym c.first_flying.ensures ∙ c.in-Some.is)

@@ -1,0 +1,33 @@
+use Rattle.std.proofs.Common.{◌≡◌, length, map, arith}
+use Rattle.std.proofs.lemmas.List.{length-map}
+use Rattle.qa_base.specs.values.Limits.{max_packet_size}
+use Rattle.qa_base.specs.values.PerSpace.{of_space}
+use Rattle.qa_sent.specs.Free.{taken_by}
+use Rattle.qa_sent.proofs.Alike.{lane_alike, ordered_same, sizes_same}
+use Rattle.qa_sent.proofs.Taken.{taken_alike, taken_same}
+use Rattle.qa_sent.proofs.Sound.{lane_sound, sound_with}
+use Rattle.qa_sent.proofs.packets.SentPackets.take.Goals as goal
+
+pub take_in_lane-self-inside-requires-clause-lane : goal.take_in_lane-self-inside-requires-clause-lane
+take_in_lane-self-inside-requires-clause-lane c =
+    let before = c.self.inside in
+    rw c.of_mut-lane.ensures.value (lane_sound before.dropped before.packets.items before.losses before.lanes c.self.invariant c.args.free.space)
+
+pub invariant_of-self : goal.invariant_of-self
+invariant_of-self c =
+    let before = c.self.inside in
+    let d = before.dropped in
+    let ps = before.packets.items in
+    let s = c.args.free.space in
+    let f = taken_by c.args.free c.args.spans.now in
+    let took = c.take_in_lane-self-inside in
+    let long : length (map f ps) ≡ length ps = length-map ps f in
+    let few = c.self.invariant.few in
+    rw took.ensures.packets
+    (sound_with d (map f ps) took.result before.lanes s took.new.lane (record {
+      owed = rw took.ensures.packets at took.ensures.losses;
+      ordered = ordered_same f (taken_same c.args.free c.args.spans.now) ps c.self.invariant.ordered;
+      sizes = sizes_same max_packet_size f (taken_same c.args.free c.args.spans.now) ps c.self.invariant.sizes;
+      few = omega (arith, long, few);
+    }) (rw took.ensures.packets at took.ensures.lane)
+    (λ t out. lane_alike t f (taken_alike c.args.free c.args.spans.now t out) d ps (of_space t before.lanes) (lane_sound d ps before.losses before.lanes c.self.invariant t)))

@@ -1,0 +1,12 @@
+use Rattle.std.proofs.Common.{◌≡◌, ◌∙◌, sym}
+use Rattle.std.proofs.lemmas.Bool.{both_ways, false_from_ne_true}
+use Rattle.qa_base.specs.values.Events.{is_named}
+use Rattle.qa_sent.proofs.Taken.{all_taken}
+use Rattle.qa_sent.proofs.taking.take_all.Goals as goal
+
+pub returns-clause-packets : goal.returns-clause-packets
+returns-clause-packets c =
+    let spans = c.args.spans.now in
+    sym (all_taken c.args.free spans c.loop-number.packets.items
+    (λ n is. false_from_ne_true (is_named spans n) (λ named. both_ways (is_named spans n) (c.in_default.ensures.next n (c.loop-number.invariant.left n is named)) named)))
+    ∙ c.loop-number.invariant.packets
