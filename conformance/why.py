@@ -1,0 +1,491 @@
+"""Why a trace is refused or cannot be read, in the words of docs/why.md.
+
+The facts come from the sender of sender.py, and of a line that cannot be read from its report. It
+shares nothing with the proved program: where the two write the same bytes, two readings of the
+page agree.
+"""
+
+import json
+from collections.abc import Iterable
+from typing import NamedTuple
+
+from constants import (
+    K_MINIMUM_WINDOW,
+    MAX_LINE_LENGTH,
+    METRICS,
+    OF_THE_CONTROLLER,
+    Rule,
+)
+from sender import Deadline, Event, Ranges, Sender
+
+SHOWN_BYTES = 200
+SHOWN_RUNS = 16
+
+# Where each rule stands, by the beginning of its name in a report.
+SOURCES = {
+    Rule.TIME_BACK: "This format: the times of a trace do not fall.",
+    Rule.LOSS_OWED: "RFC 9002, 6.1, A.10: a loss that was found is declared before anything else"
+    " happens.",
+    Rule.LOSS_NOT_OWED: "RFC 9002, 6.1, A.10: only packets that were found lost are declared.",
+    Rule.LOSS_SET: "RFC 9002, 6.1, A.10: the packets that were found lost are declared, and no"
+    " others.",
+    Rule.SPACE_GONE: "RFC 9002, 6.4: a discarded packet number space is not used any more.",
+    Rule.NUMBER_NOT_HIGHER: "RFC 9000, 12.3; RFC 9002, 4.2: packet numbers of a space rise.",
+    Rule.PAST_WINDOW: "RFC 9002, 7: a sender must not send past its congestion window.",
+    Rule.PAST_PROBE: "RFC 9002, 6.2.4, 7.5: a probe timeout allows two datagrams.",
+    Rule.PAST_RECOVERY: "RFC 9002, 7.3.2: an entry into recovery allows one packet.",
+    Rule.ACK_UNSENT: "RFC 9000, 13.1: only packets that were sent can be acknowledged.",
+    Rule.TIMER_NOT_SET: "RFC 9002, 6.2, A.8: a timer that is not set does not fire.",
+    Rule.TIMER_OTHER: "RFC 9002, A.8, A.9: the timer fires for what it is set for.",
+    Rule.TIMER_EARLY: "RFC 9002, 6.1.2, 6.2.1, A.8: a timer must not fire before its deadline.",
+    Rule.PROBE_OWED: "RFC 9002, 6.2.4: a sender must send an ack-eliciting packet when a probe"
+    " timeout expires.",
+    Rule.NOT_CONFIRMED: "RFC 9001, 4.9.2: the handshake keys are kept until the handshake is"
+    " confirmed.",
+    Rule.METRIC: "This format: a report has the values of the machine.",
+    Rule.OWED_AT_END: "RFC 9002, 6.1, A.10: a loss that was found is declared before the trace"
+    " ends.",
+    Rule.TIMER_LATE: "RFC 9002, 6.2: a timer fires when it is due, but for what the header allows.",
+    Rule.COLLAPSE_MISSING: "RFC 9002, 7.6.2: persistent congestion reduces the window to the"
+    " minimum.",
+}
+# What an event did, where the amounts do not stand in the sentence.
+DEEDS = {
+    Rule.LOSS_OWED: "came while a loss was owed",
+    Rule.LOSS_NOT_OWED: "came where nothing is owed in its space",
+    Rule.LOSS_SET: "names other packets than those owed",
+    Rule.SPACE_GONE: "came after the keys of its space were discarded",
+    Rule.NUMBER_NOT_HIGHER: "is not above all that were sent in its space",
+    Rule.PAST_PROBE: "goes past what a probe timeout allows",
+    Rule.PAST_RECOVERY: "goes past what an entry into recovery allows",
+    Rule.ACK_UNSENT: "covers a packet that was never sent",
+    Rule.TIMER_NOT_SET: "fired at {time}, where no timer is set",
+    Rule.TIMER_OTHER: "fired at {time}, where another is set",
+    Rule.PROBE_OWED: "fired at {time}, while a probe was owed",
+    Rule.NOT_CONFIRMED: "came before the handshake was confirmed",
+    Rule.COLLAPSE_MISSING: "has too great a window behind persistent congestion",
+}
+BOOLEAN = "true or false"
+U64 = "an integer from 0 to 18446744073709551615"
+TIME = "an integer from 0 to 1000000000000000"
+KINDS = "the string header, sent, ack, lost, timer, discard, confirmed, keys or metrics"
+VERSIONS = "the integer 1, 2 or 3"
+# What the value of a key has to be.
+WANTED = {
+    "event": KINDS,
+    "version": VERSIONS,
+    "role": "the string client or server",
+    "unit": "the string us or ns",
+    "max_datagram_size": "an integer from 1200 to 65527",
+    "max_ack_delay": "an integer from 0 to 16383000, or to 16383000000 where the unit is ns",
+    "initial_rtt": "an integer from 1 to 1000000000, or to 1000000000000 where the unit is ns",
+    "initial_window": "an integer from twice max_datagram_size to 4294967295",
+    "timer_late_us": TIME,
+    "refresh_min_rtt": BOOLEAN,
+    "report_slack_us": "an integer from 0 to 1000000000",
+    "report_slack_bytes": "an integer from 0 to 4294967295",
+    "window_overshoot": BOOLEAN,
+    "sample_eliciting_only": BOOLEAN,
+    "packet_threshold": "an integer from 3 to 65535",
+    "timer_early_us": "an integer from 0 to 1000000000",
+    "time": TIME,
+    "space": "the string initial, handshake or app; to discard, initial or handshake",
+    "number": "an integer from 0 to 4611686018427387903",
+    "size": "an integer from 1 to 65527",
+    "eliciting": BOOLEAN,
+    "in_flight": BOOLEAN,
+    "leave": "the string window, probe or recovery",
+    "ranges": "a list of ranges [lo,hi], lo not above hi and hi at most 4611686018427387903",
+    "delay": U64,
+    "limited": BOOLEAN,
+    "kind": "the string loss or pto",
+    **dict.fromkeys(METRICS, U64),
+}
+OF_A_WINDOW = "the string newreno or reported"
+FAULTS_OF_A_KEY = {
+    "missing": "the key {key} is missing, whose value is {wanted}",
+    "wrong-kind": "the value of {key} is of another kind than {wanted}",
+    "out-of-range": "the value of {key} is other than {wanted}",
+}
+FAULTS = {
+    "not-json": "the line is not JSON",
+    "not-object": "the line is JSON, but no object",
+    "unknown-event": f"the string at event names no event; it has to be {KINDS}",
+    "line-too-long": f"the line has more than {MAX_LINE_LENGTH} bytes",
+    "flags-clash": "an ack-eliciting packet is in flight, and in_flight is false",
+    "version": f"the version has to be {VERSIONS}",
+    "too-many-lines": "a trace has at most 4294967295 lines",
+}
+UNSHOWN = ("line-too-long", "too-many-lines")
+QLOG = (b'"qlog_version"', b'"qlog_format"', b'"file_schema"')
+
+
+class Verdict(NamedTuple):
+    """The first line of a report, and whether a header stands before the line that it names."""
+
+    word: str
+    line: int
+    what: str
+    is_headed: bool
+
+
+def verdict_of(report: str) -> Verdict:
+    """The verdict of a report."""
+    first, *totals = report.splitlines()
+    word, *rest = first.split(" ", 3)
+    if word == "accepted":
+        return Verdict(word, 0, "", is_headed=True)
+    return Verdict(word, int(rest[1]), rest[2], bool(totals))
+
+
+def why(name: str, trace: bytes, report: str) -> bytes:
+    """What is written of a trace whose report is this, under a name."""
+    verdict = verdict_of(report)
+    lines = trace.split(b"\n")
+    if verdict.word == "accepted":
+        events = next(it for it in report.splitlines() if it.startswith("events "))
+        return f"{name}: accepted, {events.split()[1]} events\n".encode()
+    head = f"{name}:{verdict.line}: {verdict.word} {verdict.what}: "
+    if verdict.word == "unreadable":
+        is_there = verdict.line <= len(lines) and lines[verdict.line - 1] != b""
+        line = lines[verdict.line - 1] if is_there else None
+        return head.encode() + unreadable(verdict, line)
+    return head.encode() + refused(verdict, lines)
+
+
+def shown(number: int, line: bytes) -> bytes:
+    """A line with its number; the first bytes of one that is long."""
+    printed = bytes(it if 32 <= it <= 126 else ord("?") for it in line[:SHOWN_BYTES])
+    return f"  {number} | ".encode() + printed + (b" ..\n" if len(line) > SHOWN_BYTES else b"\n")
+
+
+# Lines that cannot be read.
+
+
+def unreadable(verdict: Verdict, line: bytes | None) -> bytes:
+    """What is wrong with a line, the line, and what the file may be."""
+    _, fault, *key = verdict.what.split(" ")
+    if fault in UNSHOWN:
+        line = None
+    text = sentence_of(verdict, fault, key, line).encode() + b"\n"
+    if line is None:
+        return text
+    hint = "" if verdict.is_headed else hint_of(line)
+    return text + shown(verdict.line, line) + (f"  Hint: {hint}\n".encode() if hint else b"")
+
+
+def sentence_of(verdict: Verdict, fault: str, key: list[str], line: bytes | None) -> str:
+    """What is wrong with a line."""
+    if key:
+        is_of_a_header = line is not None and json.loads(line).get("event") == "header"
+        wanted = OF_A_WINDOW if key == ["window"] and is_of_a_header else WANTED[key[0]]
+        return FAULTS_OF_A_KEY[fault].format(key=key[0], wanted=wanted)
+    if fault != "header-place":
+        return FAULTS[fault]
+    if verdict.is_headed:
+        return "a header stands before this one: are these two logs, one behind the other?"
+    if line is not None:
+        return "the first line that is not blank has to be the header"
+    return "the input is empty" if verdict.line == 1 else "the input has only blank lines"
+
+
+def hint_of(line: bytes) -> str:
+    """What a file may be whose first line is this, which cannot be read."""
+    hints = (
+        (line.startswith(b"\x1f\x8b"), "the file is compressed by gzip; decompress it first."),
+        (line.startswith(b"\x28\xb5\x2f\xfd"), "the file is compressed by zstd; decompress it"
+         " first."),
+        (line.startswith(b"\xef\xbb\xbf"), "the file begins with a byte order mark; leave it"
+         " out."),
+        (line.startswith(b"\x1e"), "the file is a JSON text sequence (RFC 7464), as qlog writes;"
+         " qlog-to-trace reads it."),
+        (any(it in line for it in QLOG), "the file is a qlog file; qlog-to-trace makes traces of"
+         " it."),
+        (line.startswith((b"\xff\xfe", b"\xfe\xff")) or b"\0" in line, "the file seems to be"
+         " UTF-16; write it as UTF-8."),
+        (line.startswith(b"["), "the file is a JSON array; a trace has one object on each line."),
+        (line.startswith(b"{") and b"}" not in line, "the object goes over several lines; a trace"
+         " has one on each line."),
+    )
+    return next((text for holds, text in hints if holds), "")
+
+
+# Events that break a rule.
+
+
+def refused(verdict: Verdict, lines: list[bytes]) -> bytes:
+    """Why an event is refused, or the end of a trace."""
+    said = ((number, said_by(line)) for number, line in enumerate(lines, 1) if line.strip())
+    sender = Sender(next(said)[1])
+    rule = Rule(" ".join(verdict.what.split(" ")[:2]))
+    source = f"  {SOURCES[rule]}\n"
+    if rule == Rule.OWED_AT_END:
+        for _, event in said:
+            sender.follow(event)
+        text = "the trace ends while a loss is owed\n" + owed_of(sender) + source
+        return text.encode()
+    for number, event in said:
+        if number == verdict.line:
+            field = verdict.what.partition(" metric ")[2]
+            deed = deed_of(sender, event, rule, field)
+            facts = facts_of(sender, event, rule, field)
+            front = f"{subject_of(event)} {deed}\n".encode()
+            return front + shown(number, lines[number - 1]) + (facts + source).encode()
+        sender.follow(event)
+    raise ValueError("the report names no line of an event")
+
+
+def said_by(line: bytes) -> Event:
+    """What a line says; a key whose value is null is absent."""
+    keys: Event = json.loads(line)
+    return {key: value for key, value in keys.items() if value is not None}
+
+
+def subject_of(event: Event) -> str:
+    """What an event is."""
+    match event["event"]:
+        case "sent":
+            return f"packet {event['number']} of {event['space']}"
+        case "ack":
+            return f"the acknowledgment of {event['space']}"
+        case "lost":
+            return f"the lost line of {event['space']}"
+        case "timer":
+            return f"the {event['kind']} timer of {event['space']}"
+        case "discard":
+            return f"the discard of {event['space']}"
+        case "confirmed":
+            return "the confirmation of the handshake"
+        case "keys":
+            return "the line of the handshake keys"
+    return "the report"
+
+
+def deed_of(sender: Sender, event: Event, rule: Rule, field: str) -> str:
+    """What an event did that breaks a rule."""
+    time, settings = event["time"], sender.settings
+    match rule:
+        case Rule.TIME_BACK:
+            return f"is at {time}, before the event before it at {sender.last_time}"
+        case Rule.PAST_WINDOW if settings.may_overshoot:
+            return f"is sent where the bytes in flight have reached the window of {sender.window}"
+        case Rule.PAST_WINDOW:
+            total = sender.bytes_in_flight + event["size"]
+            return f"takes the bytes in flight to {total}, past the window of {sender.window}"
+        case Rule.TIMER_EARLY:
+            early = due_of(sender).time - time
+            allowed = settings.timer_early
+            allowance = f", where the header allows {allowed}" if allowed else ""
+            return f"fired at {time}, {early} before its deadline{allowance}"
+        case Rule.TIMER_LATE:
+            due = packets_due_of(sender)
+            late = time - max(due.time, sender.due_since)
+            limit = settings.timer_late
+            return f"came {late} after the timer should have fired, where the header allows {limit}"
+        case Rule.METRIC:
+            return f"differs from the machine in {field}"
+    return DEEDS[rule].format(time=time)
+
+
+def facts_of(sender: Sender, event: Event, rule: Rule, field: str) -> str:
+    """The facts of a rule, a line each."""
+    lines = "".join(f"  {it}\n" for it in facts(sender, event, rule, field))
+    if rule in (Rule.LOSS_OWED, Rule.LOSS_NOT_OWED, Rule.LOSS_SET):
+        return owed_of(sender) + lines
+    return lines
+
+
+def facts(sender: Sender, event: Event, rule: Rule, field: str) -> Iterable[str]:
+    """The facts of a rule beside what is owed."""
+    match rule:
+        case Rule.LOSS_SET:
+            yield from differences_of(event["ranges"], sender.owed_numbers)
+        case Rule.NUMBER_NOT_HIGHER:
+            greatest = max(sender.spaces[event["space"]].by_number)
+            yield f"greatest sent: {event['space']} {greatest}"
+        case Rule.ACK_UNSENT:
+            first = first_outside(event["ranges"], set(sender.spaces[event["space"]].by_number))
+            yield f"{event['space']} {first} was never sent"
+        case Rule.PAST_WINDOW | Rule.PAST_PROBE | Rule.PAST_RECOVERY:
+            yield leave_of(sender, event, rule)
+        case Rule.PROBE_OWED:
+            yield f"no ack-eliciting packet followed the probe timeout of {sender.probe_due}"
+        case Rule.TIMER_OTHER:
+            yield f"set: {set_for(due_of(sender))}"
+        case Rule.TIMER_EARLY:
+            yield deadline_of(sender, due_of(sender))
+        case Rule.TIMER_LATE:
+            due, limit = packets_due_of(sender), sender.settings.timer_late
+            times = f"since {sender.due_since}; limit {limit}; this event at {event['time']}"
+            yield f"set: {set_for(due)}, {times}"
+        case Rule.METRIC:
+            yield from reported(sender, event, field)
+        case Rule.COLLAPSE_MISSING:
+            yield collapse_of(sender, event)
+
+
+# Packet numbers.
+
+
+def runs_text(runs: Ranges) -> str:
+    """Runs, but for how many there are beyond those that are shown."""
+    texts = [f" {low}" if low == high else f" {low}-{high}" for low, high in runs[:SHOWN_RUNS]]
+    more = len(runs) - SHOWN_RUNS
+    return "".join(texts) + (f" and {more} more runs" if more > 0 else "")
+
+
+def runs_of(ranges: Ranges) -> Ranges:
+    """The same numbers, in as few ranges as there can be, which rise."""
+    runs: Ranges = []
+    for low, high in sorted(ranges):
+        if runs and low <= runs[-1][1] + 1:
+            runs[-1][1] = max(runs[-1][1], high)
+        else:
+            runs.append([low, high])
+    return runs
+
+
+def without(ranges: Ranges, numbers: Iterable[int]) -> Ranges:
+    """The numbers of ranges that are not among these."""
+    left = runs_of(ranges)
+    for number in sorted(numbers):
+        parts: Ranges = []
+        for low, high in left:
+            if low <= number <= high:
+                parts += [it for it in ([low, number - 1], [number + 1, high]) if it[0] <= it[1]]
+            else:
+                parts.append([low, high])
+        left = parts
+    return left
+
+
+def differences_of(ranges: Ranges, owed: set[int]) -> Iterable[str]:
+    """How ranges differ from the numbers that are owed."""
+    unnamed = [n for n in owed if not any(low <= n <= high for low, high in ranges)]
+    unowed = without(ranges, owed)
+    if unnamed:
+        yield "owed but not named:" + runs_text(runs_of([[n, n] for n in unnamed]))
+    if unowed:
+        yield "named but not owed:" + runs_text(unowed)
+
+
+def first_outside(ranges: Ranges, numbers: set[int]) -> int:
+    """The least number of the ranges that is not among these."""
+    for low, high in sorted(ranges):
+        for number in range(low, high + 1):
+            if number not in numbers:
+                return number
+    raise ValueError("each number is among them")
+
+
+def owed_of(sender: Sender) -> str:
+    """What is owed."""
+    if not sender.owed:
+        return "  nothing is owed\n"
+    runs = runs_of([[number, number] for number in sender.owed_numbers])
+    return f"  owed: {sender.owed_space}{runs_text(runs)}\n"
+
+
+# Leave to send.
+
+
+def leave_of(sender: Sender, event: Event, rule: Rule) -> str:
+    """What a packet may take, and what was taken before it."""
+    size, settings = event["size"], sender.settings
+    if rule == Rule.PAST_WINDOW:
+        total = sender.bytes_in_flight + size
+        may = ", which the last packet may overshoot" if settings.may_overshoot else ""
+        return f"in flight {sender.bytes_in_flight} + {size} = {total}, window {sender.window}{may}"
+    if rule == Rule.PAST_PROBE:
+        if sender.probe_spent is None:
+            return "no probe timeout yet"
+        spent = f"since the last probe timeout, spent {sender.probe_spent}"
+        return f"allowed {settings.probe_allowance} {spent}, this packet {size}"
+    if sender.recovery_spent is None:
+        return "no entry into recovery yet"
+    return f"packets by leave of recovery since the last entry: {sender.recovery_spent}"
+
+
+# Deadlines.
+
+
+def due_of(sender: Sender) -> Deadline:
+    """What the timer is set for. ValueError where it is not set."""
+    due = sender.deadline()
+    if due is None:
+        raise ValueError("no timer is set")
+    return due
+
+
+def packets_due_of(sender: Sender) -> Deadline:
+    """What the timer is set for by packets. ValueError where it is not."""
+    due = sender.packet_deadline()
+    if due is None:
+        raise ValueError("no timer is set by packets")
+    return due
+
+
+def set_for(due: Deadline) -> str:
+    """What the timer is set for, and when."""
+    return f"{due.kind} {due.space} at {due.time}"
+
+
+def deadline_of(sender: Sender, due: Deadline) -> str:
+    """A deadline, and what it is the sum of."""
+    front = f"deadline {due.time} ="
+    if due.kind == "loss":
+        first = min(sender.below_largest(sender.spaces[due.space]), key=lambda it: it.place)
+        what = f"packet {first.number} of {due.space} was sent"
+        delay = due.time - first.time
+        return f"{front} {first.time} ({what}) + {delay} ({rtt_of(sender, delay)})"
+    if sender.packet_deadline() is not None:
+        since = sender.spaces[due.space].last_eliciting_time
+        what = f"the last ack-eliciting packet of {due.space} was sent"
+        peer_delay = sender.settings.max_ack_delay if due.space == "app" else 0
+    else:
+        since, what, peer_delay = sender.last_set, "the timer was set", 0
+    if since is None:
+        raise ValueError("no timer is set")
+    timeout = (
+        f"(2^{sender.pto_count} * (smoothed_rtt {sender.smoothed_rtt} + max(4 * rttvar"
+        f" {sender.rttvar}, kGranularity) + max_ack_delay {peer_delay}))"
+    )
+    return f"{front} {since} ({what}) + {due.time - since} {timeout}"
+
+
+def rtt_of(sender: Sender, delay: int) -> str:
+    """What makes a loss delay."""
+    longest = max(sender.latest_rtt, sender.smoothed_rtt)
+    if 8 * delay >= 9 * longest + 8:
+        return "kGranularity"
+    is_smoothed = sender.latest_rtt < sender.smoothed_rtt
+    return f"9/8 of {'smoothed_rtt' if is_smoothed else 'latest_rtt'} {longest}"
+
+
+# Reported values.
+
+
+def reported(sender: Sender, event: Event, first: str) -> Iterable[str]:
+    """A line of each reported value that differs; those of the controller only where one is the
+    first."""
+    for name in METRICS:
+        is_looked_at = name not in OF_THE_CONTROLLER or first in OF_THE_CONTROLLER
+        value = event.get(name)
+        if not is_looked_at or value is None or not sender.differs(name, value):
+            continue
+        held, slack = sender.total(name), sender.settings.slack_of(name)
+        if held is None:
+            yield f"{name}: reported {value}, the machine has none"
+        else:
+            gap = f"difference {abs(value - held)}, slack {slack}"
+            yield f"{name}: reported {value}, the machine has {held}, {gap}"
+
+
+def collapse_of(sender: Sender, event: Event) -> str:
+    """The reported window, and the greatest that is right behind persistent congestion."""
+    least = K_MINIMUM_WINDOW * sender.settings.max_datagram_size
+    acked, slack = sender.acked_since_collapse, sender.settings.slack_bytes
+    if acked is None:
+        raise ValueError("there is no persistent congestion")
+    sums = f"{least} (two datagrams) + {acked} (acknowledged since) + {slack} (slack)"
+    return f"window reported {event['window']}, at most {sums} = {least + acked + slack}"

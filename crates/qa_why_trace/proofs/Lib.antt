@@ -1,0 +1,4 @@
+mod Among
+mod Judged
+mod Told
+mod Found

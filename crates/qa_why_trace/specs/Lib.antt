@@ -1,0 +1,5 @@
+pub mod Lines
+pub mod Faults
+pub mod Hints
+pub mod Texts
+pub mod Why

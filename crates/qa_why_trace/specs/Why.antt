@@ -1,0 +1,72 @@
+-- What is written of the bytes of a trace: why they are refused or cannot be read, or that they are accepted.
+use Rattle.std.specs.Prelude.{◌≡◌, ℕ, Bool, true, is_some, List, [], ◌∷◌, ◌++◌, Option, Some, None, if◌then◌else◌}
+use Rattle.std.specs.Io.KnownBytes.{Appends}
+use Rattle.qa_base.specs.declared.event.Event.{Event}
+use Rattle.qa_base.specs.declared.rule.Rule.{Rule}
+use Rattle.qa_base.specs.machine.Packets.{history_of}
+use Rattle.qa_base.specs.values.Settings.{Settings}
+use Rattle.qa_causes.specs.Causes.{cause_of, owed_now}
+use Rattle.qa_check.specs.Audit.{outcome_of}
+use Rattle.qa_check.specs.declared.auditing.Outcome.{Outcome}
+use Rattle.qa_check.specs.declared.auditing.Outcome.TheVariants as outcomes
+use Rattle.qa_format.specs.declared.verdict.Verdict.{Verdict}
+use Rattle.qa_format.specs.declared.verdict.Verdict.TheVariants.{Accepted, Refused, Unreadable}
+use Rattle.qa_format.specs.format.Lines.{lines}
+use Rattle.qa_format.specs.format.Reading.{reading}
+use Rattle.qa_format.specs.verdicts.Verdict.{event_said, events_in, header_in, stop_after, verdict}
+use Rattle.qa_why_trace.specs.Texts.{accepted_text, owed_at_end_text, refused_text, unreadable_text}
+
+-- ---- by the header and the history before
+
+-- why an event is refused, which a line says
+abbrev pub event_text : List ℕ → ℕ → Rule → Option Settings → List Event → Option Event → List ℕ → List ℕ
+event_text name n r (Some c) h (Some e) l = refused_text name n r e (cause_of c h e r) l
+event_text name n r header h said l = []
+
+-- why the end is refused
+abbrev pub end_text : List ℕ → ℕ → Option Settings → List Event → List ℕ
+end_text name n (Some c) h = owed_at_end_text name n (owed_now c h)
+end_text name n None h = []
+
+-- why line n is refused, or the end behind it
+abbrev pub refusal_text : List ℕ → ℕ → Rule → Option Settings → List Event → Option (List ℕ) → List ℕ
+refusal_text name n r header h (Some l) = event_text name n r header h (event_said (reading l)) l
+refusal_text name n r header h None = end_text name n header h
+
+-- what is told of a verdict on a line that is not good, or else on the end, after this header and this history
+abbrev pub told : List ℕ → Verdict → Option Settings → List Event → Option (List ℕ) → List ℕ
+told name (Accepted t) header h line = accepted_text name t
+told name (Refused n r t) header h line = refusal_text name n r header h line
+told name (Unreadable n f t) header h line = unreadable_text name n f (is_some t) line
+
+-- ---- where lines are judged
+
+-- the lines before the first that is not good, and that line; or all of them
+abbrev pub judged_at : List (List ℕ) → List (List ℕ) → List (List ℕ) × Option (List ℕ)
+judged_at before [] = (before, None)
+judged_at before (l ∷ ls) = if is_some (stop_after reading before l) then (before, Some l) else judged_at (before ++ l ∷ []) ls
+
+abbrev pub told_at : List ℕ → Verdict → List (List ℕ) × Option (List ℕ) → List ℕ
+told_at name v place = told name v (header_in reading place.0) (history_of (events_in reading place.0)) place.1
+
+-- ---- the bytes
+
+-- what is told of bytes, under the name of their file
+unfoldable pub why : List ℕ → List ℕ → List ℕ
+why name bytes = told_at name (verdict reading bytes) (judged_at [] (lines bytes))
+
+-- it is this text, and the kind of their verdict is this
+abbrev pub Tells : List ℕ → Outcome → List ℕ → List ℕ → Type 0
+Tells name outcome text bytes = (text ≡ why name bytes) × (outcome ≡ outcome_of (verdict reading bytes))
+
+-- what is written: where it is to be quiet, nothing of accepted bytes
+abbrev pub unless_accepted : Bool → Outcome → List ℕ → List ℕ
+unless_accepted true outcomes.Accepted text = []
+unless_accepted quiet outcome text = text
+
+abbrev pub written : Bool → List ℕ → List ℕ → List ℕ
+written quiet name bytes = unless_accepted quiet (outcome_of (verdict reading bytes)) (why name bytes)
+
+-- it was written, and the kind of their verdict is returned
+abbrev pub Writes : Option (List ℕ) → Option (List ℕ) → Bool → List ℕ → Outcome → List ℕ → Type 0
+Writes held held' quiet name outcome bytes = Appends held held' (written quiet name bytes) × (outcome ≡ outcome_of (verdict reading bytes))

@@ -1,0 +1,170 @@
+//! What is told of a verdict, by the ledger of the events before.
+ghost use Rattle.std.specs.Prelude.{◌≡◌, List, ℕ, false, Some, Option, IfOk, IfErr};
+ghost use Rattle.std.specs.Option.{option_copied};
+ghost use Rattle.qa_base.specs.declared.event.Event.{Event as AnEvent};
+ghost use Rattle.qa_base.specs.values.Settings.{Settings};
+ghost use Rattle.qa_check.specs.Audit.{outcome_of};
+ghost use Rattle.qa_check.specs.Standing.{HoldsRun, StandsFor};
+ghost use Rattle.qa_format.specs.format.Reading.{reading};
+ghost use Rattle.qa_format.specs.verdicts.Verdict.{event_said, verdict_of};
+ghost use Rattle.qa_why_trace.specs.Why as defined;
+
+use crate::texts::{accepted, owed_at_end, refused, unreadable};
+use qa_base::{Event, Rule};
+use qa_causes::Explains;
+use qa_check::{AuditFault, Checker, Outcome};
+use qa_format::{Line, Verdict};
+use qa_read::read_line;
+use std::alloc::{AllocError, Global};
+
+/// What is told of a trace, and the kind of its verdict.
+#[derive(Drop)]
+pub struct Why {
+    /// The kind of its verdict.
+    pub outcome: Outcome,
+    /// What is told of it.
+    pub text: Vec<u8>,
+}
+
+/// Why the ledger refuses the event, by the rule.
+fn of_event<L: Explains + Drop>(
+    alloc: Global,
+    name: &str,
+    ledger: &L,
+    n: u64,
+    rule: Rule,
+    event: &Event,
+    line: &[u8],
+) -> Result<Vec<u8>, AllocError>
+    ensures { L.has_failed ledger.now ≡ false → IfOk result (λ text. (c : Settings)
+        (h : List AnEvent) → L.stands ledger.now c h
+        → text.items ≡ defined.event_text name.now n rule (Some c) h (Some event.now) line.now) }
+{
+    let cause = ledger.cause(event, rule)?;
+    refused(alloc, name, n, rule, event, &cause, line)
+}
+
+/// Why the ledger refuses the event that this line says.
+fn of_line<L: Explains + Drop>(
+    alloc: Global,
+    name: &str,
+    ledger: &L,
+    n: u64,
+    rule: Rule,
+    line: &[u8],
+) -> Result<Vec<u8>, AllocError>
+    ensures { L.has_failed ledger.now ≡ false → IfOk result (λ text. (c : Settings)
+        (h : List AnEvent) → L.stands ledger.now c h
+        → text.items ≡ defined.event_text name.now n rule (Some c) h (event_said (reading line.now)) line.now) }
+{
+    let read = read_line(alloc, line);
+    match &read {
+        Ok(Line::Event(event)) => of_event(alloc, name, ledger, n, rule, event, line),
+        _ => Err(AllocError),
+    }
+}
+
+/// Why the end of the trace is refused.
+fn of_end<L: Explains + Drop>(
+    alloc: Global,
+    name: &str,
+    ledger: &L,
+    n: u64,
+) -> Result<Vec<u8>, AllocError>
+    ensures { L.has_failed ledger.now ≡ false → IfOk result (λ text. (c : Settings)
+        (h : List AnEvent) → L.stands ledger.now c h
+        → text.items ≡ defined.end_text name.now n (Some c) h) }
+{
+    let owed = ledger.owed()?;
+    owed_at_end(alloc, name, n, &owed)
+}
+
+/// Why the event of this line is refused, or the end of the trace.
+fn of_refusal<L: Explains + Drop>(
+    alloc: Global,
+    name: &str,
+    ledger: &L,
+    n: u64,
+    rule: Rule,
+    line: Option<&[u8]>,
+) -> Result<Vec<u8>, AllocError>
+    ensures { L.has_failed ledger.now ≡ false → IfOk result (λ text. (c : Settings)
+        (h : List AnEvent) → L.stands ledger.now c h
+        → text.items ≡ defined.refusal_text name.now n rule (Some c) h (option_copied line.entry)) }
+{
+    match line {
+        Some(line) => of_line(alloc, name, ledger, n, rule, line),
+        None => of_end(alloc, name, ledger, n),
+    }
+}
+
+/// The same by the ledger of a checker, which has one where it refuses an event.
+fn of_held_refusal<L: Explains + Drop>(
+    alloc: Global,
+    name: &str,
+    checker: &Checker<L>,
+    n: u64,
+    rule: Rule,
+    line: Option<&[u8]>,
+) -> Result<Vec<u8>, AllocError>
+    requires whole { checker.now.failed ≡ false }
+    ensures { IfOk result (λ text. (header : Option Settings) (h : List AnEvent)
+        → HoldsRun L.stands checker.now.ledger header h
+        → text.items ≡ defined.refusal_text name.now n rule header h (option_copied line.entry)) }
+{
+    match checker.ledger() {
+        Some(ledger) => of_refusal(alloc, name, ledger, n, rule, line),
+        None => Err(AllocError),
+    }
+}
+
+/// What is told of this verdict, which is that of the line, or else of the end.
+fn of_verdict<L: Explains + Drop>(
+    alloc: Global,
+    name: &str,
+    checker: &Checker<L>,
+    verdict: &Verdict,
+    line: Option<&[u8]>,
+) -> Result<Vec<u8>, AllocError>
+    requires whole { checker.now.failed ≡ false }
+    ensures { IfOk result (λ text. (header : Option Settings) (h : List AnEvent)
+        → HoldsRun L.stands checker.now.ledger header h
+        → text.items ≡ defined.told name.now verdict.now header h (option_copied line.entry)) }
+{
+    match verdict {
+        Verdict::Accepted(totals) => accepted(alloc, name, totals),
+        Verdict::Refused(n, rule, _) => of_held_refusal(alloc, name, checker, *n, *rule, line),
+        Verdict::Unreadable(n, fault, totals) => {
+            unreadable(alloc, name, *n, *fault, totals.is_some(), line)
+        }
+    }
+}
+
+/// What is told of the verdict that the checker has come to: at this line, which is not good, or else
+/// at the end, or at a line that is too long.
+///
+/// `AuditFault::OutOfMemory` comes where it is out of memory.
+pub fn why_of<L: Explains + Drop>(
+    alloc: Global,
+    name: &str,
+    checker: &Checker<L>,
+    line: Option<&[u8]>,
+) -> Result<Why, AuditFault>
+    requires whole { checker.now.failed ≡ false }
+    ensures outcome { IfOk result (λ why. (ls : List (List ℕ)) → StandsFor L.stands checker.now ls
+        → why.outcome ≡ outcome_of (verdict_of reading ls)) }
+    ensures text { IfOk result (λ why. (ls : List (List ℕ)) (header : Option Settings)
+        (h : List AnEvent) → StandsFor L.stands checker.now ls
+        → HoldsRun L.stands checker.now.ledger header h
+        → why.text.items ≡ defined.told name.now (verdict_of reading ls) header h (option_copied line.entry)) }
+    ensures memory { IfErr result (λ fault. fault ≡ AuditFault.OutOfMemory) }
+{
+    let Some(verdict) = checker.verdict() else {
+        return Err(AuditFault::OutOfMemory);
+    };
+    let Ok(text) = of_verdict(alloc, name, checker, &verdict, line) else {
+        return Err(AuditFault::OutOfMemory);
+    };
+    let outcome = Outcome::of(&verdict);
+    Ok(Why { outcome, text })
+}

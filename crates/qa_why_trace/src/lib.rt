@@ -1,0 +1,13 @@
+//! What is written of a trace that is refused, cannot be read or is accepted: from a reader of bytes to
+//! the text that says why.
+#![tactic(auto)]
+
+mod causes;
+mod faults;
+mod hints;
+mod lines;
+mod telling;
+mod texts;
+
+pub use causes::{Why, why_of};
+pub use telling::why;

@@ -1,0 +1,229 @@
+//! From a reader of bytes to why they are refused, on a writer.
+ghost use Rattle.std.specs.Prelude.{[], ◌≡◌, ◌≢◌, ◌++◌, ℕ, List, false, Some, Err, Ok, OnErr, IfOk, IfErr, IfSome, IfNone, IsSome, take};
+ghost use Rattle.std.specs.Io.KnownBytes.{Appends};
+ghost use Rattle.qa_check.specs.Audit.{Reads, ReadsEnough, is_read_fault, is_write_fault};
+ghost use Rattle.qa_check.specs.Auditor.{TakesMore};
+ghost use Rattle.qa_check.specs.Failures.{failures_after};
+ghost use Rattle.qa_check.specs.Following.{Follows, IsReady};
+ghost use Rattle.qa_format.specs.format.Reading.{reading};
+ghost use Rattle.qa_format.specs.verdicts.Verdict.{IsFixed};
+ghost use Rattle.qa_split.specs.Stream.{HasNoLine};
+ghost use Rattle.qa_why_trace.specs.Why as defined;
+ghost use Rattle.qa_why_trace.specs.Why.{Tells, Writes, written};
+
+use crate::causes::{Why, why_of};
+use qa_causes::Explains;
+use qa_check::{AuditFault, Checker, Outcome, Sink, Source, Stop, write_whole};
+use qa_split::{SplitFault, Splitter};
+use std::alloc::Global;
+
+/// The most bytes that one read asks for.
+const PIECE: usize = 4096;
+
+/// Reads a trace and writes why it is refused or cannot be read, or that it is accepted: of every
+/// sequence of bytes that a reader returns, one text. Where it is to be quiet, it writes nothing of an
+/// accepted trace.
+///
+/// It reads what `audit` reads, and fails where that fails. Beside what `audit` holds it takes memory
+/// for the text alone, once the verdict is fixed.
+pub fn why<L: Explains + Drop, R: Source, W: Sink>(
+    alloc: Global,
+    name: &str,
+    quiet: bool,
+    reader: &mut R,
+    writer: &mut W,
+) -> Result<Outcome, AuditFault>
+    // For a reader that tells its bytes: the text for them was written, and the kind of their verdict is returned.
+    ensures told { (bytes : List ℕ) → R.left reader.old ≡ Some bytes
+        → IfOk result (λ outcome. Writes (W.held writer.old) (W.held writer.new) quiet name.now outcome bytes) }
+
+    // For every reader: what was read decides, since it is all there is, or nothing behind it counts.
+    ensures ok { IfOk result (λ outcome. (bytes : List ℕ)
+        × ReadsEnough (R.left reader.old) (R.left reader.new) (R.last_read reader.new) bytes
+        × Writes (W.held writer.old) (W.held writer.new) quiet name.now outcome bytes) }
+
+    // The bytes before the last read did not fix the verdict, whatever the result.
+    ensures reads { Reads (R.left reader.old) (R.left reader.new) (R.last_read reader.new) }
+
+    // After a failed write the beginning of the text was written, and else nothing.
+    ensures beginning { result ≡ Err AuditFault.Write → (bytes : List ℕ) × (n : ℕ)
+        × ReadsEnough (R.left reader.old) (R.left reader.new) (R.last_read reader.new) bytes
+        × Appends (W.held writer.old) (W.held writer.new) (take n (written quiet name.now bytes)) }
+    ensures unwritten { result ≢ Err AuditFault.Write
+        → OnErr result (W.held writer.new ≡ W.held writer.old) }
+
+    // A fault of the reader or the writer is returned exactly where it failed, once.
+    ensures read_failures { R.read_failures reader.new
+        ≡ failures_after (is_read_fault result) (R.read_failures reader.old) }
+    ensures write_failures { W.write_failures writer.new
+        ≡ failures_after (is_write_fault result) (W.write_failures writer.old) }
+{
+    let why = find::<L, R>(alloc, name, reader)?;
+    write_whole(writer, unless_accepted(quiet, why.outcome, &why.text))?;
+    Ok(why.outcome)
+}
+
+/// The text; where it is to be quiet, nothing of an accepted trace.
+fn unless_accepted(quiet: bool, outcome: Outcome, text: &[u8]) -> &[u8]
+    ensures { result.now ≡ defined.unless_accepted quiet outcome text.now }
+{
+    match outcome {
+        Outcome::Accepted if quiet => &[],
+        _ => text,
+    }
+}
+
+/// What is told of what is read.
+fn find<L: Explains + Drop, R: Source>(
+    alloc: Global,
+    name: &str,
+    reader: &mut R,
+) -> Result<Why, AuditFault>
+    ensures told { IfOk result (λ why. (bytes : List ℕ)
+        × ReadsEnough (R.left reader.old) (R.left reader.new) (R.last_read reader.new) bytes
+        × Tells name.now why.outcome why.text.items bytes) }
+    ensures reads { Reads (R.left reader.old) (R.left reader.new) (R.last_read reader.new) }
+    ensures read_failures { R.read_failures reader.new
+        ≡ failures_after (is_read_fault result) (R.read_failures reader.old) }
+    ensures written { is_write_fault result ≡ false }
+{
+    let mut splitter = Splitter::new(alloc);
+    let mut checker = Checker::<L>::new(alloc);
+    take_pieces(alloc, name, reader, &mut splitter, &mut checker)
+}
+
+/// Takes piece after piece, from the first on, and tells why.
+fn take_pieces<L: Explains + Drop, R: Source>(
+    alloc: Global,
+    name: &str,
+    reader: &mut R,
+    splitter: &mut Splitter,
+    checker: &mut Checker<L>,
+) -> Result<Why, AuditFault>
+    requires more { TakesMore splitter.old checker.old }
+    requires first { Follows L.stands splitter.old.bytes checker.old [] }
+    ensures told { IfOk result (λ why. (bytes : List ℕ)
+        × ReadsEnough (R.left reader.old) (R.left reader.new) (R.last_read reader.new) bytes
+        × Tells name.now why.outcome why.text.items bytes) }
+    ensures reads { Reads (R.left reader.old) (R.left reader.new) (R.last_read reader.new) }
+    ensures read_failures { R.read_failures reader.new
+        ≡ failures_after (is_read_fault result) (R.read_failures reader.old) }
+    ensures written { is_write_fault result ≡ false }
+{
+    let mut piece = [0u8; PIECE];
+    'pieces: for _i in 0..u64::MAX {
+        let Ok(n) = reader.read_piece(&mut piece) else {
+            return Err(AuditFault::Read);
+        };
+        if n == 0 {
+            return conclude(alloc, name, splitter, checker);
+        }
+        match take_piece(alloc, name, splitter, checker, &piece[..n]) {
+            Ok(None) => {}
+            Ok(Some(why)) => return Ok(why),
+            Err(fault) => return Err(fault),
+        }
+    }
+    // A line more than a trace may have is not good, so that a reader without end is not read to here.
+    unreachable!()
+}
+
+/// Takes the next piece, and tells why, where it fixes the verdict.
+fn take_piece<L: Explains + Drop>(
+    alloc: Global,
+    name: &str,
+    splitter: &mut Splitter,
+    checker: &mut Checker<L>,
+    piece: &[u8],
+) -> Result<Option<Why>, AuditFault>
+    requires ready { IsReady splitter.old }
+    requires whole { checker.old.failed ≡ false }
+    ensures more { IfOk result (λ found. IfNone found (TakesMore splitter.new checker.new)) }
+    ensures good { IfOk result (λ found. IfNone found ((bytes : List ℕ)
+        → Follows L.stands splitter.old.bytes checker.old bytes
+        → Follows L.stands splitter.new.bytes checker.new (bytes ++ piece.now))) }
+    ensures bad { IfOk result (λ found. IfSome found (λ why. (bytes : List ℕ)
+        → Follows L.stands splitter.old.bytes checker.old bytes
+        → IsFixed reading (bytes ++ piece.now)
+        × Tells name.now why.outcome why.text.items (bytes ++ piece.now))) }
+    ensures memory { IfErr result (λ fault. fault ≡ AuditFault.OutOfMemory) }
+{
+    let Ok(()) = splitter.feed(piece) else {
+        return Err(AuditFault::OutOfMemory);
+    };
+    take_lines(alloc, name, splitter, checker)
+}
+
+/// Takes each line that stands ready, and tells why of the first that is not good.
+fn take_lines<L: Explains + Drop>(
+    alloc: Global,
+    name: &str,
+    splitter: &mut Splitter,
+    checker: &mut Checker<L>,
+) -> Result<Option<Why>, AuditFault>
+    requires ready { IsReady splitter.old }
+    requires whole { checker.old.failed ≡ false }
+    ensures more { IfOk result (λ found. IfNone found (TakesMore splitter.new checker.new)) }
+    ensures good { IfOk result (λ found. IfNone found ((bytes : List ℕ)
+        → Follows L.stands splitter.old.bytes checker.old bytes
+        → Follows L.stands splitter.new.bytes checker.new bytes)) }
+    ensures bad { IfOk result (λ found. IfSome found (λ why. (bytes : List ℕ)
+        → Follows L.stands splitter.old.bytes checker.old bytes
+        → IsFixed reading bytes × Tells name.now why.outcome why.text.items bytes)) }
+    ensures memory { IfErr result (λ fault. fault ≡ AuditFault.OutOfMemory) }
+{
+    'lines: loop {
+        match splitter.next_line() {
+            Ok(Some(line)) => match checker.push_line(line) {
+                Ok(()) => {}
+                Err(Stop::Decided) => return found(why_of(alloc, name, checker, Some(line))),
+                Err(Stop::OutOfMemory) => return Err(AuditFault::OutOfMemory),
+            },
+            Ok(None) => return Ok(None),
+            Err(SplitFault::TooLong) => match checker.too_long() {
+                Stop::Decided => return found(why_of(alloc, name, checker, None)),
+                Stop::OutOfMemory => return Err(AuditFault::OutOfMemory),
+            },
+            Err(SplitFault::OutOfMemory) => return Err(AuditFault::OutOfMemory),
+        }
+    }
+}
+
+/// It, as what was found at a line.
+fn found(told: Result<Why, AuditFault>) -> Result<Option<Why>, AuditFault>
+    ensures some { IfOk result IsSome }
+    ensures same { IfOk result (λ found. IfSome found (λ why. told ≡ Ok why)) }
+    ensures err { IfErr result (λ fault. told ≡ Err fault) }
+{
+    match told {
+        Ok(why) => Ok(Some(why)),
+        Err(fault) => Err(fault),
+    }
+}
+
+/// Tells why, where nothing more comes.
+fn conclude<L: Explains + Drop>(
+    alloc: Global,
+    name: &str,
+    splitter: &mut Splitter,
+    checker: &mut Checker<L>,
+) -> Result<Why, AuditFault>
+    requires ready { IsReady splitter.old }
+    requires empty { HasNoLine splitter.old }
+    requires whole { checker.old.failed ≡ false }
+    ensures told { IfOk result (λ why. (bytes : List ℕ)
+        → Follows L.stands splitter.old.bytes checker.old bytes
+        → Tells name.now why.outcome why.text.items bytes) }
+    ensures memory { IfErr result (λ fault. fault ≡ AuditFault.OutOfMemory) }
+{
+    splitter.close();
+    match splitter.next_line() {
+        Ok(Some(line)) => match checker.push_line(line) {
+            Ok(()) => why_of(alloc, name, checker, None),
+            Err(Stop::Decided) => why_of(alloc, name, checker, Some(line)),
+            Err(Stop::OutOfMemory) => Err(AuditFault::OutOfMemory),
+        },
+        Ok(None) => why_of(alloc, name, checker, None),
+        Err(_) => Err(AuditFault::OutOfMemory),
+    }
+}
