@@ -33,5 +33,6 @@ pub mod EarlyTimers
 pub mod ConductOfSends
 pub mod FirstVersion
 pub mod Alike
+pub mod LowerThreshold
 pub mod Looser
 pub mod SameVersion

@@ -222,8 +222,9 @@ pub fn version_asks_nothing()
 
 /// A run of events that lines can say is a run, and owes the same losses at its end, under a header that
 /// tolerates no less: no limit for late timers or no lesser one, no lesser slacks, timers that may be as early
-/// or earlier, and a window that may be overshot, be it so before or not. (Lines say no packet without bytes:
-/// that one alone would fit a window that is full, and not overshoot it.)
+/// or earlier, a window that may be overshot, be it so before or not, and, where losses by number may be
+/// declared, the same packet threshold or a lower one: it decides what is free alone. (Lines say no packet
+/// without bytes: that one alone would fit a window that is full, and not overshoot it.)
 pub fn tolerance_admits_more()
     ensures runs { (c d : Settings) (h : List Event) → IsLooser c d → AllByRecursion Fits h
         → IsRun c h → IsRun d h }

@@ -1,9 +1,9 @@
 -- What alike headers have in common: all that a history makes, where losses are looked for as of the same times.
-use Rattle.std.proofs.Common.{◌≡◌, ◌∙◌, ◌+◌, ◌*◌, ◌^◌, ◌&&◌, ◌||◌, not, ℕ, List, [], ◌∷◌, ◌++◌, Bool, true, false, Option, Some, None, refl, sym, ap, ap₂, fold, count_by, map, min, option_map, is_none, sum_by}
+use Rattle.std.proofs.Common.{◌≡◌, ◌∙◌, ◌+◌, ◌*◌, ◌^◌, ◌&&◌, ◌||◌, not, ℕ, List, [], ◌∷◌, ◌++◌, Bool, true, false, Option, Some, None, refl, sym, ap, ap₂, fold, count_by, map, min, option_map, is_none, sum_by, Contains, inl, inr, ◌⊎◌, ◌-◌}
 use Rattle.std.proofs.Math.Path.{fun_ext}
-use Rattle.std.specs.List.{filter, list_any}
+use Rattle.std.specs.List.{filter, list_any, AllByRecursion}
 use Rattle.std.specs.Option.{option_or}
-use Rattle.std.specs.Prelude.{if◌then◌else◌}
+use Rattle.std.specs.Prelude.{if◌then◌else◌, nat_lt, nat_le}
 use Rattle.qa_base.specs.declared.event.Event.{Event}
 use Rattle.qa_base.specs.declared.event.Event.TheVariants.{Sent, Lost, Timer}
 use Rattle.qa_base.specs.declared.header.Version.{Version}
@@ -12,11 +12,11 @@ use Rattle.qa_base.specs.declared.space.Leave.TheVariants.{Recovery}
 use Rattle.qa_base.specs.declared.space.Space.{Space}
 use Rattle.qa_base.specs.declared.space.Space.TheVariants.{Initial, Handshake, App}
 use Rattle.qa_base.specs.machine.Breaches.{is_loss_owed, is_loss_not_owed, numbers, is_other_loss_set, is_over, is_past_recovery, is_timer_not_set, is_other, is_timer_other}
-use Rattle.qa_base.specs.machine.Detection.{are_ends, detection_by, found_at, is_found_at, is_left_at, is_unsettled, looks_at, old_at}
+use Rattle.qa_base.specs.machine.Detection.{are_ends, detection_by, is_found_at, is_free_by, is_left_at, is_old, is_owed_by, is_past_threshold, is_unsettled, may_be_spared, looks_at, old_at}
 use Rattle.qa_base.specs.machine.Estimates.{refreshed_by, rtt, sampled}
 use Rattle.qa_base.specs.machine.Handshake.{is_confirmed, is_validated, has_keys}
 use Rattle.qa_base.specs.machine.Leave.{is_recovery_packet, recovery_spent}
-use Rattle.qa_base.specs.machine.Loss.{bytes_in_flight, declared, detection, is_free, is_open, is_owed, is_persistent, nameable, owed}
+use Rattle.qa_base.specs.machine.Loss.{bytes_in_flight, declared, is_free, is_open, is_owed, is_persistent, nameable, owed}
 use Rattle.qa_base.specs.machine.Moments.{before_last, detection_of, last_time, moments, since}
 use Rattle.qa_base.specs.machine.Numbers.{names_between}
 use Rattle.qa_base.specs.machine.Packets.{Packet, packets, packets_of, is_of, is_discarded, is_some_packet, newly_acknowledged, largest_acknowledged, least_of, is_below_largest}
@@ -26,10 +26,11 @@ use Rattle.qa_base.specs.machine.State.{totals}
 use Rattle.qa_base.specs.machine.Timer.{pto_count, earlier, awaits_loss, loss_due, earliest_loss, awaits_acknowledgment, last_eliciting, pto_due, earliest_pto, last_set, anti_deadlock, deadline, packet_deadline, is_same_due, set_since}
 use Rattle.qa_base.specs.machine.Window.{acknowledged_bytes, acknowledged_since_collapse, changes_window, reported_window, ssthresh, ssthresh_by, window, window_by}
 use Rattle.qa_base.specs.values.Events.{declares_lost, time_of}
-use Rattle.qa_base.specs.values.Settings.{Settings, early, granularity, per_microsecond}
+use Rattle.qa_base.specs.values.Settings.{Settings, early, granularity, is_may, per_microsecond}
 use Rattle.qa_base.proofs.machine.Collapses.{since_collapse_after}
-use Rattle.qa_base.proofs.machine.Declared.{declared_is}
+use Rattle.qa_base.proofs.machine.Declared.{declared_is, owed_is}
 use Rattle.qa_laws.specs.machine.Alike.{AreAlike}
+use Rattle.qa_laws.proofs.machine.Pairs.{of_each, same_part}
 
 -- ---- alike headers
 
@@ -38,6 +39,7 @@ pub record Tolerances : Type 0 where
   pub version : Version
   pub timer_late : Option ℕ
   pub window_overshoot : Bool
+  pub packet_threshold : ℕ
   pub timer_early_us : ℕ
   pub report_slack_us : ℕ
   pub report_slack_bytes : ℕ
@@ -47,6 +49,7 @@ tolerances_of c = record {
   version = c.version;
   timer_late = c.options.timer_late;
   window_overshoot = c.options.window_overshoot;
+  packet_threshold = c.options.packet_threshold;
   timer_early_us = c.options.timer_early_us;
   report_slack_us = c.options.report_slack_us;
   report_slack_bytes = c.options.report_slack_bytes;
@@ -70,7 +73,7 @@ like c t = record {
     controller = c.options.controller;
     window_overshoot = t.window_overshoot;
     sample_eliciting_only = c.options.sample_eliciting_only;
-    packet_threshold = c.options.packet_threshold;
+    packet_threshold = t.packet_threshold;
     timer_early_us = t.timer_early_us;
     loss_by_number = c.options.loss_by_number;
   };
@@ -87,14 +90,13 @@ like_is c d a = rw (
   sym a.refresh_min_rtt,
   sym a.controller,
   sym a.sample_eliciting_only,
-  sym a.packet_threshold,
   sym a.loss_by_number,
 ) refl
 
 -- behind each event of the history losses are looked for in the same place, as of the same time
-abbrev pub Agree : Settings → Tolerances → List Event → Type 0
-Agree c t [] = Unit {0}
-Agree c t (e ∷ h) = Agree c t h × (detection_by (like c t) (sampled c (e ∷ h)) (e ∷ h) ≡ detection_by c (sampled c (e ∷ h)) (e ∷ h))
+abbrev pub Detects : Settings → Tolerances → List Event → Type 0
+Detects c t [] = Unit {0}
+Detects c t (e ∷ h) = Detects c t h × (detection_by (like c t) (sampled c (e ∷ h)) (e ∷ h) ≡ detection_by c (sampled c (e ∷ h)) (e ∷ h))
 
 -- so it is where timers may be equally early
 same_early : (c : Settings) (t : Tolerances) → t.timer_early_us ≡ c.options.timer_early_us → early (like c t) ≡ early c
@@ -106,33 +108,103 @@ equally_early c t r (Timer time Loss space ∷ h) same = ap (λ tolerance. Some 
 equally_early c t r (Timer time Pto space ∷ h) same = refl
 equally_early c t r (_ ∷ h) same = refl
 
-pub agree_if_equally_early : (c : Settings) (t : Tolerances) (h : List Event) → t.timer_early_us ≡ c.options.timer_early_us → Agree c t h
-agree_if_equally_early c t [] same = tt
-agree_if_equally_early c t (e ∷ h) same = (agree_if_equally_early c t h same, equally_early c t (sampled c (e ∷ h)) (e ∷ h) same)
+pub detects_if_equally_early : (c : Settings) (t : Tolerances) (h : List Event) → t.timer_early_us ≡ c.options.timer_early_us → Detects c t h
+detects_if_equally_early c t [] same = tt
+detects_if_equally_early c t (e ∷ h) same = (detects_if_equally_early c t h same, equally_early c t (sampled c (e ∷ h)) (e ∷ h) same)
+
+pub detects_at : (c : Settings) (t : Tolerances) (h : List Event) → Detects c t h → detection_by (like c t) (sampled c h) h ≡ detection_by c (sampled c h) h
+detects_at c t [] detects = refl
+detects_at c t (e ∷ h) detects = detects.1
+
+-- the event finds the same packets lost, and names the same of those that are free, by the samples of the header
+pub record AgreesAt (c : Settings) (t : Tolerances) (e : Event) (h : List Event) : Type 0 where
+  pub owes : (p : Packet) → is_owed_by (like c t) (sampled c (e ∷ h)) (e ∷ h) p ≡ is_owed_by c (sampled c (e ∷ h)) (e ∷ h) p
+  pub names : (p : Packet) → Contains (packets h) p
+      → (is_free_by (like c t) (sampled c h) h p && declares_lost p.space p.number e) ≡ (is_free_by c (sampled c h) h p && declares_lost p.space p.number e)
+
+-- so does each event of the history
+abbrev pub Agree : Settings → Tolerances → List Event → Type 0
+Agree c t [] = Unit {0}
+Agree c t (e ∷ h) = Agree c t h × AgreesAt c t e h
+
+-- ---- thresholds
+
+-- they are the same, or what lies behind by number is not owed
+abbrev pub OwesAlike : Settings → Tolerances → Type 0
+OwesAlike c t = (t.packet_threshold ≡ c.options.packet_threshold) ⊎ (is_may c.options.loss_by_number ≡ true)
+
+past_alike : (c : Settings) (t : Tolerances) → OwesAlike c t → (r : Estimate) (now : ℕ) (most : Option ℕ) (p : Packet) → is_past_threshold (like c t) r now most p ≡ is_past_threshold c r now most p
+past_alike c t alike r now None p = refl
+past_alike c t (inl same) r now (Some m) p = ap (λ k. nat_lt p.number m && ((not (is_may c.options.loss_by_number) && nat_le k (m - p.number)) || is_old c r now p)) same
+past_alike c t (inr may) r now (Some m) p = rw may refl
+
+pub found_alike : (c : Settings) (t : Tolerances) → OwesAlike c t → (r : Estimate) (h : List Event) (p : Packet) (d : Option (Space × ℕ)) → is_found_at (like c t) r h p d ≡ is_found_at c r h p d
+found_alike c t alike r h p None = refl
+found_alike c t alike r h p (Some d) =
+    ap (λ b. is_of d.0 p && (p.in_flight && is_unsettled h p && b)) (past_alike c t alike r d.1 (largest_acknowledged h d.0) p)
+
+spared_alike : (c : Settings) (t : Tolerances) → t.packet_threshold ≡ c.options.packet_threshold → (r : Estimate) (now : ℕ) (most : Option ℕ) (p : Packet)
+    → may_be_spared (like c t) r now most p ≡ may_be_spared c r now most p
+spared_alike c t same r now None p = refl
+spared_alike c t same r now (Some m) p = ap (λ k. nat_lt p.number m && (is_may c.options.loss_by_number && nat_le k (m - p.number)) && not (is_old c r now p)) same
+
+left_alike : (c : Settings) (t : Tolerances) → t.packet_threshold ≡ c.options.packet_threshold → (r : Estimate) (h : List Event) (p : Packet) (d : Option (Space × ℕ))
+    → is_left_at (like c t) r h p d ≡ is_left_at c r h p d
+left_alike c t same r h p None = refl
+left_alike c t same r h p (Some d) =
+    ap (λ b. is_of d.0 p && (p.in_flight && is_unsettled h p && b)) (spared_alike c t same r d.1 (largest_acknowledged h d.0) p)
+
+pub owes_alike : (c : Settings) (t : Tolerances) → OwesAlike c t → (h : List Event) → Detects c t h → (p : Packet) → is_owed_by (like c t) (sampled c h) h p ≡ is_owed_by c (sampled c h) h p
+owes_alike c t alike h detects p =
+    ap (is_found_at (like c t) (sampled c h) h p) (detects_at c t h detects) ∙ found_alike c t alike (sampled c h) h p (detection_by c (sampled c h) h)
+
+frees_alike : (c : Settings) (t : Tolerances) → t.packet_threshold ≡ c.options.packet_threshold → (h : List Event) → Detects c t h → (p : Packet)
+    → is_free_by (like c t) (sampled c h) h p ≡ is_free_by c (sampled c h) h p
+frees_alike c t same h detects p =
+    ap (is_left_at (like c t) (sampled c h) h p) (detects_at c t h detects) ∙ left_alike c t same (sampled c h) h p (detection_by c (sampled c h) h)
+
+-- where the thresholds are the same, all agree that detect alike
+agree_if : (c : Settings) (t : Tolerances) (h : List Event) → t.packet_threshold ≡ c.options.packet_threshold → Detects c t h → Agree c t h
+agree_if c t [] same detects = tt
+agree_if c t (e ∷ h) same detects = (
+  agree_if c t h same detects.0,
+  record {
+    owes = owes_alike c t (inl same) (e ∷ h) detects;
+    names = λ p has. ap (λ b. b && declares_lost p.space p.number e) (frees_alike c t same h detects.0 p);
+  },
+)
+
+pub agree_if_equally_early : (c : Settings) (t : Tolerances) (h : List Event) → t.packet_threshold ≡ c.options.packet_threshold → t.timer_early_us ≡ c.options.timer_early_us → Agree c t h
+agree_if_equally_early c t h same early = agree_if c t h same (detects_if_equally_early c t h early)
 
 -- ---- the estimate, and what is lost by it
 
--- where losses are looked for, given that the samples gave the same
-detection_by_samples : (c : Settings) (t : Tolerances) (h : List Event) → Agree c t h → sampled (like c t) h ≡ sampled c h → detection (like c t) h ≡ detection c h
-detection_by_samples c t [] agree same = refl
-detection_by_samples c t (e ∷ h) agree same = ap (λ r. detection_by (like c t) r (e ∷ h)) same ∙ agree.1
+is_owed_by_samples : (c : Settings) (t : Tolerances) (h : List Event) → Agree c t h → sampled (like c t) h ≡ sampled c h → (p : Packet) → is_owed (like c t) h p ≡ is_owed c h p
+is_owed_by_samples c t [] agree same p = refl
+is_owed_by_samples c t (e ∷ h) agree same p = ap (λ r. is_owed_by (like c t) r (e ∷ h) p) same ∙ agree.1.owes p
 
 owed_by_samples : (c : Settings) (t : Tolerances) (h : List Event) → Agree c t h → sampled (like c t) h ≡ sampled c h → owed (like c t) h ≡ owed c h
-owed_by_samples c t h agree same = ap₂ (λ r d. found_at c r h d) same (detection_by_samples c t h agree same)
+owed_by_samples c t h agree same =
+    owed_is (like c t) h ∙ ap (λ (owes : Packet → Bool). filter owes (packets h)) (fun_ext (is_owed_by_samples c t h agree same)) ∙ sym (owed_is c h)
 
-is_owed_by_samples : (c : Settings) (t : Tolerances) (h : List Event) → Agree c t h → sampled (like c t) h ≡ sampled c h → (p : Packet) → is_owed (like c t) h p ≡ is_owed c h p
-is_owed_by_samples c t h agree same p = ap₂ (λ r d. is_found_at c r h p d) same (detection_by_samples c t h agree same)
-
-is_free_by_samples : (c : Settings) (t : Tolerances) (h : List Event) → Agree c t h → sampled (like c t) h ≡ sampled c h → (p : Packet) → is_free (like c t) h p ≡ is_free c h p
-is_free_by_samples c t h agree same p = ap₂ (λ r d. is_left_at c r h p d) same (detection_by_samples c t h agree same)
+same_any : (f g : Packet → Bool) (ps : List Packet) → AllByRecursion (λ p. f p ≡ g p) ps → list_any f ps ≡ list_any g ps
+same_any f g [] same = refl
+same_any f g (p ∷ ps) same = rw (same.0, same_any f g ps same.1) refl
 
 lost_by_samples : (c : Settings) (t : Tolerances) (e : Event) (h : List Event) → Agree c t (e ∷ h) → sampled (like c t) h ≡ sampled c h → sampled (like c t) (e ∷ h) ≡ sampled c (e ∷ h)
     → declared (like c t) (e ∷ h) ≡ declared c (e ∷ h)
 lost_by_samples c t (Lost time space ranges) h agree before now =
     let e = Lost time space ranges in
+    let frees : Packet → Bool = λ p. is_free (like c t) h p && declares_lost p.space p.number e in
+    let freed : Packet → Bool = λ p. is_free c h p && declares_lost p.space p.number e in
+    let names : (p : Packet) → Contains (packets h) p → frees p ≡ freed p =
+    λ p has. ap (λ r. is_free_by (like c t) r h p && declares_lost p.space p.number e) before ∙ agree.1.names p has in
+    let takes : (p : Packet) → Contains (packets h) p → (is_owed (like c t) h p || frees p) ≡ (is_owed c h p || freed p) =
+    λ p has. ap₂ (λ a b. a || b) (is_owed_by_samples c t h agree.0 before p) (names p has) in
     declared_is (like c t) time space ranges h
-    ∙ ap₂ (λ (frees owes : Packet → Bool). if list_any (λ p. frees p && declares_lost p.space p.number e) (packets h) then filter (λ p. owes p || (frees p && declares_lost p.space p.number e)) (packets h) else [])
-    (fun_ext (is_free_by_samples c t h agree.0 before)) (fun_ext (is_owed_by_samples c t h agree.0 before))
+    ∙ ap₂ (λ (b : Bool) (ps : List Packet). if b then ps else [])
+    (same_any frees freed (packets h) (of_each (λ p. frees p ≡ freed p) (packets h) names))
+    (same_part (λ p. is_owed (like c t) h p || frees p) (λ p. is_owed c h p || freed p) (packets h) (of_each (λ p. (is_owed (like c t) h p || frees p) ≡ (is_owed c h p || freed p)) (packets h) takes))
     ∙ sym (declared_is c time space ranges h)
 lost_by_samples c t e h agree before now = owed_by_samples c t (e ∷ h) agree now
 
@@ -158,7 +230,7 @@ same_estimate c t (e ∷ h) agree =
 pub same_rtt : (c : Settings) (t : Tolerances) (h : List Event) → Agree c t h → rtt (like c t) h ≡ rtt c h
 same_rtt c t h agree = (same_estimate c t h agree).estimate
 
-same_sampled : (c : Settings) (t : Tolerances) (h : List Event) → Agree c t h → sampled (like c t) h ≡ sampled c h
+pub same_sampled : (c : Settings) (t : Tolerances) (h : List Event) → Agree c t h → sampled (like c t) h ≡ sampled c h
 same_sampled c t h agree = (same_estimate c t h agree).samples
 
 same_declared : (c : Settings) (t : Tolerances) (h : List Event) → Agree c t h → declared (like c t) h ≡ declared c h
@@ -167,13 +239,17 @@ same_declared c t h agree = (same_estimate c t h agree).lost
 pub same_owed : (c : Settings) (t : Tolerances) (h : List Event) → Agree c t h → owed (like c t) h ≡ owed c h
 same_owed c t h agree = owed_by_samples c t h agree (same_sampled c t h agree)
 
-same_is_owed : (c : Settings) (t : Tolerances) (h : List Event) → Agree c t h → (p : Packet) → is_owed (like c t) h p ≡ is_owed c h p
+pub same_is_owed : (c : Settings) (t : Tolerances) (h : List Event) → Agree c t h → (p : Packet) → is_owed (like c t) h p ≡ is_owed c h p
 same_is_owed c t h agree p = is_owed_by_samples c t h agree (same_sampled c t h agree) p
 
-same_nameable : (c : Settings) (t : Tolerances) (h : List Event) → Agree c t h → nameable (like c t) h ≡ nameable c h
-same_nameable c t h agree =
+pub is_free_alike : (c : Settings) (t : Tolerances) (h : List Event) → t.packet_threshold ≡ c.options.packet_threshold → Detects c t h → (p : Packet) → is_free (like c t) h p ≡ is_free c h p
+is_free_alike c t h same detects p =
+    ap (λ r. is_free_by (like c t) r h p) (same_sampled c t h (agree_if c t h same detects)) ∙ frees_alike c t same h detects p
+
+pub same_nameable : (c : Settings) (t : Tolerances) (h : List Event) → t.packet_threshold ≡ c.options.packet_threshold → Detects c t h → nameable (like c t) h ≡ nameable c h
+same_nameable c t h same detects =
     ap₂ (λ (frees owes : Packet → Bool). filter (λ p. owes p || frees p) (packets h))
-    (fun_ext (is_free_by_samples c t h agree (same_sampled c t h agree))) (fun_ext (same_is_owed c t h agree))
+    (fun_ext (is_free_alike c t h same detects)) (fun_ext (same_is_owed c t h (agree_if c t h same detects)))
 
 same_persistent : (c : Settings) (t : Tolerances) (h : List Event) → Agree c t h → is_persistent (like c t) h ≡ is_persistent c h
 same_persistent c t h agree = ap₂ (λ r ps. list_any (λ p. list_any (are_ends r c h p) ps) ps) (same_sampled c t h agree) (same_declared c t h agree)
@@ -304,13 +380,13 @@ pub same_loss_owed : (c : Settings) (t : Tolerances) (h : List Event) → Agree 
 same_loss_owed c t h agree (Lost time space ranges) = refl
 same_loss_owed c t h agree _ = ap is_some_packet (same_owed c t h agree)
 
-pub same_loss_not_owed : (c : Settings) (t : Tolerances) (h : List Event) → Agree c t h → (e : Event) → is_loss_not_owed (like c t) h e ≡ is_loss_not_owed c h e
-same_loss_not_owed c t h agree (Lost time space ranges) = ap (λ ps. not (list_any (is_of space) ps)) (same_nameable c t h agree)
-same_loss_not_owed c t h agree _ = refl
+pub same_loss_not_owed : (c : Settings) (t : Tolerances) (h : List Event) → nameable (like c t) h ≡ nameable c h → (e : Event) → is_loss_not_owed (like c t) h e ≡ is_loss_not_owed c h e
+same_loss_not_owed c t h same (Lost time space ranges) = ap (λ ps. not (list_any (is_of space) ps)) same
+same_loss_not_owed c t h same _ = refl
 
-pub same_loss_set : (c : Settings) (t : Tolerances) (h : List Event) → Agree c t h → (e : Event) → is_other_loss_set (like c t) h e ≡ is_other_loss_set c h e
-same_loss_set c t h agree (Lost time space ranges) = ap₂ (λ least most. not (names_between ranges (numbers least) (numbers most))) (same_owed c t h agree) (same_nameable c t h agree)
-same_loss_set c t h agree _ = refl
+pub same_loss_set : (c : Settings) (t : Tolerances) (h : List Event) → Agree c t h → nameable (like c t) h ≡ nameable c h → (e : Event) → is_other_loss_set (like c t) h e ≡ is_other_loss_set c h e
+same_loss_set c t h agree same (Lost time space ranges) = ap₂ (λ least most. not (names_between ranges (numbers least) (numbers most))) (same_owed c t h agree) same
+same_loss_set c t h agree same _ = refl
 
 pub same_past_recovery : (c : Settings) (t : Tolerances) (h : List Event) → Agree c t h → (e : Event) → is_past_recovery (like c t) h e ≡ is_past_recovery c h e
 same_past_recovery c t h agree (Sent time space number size eliciting in_flight Recovery) = ap (λ spent. in_flight && is_over 1 1 spent) (same_recovery c t h agree)

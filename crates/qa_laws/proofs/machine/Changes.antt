@@ -62,7 +62,7 @@ one_of_numbers (p ∷ ps) n is = elim (or_cases (nat_eq p.number n) (is_in (numb
 same_spaces : (s t u : Space) → s ≡ u → t ≡ u → is_space s t ≡ true
 same_spaces s t u is_s is_t = rw (is_s, is_t) (is_space_same u)
 
-named_is_nameable : (c : Settings) (h : List Event) (time : ℕ) (space : Space) (ranges : List (ℕ × ℕ)) → IsRun c (Lost time space ranges ∷ h)
+pub named_is_nameable : (c : Settings) (h : List Event) (time : ℕ) (space : Space) (ranges : List (ℕ × ℕ)) → IsRun c (Lost time space ranges ∷ h)
     → (p : Packet) → Contains (packets h) p → declares_lost p.space p.number (Lost time space ranges) ≡ true → is_nameable c h p ≡ true
 named_is_nameable c h time space ranges run p has named =
     let parts = and_parts (is_space p.space space) (is_named ranges p.number) named in

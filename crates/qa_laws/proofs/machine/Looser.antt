@@ -27,11 +27,13 @@ use Rattle.qa_base.specs.values.Events.{time_of}
 use Rattle.qa_base.specs.values.Settings.{Settings, early, in_unit, is_reported, per_microsecond}
 use Rattle.qa_base.proofs.machine.RunLaws.{rules_hold}
 use Rattle.qa_laws.specs.machine.Alike.{IsLooser, IsNoLess}
-use Rattle.qa_laws.proofs.machine.Alike.{Agree, Tolerances, like, like_is, same_bytes, same_collapse, same_deadline, same_loss_not_owed, same_loss_owed, same_loss_set, same_not_set, same_other, same_owed, same_packet_deadline, same_past_recovery, same_since, same_totals, same_window, tolerances_of}
+use Rattle.qa_laws.proofs.machine.Alike.{Agree, Detects, Tolerances, like, like_is, same_bytes, same_collapse, same_deadline, same_loss_owed, same_not_set, same_other, same_owed, same_packet_deadline, same_past_recovery, same_since, same_totals, same_window, tolerances_of}
 use Rattle.qa_laws.proofs.machine.ConductOfTimers.{set_for}
+use Rattle.qa_laws.proofs.machine.LowerThreshold.{NoStricter, agree_in, loss_set_passes, not_owed_passes}
 
 -- these tolerate no less than the header
 pub record Looser (c : Settings) (t : Tolerances) : Type 0 where
+  pub threshold : NoStricter c t
   pub late : IsNoLess c.options.timer_late t.timer_late
   pub overshoot : c.options.window_overshoot ≡ true → t.window_overshoot ≡ true
   pub early : c.options.timer_early_us ≤ t.timer_early_us
@@ -61,9 +63,12 @@ detects_alike c t (Timer time Loss space) h more run =
 detects_alike c t (Timer time Pto space) h more run = refl
 detects_alike c t _ h more run = refl
 
-pub agree_in_run : (c : Settings) (t : Tolerances) (h : List Event) → c.options.timer_early_us ≤ t.timer_early_us → IsRun c h → Agree c t h
-agree_in_run c t [] more run = tt
-agree_in_run c t (e ∷ h) more run = (agree_in_run c t h more run.0, detects_alike c t e h more run)
+detects_in_run : (c : Settings) (t : Tolerances) (h : List Event) → c.options.timer_early_us ≤ t.timer_early_us → IsRun c h → Detects c t h
+detects_in_run c t [] more run = tt
+detects_in_run c t (e ∷ h) more run = (detects_in_run c t h more run.0, detects_alike c t e h more run)
+
+pub agree_in_run : (c : Settings) (t : Tolerances) (h : List Event) → NoStricter c t → c.options.timer_early_us ≤ t.timer_early_us → IsRun c h → Agree c t h
+agree_in_run c t h no_stricter more run = agree_in c t h no_stricter (detects_in_run c t h more run) run
 
 before_more : (time more : ℕ) (due : Option Due) → time ≤ more → is_before time due ≡ false → is_before more due ≡ false
 before_more time more None le is = refl
@@ -200,9 +205,9 @@ metrics_pass c t h (Metrics time values) before after agree looser rest all =
     )
 metrics_pass c t h _ before after agree looser rest all = rest all
 
-stays_allowed : (c : Settings) (t : Tolerances) (h : List Event) (e : Event) → Agree c t h → Looser c t → Room c t e → first_broken c h e ≡ None → first_broken (like c t) h e ≡ None
+stays_allowed : (c : Settings) (t : Tolerances) (h : List Event) (e : Event) → Detects c t h → Agree c t h → Looser c t → Room c t e → first_broken c h e ≡ None → first_broken (like c t) h e ≡ None
 unfolding first_broken
-stays_allowed c t h e agree looser room allowed =
+stays_allowed c t h e detects agree looser room allowed =
     let d = like c t in
     let holds = rules_hold (broken c h e) allowed in
     let last = metrics_pass c t h e ((is_timer_late c h e, TimerLate) ∷ (is_collapse_missing c h e, CollapseMissing) ∷ []) ((is_timer_late d h e, TimerLate) ∷ (is_collapse_missing d h e, CollapseMissing) ∷ [])
@@ -213,9 +218,9 @@ stays_allowed c t h e agree looser room allowed =
       (
         same_loss_owed c t h agree e ∙ holds.1.0,
         (
-          same_loss_not_owed c t h agree e ∙ holds.1.1.0,
+          not_owed_passes c t h looser.threshold detects agree e holds.1.1.0,
           (
-            same_loss_set c t h agree e ∙ holds.1.1.1.0,
+            loss_set_passes c t h looser.threshold detects agree e holds.1.1.1.0,
             (
               holds.1.1.1.1.0,
               (
@@ -268,14 +273,14 @@ run_stays : (c : Settings) (t : Tolerances) (h : List Event) → Looser c t → 
 run_stays c t [] looser room run = tt
 run_stays c t (e ∷ h) looser room run =
     let rest = rooms c t e h room in
-    (run_stays c t h looser rest.1 run.0, stays_allowed c t h e (agree_in_run c t h looser.early run.0) looser rest.0 run.1)
+    (run_stays c t h looser rest.1 run.0, stays_allowed c t h e (detects_in_run c t h looser.early run.0) (agree_in_run c t h looser.threshold looser.early run.0) looser rest.0 run.1)
 
 -- a run stays a run where no less is tolerated
 pub run_if_looser : (c d : Settings) (h : List Event) → IsLooser c d → AllByRecursion Fits h → IsRun c h → IsRun d h
 run_if_looser c d h looser fit run =
     let t = tolerances_of d in
     subst (λ (s : Settings). IsRun s h) (like_is c d looser.alike)
-    (run_stays c t h (record { late = looser.late; overshoot = looser.overshoot; early = looser.early; slack_us = looser.slack_us; slack_bytes = looser.slack_bytes }) (inr fit) run)
+    (run_stays c t h (record { threshold = looser.threshold; late = looser.late; overshoot = looser.overshoot; early = looser.early; slack_us = looser.slack_us; slack_bytes = looser.slack_bytes }) (inr fit) run)
 
 same_limit : (limit : Option ℕ) → IsNoLess limit limit
 same_limit None = tt
@@ -285,10 +290,10 @@ same_limit (Some n) = omega arith
 pub owes_the_same : (c d : Settings) (h : List Event) → IsLooser c d → IsRun c h → owed d h ≡ owed c h
 owes_the_same c d h looser run =
     let t = tolerances_of d in
-    subst (λ (s : Settings). owed s h ≡ owed c h) (like_is c d looser.alike) (same_owed c t h (agree_in_run c t h looser.early run))
+    subst (λ (s : Settings). owed s h ≡ owed c h) (like_is c d looser.alike) (same_owed c t h (agree_in_run c t h looser.threshold looser.early run))
 
 -- and where slacks alone are greater
 pub run_with_more_slack : (c : Settings) (us bytes : ℕ) (h : List Event) → c.options.report_slack_us ≤ us → c.options.report_slack_bytes ≤ bytes → IsRun c h → IsRun (with_slacks c us bytes) h
 run_with_more_slack c us bytes h more_us more_bytes run =
     run_stays c (record (tolerances_of c) { report_slack_us = us; report_slack_bytes = bytes }) h
-    (record { late = same_limit c.options.timer_late; overshoot = λ is. is; early = omega arith; slack_us = more_us; slack_bytes = more_bytes }) (inl refl) run
+    (record { threshold = inl refl; late = same_limit c.options.timer_late; overshoot = λ is. is; early = omega arith; slack_us = more_us; slack_bytes = more_bytes }) (inl refl) run

@@ -11,6 +11,7 @@ use Rattle.qa_base.specs.declared.rule.Rule.{Rule}
 use Rattle.qa_base.specs.declared.rule.Rule.TheVariants as rule
 use Rattle.qa_base.specs.declared.space.Leave.TheVariants.{Window}
 use Rattle.qa_base.specs.machine.Breaches.{is_above_collapse, is_ack_unsent, is_before, is_collapse_missing, is_not_confirmed, is_number_not_higher, is_past, is_past_probe, is_past_window, is_probe_owed, is_space_gone, is_time_back, is_timer_early, is_timer_late}
+use Rattle.qa_base.specs.machine.Loss.{nameable}
 use Rattle.qa_base.specs.machine.Metrics.{metric_tests, tests}
 use Rattle.qa_base.specs.machine.Rules.{first_of, first_broken, IsComplete, IsRun}
 use Rattle.qa_base.specs.machine.State.{totals}
@@ -20,7 +21,7 @@ use Rattle.qa_base.specs.values.Events.{time_of}
 use Rattle.qa_base.specs.values.Settings.{Settings, choosing_options, early, is_outside, is_reported, spares_unreported}
 use Rattle.qa_base.specs.values.Limits.{max_timer_late, max_report_slack_us, max_report_slack_bytes, min_packet_threshold, max_packet_threshold, max_timer_early_us}
 use Rattle.qa_laws.specs.machine.Alike.{of_version}
-use Rattle.qa_laws.proofs.machine.Alike.{Agree, Tolerances, agree_if_equally_early, same_bytes, same_collapse, same_deadline, same_loss_not_owed, same_loss_owed, same_loss_set, same_not_set, same_other, same_owed, same_past_recovery, same_totals, same_window, tolerances_of}
+use Rattle.qa_laws.proofs.machine.Alike.{Agree, Tolerances, agree_if_equally_early, detects_if_equally_early, same_bytes, same_collapse, same_deadline, same_loss_not_owed, same_loss_owed, same_loss_set, same_nameable, same_not_set, same_other, same_owed, same_past_recovery, same_totals, same_window, tolerances_of}
 use Rattle.qa_laws.proofs.machine.Looser.{same_late}
 
 -- the tolerances of the header, and this version: the header with these is that header in this version
@@ -28,7 +29,10 @@ abbrev in_version : Settings → Version → Tolerances
 in_version c version = record (tolerances_of c) { version = version }
 
 agree : (c : Settings) (version : Version) (h : List Event) → Agree c (in_version c version) h
-agree c version h = agree_if_equally_early c (in_version c version) h refl
+agree c version h = agree_if_equally_early c (in_version c version) h refl refl
+
+may_name : (c : Settings) (version : Version) (h : List Event) → nameable (of_version c version) h ≡ nameable c h
+may_name c version h = same_nameable c (in_version c version) h refl (detects_if_equally_early c (in_version c version) h refl)
 
 -- ---- the rules
 
@@ -68,8 +72,8 @@ same_broken c version h e =
     let set = ap₂ (λ timer more. (is_ack_unsent h e, rule.AckUnsent) ∷ (timer, rule.TimerNotSet) ∷ more) (same_not_set c t h a e) other in
     let recovery = ap₂ (λ past more. (is_past_probe c h e, rule.PastProbe) ∷ (past, rule.PastRecovery) ∷ more) (same_past_recovery c t h a e) set in
     let past = ap₂ (λ past more. (is_space_gone h e, rule.SpaceGone) ∷ (is_number_not_higher h e, rule.NumberNotHigher) ∷ (past, rule.PastWindow) ∷ more) (same_past_window c version h e) recovery in
-    let losses = ap₂ (λ other more. (other, rule.LossSet) ∷ more) (same_loss_set c t h a e) past in
-    let unowed = ap₂ (λ not_owed more. (not_owed, rule.LossNotOwed) ∷ more) (same_loss_not_owed c t h a e) losses in
+    let losses = ap₂ (λ other more. (other, rule.LossSet) ∷ more) (same_loss_set c t h a (may_name c version h) e) past in
+    let unowed = ap₂ (λ not_owed more. (not_owed, rule.LossNotOwed) ∷ more) (same_loss_not_owed c t h (may_name c version h) e) losses in
     ap₂ (λ is_owed more. first_of ((is_time_back h e, rule.TimeBack) ∷ (is_owed, rule.LossOwed) ∷ more)) (same_loss_owed c t h a e) unowed
 
 -- ---- totals, runs and their ends

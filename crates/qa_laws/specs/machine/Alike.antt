@@ -1,9 +1,10 @@
 -- Headers of which the same machine is asked: they differ by their version and by what they tolerate alone.
-use Rattle.std.specs.Prelude.{◌≡◌, ℕ, ◌≤◌, true, Option, Some, None}
+use Rattle.std.specs.Prelude.{◌≡◌, ◌⊎◌, ℕ, ◌≤◌, true, Option, Some, None}
 use Rattle.qa_base.specs.declared.header.Version.{Version}
-use Rattle.qa_base.specs.values.Settings.{Settings}
+use Rattle.qa_base.specs.values.Settings.{Settings, is_may}
 
--- the two headers say the same but for their version, the late and early timers, the window that may be overshot and the slacks
+-- the two headers say the same but for their version, the late and early timers, the window that may be overshot, the packet threshold
+-- and the slacks
 pub record AreAlike (c d : Settings) : Type 0 where
   pub role : d.role ≡ c.role
   pub unit : d.unit ≡ c.unit
@@ -14,7 +15,6 @@ pub record AreAlike (c d : Settings) : Type 0 where
   pub refresh_min_rtt : d.options.refresh_min_rtt ≡ c.options.refresh_min_rtt
   pub controller : d.options.controller ≡ c.options.controller
   pub sample_eliciting_only : d.options.sample_eliciting_only ≡ c.options.sample_eliciting_only
-  pub packet_threshold : d.options.packet_threshold ≡ c.options.packet_threshold
   pub loss_by_number : d.options.loss_by_number ≡ c.options.loss_by_number
 
 -- a limit that is no less, or no limit
@@ -23,9 +23,16 @@ IsNoLess limit None = Unit {0}
 IsNoLess None (Some other) = ⊥
 IsNoLess (Some limit) (Some other) = limit ≤ other
 
+-- the packet threshold is the same; or packets that lie so far behind may be spared, and fewer need lie that far
+abbrev pub IsNoStricter : Settings → Settings → Type 0
+IsNoStricter c d =
+    (d.options.packet_threshold ≡ c.options.packet_threshold)
+    ⊎ ((is_may c.options.loss_by_number ≡ true) × (d.options.packet_threshold ≤ c.options.packet_threshold))
+
 -- and the second tolerates no less than the first
 pub record IsLooser (c d : Settings) : Type 0 where
   pub alike : AreAlike c d
+  pub threshold : IsNoStricter c d
   pub late : IsNoLess c.options.timer_late d.options.timer_late
   pub overshoot : c.options.window_overshoot ≡ true → d.options.window_overshoot ≡ true
   pub early : c.options.timer_early_us ≤ d.options.timer_early_us

@@ -1,0 +1,49 @@
+-- The conformance trace `collapse-never-reported`: accepted.
+use Rattle.std.specs.Prelude.{◌≡◌, List, [], ◌∷◌, Some, None, refl}
+use Rattle.qa_base.specs.declared.event.Event.{Event}
+use Rattle.qa_base.specs.declared.space.Controller.TheVariants.{Reported}
+use Rattle.qa_base.specs.declared.space.Space.TheVariants.{App}
+use Rattle.qa_base.specs.machine.Rules.{first_broken, IsRun, IsComplete}
+use Rattle.qa_base.specs.values.Settings.{Settings, no_options}
+use Rattle.qa_base.specs.machine.State.{totals}
+use Rattle.qa_laws.proofs.Shorthand.{server, choosing, sent, padded, ack, lost, metrics}
+
+abbrev settings : Settings
+settings = choosing (server 1200 12000) (record no_options { controller = Reported })
+
+abbrev history : List Event
+history =
+    sent App 15 1275002 1200 ∷
+    sent App 14 1275002 1200 ∷
+    sent App 13 1275002 1200 ∷
+    sent App 12 1275002 1200 ∷
+    sent App 11 1275002 1200 ∷
+    sent App 10 1275002 1200 ∷
+    sent App 9 1275002 1200 ∷
+    sent App 8 1275002 1200 ∷
+    sent App 7 1275002 1200 ∷
+    sent App 6 1275002 1200 ∷
+    metrics 1275002 None (Some 99) None None None None None ∷
+    metrics 1275002 None None None None None (Some 100000) None ∷
+    lost App ((1, 2) ∷ []) 1275002 ∷
+    ack App ((5, 5) ∷ []) 1275002 ∷
+    padded App 5 1175002 700 ∷
+    sent App 2 1175001 1200 ∷
+    sent App 1 200000 1200 ∷
+    ack App ((0, 0) ∷ []) 100000 ∷
+    sent App 0 0 1200 ∷ []
+
+pub collapse_never_reported : IsRun settings history × (totals settings history ≡ record {
+  events = 19;
+  window = 12000;
+  ssthresh = None;
+  bytes_in_flight = 12000;
+  latest_rtt = 100000;
+  min_rtt = 100000;
+  smoothed_rtt = 100000;
+  rttvar = 50000;
+  pto_count = 0;
+  owed = 0;
+}) × IsComplete settings history
+unfolding first_broken
+collapse_never_reported = ((((((((((((((((((((tt, refl), refl), refl), refl), refl), refl), refl), refl), refl), refl), refl), refl), refl), refl), refl), refl), refl), refl), refl), refl, refl)

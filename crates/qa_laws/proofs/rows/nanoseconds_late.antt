@@ -1,0 +1,31 @@
+-- The conformance trace `nanoseconds-late`: accepted.
+use Rattle.std.specs.Prelude.{◌≡◌, List, [], ◌∷◌, Some, None, refl}
+use Rattle.qa_base.specs.declared.event.Event.{Event}
+use Rattle.qa_base.specs.declared.space.Space.TheVariants.{Initial}
+use Rattle.qa_base.specs.machine.Rules.{first_broken, IsRun, IsComplete}
+use Rattle.qa_base.specs.values.Settings.{Settings, no_options}
+use Rattle.qa_base.specs.machine.State.{totals}
+use Rattle.qa_laws.proofs.Shorthand.{client, choosing, in_nanoseconds, sent, pto_fires}
+
+abbrev settings : Settings
+settings = choosing (in_nanoseconds (client 1200 12000)) (record no_options { timer_late = Some 1000 })
+
+abbrev history : List Event
+history =
+    pto_fires Initial 1000000000 ∷
+    sent Initial 0 0 1200 ∷ []
+
+pub nanoseconds_late : IsRun settings history × (totals settings history ≡ record {
+  events = 2;
+  window = 12000;
+  ssthresh = None;
+  bytes_in_flight = 1200;
+  latest_rtt = 0;
+  min_rtt = 0;
+  smoothed_rtt = 333000000;
+  rttvar = 166500000;
+  pto_count = 1;
+  owed = 0;
+}) × IsComplete settings history
+unfolding first_broken
+nanoseconds_late = (((tt, refl), refl), refl, refl)

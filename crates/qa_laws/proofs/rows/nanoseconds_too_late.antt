@@ -1,0 +1,31 @@
+-- The conformance trace `nanoseconds-too-late`: V18 timer-late.
+use Rattle.std.specs.Prelude.{◌≡◌, List, [], ◌∷◌, Some, None, refl}
+use Rattle.qa_base.specs.declared.event.Event.{Event}
+use Rattle.qa_base.specs.declared.rule.Rule.TheVariants as rule
+use Rattle.qa_base.specs.declared.space.Space.TheVariants.{Initial}
+use Rattle.qa_base.specs.machine.Rules.{first_broken, IsRun}
+use Rattle.qa_base.specs.values.Settings.{Settings, no_options}
+use Rattle.qa_base.specs.machine.State.{totals}
+use Rattle.qa_laws.proofs.Shorthand.{client, choosing, in_nanoseconds, sent, pto_fires}
+
+abbrev settings : Settings
+settings = choosing (in_nanoseconds (client 1200 12000)) (record no_options { timer_late = Some 1000 })
+
+abbrev history : List Event
+history =
+    sent Initial 0 0 1200 ∷ []
+
+pub nanoseconds_too_late : IsRun settings history × (totals settings history ≡ record {
+  events = 1;
+  window = 12000;
+  ssthresh = None;
+  bytes_in_flight = 1200;
+  latest_rtt = 0;
+  min_rtt = 0;
+  smoothed_rtt = 333000000;
+  rttvar = 166500000;
+  pto_count = 0;
+  owed = 0;
+}) × (first_broken settings history (pto_fires Initial 1000000001) ≡ Some rule.TimerLate)
+unfolding first_broken
+nanoseconds_too_late = ((tt, refl), refl, refl)

@@ -1,0 +1,33 @@
+-- The conformance trace `reported-initial-window`: V7 past-window.
+use Rattle.std.specs.Prelude.{◌≡◌, List, [], ◌∷◌, Some, None, refl}
+use Rattle.qa_base.specs.declared.event.Event.{Event}
+use Rattle.qa_base.specs.declared.rule.Rule.TheVariants as rule
+use Rattle.qa_base.specs.declared.space.Controller.TheVariants.{Reported}
+use Rattle.qa_base.specs.declared.space.Space.TheVariants.{App}
+use Rattle.qa_base.specs.machine.Rules.{first_broken, IsRun}
+use Rattle.qa_base.specs.values.Settings.{Settings, no_options}
+use Rattle.qa_base.specs.machine.State.{totals}
+use Rattle.qa_laws.proofs.Shorthand.{server, choosing, sent}
+
+abbrev settings : Settings
+settings = choosing (server 1200 2400) (record no_options { controller = Reported })
+
+abbrev history : List Event
+history =
+    sent App 1 0 1200 ∷
+    sent App 0 0 1200 ∷ []
+
+pub reported_initial_window : IsRun settings history × (totals settings history ≡ record {
+  events = 2;
+  window = 2400;
+  ssthresh = None;
+  bytes_in_flight = 2400;
+  latest_rtt = 0;
+  min_rtt = 0;
+  smoothed_rtt = 333000;
+  rttvar = 166500;
+  pto_count = 0;
+  owed = 0;
+}) × (first_broken settings history (sent App 2 0 1) ≡ Some rule.PastWindow)
+unfolding first_broken
+reported_initial_window = (((tt, refl), refl), refl, refl)

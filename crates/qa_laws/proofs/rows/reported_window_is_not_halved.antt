@@ -1,0 +1,44 @@
+-- The conformance trace `reported-window-is-not-halved`: accepted.
+use Rattle.std.specs.Prelude.{◌≡◌, List, [], ◌∷◌, None, refl}
+use Rattle.qa_base.specs.declared.event.Event.{Event}
+use Rattle.qa_base.specs.declared.space.Controller.TheVariants.{Reported}
+use Rattle.qa_base.specs.declared.space.Space.TheVariants.{App}
+use Rattle.qa_base.specs.machine.Rules.{first_broken, IsRun, IsComplete}
+use Rattle.qa_base.specs.values.Settings.{Settings, no_options}
+use Rattle.qa_base.specs.machine.State.{totals}
+use Rattle.qa_laws.proofs.Shorthand.{server, choosing, sent, ack, lost}
+
+abbrev settings : Settings
+settings = choosing (server 1200 12000) (record no_options { controller = Reported })
+
+abbrev history : List Event
+history =
+    sent App 11 100000 1200 ∷
+    sent App 10 100000 1200 ∷
+    lost App ((0, 0) ∷ []) 100000 ∷
+    ack App ((3, 3) ∷ []) 100000 ∷
+    sent App 9 0 1200 ∷
+    sent App 8 0 1200 ∷
+    sent App 7 0 1200 ∷
+    sent App 6 0 1200 ∷
+    sent App 5 0 1200 ∷
+    sent App 4 0 1200 ∷
+    sent App 3 0 1200 ∷
+    sent App 2 0 1200 ∷
+    sent App 1 0 1200 ∷
+    sent App 0 0 1200 ∷ []
+
+pub reported_window_is_not_halved : IsRun settings history × (totals settings history ≡ record {
+  events = 14;
+  window = 12000;
+  ssthresh = None;
+  bytes_in_flight = 12000;
+  latest_rtt = 100000;
+  min_rtt = 100000;
+  smoothed_rtt = 100000;
+  rttvar = 50000;
+  pto_count = 0;
+  owed = 0;
+}) × IsComplete settings history
+unfolding first_broken
+reported_window_is_not_halved = (((((((((((((((tt, refl), refl), refl), refl), refl), refl), refl), refl), refl), refl), refl), refl), refl), refl), refl, refl)

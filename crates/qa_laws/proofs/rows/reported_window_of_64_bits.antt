@@ -1,0 +1,34 @@
+-- The conformance trace `reported-window-of-64-bits`: accepted.
+use Rattle.std.specs.Prelude.{◌≡◌, List, [], ◌∷◌, Some, None, refl}
+use Rattle.qa_base.specs.declared.event.Event.{Event}
+use Rattle.qa_base.specs.declared.space.Controller.TheVariants.{Reported}
+use Rattle.qa_base.specs.declared.space.Space.TheVariants.{App}
+use Rattle.qa_base.specs.machine.Rules.{first_broken, IsRun, IsComplete}
+use Rattle.qa_base.specs.values.Settings.{Settings, no_options}
+use Rattle.qa_base.specs.machine.State.{totals}
+use Rattle.qa_laws.proofs.Shorthand.{server, choosing, sent, metrics}
+
+abbrev settings : Settings
+settings = choosing (server 1200 12000) (record no_options { controller = Reported })
+
+abbrev history : List Event
+history =
+    sent App 1 0 1200 ∷
+    metrics 0 (Some 18446744073709551614) None None None None None None ∷
+    sent App 0 0 1200 ∷
+    metrics 0 (Some 18446744073709551615) None None None None None None ∷ []
+
+pub reported_window_of_64_bits : IsRun settings history × (totals settings history ≡ record {
+  events = 4;
+  window = 18446744073709551614;
+  ssthresh = None;
+  bytes_in_flight = 2400;
+  latest_rtt = 0;
+  min_rtt = 0;
+  smoothed_rtt = 333000;
+  rttvar = 166500;
+  pto_count = 0;
+  owed = 0;
+}) × IsComplete settings history
+unfolding first_broken
+reported_window_of_64_bits = (((((tt, refl), refl), refl), refl), refl, refl)

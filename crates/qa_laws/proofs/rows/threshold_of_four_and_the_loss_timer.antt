@@ -1,0 +1,36 @@
+-- The conformance trace `threshold-of-four-and-the-loss-timer`: accepted.
+use Rattle.std.specs.Prelude.{◌≡◌, List, [], ◌∷◌, Some, refl}
+use Rattle.qa_base.specs.declared.event.Event.{Event}
+use Rattle.qa_base.specs.declared.space.Space.TheVariants.{App}
+use Rattle.qa_base.specs.machine.Rules.{first_broken, IsRun, IsComplete}
+use Rattle.qa_base.specs.values.Settings.{Settings, no_options}
+use Rattle.qa_base.specs.machine.State.{totals}
+use Rattle.qa_laws.proofs.Shorthand.{server, choosing, sent, ack, lost, loss_fires}
+
+abbrev settings : Settings
+settings = choosing (server 1200 12000) (record no_options { packet_threshold = 4 })
+
+abbrev history : List Event
+history =
+    lost App ((0, 2) ∷ []) 112500 ∷
+    loss_fires App 112500 ∷
+    ack App ((3, 3) ∷ []) 100000 ∷
+    sent App 3 0 1200 ∷
+    sent App 2 0 1200 ∷
+    sent App 1 0 1200 ∷
+    sent App 0 0 1200 ∷ []
+
+pub threshold_of_four_and_the_loss_timer : IsRun settings history × (totals settings history ≡ record {
+  events = 7;
+  window = 6600;
+  ssthresh = Some 6600;
+  bytes_in_flight = 0;
+  latest_rtt = 100000;
+  min_rtt = 100000;
+  smoothed_rtt = 100000;
+  rttvar = 50000;
+  pto_count = 0;
+  owed = 0;
+}) × IsComplete settings history
+unfolding first_broken
+threshold_of_four_and_the_loss_timer = ((((((((tt, refl), refl), refl), refl), refl), refl), refl), refl, refl)

@@ -1,0 +1,31 @@
+-- The conformance trace `timer-as-early-as-allowed`: accepted.
+use Rattle.std.specs.Prelude.{◌≡◌, List, [], ◌∷◌, None, refl}
+use Rattle.qa_base.specs.declared.event.Event.{Event}
+use Rattle.qa_base.specs.declared.space.Space.TheVariants.{Initial}
+use Rattle.qa_base.specs.machine.Rules.{first_broken, IsRun, IsComplete}
+use Rattle.qa_base.specs.values.Settings.{Settings, no_options}
+use Rattle.qa_base.specs.machine.State.{totals}
+use Rattle.qa_laws.proofs.Shorthand.{client, choosing, sent, pto_fires}
+
+abbrev settings : Settings
+settings = choosing (client 1200 12000) (record no_options { timer_early_us = 1000 })
+
+abbrev history : List Event
+history =
+    pto_fires Initial 998000 ∷
+    sent Initial 0 0 1200 ∷ []
+
+pub timer_as_early_as_allowed : IsRun settings history × (totals settings history ≡ record {
+  events = 2;
+  window = 12000;
+  ssthresh = None;
+  bytes_in_flight = 1200;
+  latest_rtt = 0;
+  min_rtt = 0;
+  smoothed_rtt = 333000;
+  rttvar = 166500;
+  pto_count = 1;
+  owed = 0;
+}) × IsComplete settings history
+unfolding first_broken
+timer_as_early_as_allowed = (((tt, refl), refl), refl, refl)
