@@ -1,0 +1,86 @@
+//! What the arguments ask for.
+
+use clap::error::ErrorKind;
+use clap::{Arg, ArgAction, ArgMatches, Command, Error};
+use std::alloc::{AllocError, Global};
+
+/// The arguments, by the names that the parser has for them.
+const FILE: &str = "FILE";
+
+const QUIET: &str = "quiet";
+
+/// The version of the program.
+const VERSION: &str = "0.3.0";
+
+/// Which traces to tell of, and how.
+#[derive(Drop)]
+pub struct Inquiry<'a> {
+    /// Nothing is to be written of accepted traces.
+    pub quiet: bool,
+    /// The names of files; none for standard input.
+    pub files: Vec<&'a str>,
+}
+
+/// What arguments ask for.
+#[derive(Drop)]
+pub enum Asked<'a> {
+    /// To tell why.
+    Why(Inquiry<'a>),
+    /// For this text: the help, or the version.
+    Text(String),
+    /// For nothing: this text says what is wrong with them.
+    Nothing(String),
+}
+
+/// Reads what the arguments behind the program's name ask for. `AllocError` comes where it is out of
+/// memory.
+pub fn parse<'a>(alloc: Global, arguments: &'a [String]) -> Result<Asked<'a>, AllocError> {
+    match parser(alloc)?.try_get_matches_from(arguments) {
+        Ok(matches) => {
+            let inquiry = inquiry_of(alloc, &matches)?;
+            Ok(Asked::Why(inquiry))
+        }
+        Err(error) => text_of(alloc, &error),
+    }
+}
+
+fn inquiry_of<'a>(alloc: Global, matches: &ArgMatches<'a>) -> Result<Inquiry<'a>, AllocError> {
+    let files = match matches.get_strs(FILE) {
+        Some(names) => Vec::from_slice(alloc, names)?,
+        None => Vec::new(alloc),
+    };
+    Ok(Inquiry {
+        quiet: matches.get_flag(QUIET),
+        files,
+    })
+}
+
+/// The text by which the parser ends.
+fn text_of<'a>(alloc: Global, error: &Error) -> Result<Asked<'a>, AllocError> {
+    let text = format!(in alloc; "{error}")?;
+    Ok(match error.kind() {
+        ErrorKind::DisplayHelp | ErrorKind::DisplayVersion => Asked::Text(text),
+        _ => Asked::Nothing(text),
+    })
+}
+
+/// The parser of the command line.
+fn parser<'a>(alloc: Global) -> Result<Command<'a>, AllocError> {
+    let quiet = Arg::new(alloc, QUIET)
+        .short('q')
+        .long(QUIET)
+        .help("Write nothing of accepted traces")
+        .action(ArgAction::SetTrue);
+    let files = Arg::new(alloc, FILE)
+        .help("A trace; - is standard input, which is also read where no file is named")
+        .action(ArgAction::Append);
+    Command::new(alloc, "qaudit-why")
+        .no_binary_name(true)
+        .version(VERSION)
+        .about("Says of each trace of a QUIC sender why it is refused, by the rules of RFC 9002")
+        .after_help(
+            "The exit status is 0 where all traces are accepted, 1 where one is refused,\n2 where one cannot be read, 3 where a file or a stream failed, and 64 where\nthe arguments are refused; the greatest of these counts.",
+        )
+        .arg(quiet)?
+        .arg(files)
+}
