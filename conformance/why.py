@@ -87,6 +87,7 @@ WANTED = {
     "window_overshoot": BOOLEAN,
     "sample_eliciting_only": BOOLEAN,
     "packet_threshold": "an integer from 3 to 65535",
+    "loss_by_number": "the string must, or may where window is reported",
     "timer_early_us": "an integer from 0 to 1000000000",
     "time": TIME,
     "space": "the string initial, handshake or app; to discard, initial or handshake",

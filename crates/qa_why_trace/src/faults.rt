@@ -37,6 +37,7 @@ pub fn wanted(key: Key) -> &'static str
         Key::ReportSlackUs | Key::TimerEarlyUs => "an integer from 0 to 1000000000",
         Key::ReportSlackBytes => "an integer from 0 to 4294967295",
         Key::PacketThreshold => "an integer from 3 to 65535",
+        Key::LossByNumber => "the string must, or may where window is reported",
         Key::Space => "the string initial, handshake or app; to discard, initial or handshake",
         Key::Number => "an integer from 0 to 4611686018427387903",
         Key::Size => "an integer from 1 to 65527",
