@@ -41,6 +41,7 @@ ghost use Rattle.qa_format.specs.format.Written.{Pairs, written};
 ghost use Rattle.qa_base.specs.machine.Widths.{Fits, IsTimely, acknowledged_count};
 ghost use Rattle.qa_base.specs.machine.Window.{window};
 ghost use Rattle.qa_laws.specs.machine.Alike.{IsLooser, of_version};
+ghost use Rattle.qa_laws.specs.machine.Declared.{named_free};
 ghost use Rattle.std.specs.List.{AllByRecursion};
 
 /// No byte that follows changes a verdict that is fixed, whatever the reading of lines.
@@ -96,8 +97,8 @@ pub fn sent_adds_its_size()
 
 /// An event that is no acknowledgment, no timer and no discard, and by which no packet is lost,
 /// leaves the RTT, the moves of the window and the PTO count as they were. By such an event none is
-/// lost, unless it is a Lost line that completes a detection; and none ever is where losses by
-/// number must be declared.
+/// lost, unless it is a Lost line that names one that was free, and so completes a detection; and
+/// none ever is where losses by number must be declared.
 pub fn quiet_events_change_little()
     ensures rtt { (c : Settings) (e : Event) (h : List Event) → is_quiet e ≡ true
         → declared c (e ∷ h) ≡ [] → rtt c (e ∷ h) ≡ rtt c h }
@@ -106,7 +107,7 @@ pub fn quiet_events_change_little()
     ensures must { (c : Settings) (e : Event) (h : List Event) → is_may c.options.loss_by_number ≡ false
         → is_quiet e ≡ true → declared c (e ∷ h) ≡ [] }
     ensures unnamed { (c : Settings) (e : Event) (h : List Event) → is_quiet e ≡ true
-        → free c h ≡ [] → declared c (e ∷ h) ≡ [] }
+        → named_free c e h ≡ [] → declared c (e ∷ h) ≡ [] }
     ensures pto_count { (c : Settings) (e : Event) (h : List Event) → is_quiet e ≡ true
         → pto_count c (e ∷ h) ≡ pto_count c h }
 {}
