@@ -49,10 +49,10 @@ pub fn loss_timers_find_losses()
         → owed c (events.Timer time kinds.Loss space ∷ h) ≢ [] }
 {}
 
-/// In a run, where losses by number must be declared, a packet that is open and in flight, and below the
-/// largest acknowledged number of its space, is less than the packet threshold below it (RFC 9002,
-/// section 6.1.1): what is at the threshold is found at once. In any case such a packet is not old as of
-/// a detection of its space (section 6.1.2).
+/// In a run, where losses by number must be declared, a packet that is open and in flight, and
+/// below the largest acknowledged number of its space, is less than the packet threshold below it
+/// (RFC 9002, section 6.1.1): what is at the threshold is found at once. In any case such a packet
+/// is not old as of a detection of its space (section 6.1.2).
 pub fn open_packets_are_near()
     ensures by_number { (c : Settings) (h : List Event) → is_may c.options.loss_by_number ≡ false
         → IsRun c h → AllByRecursion IsProperEvent h → (p : Packet)
@@ -65,9 +65,9 @@ pub fn open_packets_are_near()
         → is_old c (sampled c h) now p ≡ false }
 {}
 
-/// What is free lies below the largest acknowledged number of its space by the packet threshold or more,
-/// and is not old, so that it is not owed. In a run it is open and in flight. Nothing is free but behind a
-/// detection, and so nothing is behind a Lost line.
+/// What is free lies below the largest acknowledged number of its space by the packet threshold or
+/// more, and is not old, so that it is not owed. In a run it is open and in flight. Nothing is free
+/// but behind a detection, and so nothing is behind a Lost line.
 pub fn free_packets_are_young()
     ensures young { (c : Settings) (h : List Event) (p : Packet) (space : Space) (now : ℕ)
         → detection c h ≡ Some (space, now) → Contains (free c h) p → is_old c (sampled c h) now p ≡ false }
@@ -80,8 +80,8 @@ pub fn free_packets_are_young()
     ensures behind { (c : Settings) (h : List Event) → detection c h ≡ None → free c h ≡ [] }
 {}
 
-/// A Lost line of a run takes off the bytes in flight the sizes of the packets that were free and that it
-/// names, and no others (RFC 9002, B.6): what was owed left them at its detection.
+/// A Lost line of a run takes off the bytes in flight the sizes of the packets that were free and
+/// that it names, and no others (RFC 9002, B.6): what was owed left them at its detection.
 pub fn lost_lines_take_what_was_free()
     ensures { (c : Settings) (h : List Event) (time : ℕ) (space : Space) (ranges : List (ℕ × ℕ))
         → IsRun c (events.Lost time space ranges ∷ h)
@@ -135,9 +135,9 @@ pub fn sends_have_leave()
         → IsAmong (is_entry c) between (f ∷ h) }
 {}
 
-/// Of two entries into recovery in a run, by different detections and with no collapse of the window
-/// between, the second has a loss that was sent after the detection of the first (RFC 9002, section
-/// 7.3.2). Where losses by number must be declared, each entry is a detection.
+/// Of two entries into recovery in a run, by different detections and with no collapse of the
+/// window between, the second has a loss that was sent after the detection of the first (RFC 9002,
+/// section 7.3.2). Where losses by number must be declared, each entry is a detection.
 pub fn entries_need_later_losses()
     ensures any { (c : Settings) (e f : Event) (between h : List Event) → IsRun c (e ∷ between ++ f ∷ h)
         → is_entry c (f ∷ h) ≡ true
@@ -150,9 +150,10 @@ pub fn entries_need_later_losses()
         → IsSentAfter (time_of f) (owed c (e ∷ between ++ f ∷ h)) }
 {}
 
-/// An event enters recovery exactly where packets are lost by it, the last of which was sent after recovery
-/// began, or there was no recovery (RFC 9002, section 7.3.2, B.6): as of before their detection, which a
-/// Lost line may complete. Where losses by number must be declared, that is the event itself.
+/// An event enters recovery exactly where packets are lost by it, the last of which was sent after
+/// recovery began, or there was no recovery (RFC 9002, section 7.3.2, B.6): as of before their
+/// detection, which a Lost line may complete. Where losses by number must be declared, that is the
+/// event itself.
 pub fn entries_are_losses()
     ensures any { (c : Settings) (h : List Event)
         → is_entry c h ≡ is_entered_by (reno c (before_last (detection_of h))).recovery_start_time (declared c h) }
@@ -160,9 +161,9 @@ pub fn entries_are_losses()
         → is_entry c (e ∷ h) ≡ is_entered_by (reno c h).recovery_start_time (owed c (e ∷ h)) }
 {}
 
-/// Packets are lost by an event that lowers the window (RFC 9002, sections 7.3.2 and 7.6.2). Where losses
-/// by number must be declared, as they must where no window is reported, the event found them lost. Where
-/// the sender reports its window, the event is a report of the lower one.
+/// Packets are lost by an event that lowers the window (RFC 9002, sections 7.3.2 and 7.6.2). Where
+/// losses by number must be declared, as they must where no window is reported, the event found
+/// them lost. Where the sender reports its window, the event is a report of the lower one.
 pub fn windows_fall_by_losses()
     ensures own { (c : Settings) (e : Event) (h : List Event) → is_reported c.options.controller ≡ false
         → window c (e ∷ h) < window c h → declared c (e ∷ h) ≢ [] }

@@ -41,6 +41,7 @@ ghost use Rattle.qa_format.specs.format.Written.{Pairs, written};
 ghost use Rattle.qa_base.specs.machine.Widths.{Fits, IsTimely, acknowledged_count};
 ghost use Rattle.qa_base.specs.machine.Window.{window};
 ghost use Rattle.qa_laws.specs.machine.Alike.{IsLooser, of_version};
+ghost use Rattle.qa_laws.specs.machine.Declared.{named_free};
 ghost use Rattle.std.specs.List.{AllByRecursion};
 
 /// No byte that follows changes a verdict that is fixed, whatever the reading of lines.
@@ -94,10 +95,10 @@ pub fn sent_adds_its_size()
         ≡ bytes_in_flight c h + (if in_flight && not (is_discarded h space) then size else 0) }
 {}
 
-/// An event that is no acknowledgment, no timer and no discard, and by which no packet is lost, leaves
-/// the RTT, the moves of the window and the PTO count as they were. By such an event none is lost,
-/// unless it is a Lost line that completes a detection; and none ever is where losses by number must be
-/// declared.
+/// An event that is no acknowledgment, no timer and no discard, and by which no packet is lost,
+/// leaves the RTT, the moves of the window and the PTO count as they were. By such an event none is
+/// lost, unless it is a Lost line that names one that was free, and so completes a detection; and
+/// none ever is where losses by number must be declared.
 pub fn quiet_events_change_little()
     ensures rtt { (c : Settings) (e : Event) (h : List Event) → is_quiet e ≡ true
         → declared c (e ∷ h) ≡ [] → rtt c (e ∷ h) ≡ rtt c h }
@@ -106,7 +107,7 @@ pub fn quiet_events_change_little()
     ensures must { (c : Settings) (e : Event) (h : List Event) → is_may c.options.loss_by_number ≡ false
         → is_quiet e ≡ true → declared c (e ∷ h) ≡ [] }
     ensures unnamed { (c : Settings) (e : Event) (h : List Event) → is_quiet e ≡ true
-        → free c h ≡ [] → declared c (e ∷ h) ≡ [] }
+        → named_free c e h ≡ [] → declared c (e ∷ h) ≡ [] }
     ensures pto_count { (c : Settings) (e : Event) (h : List Event) → is_quiet e ≡ true
         → pto_count c (e ∷ h) ≡ pto_count c h }
 {}
@@ -128,8 +129,8 @@ pub fn ranges_name()
         → (names_between ranges least most ≡ true) ↔ NamesBetween ranges least most }
 {}
 
-/// Where losses by number must be declared, nothing is free: a Lost line may name what is owed and no
-/// more, and what is lost by an event is what it finds lost.
+/// Where losses by number must be declared, nothing is free: a Lost line may name what is owed and
+/// no more, and what is lost by an event is what it finds lost.
 pub fn losses_must_be_declared()
     ensures free { (c : Settings) (h : List Event) → is_may c.options.loss_by_number ≡ false → free c h ≡ [] }
     ensures nameable { (c : Settings) (h : List Event) → is_may c.options.loss_by_number ≡ false
@@ -220,11 +221,12 @@ pub fn version_asks_nothing()
         → first_broken c h e ≡ first_broken s h e }
 {}
 
-/// A run of events that lines can say is a run, and owes the same losses at its end, under a header that
-/// tolerates no less: no limit for late timers or no lesser one, no lesser slacks, timers that may be as early
-/// or earlier, a window that may be overshot, be it so before or not, and, where losses by number may be
-/// declared, the same packet threshold or a lower one: it decides what is free alone. (Lines say no packet
-/// without bytes: that one alone would fit a window that is full, and not overshoot it.)
+/// A run of events that lines can say is a run, and owes the same losses at its end, under a header
+/// that tolerates no less: no limit for late timers or no lesser one, no lesser slacks, timers that
+/// may be as early or earlier, a window that may be overshot, be it so before or not, and, where
+/// losses by number may be declared, the same packet threshold or a lower one: it decides what is
+/// free alone. (Lines say no packet without bytes: that one alone would fit a window that is full,
+/// and not overshoot it.)
 pub fn tolerance_admits_more()
     ensures runs { (c d : Settings) (h : List Event) → IsLooser c d → AllByRecursion Fits h
         → IsRun c h → IsRun d h }

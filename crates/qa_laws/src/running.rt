@@ -61,9 +61,10 @@ pub fn past_threshold_falls()
 {}
 
 /// In a run a packet that is not open is not open after one more event, and the packets declared
-/// lost after it are those that were, those that were owed, and those that were free and that it names.
-/// One that is open stays so unless the event newly acknowledges it, finds it lost, discards its space or
-/// names it where it was free. What is below the largest acknowledged number stays below it.
+/// lost after it are those that were, those that were owed, and those that were free and that it
+/// names. One that is open stays so unless the event newly acknowledges it, finds it lost, discards
+/// its space or names it where it was free. What is below the largest acknowledged number stays
+/// below it.
 pub fn closed_stays_closed()
     ensures closed { (c : Settings) (e : Event) (h : List Event) → IsRun c (e ∷ h) → (p : Packet)
         → Contains (packets h) p
@@ -123,8 +124,8 @@ pub fn losses_are_a_front()
 {}
 
 /// In a run one more event adds the packet that it sends to a sum over the open packets, and takes
-/// off those that it newly acknowledges, that it finds lost, whose space it discards, and that were free
-/// and that it names.
+/// off those that it newly acknowledges, that it finds lost, whose space it discards, and that were
+/// free and that it names.
 pub fn sums_after_an_event()
     ensures { (weight : Packet → ℕ) (c : Settings) (e : Event) (h : List Event) → IsRun c (e ∷ h)
         → open_sum weight c (e ∷ h)
@@ -134,10 +135,10 @@ pub fn sums_after_an_event()
 {}
 
 /// In a run, packets before all others that are closed before an event are not newly acknowledged
-/// by it, nor found lost, and stay closed. Persistent congestion (RFC 9002, section 7.6) is what the
-/// packets behind them establish alone, and what one walk finds over those in the order of sending, where
-/// none of them is owed; and whether or not, where losses by number must be declared. Sums over the open
-/// packets are theirs. The packet that the event sends stands last.
+/// by it, nor found lost, and stay closed. Persistent congestion (RFC 9002, section 7.6) is what
+/// the packets behind them establish alone, and what one walk finds over those in the order of
+/// sending, where none of them is owed; and whether or not, where losses by number must be
+/// declared. Sums over the open packets are theirs. The packet that the event sends stands last.
 pub fn closed_are_forgotten()
     ensures newly { (c : Settings) (e : Event) (h : List Event) → IsRun c (e ∷ h)
         → (gone kept : List Packet) → reverse (packets h) ≡ gone ++ kept → AreClosed c h gone
@@ -180,8 +181,9 @@ pub fn kept_are_counted()
         → kept_count c h ≡ length kept }
 {}
 
-/// In a run one more event makes a packet acknowledged that it acknowledges, makes one owed that it finds lost,
-/// and declares lost one that was owed, or that was free and that it names. A packet is open that is not acknowledged, unless its space was discarded.
+/// In a run one more event makes a packet acknowledged that it acknowledges, makes one owed that it
+/// finds lost, and declares lost one that was owed, or that was free and that it names. A packet is
+/// open that is not acknowledged, unless its space was discarded.
 pub fn fates_after_an_event()
     ensures fate { (c : Settings) (e : Event) (h : List Event) → IsRun c (e ∷ h) → (p : Packet)
         → Contains (packets h) p
@@ -221,10 +223,10 @@ pub fn closed_are_of_one_space()
         → sum_by (bytes_of s) ps ≡ 0 }
 {}
 
-/// In a run an acknowledgment takes off the bytes in flight what it newly acknowledges and what it finds
-/// lost, a timer what it finds lost, and a discard what was open in its space (RFC 9002, B.5, B.6 and
-/// B.9). Any other event adds the packet that it sends, where it sends one (B.4), and takes off what was free
-/// and what it names.
+/// In a run an acknowledgment takes off the bytes in flight what it newly acknowledges and what it
+/// finds lost, a timer what it finds lost, and a discard what was open in its space (RFC 9002, B.5,
+/// B.6 and B.9). Any other event adds the packet that it sends, where it sends one (B.4), and takes
+/// off what was free and what it names.
 pub fn bytes_after_an_event()
     ensures ack { (c : Settings) (h : List Event) (time : ℕ) (space : Space) (ranges : List (ℕ
         × ℕ)) (delay : ℕ) (app_limited : Bool)
@@ -261,10 +263,11 @@ pub fn latest_packets_decide()
         → latest_sent (owed c h) ≡ time_of_first (owed c h) }
 {}
 
-/// As many packets of a history are of use as were sent since the first that is open or owed. In a run a
-/// packet that is of no use is of none after one more event, so that what is of use after an event that
-/// sends nothing is found among what was, and is no more. It is as much where that is no acknowledgment,
-/// timer or discard, nothing was owed, and it names nothing that was free. A packet that is sent is one more.
+/// As many packets of a history are of use as were sent since the first that is open or owed. In a
+/// run a packet that is of no use is of none after one more event, so that what is of use after an
+/// event that sends nothing is found among what was, and is no more. It is as much where that is no
+/// acknowledgment, timer or discard, nothing was owed, and it names nothing that was free. A packet
+/// that is sent is one more.
 pub fn kept_after_an_event()
     ensures is { (c : Settings) (h : List Event)
         → kept_count c h ≡ length (from_first (is_kept c h) (reverse (packets h))) }

@@ -22,7 +22,7 @@ use Rattle.qa_base.specs.values.Constants.{default_initial_rtt, default_max_ack_
 use Rattle.qa_base.specs.values.Names.{key_name, role_name, unit_name, controller_name, loss_by_number_name, unit_named, controller_named, loss_by_number_named, leave_name, leave_named}
 use Rattle.qa_format.specs.format.Proper.{IsProperEvent}
 use Rattle.qa_base.specs.declared.space.LossByNumber.{LossByNumber}
-use Rattle.qa_base.specs.declared.space.LossByNumber.TheVariants.{Must, May}
+use Rattle.qa_base.specs.declared.space.LossByNumber.TheVariants.{Must}
 use Rattle.qa_base.specs.declared.space.Controller.{Controller}
 use Rattle.qa_base.specs.declared.space.Controller.TheVariants.{NewReno}
 use Rattle.qa_base.specs.declared.space.TimeUnit.{TimeUnit}

@@ -1,18 +1,19 @@
 -- What is free after a detection, and what a Lost line takes of it.
-use Rattle.std.proofs.Common.{◌≡◌, ◌∙◌, ◌+◌, ◌-◌, ◌<◌, ◌≤◌, ℕ, List, [], ◌∷◌, true, false, ◌&&◌, ◌||◌, not, Option, Some, None, refl, sym, ap, arith, subst, Contains, sum_by}
+use Rattle.std.specs.List.{list_any}
+use Rattle.std.proofs.Common.{◌≡◌, ◌∙◌, ◌+◌, ◌-◌, ◌<◌, ◌≤◌, ℕ, List, [], ◌∷◌, true, false, ◌&&◌, ◌||◌, not, Option, Some, None, refl, sym, ap, arith, subst, Contains, sum_by, filter, Bool}
 use Rattle.std.proofs.lemmas.Bool.{and_from, and_parts, both_ways, false_from_ne_true, leb-true, lt-ltb, ltb-true, not-true, or_right}
 use Rattle.std.specs.Prelude.{nat_le, nat_lt, if◌then◌else◌}
 use Rattle.qa_base.specs.declared.event.Event.{Event}
 use Rattle.qa_base.specs.declared.event.Event.TheVariants.{Ack, Lost, Timer, Discard}
 use Rattle.qa_base.specs.declared.space.Space.{Space}
-use Rattle.qa_base.specs.machine.Detection.{free_by, is_free_by, is_found, is_found_at, is_old, is_past_threshold, is_unsettled, left_at, may_be_spared}
-use Rattle.qa_base.specs.machine.Estimates.{rtt, sampled}
+use Rattle.qa_base.specs.machine.Detection.{is_found, is_found_at, is_old, is_past_threshold, is_unsettled, left_at, may_be_spared}
+use Rattle.qa_base.specs.machine.Estimates.{sampled}
 use Rattle.qa_base.specs.machine.Loss.{bytes_in_flight, declared, detection, free, is_free, is_open, is_owed}
 use Rattle.qa_base.specs.machine.Packets.{Packet, packets, is_of, largest_acknowledged}
 use Rattle.qa_base.specs.machine.Rules.{IsRun}
 use Rattle.qa_base.specs.values.Events.{declares_lost, is_quiet}
 use Rattle.qa_base.specs.values.Settings.{Settings, is_may}
-use Rattle.qa_base.proofs.machine.Declared.{free_by_is, free_by_rtt, free_is, must_declared_by, same_filter}
+use Rattle.qa_base.proofs.machine.Declared.{free_is, must_declared_by, declared_is}
 use Rattle.qa_base.proofs.machine.Quiet.{owed-quiet, same_sum}
 use Rattle.qa_laws.specs.machine.Declared.{IsFarBelow, is_named_free, named_free}
 use Rattle.qa_laws.specs.machine.Oldest.{is_flying}
@@ -20,7 +21,7 @@ use Rattle.qa_laws.specs.machine.Sums.{bytes}
 use Rattle.qa_laws.proofs.machine.Bytes.{bytes-quiet}
 use Rattle.qa_laws.proofs.machine.Changes.{free_is_flying, free_is_left, free_not_owed}
 use Rattle.qa_laws.proofs.machine.Courses.{is_space_same}
-use Rattle.qa_laws.proofs.machine.Pairs.{of_each, part_is}
+use Rattle.qa_laws.proofs.machine.Pairs.{of_each, part_is, part_has, some_one}
 use Rattle.qa_laws.proofs.machine.Settled.{opens_is}
 
 free_here : (c : Settings) (h : List Event) (p : Packet) → Contains (free c h) p → is_free c h p ≡ true
@@ -98,12 +99,21 @@ flying_is_young c h p now largest flying at most less = false_from_ne_true (is_o
 pub must_lose_nothing : (c : Settings) (e : Event) (h : List Event) → is_may c.options.loss_by_number ≡ false → is_quiet e ≡ true → declared c (e ∷ h) ≡ []
 must_lose_nothing c e h must quiet = must_declared_by c (sampled c (e ∷ h)) e h must ∙ owed-quiet c e h quiet
 
-free_after : (c : Settings) (h : List Event) → free c h ≡ [] → free_by c (rtt c h) h ≡ []
-free_after c h none =
-    free_by_is c (rtt c h) h ∙ (same_filter (is_free_by c (rtt c h) h) (is_free c h) (packets h) (free_by_rtt c h) ∙ (sym (free_is c h) ∙ none))
+has_none : (ps : List Packet) (p : Packet) → Contains ps p → ps ≡ [] → ⊥
+has_none [] p (k, within, is) none = omega arith
+has_none (q ∷ ps) p has none = cc
 
-pub unnamed_lose_nothing : (c : Settings) (e : Event) (h : List Event) → is_quiet e ≡ true → free c h ≡ [] → declared c (e ∷ h) ≡ []
-unnamed_lose_nothing c (Lost time space ranges) h quiet none = rw (free_after c h none) refl
+-- a Lost line that names nothing that was free completes nothing
+completes_nothing : (c : Settings) (e : Event) (h : List Event) → named_free c e h ≡ [] → list_any (is_named_free c e h) (packets h) ≡ false
+completes_nothing c e h none = false_from_ne_true (list_any (is_named_free c e h) (packets h)) (λ some.
+    let one = some_one (is_named_free c e h) (packets h) some in
+    has_none (named_free c e h) one.0 (part_has (is_named_free c e h) (packets h) one.0 one.1 one.2) none)
+
+pub unnamed_lose_nothing : (c : Settings) (e : Event) (h : List Event) → is_quiet e ≡ true → named_free c e h ≡ [] → declared c (e ∷ h) ≡ []
+unnamed_lose_nothing c (Lost time space ranges) h quiet none =
+    let e = Lost time space ranges in
+    declared_is c time space ranges h
+    ∙ ap (λ (b : Bool). if b then filter (λ p. is_owed c h p || is_named_free c e h p) (packets h) else []) (completes_nothing c e h none)
 unnamed_lose_nothing c (Ack time space ranges delay app_limited) h quiet none = cc
 unnamed_lose_nothing c (Timer time kind space) h quiet none = cc
 unnamed_lose_nothing c (Discard time space) h quiet none = cc

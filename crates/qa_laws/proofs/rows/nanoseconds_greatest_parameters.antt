@@ -1,5 +1,5 @@
 -- The conformance trace `nanoseconds-greatest-parameters`: accepted.
-use Rattle.std.specs.Prelude.{◌≡◌, List, [], ◌∷◌, None, refl}
+use Rattle.std.specs.Prelude.{◌≡◌, List, [], None, refl}
 use Rattle.qa_base.specs.declared.event.Event.{Event}
 use Rattle.qa_base.specs.machine.Rules.{first_broken, IsRun, IsComplete}
 use Rattle.qa_base.specs.values.Settings.{Settings, no_options}

@@ -1,5 +1,5 @@
 -- The conformance trace `reported-bytes-in-flight-are-compared`: V16 metric bytes_in_flight.
-use Rattle.std.specs.Prelude.{◌≡◌, List, [], ◌∷◌, Some, None, refl}
+use Rattle.std.specs.Prelude.{◌≡◌, List, [], Some, None, refl}
 use Rattle.qa_base.specs.declared.event.Event.{Event}
 use Rattle.qa_base.specs.declared.rule.Rule.TheVariants as rule
 use Rattle.qa_base.specs.declared.rule.Field.TheVariants as field

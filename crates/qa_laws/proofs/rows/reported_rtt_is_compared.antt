@@ -1,5 +1,5 @@
 -- The conformance trace `reported-rtt-is-compared`: V16 metric smoothed_rtt.
-use Rattle.std.specs.Prelude.{◌≡◌, List, [], ◌∷◌, Some, None, refl}
+use Rattle.std.specs.Prelude.{◌≡◌, List, [], Some, None, refl}
 use Rattle.qa_base.specs.declared.event.Event.{Event}
 use Rattle.qa_base.specs.declared.rule.Rule.TheVariants as rule
 use Rattle.qa_base.specs.declared.rule.Field.TheVariants as field
