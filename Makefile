@@ -9,8 +9,11 @@ DESTDIR ?=
 release := qaudit-$(shell cat VERSION)-x86_64-linux
 # A copy of the program that `make build` makes. The gate takes away what lies in crates/*/out while it runs.
 built := bin/qaudit
+built_why := bin/qaudit-why
 # The program as the gate leaves it.
 program := crates/qaudit/out/qaudit
+# The program that says why, likewise.
+program_why := crates/qaudit_why/out/qaudit_why
 # The same audit by a reader and a writer that move one byte a call, a test of it.
 program_by_one_byte := crates/one_byte/out/one_byte
 # The reader of lines by itself, a test of it.
@@ -22,7 +25,7 @@ example := examples/ten-packets.trace
 runner_tests := test_run test_trials test_mutations test_simulate test_links test_made_up
 
 # All programs in Python, by the places where their names are unlike each other.
-python := $(addprefix conformance/,allocations cuts failing large links made_up malicious memory mutations \
+python := $(addprefix conformance/,allocations cuts failing large links made_up malicious memory mutations reasons \
 	refusals run simulate) \
 	conformance/fuzz/instrument conformance/lines/make.py $(wildcard conformance/*.py)
 python_of_fuzz := conformance/fuzz/run
@@ -33,13 +36,14 @@ python_of_bench := $(addprefix bench/,peers run trace) $(wildcard bench/*.py) be
 
 # The programs of conformance/ over what the gate built, the longest first. None waits for another.
 conformance := conformance-cuts conformance-failing conformance-refusals conformance-simulate conformance-mutations \
-	conformance-malicious conformance-large conformance-run conformance-allocations conformance-memory
+	conformance-malicious conformance-large conformance-run conformance-reasons conformance-allocations \
+	conformance-memory
 
 .PHONY: help build run one_byte lines test gate conformance $(conformance) links made_up $(runner_tests) test_qlog lint \
 	bench install dist clean
 
 help:
-	@echo 'make build     proves the program and builds $(built)'
+	@echo 'make build     proves the programs and builds $(built) and $(built_why)'
 	@echo 'make run       builds it and audits $(example)'
 	@echo 'make test      runs the merge gate, and then the program over conformance/'
 	@echo 'make gate      runs the merge gate alone'
@@ -51,10 +55,16 @@ help:
 	@echo 'make dist      builds it and packs dist/$(release).tar.gz, which needs no kit'
 	@echo 'make clean     removes what was built'
 
-build: $(built)
+build: $(built) $(built_why)
 
 $(built): crates.txt HANDLES $(shell find crates/qa_*/src crates/qa_*/specs crates/qa_*/proofs crates/qaudit/src)
 	release/prove qaudit $@
+
+# It stands on what the first program is made of.
+$(built_why): $(built) $(shell find crates/qaudit_why/src)
+	cd crates/qaudit_why && rt all check --jobs $(JOBS)
+	cd crates/qaudit_why && rt run < stdin > /dev/null; test $$? -eq 1
+	install -D -m 755 $(program_why) $@
 
 run: build
 	@$(built) check < $(example)
@@ -108,6 +118,9 @@ conformance-run:
 	python3 conformance/lines/make.py --check
 	conformance/run --lines $(program_of_lines)
 
+conformance-reasons:
+	conformance/reasons $(program_why)
+
 conformance-allocations:
 	conformance/allocations $(program)
 
@@ -150,11 +163,11 @@ bench: build
 
 # A release is a folder that installs itself, so that there is one way to install.
 install: build
-	release/pack $(built) bin/$(release)
+	release/pack $(built) $(built_why) bin/$(release)
 	bin/$(release)/install '$(DESTDIR)$(PREFIX)'
 
 dist: build
-	release/pack $(built) bin/$(release)
+	release/pack $(built) $(built_why) bin/$(release)
 	mkdir -p dist
 	tar --sort=name --owner=0 --group=0 --numeric-owner -C bin -czf dist/$(release).tar.gz $(release)
 	@echo dist/$(release).tar.gz

@@ -20,6 +20,7 @@ from sender import Deadline, Event, Ranges, Sender
 
 SHOWN_BYTES = 200
 SHOWN_RUNS = 16
+SHOWN_OF_STRING = 40
 
 # Where each rule stands, by the beginning of its name in a report.
 SOURCES = {
@@ -156,8 +157,7 @@ def why(name: str, trace: bytes, report: str) -> bytes:
 
 def shown(number: int, line: bytes) -> bytes:
     """A line with its number; the first bytes of one that is long."""
-    printed = bytes(it if 32 <= it <= 126 else ord("?") for it in line[:SHOWN_BYTES])
-    return f"  {number} | ".encode() + printed + (b" ..\n" if len(line) > SHOWN_BYTES else b"\n")
+    return f"  {number} | ".encode() + printed(line[:SHOWN_BYTES]) + (b" ..\n" if len(line) > SHOWN_BYTES else b"\n")
 
 
 # Lines that cannot be read.
@@ -168,7 +168,7 @@ def unreadable(verdict: Verdict, line: bytes | None) -> bytes:
     _, fault, *key = verdict.what.split(" ")
     if fault in UNSHOWN:
         line = None
-    text = sentence_of(verdict, fault, key, line).encode() + b"\n"
+    text = sentence_of(verdict, fault, key, line).encode() + value_of(fault, key, line) + b"\n"
     if line is None:
         return text
     hint = "" if verdict.is_headed else hint_of(line)
@@ -188,6 +188,45 @@ def sentence_of(verdict: Verdict, fault: str, key: list[str], line: bytes | None
     if line is not None:
         return "the first line that is not blank has to be the header"
     return "the input is empty" if verdict.line == 1 else "the input has only blank lines"
+
+
+def value_of(fault: str, key: list[str], line: bytes | None) -> bytes:
+    """The wrong value, which stands at a key."""
+    key_of = {"unknown-event": "event", "version": "version"}
+    if fault in ("wrong-kind", "out-of-range"):
+        key_of[fault] = key[0]
+    if line is None or fault not in key_of:
+        return b""
+    value = json.loads(line, parse_int=integer_or_other)[key_of[fault]]
+    return b": it is " + value_text(value)
+
+
+def integer_or_other(digits: str) -> int | float:
+    """An integer, or another number where it is below 0 or more than 64 bits hold."""
+    return float(digits) if digits.startswith("-") or int(digits) >= 2**64 else int(digits)
+
+
+def value_text(value: object) -> bytes:
+    """A value, where it is an integer, a string or a truth value, and else what it is."""
+    match value:
+        case bool():
+            return b"true" if value else b"false"
+        case int():
+            return str(value).encode()
+        case str():
+            data = value.encode()
+            end = b'" ..' if len(data) > SHOWN_OF_STRING else b'"'
+            return b'"' + printed(data[:SHOWN_OF_STRING]) + end
+        case list():
+            return b"a list"
+        case dict():
+            return b"an object"
+    return b"a number that is no integer from 0 to 18446744073709551615"
+
+
+def printed(data: bytes) -> bytes:
+    """Bytes with a question mark for each that is no printable ASCII."""
+    return bytes(it if 32 <= it <= 126 else ord("?") for it in data)
 
 
 def hint_of(line: bytes) -> str:

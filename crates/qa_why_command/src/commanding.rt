@@ -1,4 +1,7 @@
 //! The whole command.
+ghost use Rattle.std.specs.Prelude.{◌≡◌, ℕ, List, Some, IfOk, codes};
+ghost use Rattle.qa_why_command.specs.Commands as defined;
+ghost use Rattle.qa_why_trace.specs.Why.{Writes};
 
 use crate::arguments::{Asked, Inquiry, parse};
 use crate::tally::Tally;
@@ -41,7 +44,9 @@ impl Failure {
     }
 
     /// Whether no file behind is read.
-    fn stops(self) -> bool {
+    fn stops(self) -> bool
+        ensures { result ≡ defined.ends self }
+    {
         matches!(self, Failure::Audit(AuditFault::Write))
     }
 
@@ -159,7 +164,9 @@ fn tell_several<R: Files, I: Source, O: Sink, E: Sink>(
 }
 
 /// Whether no file behind is read.
-fn stops(told: Result<Outcome, Failure>) -> bool {
+fn stops(told: Result<Outcome, Failure>) -> bool
+    ensures { result ≡ defined.stops told }
+{
     match told {
         Ok(_) => false,
         Err(failure) => failure.stops(),
@@ -167,7 +174,9 @@ fn stops(told: Result<Outcome, Failure>) -> bool {
 }
 
 /// Counts a trace, and tells a failure.
-fn count<E: Sink>(name: &str, told: Result<Outcome, Failure>, error: &mut E, tally: &mut Tally) {
+fn count<E: Sink>(name: &str, told: Result<Outcome, Failure>, error: &mut E, tally: &mut Tally)
+    ensures { tally.new ≡ defined.counted tally.old told }
+{
     match told {
         Ok(outcome) => tally.add(outcome),
         Err(failure) => {
@@ -215,7 +224,10 @@ fn tell_input<I: Source, O: Sink>(
     quiet: bool,
     input: &mut I,
     output: &mut O,
-) -> Result<Outcome, Failure> {
+) -> Result<Outcome, Failure>
+    ensures { (bytes : List ℕ) → I.left input.old ≡ Some bytes
+        → IfOk result (λ outcome. Writes (O.held output.old) (O.held output.new) quiet (codes "-") outcome bytes) }
+{
     match why::<Running, I, O>(alloc, STANDARD_INPUT, quiet, input, output) {
         Ok(outcome) => Ok(outcome),
         Err(fault) => Err(Failure::Audit(fault)),

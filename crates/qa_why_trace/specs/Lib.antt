@@ -1,5 +1,6 @@
 pub mod Lines
 pub mod Faults
 pub mod Hints
+pub mod Values
 pub mod Texts
 pub mod Why

@@ -8,6 +8,7 @@ mod hints;
 mod lines;
 mod telling;
 mod texts;
+mod values;
 
 pub use causes::{Why, why_of};
 pub use telling::why;

@@ -39,7 +39,8 @@ pub fn shown_name(alloc: Global, name: &str) -> Result<Vec<u8>, AllocError>
         .collect(alloc)
 }
 
-fn printed(alloc: Global, bytes: &[u8]) -> Result<Vec<u8>, AllocError>
+/// Bytes as they are shown.
+pub fn printed(alloc: Global, bytes: &[u8]) -> Result<Vec<u8>, AllocError>
     ensures { IfOk result (λ shown. shown.items ≡ map text.printable bytes.now) }
 {
     bytes.iter().map(|byte| printable(*byte)).collect(alloc)
@@ -57,7 +58,7 @@ fn margin(alloc: Global, n: u64) -> Result<String, AllocError>
 const SHOWN_BYTES: usize = 200;
 
 /// The first bytes of a line.
-fn first_bytes(line: &[u8], count: usize) -> &[u8]
+pub fn first_bytes(line: &[u8], count: usize) -> &[u8]
     ensures { result.now ≡ text.first_bytes count line.now }
 {
     if count < line.len() {

@@ -6,6 +6,7 @@ ghost use Rattle.qa_why_trace.specs.Texts as text;
 use crate::faults::push_fault;
 use crate::hints::hint;
 use crate::lines::{extend, push_line, shown_name};
+use crate::values::push_wrong_value;
 use qa_base::{Event, Rule, Totals};
 use qa_causes::{Cause, Owed};
 use qa_format::Fault;
@@ -190,6 +191,7 @@ fn push_unreadable(
     let mut sentence = String::new(alloc);
     push_fault(&mut sentence, fault, headed, n, line)?;
     extend(out, sentence.as_bytes())?;
+    push_wrong_value(alloc, out, fault, line)?;
     extend(out, b"\n")?;
     push_seen(alloc, out, n, line)?;
     extend(out, hint_text(headed, line).as_bytes())

@@ -1,0 +1,5 @@
+# Completion of qaudit-why for fish.
+
+complete -c qaudit-why -s q -l quiet -d 'Write nothing of accepted traces'
+complete -c qaudit-why -s h -l help -d 'Print help'
+complete -c qaudit-why -s V -l version -d 'Print version'
