@@ -13,7 +13,7 @@ use Rattle.qa_base.specs.values.Settings.{Settings, granularity}
 use Rattle.qa_ranges.specs.Runs as runs
 use Rattle.qa_ranges.specs.Sent.{AreSent, BySpace, runs_in}
 use Rattle.qa_running.proofs.Losses.{persistent_is_held, not_persistent_unsampled}
-use Rattle.qa_running.specs.Standing.{StandsFor}
+use Rattle.qa_running.specs.Losing.{HoldsLosses}
 use Rattle.qa_sent.specs.Covering.{AreApart, BeginsAbove}
 use Rattle.qa_sent.specs.Held.{Held}
 use Rattle.qa_sent.specs.Walks.{are_apart}
@@ -42,12 +42,12 @@ pub unsampled : (c : Settings) (h : List Event) → IsRun c h → (r : Estimate)
 unsampled c h run r is none = sym (not_persistent_unsampled c h run (ap (λ (x : Estimate). x.first_rtt_sample) (sym is) ∙ none))
 
 pub persists : (c : Settings) (h : List Event) → IsRun c h → (r : Estimate) → r ≡ sampled c h → (first : ℕ) → r.first_rtt_sample ≡ Some first
-    → (held : Held) → StandsFor held c h → (limit delay : ℕ) → limit ≡ persistent_after (granularity c) r delay → delay ≡ c.max_ack_delay
+    → (held : Held) → HoldsLosses held c h → (limit delay : ℕ) → limit ≡ persistent_after (granularity c) r delay → delay ≡ c.max_ack_delay
     → (result : Bool) → result ≡ are_apart limit first None held.packets → result ≡ is_persistent c h
-persists c h run r is first taken held stands limit delay limit_is delay_is result found =
+persists c h run r is first taken held holds limit delay limit_is delay_is result found =
     found
     ∙ (ap (λ n. are_apart n first None held.packets) (limit_is ∙ (ap (persistent_after (granularity c) r) delay_is ∙ ap (λ (x : Estimate). persistent_after (granularity c) x c.max_ack_delay) is))
-    ∙ sym (persistent_is_held c h run first (ap (λ (x : Estimate). x.first_rtt_sample) (sym is) ∙ taken) held stands))
+    ∙ sym (persistent_is_held c h run first (ap (λ (x : Estimate). x.first_rtt_sample) (sym is) ∙ taken) held holds))
 
 -- ---- what the steps of an acknowledgment ask
 

@@ -12,7 +12,7 @@ use Rattle.qa_base.specs.declared.space.Space.{Space}
 use Rattle.qa_base.specs.machine.Breaches.{is_loss_owed}
 use Rattle.qa_base.specs.machine.Detection.{found_at, is_found_at, looks_at, old_at}
 use Rattle.qa_base.specs.machine.Estimates.{sampled, rtt}
-use Rattle.qa_base.specs.machine.Loss.{is_owed as owes, owed, detection}
+use Rattle.qa_base.specs.machine.Loss.{is_free, is_owed as owes, owed, detection}
 use Rattle.qa_base.specs.machine.Packets.{Packet, packets, acknowledges_new, is_acknowledged as covers, is_discarded, is_declared_lost, is_newly_acknowledged, is_some_packet, newly_acknowledged}
 use Rattle.qa_base.specs.machine.Rules.{IsRun}
 use Rattle.qa_base.specs.values.Events.{acknowledges, declares_lost, discards}
@@ -24,12 +24,15 @@ use Rattle.qa_laws.proofs.machine.Pairs.{at_one}
 use Rattle.qa_laws.proofs.machine.Sending.{newly_of_kept_in_order, parts_after}
 use Rattle.qa_laws.specs.machine.Sequence.{WasSentBefore}
 use Rattle.qa_running.proofs.Carrying.{dropped_closed, dropped_stay, each_kept, none_held_owed, none_owes, stands_after}
-use Rattle.qa_running.proofs.Fates.{covered_told, declared_told, discarded_told, fate_after, found_told, new_told, same_told, told}
+use Rattle.qa_running.proofs.Fates.{covered_told, declared_told, discarded_told, fate_after, found_told, new_told, same_told}
 use Rattle.qa_connection.proofs.Lists.{each_of_map, each_value, filter_of_map, map_fused, map_same}
+use Rattle.qa_running.specs.Losing.{told}
 use Rattle.qa_running.specs.Thresholds.{AreThresholdsAt}
 use Rattle.qa_running.specs.Standing.{StandsFor, replaced}
 use Rattle.qa_sent.specs.Fates.{is_new, is_owed}
+use Rattle.qa_sent.specs.Free.{is_free_by, taken_by}
 use Rattle.qa_sent.specs.Held.{Held, IsBefore}
+use Rattle.qa_sent.specs.declared.free.FreePackets.{FreePackets}
 use Rattle.qa_sent.specs.Steps.{Thresholds, covered_by, declared, discarded_in, found_by, with_fate}
 use Rattle.qa_sent.specs.Told.{fate, fate_by, sent_of}
 use Rattle.qa_sent.specs.declared.fate.Fate.TheVariants.{Acknowledged, Open}
@@ -86,7 +89,7 @@ stands_sent c h packet leave opened run old new stands is =
     let here : packet ≡ sent_of c (e ∷ h) p = ap (λ f. with_fate f packet) (opened ∙ sym fresh) in
     let same : map (sent_of c h) stands.kept ≡ map (sent_of c (e ∷ h)) stands.kept =
     map_same (sent_of c h) (sent_of c (e ∷ h)) stands.kept (each_kept (λ q. sent_of c h q ≡ sent_of c (e ∷ h) q) old c h stands
-    (λ q has. same_told c e h run q has refl (none_owes c h holds.loss_owed q has) refl refl)) in
+    (λ q has. same_told c e h run q has refl (none_owes c h holds.loss_owed q has) refl refl refl)) in
     record {
       gone = stands.gone;
       kept = stands.kept ++ p ∷ [];
@@ -158,7 +161,7 @@ stands_covered c h time space ranges delay app_limited run none old new stands i
     covered_told c h time space ranges delay app_limited holds.space_gone p not_was
     ∙ ap (λ f. told f p) (between_by (acknowledges p.space p.number e || covers h p) (is_declared_lost h p) (owes c h p) (owes c (e ∷ h) p) (is_discarded h p.space)
     not_was (nothing_found c h time space ranges delay app_limited none p)
-    ∙ sym (fate_after c e h run p has))) old new stands (ap (λ (k : Held). k.dropped) is) (ap (λ (k : Held). k.packets) is)
+    ∙ sym (fate_after c e h run p has refl))) old new stands (ap (λ (k : Held). k.dropped) is) (ap (λ (k : Held). k.packets) is)
 
 -- in a run, after an acknowledgment of something new, the packets that it names are covered and those that are late are owed
 pub stands_acknowledged : (c : Settings) (h : List Event) (time : ℕ) (space : Space) (ranges : List (ℕ × ℕ)) (delay : ℕ) (app_limited : Bool)
@@ -174,7 +177,7 @@ stands_acknowledged c h time space ranges delay app_limited run some l threshold
     stands_after c e h run refl step (λ p has.
     let not_was = none_owes c h holds.loss_owed p has in
     ap (found_by space l) (covered_told c h time space ranges delay app_limited holds.space_gone p not_was)
-    ∙ found_told c e h run space time at refl l thresholds p has not_was refl) old new stands
+    ∙ found_told c e h run space time at refl l thresholds p has not_was refl refl) old new stands
     (ap (λ (k : Held). k.dropped) finding ∙ ap (λ (k : Held). k.dropped) covering)
     (ap (λ (k : Held). k.packets) finding ∙ (ap (λ (k : Held). map (found_by space l) k.packets) covering
     ∙ map_fused (found_by space l) (covered_by space ranges) step old.packets (each_value (λ q. found_by space l (covered_by space ranges q) ≡ step q) (λ q. refl) old.packets)))
@@ -191,16 +194,20 @@ stands_loss_timer c h time space run l thresholds old new stands is =
     stands_after c e h run refl (found_by space l) (λ p has.
     let not_was = none_owes c h holds.loss_owed p has in
     ap (λ b. found_by space l (told (fate_by (covers h p) (is_declared_lost h p) b (is_discarded h p.space)) p)) not_was
-    ∙ found_told c e h run space (looks_at (early c) time (old_at c (rtt c h) h space)) refl refl l thresholds p has not_was refl) old new stands (ap (λ (k : Held). k.dropped) is) (ap (λ (k : Held). k.packets) is)
+    ∙ found_told c e h run space (looks_at (early c) time (old_at c (rtt c h) h space)) refl refl l thresholds p has not_was refl refl) old new stands (ap (λ (k : Held). k.dropped) is) (ap (λ (k : Held). k.packets) is)
 
 -- ---- a Lost line, and a discard
 
--- in a run, after a Lost line, what was owed is declared lost
+-- in a run, after a Lost line, what was owed is declared lost, and what was free and is named
 pub stands_lost : (c : Settings) (h : List Event) (time : ℕ) (space : Space) (ranges : List (ℕ × ℕ)) → IsRun c (Lost time space ranges ∷ h)
-    → (old new : Held) → StandsFor old c h → new ≡ replaced declared old → StandsFor new c (Lost time space ranges ∷ h)
-stands_lost c h time space ranges run old new stands is =
-    stands_after c (Lost time space ranges) h run refl declared (declared_told c h time space ranges run) old new stands
-    (ap (λ (k : Held). k.dropped) is) (ap (λ (k : Held). k.packets) is)
+    → (free : FreePackets) → ((q : Packet) → is_free_by free (sent_of c h q) ≡ is_free c h q)
+    → (old middle new : Held) → StandsFor old c h → middle ≡ replaced (taken_by free ranges) old → new ≡ replaced declared middle → StandsFor new c (Lost time space ranges ∷ h)
+stands_lost c h time space ranges run free are old middle new stands taking declaring =
+    let step : SentPacket → SentPacket = λ q. declared (taken_by free ranges q) in
+    stands_after c (Lost time space ranges) h run refl step (declared_told c h time space ranges run free are) old new stands
+    (ap (λ (k : Held). k.dropped) declaring ∙ ap (λ (k : Held). k.dropped) taking)
+    (ap (λ (k : Held). k.packets) declaring ∙ (ap (λ (k : Held). map declared k.packets) taking
+    ∙ map_fused declared (taken_by free ranges) step old.packets (each_value (λ q. declared (taken_by free ranges q) ≡ step q) (λ q. refl) old.packets)))
 
 -- in a run, after a discard, the uncovered packets of its space are discarded
 pub stands_discarded : (c : Settings) (h : List Event) (time : ℕ) (space : Space) → IsRun c (Discard time space ∷ h)
@@ -216,9 +223,9 @@ stands_discarded c h time space run old new stands is =
 -- in a run the packets held stand for the history also after an event that asks for nothing owed, and neither sends, acknowledges,
 -- discards nor finds lost
 pub stands_still : (c : Settings) (e : Event) (h : List Event) → IsRun c (e ∷ h) → packets (e ∷ h) ≡ packets h → is_loss_owed c h e ≡ is_some_packet (owed c h)
-    → ((p : Packet) → acknowledges p.space p.number e ≡ false) → ((p : Packet) → owes c (e ∷ h) p ≡ false) → ((p : Packet) → discards p.space e ≡ false)
+    → ((p : Packet) → acknowledges p.space p.number e ≡ false) → ((p : Packet) → owes c (e ∷ h) p ≡ false) → ((p : Packet) → discards p.space e ≡ false) → ((p : Packet) → declares_lost p.space p.number e ≡ false)
     → (held : Held) → StandsFor held c h → StandsFor held c (e ∷ h)
-stands_still c e h run same asks no_ack not_own no_disc held stands =
+stands_still c e h run same asks no_ack not_own no_disc unnamed held stands =
     let none = sym asks ∙ (all_hold c h e run.1).loss_owed in
-    stands_after c e h run same (λ q. q) (λ p has. same_told c e h run p has (no_ack p) (none_owes c h none p has) (not_own p) (no_disc p))
+    stands_after c e h run same (λ q. q) (λ p has. same_told c e h run p has (no_ack p) (none_owes c h none p has) (not_own p) (no_disc p) (unnamed p))
     held held stands refl (sym (map-id held.packets))

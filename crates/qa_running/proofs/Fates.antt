@@ -1,6 +1,6 @@
 -- What became of one packet: what is asked of its fate is what the definitions say, and what one more event makes of it.
 use Rattle.std.proofs.Common.{◌≡◌, ◌∙◌, ℕ, List, [], ◌∷◌, Bool, true, false, ◌&&◌, ◌||◌, not, Option, Some, None, refl, sym, ap, subst, Contains}
-use Rattle.std.proofs.lemmas.Bool.{and_parts, or_from}
+use Rattle.std.proofs.lemmas.Bool.{and_parts, or_from, or_right}
 use Rattle.std.specs.Prelude.{if◌then◌else◌}
 use Rattle.qa_base.specs.declared.event.Event.{Event}
 use Rattle.qa_base.specs.declared.event.Event.TheVariants.{Ack, Lost, Discard}
@@ -8,34 +8,26 @@ use Rattle.qa_base.specs.declared.space.Space.{Space}
 use Rattle.qa_base.specs.declared.space.Space.TheVariants.{Initial, Handshake, App}
 use Rattle.qa_base.specs.machine.Detection.{is_found, is_found_at, is_past_threshold}
 use Rattle.qa_base.specs.machine.Estimates.{sampled}
-use Rattle.qa_base.specs.machine.Loss.{is_open as opens, is_owed as owes, detection}
+use Rattle.qa_base.specs.machine.Loss.{is_free, is_open as opens, is_owed as owes, detection}
 use Rattle.qa_base.specs.machine.Packets.{Packet, packets, is_acknowledged as covers, is_discarded, is_declared_lost, is_newly_acknowledged, is_of, largest_acknowledged}
 use Rattle.qa_base.specs.machine.Rtt.{Estimate}
 use Rattle.qa_base.specs.machine.Rules.{IsRun}
-use Rattle.qa_base.specs.values.Events.{is_space, is_named, acknowledges, discards}
+use Rattle.qa_base.specs.values.Events.{is_space, is_named, acknowledges, declares_lost, discards}
 use Rattle.qa_base.specs.values.Settings.{Settings}
-use Rattle.qa_laws.proofs.machine.Changes.{covered_after, lost_is_owed, found_unsettled}
-use Rattle.qa_laws.proofs.machine.Courses.{is_space_is}
+use Rattle.qa_laws.proofs.machine.Changes.{covered_after, lost_is_taken, found_unsettled, free_is_flying}
+use Rattle.qa_laws.proofs.machine.Courses.{is_space_is, is_space_same}
 use Rattle.qa_laws.proofs.machine.Detection.{space_of_detection}
+use Rattle.qa_laws.proofs.machine.Settled.{nameable_space}
+use Rattle.qa_running.specs.Losing.{told}
 use Rattle.qa_running.specs.Thresholds.{AreThresholdsAt}
 use Rattle.qa_sent.specs.Fates.{is_acknowledged, is_flying, is_new, is_open, is_owed, is_unacknowledged}
+use Rattle.qa_sent.specs.Free.{is_free_by, taken_by}
 use Rattle.qa_sent.specs.Steps.{Thresholds, covered_by, declared, discarded_in, found_by, is_past_threshold_by, packet_at, with_fate}
 use Rattle.qa_sent.specs.Told.{fate, fate_by, sent_of}
 use Rattle.qa_sent.specs.declared.fate.Fate.{Fate}
-use Rattle.qa_sent.specs.declared.fate.Fate.TheVariants.{Owed, Acknowledged, Discarded}
+use Rattle.qa_sent.specs.declared.fate.Fate.TheVariants.{Open, Owed, Acknowledged, Discarded}
+use Rattle.qa_sent.specs.declared.free.FreePackets.{FreePackets}
 use Rattle.qa_sent.specs.declared.packet.SentPacket.{SentPacket}
-
--- the packet as it is kept, with this fate
-abbrev pub told : Fate → Packet → SentPacket
-told f p = record {
-  time = p.time;
-  space = p.space;
-  number = p.number;
-  size = p.size;
-  eliciting = p.eliciting;
-  in_flight = p.in_flight;
-  fate = f;
-}
 
 pub space_turned : (a b : Space) → is_space a b ≡ is_space b a
 space_turned Initial Initial = refl
@@ -106,13 +98,29 @@ is_owed_told c h run p = owed_by (covers h p) (is_declared_lost h p) (owes c h p
 
 -- ---- what one more event makes of it
 
--- in a run it is covered by an acknowledgment that names it, declared lost where it was owed, and gone where its space is discarded
-pub fate_after : (c : Settings) (e : Event) (h : List Event) → IsRun c (e ∷ h) → (p : Packet) → Contains (packets h) p
+and_none : (a : Bool) → (a && false) ≡ false
+and_none true = refl
+and_none false = refl
+
+without : (a b d : Bool) → b ≡ false → (a || b || d) ≡ (a || d)
+without true b d none = refl
+without false b d none = rw none refl
+
+-- in a run an event that does not name it as lost declares it lost where it was owed
+lost_unnamed : (c : Settings) (e : Event) (h : List Event) → IsRun c (e ∷ h) → (p : Packet) → Contains (packets h) p → declares_lost p.space p.number e ≡ false
+    → is_declared_lost (e ∷ h) p ≡ (owes c h p || is_declared_lost h p)
+lost_unnamed c e h run p has unnamed =
+    lost_is_taken c e h run p has
+    ∙ without (owes c h p) (is_free c h p && declares_lost p.space p.number e) (is_declared_lost h p) (ap (λ b. is_free c h p && b) unnamed ∙ and_none (is_free c h p))
+
+-- in a run it is covered by an acknowledgment that names it, declared lost where it was owed, and gone where its space is discarded, by
+-- an event that does not name it as lost
+pub fate_after : (c : Settings) (e : Event) (h : List Event) → IsRun c (e ∷ h) → (p : Packet) → Contains (packets h) p → declares_lost p.space p.number e ≡ false
     → fate c (e ∷ h) p
     ≡ fate_by (acknowledges p.space p.number e || covers h p) (owes c h p || is_declared_lost h p) (owes c (e ∷ h) p) (discards p.space e || is_discarded h p.space)
-fate_after c e h run p has =
+fate_after c e h run p has unnamed =
     ap (λ b. fate_by b (is_declared_lost (e ∷ h) p) (owes c (e ∷ h) p) (is_discarded (e ∷ h) p.space)) (covered_after e h p has)
-    ∙ ap (λ b. fate_by (acknowledges p.space p.number e || covers h p) b (owes c (e ∷ h) p) (is_discarded (e ∷ h) p.space)) (lost_is_owed c e h run p has)
+    ∙ ap (λ b. fate_by (acknowledges p.space p.number e || covers h p) b (owes c (e ∷ h) p) (is_discarded (e ∷ h) p.space)) (lost_unnamed c e h run p has unnamed)
 
 stays_by : (ack cov los was own disc gone : Bool) → ack ≡ false → was ≡ false → own ≡ false → disc ≡ false
     → fate_by (ack || cov) (was || los) own (disc || gone) ≡ fate_by cov los was gone
@@ -120,10 +128,10 @@ stays_by ack cov los was own disc gone no_ack not_was not_own no_disc = rw (no_a
 
 -- nothing, where nothing was owed, and the event does not acknowledge it, does not find it lost and does not discard its space
 pub same_told : (c : Settings) (e : Event) (h : List Event) → IsRun c (e ∷ h) → (p : Packet) → Contains (packets h) p
-    → acknowledges p.space p.number e ≡ false → owes c h p ≡ false → owes c (e ∷ h) p ≡ false → discards p.space e ≡ false
+    → acknowledges p.space p.number e ≡ false → owes c h p ≡ false → owes c (e ∷ h) p ≡ false → discards p.space e ≡ false → declares_lost p.space p.number e ≡ false
     → sent_of c h p ≡ sent_of c (e ∷ h) p
-same_told c e h run p has no_ack not_was not_own no_disc =
-    sym (ap (λ f. told f p) (fate_after c e h run p has
+same_told c e h run p has no_ack not_was not_own no_disc unnamed =
+    sym (ap (λ f. told f p) (fate_after c e h run p has unnamed
     ∙ stays_by (acknowledges p.space p.number e) (covers h p) (is_declared_lost h p) (owes c h p) (owes c (e ∷ h) p) (discards p.space e) (is_discarded h p.space) no_ack not_was not_own no_disc))
 
 declared_if : (cov los own gone : Bool) (p : Packet) → declared (told (fate_by cov los own gone) p) ≡ told (fate_by cov (own || los) false gone) p
@@ -135,12 +143,49 @@ declared_if false true false false p = refl
 declared_if false false true false p = refl
 declared_if false false false false p = refl
 
--- a Lost line declares it where it was owed
+pub same_as_line : (p : Packet) (s : Space) → p.space ≡ s → is_space p.space s ≡ true
+same_as_line p s is = ap (λ t. is_space t s) is ∙ is_space_same s
+
+taken_if : (cov los own gone fr sp nm : Bool) (p : Packet) → (fr ≡ true → sp ≡ true) → (fr ≡ true → fate_by cov los own gone ≡ Open)
+    → declared (if fr && nm then with_fate Owed (told (fate_by cov los own gone) p) else told (fate_by cov los own gone) p)
+    ≡ told (fate_by cov (own || (fr && (sp && nm)) || los) false gone) p
+taken_if cov los own gone false sp nm p here opened = declared_if cov los own gone p ∙ ap (λ b. told (fate_by cov b false gone) p) (sym (without own false los refl))
+taken_if cov los own gone true sp false p here opened =
+    declared_if cov los own gone p ∙ ap (λ b. told (fate_by cov b false gone) p) (sym (without own (sp && false) los (and_none sp)))
+taken_if true los own gone true sp true p here opened = let not_so = opened refl in cc
+taken_if false true own true true sp true p here opened = let not_so = opened refl in cc
+taken_if false true own false true sp true p here opened = let not_so = opened refl in cc
+taken_if false false true true true sp true p here opened = let not_so = opened refl in cc
+taken_if false false true false true sp true p here opened = let not_so = opened refl in cc
+taken_if false false false true true sp true p here opened = let not_so = opened refl in cc
+taken_if false false false false true sp true p here opened = let same = here refl in rw same refl
+
+opened_by : (cov los own gone : Bool) → is_open (fate_by cov los own gone) ≡ true → fate_by cov los own gone ≡ Open
+opened_by true los own gone is = cc
+opened_by false true own true is = cc
+opened_by false true own false is = cc
+opened_by false false true true is = cc
+opened_by false false true false is = cc
+opened_by false false false true is = cc
+opened_by false false false false is = refl
+
+-- in a run one that is free is kept as open
+pub free_opened : (c : Settings) (h : List Event) → IsRun c h → (p : Packet) → is_free c h p ≡ true → fate c h p ≡ Open
+free_opened c h run p is =
+    opened_by (covers h p) (is_declared_lost h p) (owes c h p) (is_discarded h p.space)
+    (is_open_told c h p ∙ (and_parts p.in_flight (opens c h p) (free_is_flying c h run p is)).1)
+
+-- a Lost line declares it where it was owed, or was free and is named
 pub declared_told : (c : Settings) (h : List Event) (time : ℕ) (space : Space) (ranges : List (ℕ × ℕ)) → IsRun c (Lost time space ranges ∷ h)
-    → (p : Packet) → Contains (packets h) p → declared (sent_of c h p) ≡ sent_of c (Lost time space ranges ∷ h) p
-declared_told c h time space ranges run p has =
-    declared_if (covers h p) (is_declared_lost h p) (owes c h p) (is_discarded h p.space) p
-    ∙ sym (ap (λ f. told f p) (fate_after c (Lost time space ranges) h run p has))
+    → (free : FreePackets) → ((q : Packet) → is_free_by free (sent_of c h q) ≡ is_free c h q)
+    → (p : Packet) → Contains (packets h) p → declared (taken_by free ranges (sent_of c h p)) ≡ sent_of c (Lost time space ranges ∷ h) p
+declared_told c h time space ranges run free are p has =
+    let e = Lost time space ranges in
+    ap (λ b. declared (if b && is_named ranges p.number then with_fate Owed (sent_of c h p) else sent_of c h p)) (are p)
+    ∙ (taken_if (covers h p) (is_declared_lost h p) (owes c h p) (is_discarded h p.space) (is_free c h p) (is_space p.space space) (is_named ranges p.number) p
+    (λ left. same_as_line p space (nameable_space c h time space ranges run p (or_right (owes c h p) (is_free c h p) left)))
+    (free_opened c h run.0 p)
+    ∙ sym (ap (λ b. told (fate_by (covers h p) b false (is_discarded h p.space)) p) (lost_is_taken c e h run p has)))
 
 discarded_if : (of cov los gone : Bool) (p : Packet)
     → (if of && is_unacknowledged (fate_by cov los false gone) then with_fate Discarded (told (fate_by cov los false gone) p) else told (fate_by cov los false gone) p)
@@ -161,7 +206,7 @@ pub discarded_told : (c : Settings) (h : List Event) (time : ℕ) (space : Space
     → (p : Packet) → Contains (packets h) p → owes c h p ≡ false → discarded_in space (sent_of c h p) ≡ sent_of c (Discard time space ∷ h) p
 discarded_told c h time space run p has not_was =
     discarded_by (is_space space p.space) (is_space p.space space) (covers h p) (is_declared_lost h p) (owes c h p) (is_discarded h p.space) p (space_turned space p.space) not_was
-    ∙ sym (ap (λ f. told f p) (fate_after c (Discard time space) h run p has))
+    ∙ sym (ap (λ f. told f p) (fate_after c (Discard time space) h run p has refl))
 
 -- ---- acknowledgments and detections
 
@@ -236,9 +281,9 @@ found_tests of flies cov los late gone cov_now los_now own_now p there covers_is
 
 -- in a run a detection finds it lost, where it is of the space, open, in flight and late
 pub found_told : (c : Settings) (e : Event) (h : List Event) → IsRun c (e ∷ h) → (s : Space) (now : ℕ) → detection c (e ∷ h) ≡ Some (s, now) → discards s e ≡ false
-    → (l : Thresholds) → AreThresholdsAt c (e ∷ h) s now l → (p : Packet) → Contains (packets h) p → owes c h p ≡ false → discards p.space e ≡ false
+    → (l : Thresholds) → AreThresholdsAt c (e ∷ h) s now l → (p : Packet) → Contains (packets h) p → owes c h p ≡ false → discards p.space e ≡ false → declares_lost p.space p.number e ≡ false
     → found_by s l (told (between c e h p) p) ≡ sent_of c (e ∷ h) p
-found_told c e h run s now at none l thresholds p has not_was no_disc =
+found_told c e h run s now at none l thresholds p has not_was no_disc unnamed =
     let g = e ∷ h in
     let late = is_past_threshold c (sampled c g) now (largest_acknowledged g s) p in
     let gone_is : is_discarded g p.space ≡ is_discarded h p.space = ap (λ b. b || is_discarded h p.space) no_disc in
@@ -246,7 +291,7 @@ found_told c e h run s now at none l thresholds p has not_was no_disc =
     ∙ (found_tests (is_of s p) p.in_flight (acknowledges p.space p.number e || covers h p) (is_declared_lost h p) late (is_discarded h p.space) (covers g p) (is_declared_lost g p) (owes c g p) p
     (λ same. there_of h s p.space (space_of_detection c e h run s now at) (space_turned p.space s ∙ same))
     (covered_after e h p has)
-    (lost_is_owed c e h run p has ∙ sym (free_by (owes c h p) (is_declared_lost h p) not_was))
+    (lost_unnamed c e h run p has unnamed ∙ sym (free_by (owes c h p) (is_declared_lost h p) not_was))
     (ap (is_found_at c (sampled c g) g p) at)
     ∙ ap (λ b. told (fate_by (covers g p) (is_declared_lost g p) (owes c g p) b) p) (sym gone_is))
 

@@ -10,3 +10,5 @@ pub mod Answered
 pub mod Followed
 pub mod Watching
 pub mod Causal
+pub mod Nameable
+pub mod Completing

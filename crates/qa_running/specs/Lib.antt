@@ -6,3 +6,5 @@ pub mod Following
 pub mod Watch
 pub mod Machine
 pub mod Shown
+pub mod Freeing
+pub mod Losing

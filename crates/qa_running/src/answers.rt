@@ -6,6 +6,7 @@ ghost use Rattle.qa_base.specs.values.Settings.{Settings};
 ghost use Rattle.qa_connection.specs.Deadlines.{AreOpen, IsOpenIn};
 ghost use Rattle.qa_running.specs.Standing.{StandsFor};
 
+use crate::freeing::free_packets;
 use crate::running::Running;
 use qa_base::{Due, Header, PacketNumber, PerSpace, Space, Span, Ticks, Totals};
 use qa_connection::OpenInSpace;
@@ -56,13 +57,15 @@ impl State for Running {
         self.owes_now()
     }
 
-    #[tactic(auto, using(crate::proofs::Losses::owed_in_is_held))]
-    fn has_owed_in(&self, space: Space) -> bool {
-        self.machine.packets.owes_in(space)
+    fn has_nameable_in(&self, space: Space) -> bool {
+        let free = free_packets(&self.machine.connection);
+        let packets = &self.machine.packets;
+        packets.owes_in(space) || (space == free.space && packets.has_free(free))
     }
 
-    fn names_owed(&self, ranges: &[Span]) -> bool {
-        self.machine.packets.names_owed(ranges)
+    fn names_losses(&self, ranges: &[Span]) -> bool {
+        let free = free_packets(&self.machine.connection);
+        self.machine.packets.names_losses(ranges, free)
     }
 
     fn is_discarded(&self, space: Space) -> bool {

@@ -3,6 +3,7 @@
 
 mod answers;
 mod facts;
+mod freeing;
 mod machine;
 mod running;
 mod watch;

@@ -1,5 +1,5 @@
 //! What each kind of event does to the state of a sender.
-ghost use Rattle.std.specs.Prelude.{◌≡◌, ◌≤◌, ◌<◌, ◌+◌, [], ◌∷◌, ℕ, List, length, filter, true, IfOk, OnOk, OnErr};
+ghost use Rattle.std.specs.Prelude.{◌≡◌, ◌≤◌, ◌<◌, ◌+◌, [], ◌∷◌, ℕ, List, length, filter, true, false, Some, IfOk, OnOk, OnErr};
 ghost use Rattle.std.specs.List.{AllByRecursion};
 ghost use Rattle.qa_base.specs.declared.event.Event.{Event as AnEvent};
 ghost use Rattle.qa_base.specs.declared.event.Event.TheVariants as events;
@@ -11,25 +11,31 @@ ghost use Rattle.qa_base.specs.machine.Rules.{IsRun};
 ghost use Rattle.qa_base.specs.values.Events.{fits, time_of};
 ghost use Rattle.qa_base.specs.values.Limits.{max_lines, max_packet_size};
 ghost use Rattle.qa_base.specs.values.Settings.{AreInRange, Settings};
-ghost use Rattle.qa_connection.specs.Changes.{with_collapse, with_hit};
+ghost use Rattle.qa_connection.specs.Changes.{completed, with_collapse, with_hit};
+ghost use Rattle.qa_connection.specs.Detecting.{detection_after};
 ghost use Rattle.qa_connection.specs.Known.{HasParts, IsMeasured, AreLosses, IsProperRun};
 ghost use Rattle.qa_connection.specs.Steps.{last_sent};
+ghost use Rattle.qa_connection.specs.declared.detection.Detection.{Detection as ADetection};
 ghost use Rattle.qa_ranges.specs.Sent.{AreSent};
 ghost use Rattle.qa_running.specs.Following.{IsNext, takes_memory};
+ghost use Rattle.qa_running.specs.Freeing.{free_of};
+ghost use Rattle.qa_running.specs.Losing.{HoldsLosses, LosesWhatIsOwed};
 ghost use Rattle.qa_running.specs.Thresholds.{AreThresholdsAt};
 ghost use Rattle.qa_running.specs.Machine.{Follows, StandsFor as Stands, StandsOnceFound};
 ghost use Rattle.qa_running.specs.Standing.{StandsFor};
 ghost use Rattle.qa_running.specs.Trimmed.{IsTrimmed};
 ghost use Rattle.qa_running.specs.Watch.{IsWatched};
 ghost use Rattle.qa_sent.specs.Fates.{is_new};
+ghost use Rattle.qa_sent.specs.Free.{AreOwedIn};
 ghost use Rattle.qa_sent.specs.Held.{IsBefore};
 ghost use Rattle.qa_sent.specs.Owing.{NoneOwed};
 ghost use Rattle.qa_sent.specs.declared.fate.Fate.TheVariants.{Open};
 
 use crate::answers::open_in;
+use crate::freeing::free_packets;
 use crate::watch::TimerWatch;
 use qa_base::{Event, Header, Leave, MetricValues, Space, Span, Spans, Ticks, TimerKind};
-use qa_connection::{Connection, Losses};
+use qa_connection::{Connection, Detection, Losses};
 use qa_ranges::{Ranges, SentNumbers};
 use qa_sent::{Fate, SentPacket, SentPackets, Thresholds};
 use std::alloc::{AllocError, Global};
@@ -82,14 +88,17 @@ impl Machine {
         self.connection.acknowledge(space, largest);
         self.packets.cover(space, ranges);
         if acknowledged.is_empty() {
-            self.finish(time);
+            self.finish(time, None);
             return Ok(());
         }
         self.connection.sample(&acknowledged, largest, delay, time);
+        let detection = self
+            .connection
+            .detected(space, time.get(), time, &acknowledged);
         self.find_losses(space, time.get(), time);
         self.connection.grow(&acknowledged, app_limited);
         self.connection.restart(time);
-        self.finish(time);
+        self.finish(time, Some(detection));
         Ok(())
     }
 
@@ -107,7 +116,7 @@ impl Machine {
         self.numbers.insert(packet.space, packet.number)?;
         self.packets.push(packet)?;
         self.connection.send(&packet, leave);
-        self.finish(packet.time);
+        self.finish(packet.time, None);
         Ok(())
     }
 
@@ -120,9 +129,10 @@ impl Machine {
         let open = open_in(&self.packets, space);
         let due = self.connection.loss_time(space, open.oldest);
         let looked = looks_at(early, time, due);
+        let detection = self.connection.detected(space, looked, time, &[]);
         self.connection.timer.last_set = Some(time);
         self.find_losses(space, looked, time);
-        self.finish(time);
+        self.finish(time, Some(detection));
     }
 
     /// A probe timeout of a space (A.9).
@@ -130,16 +140,47 @@ impl Machine {
         ensures { Follows self.old self.new (events.Timer time Pto space) }
     {
         self.connection.probe(space, time);
-        self.finish(time);
+        self.finish(time, None);
     }
 
-    /// What is owed was declared lost (A.10).
-    pub(crate) fn on_lost(&mut self, time: Ticks)
-        ensures { (space : ASpace) (ranges : List (ℕ × ℕ))
-            → Follows self.old self.new (events.Lost time space ranges) }
+    /// Packets of these numbers were declared lost (A.10): what is owed, and beyond it what is free and
+    /// named. With these the Lost line completes the detection in front of it. What is owed has to be
+    /// of the space of that.
+    pub(crate) fn on_lost(&mut self, time: Ticks, ranges: &Spans)
+        requires { AreOwedIn (free_of self.old.connection).space self.old.packets.packets }
+        ensures { (space : ASpace)
+            → Follows self.old self.new (events.Lost time space ranges.now) }
     {
+        let free = free_packets(&self.connection);
+        let completes = self.packets.take(ranges.as_slice(), free);
+        self.complete(completes);
         self.packets.declare_lost();
-        self.finish(time);
+        self.finish(time, None);
+    }
+
+    /// A Lost line completes the detection of the event before, or not. Where it does, what is lost by
+    /// that is taken in: all that is held as owed now.
+    fn complete(&mut self, completes: bool)
+        ensures connection { (c : Settings) (h : List AnEvent) (d : ADetection)
+            → completes ≡ true → self.old.connection.detection ≡ Some d → IsRun c h
+            → IsMeasured self.old.connection c h → HoldsLosses self.old.packets c h
+            → self.new.connection
+            ≡ completed d (last_sent (loss.declared c h)) (loss.is_persistent c h) self.old.connection }
+        ensures still { completes ≡ false → self.new.connection ≡ self.old.connection }
+        ensures packets { self.new.packets ≡ self.old.packets }
+        ensures numbers { self.new.numbers ≡ self.old.numbers }
+        ensures watch { self.new.watch ≡ self.old.watch }
+        ensures range { (d : ADetection) → completes ≡ true
+            → self.old.connection.detection ≡ Some d → AreInRange self.old.connection.header }
+    {
+        if !completes {
+            return;
+        }
+        let Some(detection) = self.connection.detection else {
+            return;
+        };
+        let losses = losses(&self.packets, &self.connection);
+        self.connection.complete(losses, &detection);
     }
 
     /// The keys of a space were discarded (A.11 and B.9). Nothing may be owed.
@@ -149,7 +190,7 @@ impl Machine {
     {
         self.connection.discard(space, time);
         self.packets.discard(space);
-        self.finish(time);
+        self.finish(time, None);
     }
 
     /// The handshake was confirmed (RFC 9001, section 4.1.2).
@@ -157,7 +198,7 @@ impl Machine {
         ensures { Follows self.old self.new (events.Confirmed time) }
     {
         self.connection.handshake.confirmed = true;
-        self.finish(time);
+        self.finish(time, None);
     }
 
     /// The keys of the Handshake space are there.
@@ -165,7 +206,7 @@ impl Machine {
         ensures { Follows self.old self.new (events.Keys time) }
     {
         self.connection.handshake.has_keys = true;
-        self.finish(time);
+        self.finish(time, None);
     }
 
     /// The sender reported its own state.
@@ -173,7 +214,7 @@ impl Machine {
         ensures { Follows self.old self.new (events.Metrics time values.now) }
     {
         self.connection.report(values.window);
-        self.finish(time);
+        self.finish(time, None);
     }
 
     /// Any event that breaks no rule. `AllocError` comes where it is out of memory, which only a
@@ -181,6 +222,7 @@ impl Machine {
     /// then, and nothing else.
     pub(crate) fn on_event(&mut self, alloc: Global, event: &Event) -> Result<(), AllocError>
         requires next { IsNext self.old.packets event.now }
+        requires owed { AreOwedIn (free_of self.old.connection).space self.old.packets.packets }
         requires fitting { fits event.now ≡ true }
         ensures ok { OnOk result (Follows self.old self.new event.now) }
         ensures err { OnErr result (self.new ≡ record self.old { numbers = self.new.numbers }) }
@@ -230,8 +272,8 @@ impl Machine {
                 self.on_probe_timeout(*time, *space);
                 Ok(())
             }
-            Event::Lost { time, .. } => {
-                self.on_lost(*time);
+            Event::Lost { time, ranges, .. } => {
+                self.on_lost(*time, ranges);
                 Ok(())
             }
             Event::Discard { time, space } => {
@@ -259,10 +301,10 @@ impl Machine {
         requires { NoneOwed self.old.packets.packets }
         ensures packets { (c : Settings) (h : List AnEvent) → IsMeasured self.old.connection c h
             → StandsOnceFound self.old.packets c h space looked → StandsFor self.new.packets c h }
-        ensures connection { (c : Settings) (h : List AnEvent) → IsRun c h
+        ensures connection { (c : Settings) (h : List AnEvent) → IsRun c h → LosesWhatIsOwed c h
             → IsMeasured self.old.connection c h → StandsOnceFound self.old.packets c h space looked
             → self.new.connection
-            ≡ with_collapse (loss.is_persistent c h) (with_hit now (last_sent (loss.owed c h)) self.old.connection) }
+            ≡ with_collapse (loss.is_persistent c h) (with_hit now (last_sent (loss.declared c h)) self.old.connection) }
         ensures range { AreInRange self.old.connection.header }
         ensures numbers { self.new.numbers ≡ self.old.numbers }
         ensures watch { self.new.watch ≡ self.old.watch }
@@ -273,16 +315,16 @@ impl Machine {
         self.connection.lose(losses, now);
     }
 
-    /// Ends an event that happened now: it is counted, packets that are of no more use are dropped,
-    /// and the timer is set (A.8).
-    fn finish(&mut self, now: Ticks)
+    /// Ends an event that happened now and looked for losses or did not: it is counted, packets that
+    /// are of no more use are dropped, and the timer is set (A.8).
+    fn finish(&mut self, now: Ticks, detection: Option<Detection>)
         ensures { (c : Settings) (e : AnEvent) (h : List AnEvent) → now ≡ time_of e
-            → IsProperRun c (e ∷ h) → self.old.connection.events ≡ length h
+            → detection ≡ detection_after c (e ∷ h) → IsProperRun c (e ∷ h) → self.old.connection.events ≡ length h
             → HasParts self.old.connection c (e ∷ h) → StandsFor self.old.packets c (e ∷ h)
             → AreSent self.old.numbers (e ∷ h) → IsWatched self.old.watch c h
             → Stands self.new c (e ∷ h) }
     {
-        self.connection.count(now);
+        self.connection.count(now, detection);
         trim(&mut self.packets);
         self.watch.follow(&self.connection, &self.packets, now);
     }
@@ -341,20 +383,20 @@ fn thresholds(connection: &Connection, space: Space, now: u64) -> Thresholds
     }
 }
 
-/// What the last event found lost.
+/// What is lost by the last event: what is held as owed.
 fn losses(packets: &SentPackets, connection: &Connection) -> Losses
-    ensures { (c : Settings) (h : List AnEvent) → StandsFor packets.now c h → IsRun c h
+    ensures { (c : Settings) (h : List AnEvent) → HoldsLosses packets.now c h → IsRun c h
         → IsMeasured connection.now c h → AreLosses result c h }
 {
     Losses {
-        last_owed: packets.last_owed(),
+        last_lost: packets.last_owed(),
         is_persistent: is_persistent(packets, connection),
     }
 }
 
-/// Whether what the last event found lost establishes persistent congestion (RFC 9002, section 7.6).
+/// Whether what is lost by the last event establishes persistent congestion (RFC 9002, section 7.6).
 fn is_persistent(packets: &SentPackets, connection: &Connection) -> bool
-    ensures { (c : Settings) (h : List AnEvent) → StandsFor packets.now c h → IsRun c h
+    ensures { (c : Settings) (h : List AnEvent) → HoldsLosses packets.now c h → IsRun c h
         → IsMeasured connection.now c h → result ≡ loss.is_persistent c h }
 {
     match connection.rtt.first_rtt_sample {

@@ -1,10 +1,11 @@
 -- Packets that a Lost line may name, by their numbers, and what taking one of them as owed changes.
 use Rattle.std.proofs.Common.{◌≡◌, ◌≢◌, ◌∙◌, ℕ, zero, suc, ◌+◌, ◌-◌, ◌≤◌, ◌<◌, Bool, true, false, ◌&&◌, ◌||◌, max, min, List, [], ◌∷◌, length, get_or, set, map, take, drop, filter, cond, count_by, sum_by, Option, Some, None, refl, sym, ap, subst, arith, inl, inr}
 use Rattle.std.specs.Prelude.{if◌then◌else◌, nat_lt, nat_eq}
-use Rattle.std.specs.List.{AllByRecursion, list_all}
-use Rattle.std.proofs.lemmas.Bool.{and_parts, cases_Bool, both_ways, eq-eqb, eqb-true, false_from_ne_true, ne_eqb, or_cases, or_from, or_left, or_right}
+use Rattle.std.specs.List.{AllByRecursion, list_any}
+use Rattle.std.proofs.lemmas.Bool.{and_parts, cases_Bool, both_ways, eq-eqb, eqb-true, false_from_ne_true, ne_eqb, or_cases, or_from, lt-ltb, or_left, or_right}
+use Rattle.std.proofs.lemmas.Bool.Decides.{nat_tests}
 use Rattle.std.proofs.lemmas.List.{set-get_or, take-set-le, drop-set-lt, length-map, take-map}
-use Rattle.std.proofs.lemmas.List.Sums.{sum_by-set, count_by-le-length}
+use Rattle.std.proofs.lemmas.List.Sums.{sum_by-cons, sum_by-set}
 use Rattle.qa_base.specs.declared.space.Space.{Space}
 use Rattle.qa_base.specs.machine.Numbers.{is_in}
 use Rattle.qa_base.specs.values.Events.{is_named, is_space}
@@ -382,3 +383,48 @@ entry_written s test d n at ps p y ordered waits found is same out =
 pub left_of : (test : SentPacket → Bool) (number : ℕ) (qs ps : List SentPacket) → is_in (numbers_of test qs) number ≡ false → ((n : ℕ) → is_in (numbers_of test qs) n ≡ true → is_in (numbers_of test ps) n ≡ true)
     → (n : ℕ) → is_in (numbers_of test qs) n ≡ true → (is_in (numbers_of test ps) n ≡ true) × (n ≡ number → ⊥)
 left_of test number qs ps out goes n is = (goes n is, λ same. both_ways (is_in (numbers_of test qs) number) out (subst (λ (m : ℕ). is_in (numbers_of test qs) m ≡ true) same is))
+
+-- ---- how many are taken
+
+count_if : (free : FreePackets) (ranges : List (ℕ × ℕ)) (p : SentPacket) (b : Bool) → (is_free_by free p && is_named ranges p.number) ≡ b
+    → cond (is_owed (if b then with_fate Owed p else p).fate) 1 0 ≡ cond (is_owed p.fate) 1 0 + cond b 1 0
+count_if free ranges p true is =
+    let left = (and_parts (is_free_by free p) (is_named ranges p.number) is).0 in
+    let flies = flies_of free.space p (and_parts (is_flying free.space p) (nat_lt p.number free.end) left).0 in
+    sym (ap (λ b. cond b 1 0 + 1) (open_not_owed p.fate flies.1))
+count_if free ranges p false is = omega arith
+
+-- they are owed beside those that were
+pub counted_taken : (free : FreePackets) (ranges : List (ℕ × ℕ)) (ps : List SentPacket)
+    → count_by (λ p. is_owed p.fate) (map (taken_by free ranges) ps) ≡ count_by (λ p. is_owed p.fate) ps + count_by (λ p. is_free_by free p && is_named ranges p.number) ps
+counted_taken free ranges [] = refl
+counted_taken free ranges (p ∷ ps) =
+    let taken : SentPacket → Bool = λ q. is_free_by free q && is_named ranges q.number in
+    let rest = counted_taken free ranges ps in
+    let here = count_if free ranges p (taken p) refl in
+    let after : count_by (λ q. is_owed q.fate) (taken_by free ranges p ∷ map (taken_by free ranges) ps) ≡ cond (is_owed (taken_by free ranges p).fate) 1 0 + count_by (λ q. is_owed q.fate) (map (taken_by free ranges) ps) =
+    sum_by-cons (λ q. cond (is_owed q.fate) 1 0) (taken_by free ranges p) (map (taken_by free ranges) ps) in
+    let before : count_by (λ q. is_owed q.fate) (p ∷ ps) ≡ cond (is_owed p.fate) 1 0 + count_by (λ q. is_owed q.fate) ps = sum_by-cons (λ q. cond (is_owed q.fate) 1 0) p ps in
+    let named : count_by taken (p ∷ ps) ≡ cond (taken p) 1 0 + count_by taken ps = sum_by-cons (λ q. cond (taken q) 1 0) p ps in
+    omega (arith, rest, here, after, before, named)
+
+any_if : (test : SentPacket → Bool) (p : SentPacket) (ps : List SentPacket) (b : Bool) → test p ≡ b → nat_lt 0 (count_by test ps) ≡ list_any test ps → nat_lt 0 (cond b 1 0 + count_by test ps) ≡ (b || list_any test ps)
+any_if test p ps true is rest = lt-ltb 0 (1 + count_by test ps) (omega arith)
+any_if test p ps false is rest = let same : 0 + count_by test ps ≡ count_by test ps = omega arith in ap (nat_lt 0) same ∙ rest
+
+any_counted : (test : SentPacket → Bool) (ps : List SentPacket) → nat_lt 0 (count_by test ps) ≡ list_any test ps
+any_counted test [] = refl
+any_counted test (p ∷ ps) =
+    let count : count_by test (p ∷ ps) ≡ cond (test p) 1 0 + count_by test ps = sum_by-cons (λ q. cond (test q) 1 0) p ps in
+    ap (nat_lt 0) count ∙ any_if test p ps (test p) refl (any_counted test ps)
+
+more_than : (m n : ℕ) → nat_lt m (m + n) ≡ nat_lt 0 n
+more_than m n = grind (arith, nat_tests)
+
+-- there are more where any is
+pub any_taken : (free : FreePackets) (ranges : List (ℕ × ℕ)) (ps : List SentPacket) (before after : ℕ) → before ≡ count_by (λ p. is_owed p.fate) ps → after ≡ count_by (λ p. is_owed p.fate) (map (taken_by free ranges) ps)
+    → nat_lt before after ≡ list_any (λ p. is_free_by free p && is_named ranges p.number) ps
+any_taken free ranges ps before after was is =
+    let taken : SentPacket → Bool = λ q. is_free_by free q && is_named ranges q.number in
+    let more : after ≡ before + count_by taken ps = is ∙ (counted_taken free ranges ps ∙ ap (λ n. n + count_by taken ps) (sym was)) in
+    ap (nat_lt before) more ∙ (more_than before (count_by taken ps) ∙ any_counted taken ps)

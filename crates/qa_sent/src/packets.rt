@@ -1,6 +1,7 @@
 //! The packets that are kept, and where each can be found.
 ghost use Rattle.qa_base.specs.declared.space.Space.TheVariants.{Initial, Handshake, App};
 ghost use Rattle.qa_base.specs.machine.Numbers.{names_between};
+ghost use Rattle.qa_base.specs.values.Events.{is_named};
 ghost use Rattle.qa_base.specs.values.Limits.{max_lines, max_packet_size};
 ghost use Rattle.qa_sent.specs.Covering.{AreApart};
 ghost use Rattle.qa_sent.specs.Dropping.{is_first_closed};
@@ -14,7 +15,7 @@ ghost use Rattle.qa_sent.specs.Walks.{owed_numbers};
 ghost use Rattle.qa_sent.specs.declared.fate.Fate.TheVariants.{Open};
 ghost use Rattle.qa_sent.specs.declared.packet.SentPacket.{SentPacket};
 ghost use Rattle.std.specs.List.{AllByRecursion, list_any};
-ghost use Rattle.std.specs.Prelude.{◌≡◌, [], ◌≤◌, ◌<◌, ◌+◌, ◌∷◌, ◌++◌, length, OnErr, OnOk, filter, IfOk, false, Some, map, ◌-◌, true, count_by, drop, None, ◌*◌, ◌^◌, find, sum_by};
+ghost use Rattle.std.specs.Prelude.{◌≡◌, [], ◌≤◌, ◌<◌, ◌+◌, ◌∷◌, ◌++◌, length, OnErr, OnOk, filter, IfOk, false, Some, map, ◌&&◌, ◌-◌, true, count_by, drop, None, ◌*◌, ◌^◌, find, sum_by};
 
 use crate::acknowledging::new_in_spans;
 use crate::covering::cover_in_lane;
@@ -284,18 +285,21 @@ impl SentPackets {
             && are_named(&self.packets, self.owed_part(), spans)
     }
 
-    /// The free packets that some span names are owed from now on. What is owed before has to be of their
-    /// space. Takes no memory, and visits these packets alone.
-    pub fn take(&mut self, spans: &[Span], free: FreePackets)
+    /// The free packets that some span names are owed from now on; whether there are any. What is owed
+    /// before has to be of their space. Takes no memory, and visits these packets alone.
+    pub fn take(&mut self, spans: &[Span], free: FreePackets) -> bool
         requires { AreOwedIn free.space self.old.packets }
-        ensures { self.new ≡ record { dropped = self.old.dropped; packets = map (taken_by free spans.now) self.old.packets } }
+        ensures packets { self.new ≡ record { dropped = self.old.dropped; packets = map (taken_by free spans.now) self.old.packets } }
+        ensures any { result ≡ list_any (λ p. is_free_by free p && is_named spans.now p.number) self.old.packets }
     {
+        let before = self.losses.count;
         let losses = Losses {
             space: free.space,
             ..self.losses
         };
         let lane = self.lanes.of_mut(free.space);
         self.losses = take_in_lane(&mut self.packets, self.dropped, lane, losses, free, spans);
+        before < self.losses.count
     }
 
     /// The packets that are owed are declared lost: an acknowledgment would still cover them, but

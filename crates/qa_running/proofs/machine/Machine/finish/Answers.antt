@@ -4,8 +4,8 @@ use Rattle.qa_connection.proofs.OneMore.{counted_is}
 use Rattle.qa_running.proofs.machine.Machine.finish.Goals as goal
 
 pub returns : goal.returns
-returns c = λ k e h now run events parts stands sent watched.
-    let of : IsOf c.count.new.self k (e ∷ h) = rw (c.count.ensures, now) (counted_is k e h c.args.self.now.connection events run parts) in
+returns c = λ k e h now detected run events parts stands sent watched.
+    let of : IsOf c.count.new.self k (e ∷ h) = rw (c.count.ensures, now) (counted_is k e h c.args.self.now.connection c.args.detection detected events run parts) in
     let kept = c.trim.ensures.stands k (e ∷ h) run.run stands in
     record {
       run = run;

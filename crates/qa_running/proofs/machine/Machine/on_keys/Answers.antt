@@ -9,5 +9,5 @@ pub returns : goal.returns
 returns c = λ k h stands run.
     let old = c.args.self.now in
     let e = Keys c.args.time in
-    c.finish.ensures k e h refl run stands.connection.events (keys_are k h c.args.time old.connection stands.connection.parts)
-    (stands_still k e h run.run refl refl (λ p. refl) (λ p. refl) (λ p. refl) old.packets stands.packets) (sent_still old.numbers e h refl stands.numbers) stands.watch
+    c.finish.ensures k e h refl refl run stands.connection.events (keys_are k h c.args.time old.connection stands.connection.parts)
+    (stands_still k e h run.run refl refl (λ p. refl) (λ p. refl) (λ p. refl) (λ p. refl) old.packets stands.packets) (sent_still old.numbers e h refl stands.numbers) stands.watch

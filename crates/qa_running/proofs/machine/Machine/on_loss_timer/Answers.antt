@@ -1,9 +1,10 @@
-use Rattle.std.proofs.Common.{◌≡◌, ◌∙◌, ◌∷◌, ℕ, refl, sym, ap, ap₂, subst}
+use Rattle.std.proofs.Common.{◌≡◌, ◌∙◌, ◌∷◌, ℕ, Some, refl, sym, ap, ap₂, subst}
 use Rattle.qa_base.specs.declared.event.Event.TheVariants.{Timer}
 use Rattle.qa_base.specs.declared.space.TimerKind.TheVariants.{Loss}
 use Rattle.qa_base.specs.machine.Detection.{looks_at, old_at}
 use Rattle.qa_base.specs.machine.Estimates.{rtt}
 use Rattle.qa_base.specs.values.Settings.{AreInRange, early}
+use Rattle.qa_connection.proofs.Detections.{timed_detected}
 use Rattle.qa_connection.proofs.Due.{loss_time_is}
 use Rattle.qa_connection.proofs.OneMore.{timed_is, timed_measured}
 use Rattle.qa_laws.proofs.machine.Awaiting.{old_at_is}
@@ -26,8 +27,9 @@ returns c = λ k h stands run.
     let at_due : StandsOnceFound old.packets k (e ∷ h) c.args.space (looks_at (early k) c.args.time (old_at k (rtt k h) h c.args.space)) =
     λ new l late is. stands_loss_timer k h c.args.time c.args.space run.run l late old.packets new stands.packets is in
     let once : StandsOnceFound old.packets k (e ∷ h) c.args.space c.looks_at-looked.result = subst (λ (now : ℕ). StandsOnceFound old.packets k (e ∷ h) c.args.space now) (sym looked) at_due in
-    let lost = c.find_losses.ensures.connection k (e ∷ h) run.run measured once in
-    c.finish.ensures k e h refl run (rw lost stands.connection.events)
+    let lost = c.find_losses.ensures.connection k (e ∷ h) run.run (λ p. refl) measured once in
+    let detected = ap Some c.detected-detection.ensures ∙ timed_detected k h c.args.time c.args.space c.looks_at-looked.result old.connection.reno looked stands.connection.parts.reno in
+    c.finish.ensures k e h refl detected run (rw lost stands.connection.events)
     (rw lost (timed_is k h c.args.time c.args.space old.connection stands.connection.parts run (subst AreInRange measured.header c.find_losses.ensures.range)))
     (c.find_losses.ensures.packets k (e ∷ h) measured once)
     (rw c.find_losses.ensures.numbers (sent_still old.numbers e h refl stands.numbers)) (rw c.find_losses.ensures.watch stands.watch)

@@ -10,6 +10,6 @@ returns c = λ k h stands run.
     let old = c.args.self.now in
     let values = c.args.values.now in
     let e = Metrics c.args.time values in
-    c.finish.ensures k e h refl run (rw c.report.ensures stands.connection.events)
+    c.finish.ensures k e h refl refl run (rw c.report.ensures stands.connection.events)
     (rw c.report.ensures (metrics_are k h c.args.time values old.connection stands.connection.parts))
-    (stands_still k e h run.run refl refl (λ p. refl) (λ p. refl) (λ p. refl) old.packets stands.packets) (sent_still old.numbers e h refl stands.numbers) stands.watch
+    (stands_still k e h run.run refl refl (λ p. refl) (λ p. refl) (λ p. refl) (λ p. refl) old.packets stands.packets) (sent_still old.numbers e h refl stands.numbers) stands.watch

@@ -9,7 +9,7 @@ returns-clause-ok c = λ k h stands run.
     let old = c.args.self.now in
     let p = c.args.packet in
     let e = Sent p.time p.space p.number p.size p.eliciting p.in_flight c.args.leave in
-    c.finish.ensures k e h refl run (rw c.send.ensures stands.connection.events)
+    c.finish.ensures k e h refl refl run (rw c.send.ensures stands.connection.events)
     (rw c.send.ensures (sent_is k h p c.args.leave old.connection stands.connection.parts run))
     (stands_sent k h p c.args.leave c.requires.open run.run old.packets c.push.new.self stands.packets c.in_ok-push.ensures.ok)
     (c.in_ok-insert.ensures.ok h stands.numbers p.time p.size p.eliciting p.in_flight c.args.leave) stands.watch

@@ -1,10 +1,14 @@
-use Rattle.std.proofs.Common.{◌≡◌, length, map, arith}
+use Rattle.std.proofs.Common.{◌≡◌, ◌∙◌, ◌&&◌, length, map, ap, count_by, arith}
 use Rattle.std.proofs.lemmas.List.{length-map}
 use Rattle.qa_base.specs.values.Limits.{max_packet_size}
 use Rattle.qa_base.specs.values.PerSpace.{of_space}
-use Rattle.qa_sent.specs.Free.{taken_by}
+use Rattle.std.specs.List.{list_any}
+use Rattle.qa_base.specs.values.Events.{is_named}
+use Rattle.qa_sent.specs.Fates.{is_owed}
+use Rattle.qa_sent.specs.Free.{is_free_by, taken_by}
+use Rattle.qa_sent.specs.Held.{Held}
 use Rattle.qa_sent.proofs.Alike.{lane_alike, ordered_same, sizes_same}
-use Rattle.qa_sent.proofs.Taken.{taken_alike, taken_same}
+use Rattle.qa_sent.proofs.Taken.{any_taken, taken_alike, taken_same}
 use Rattle.qa_sent.proofs.Sound.{lane_sound, sound_with}
 use Rattle.qa_sent.proofs.packets.SentPackets.take.Goals as goal
 
@@ -31,3 +35,10 @@ invariant_of-self c =
       few = omega (arith, long, few);
     }) (rw took.ensures.packets at took.ensures.lane)
     (λ t out. lane_alike t f (taken_alike c.args.free c.args.spans.now t out) d ps (of_space t before.lanes) (lane_sound d ps before.losses before.lanes c.self.invariant t)))
+
+pub returns-clause-any : goal.returns-clause-any
+returns-clause-any c =
+    let ps = c.self.inside.packets.items in
+    let took = c.take_in_lane-self-inside in
+    any_taken c.args.free c.args.spans.now ps c.self.inside.losses.count took.result.count c.self.invariant.owed.count (took.ensures.losses.count ∙ ap (count_by (λ p. is_owed p.fate)) took.ensures.packets)
+    ∙ ap (λ (h : Held). list_any (λ p. is_free_by c.args.free p && is_named c.args.spans.now p.number) h.packets) c.self.view_is
