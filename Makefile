@@ -55,18 +55,18 @@ help:
 	@echo 'make dist      builds it and packs dist/$(release).tar.gz, which needs no kit'
 	@echo 'make clean     removes what was built'
 
-build: $(built) $(built_why)
+# Proving both programs at once leaves the first too.
+build: $(built_why)
 
-$(built): crates.txt HANDLES $(shell find crates/qa_*/src crates/qa_*/specs crates/qa_*/proofs crates/qaudit/src)
-	release/prove qaudit $@
+# What the first program stands on, and what the second does.
+crates_of_qaudit := $(shell find crates/qa_*/src crates/qa_*/specs crates/qa_*/proofs crates/qaudit/src)
+$(built): crates.txt HANDLES $(crates_of_qaudit)
+	release/prove bin qaudit
 
-# It stands on what the first program is made of.
-$(built_why): $(built) $(shell find crates/qaudit_why/src)
-	cd crates/qaudit_why && rt all check --jobs $(JOBS)
-	cd crates/qaudit_why && rt run < stdin > /dev/null; test $$? -eq 1
-	install -D -m 755 $(program_why) $@
+$(built_why): crates.txt HANDLES $(crates_of_qaudit) $(shell find crates/qaudit_why/src)
+	release/prove bin qaudit qaudit_why
 
-run: build
+run: $(built)
 	@$(built) check < $(example)
 
 one_byte:

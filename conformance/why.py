@@ -423,7 +423,8 @@ def owed_of(sender: Sender) -> str:
     if not sender.owed:
         return "  nothing is owed\n"
     runs = runs_of([[number, number] for number in sender.owed_numbers])
-    return f"  owed: {sender.owed_space}{runs_text(runs)}\n"
+    space = sender.detection.space if sender.detection else ""
+    return f"  owed: {space}{runs_text(runs)}\n"
 
 
 # Leave to send.
