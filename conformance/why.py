@@ -339,7 +339,8 @@ def facts(sender: Sender, event: Event, rule: Rule, field: str) -> Iterable[str]
     """The facts of a rule beside what is owed."""
     match rule:
         case Rule.LOSS_SET:
-            yield from differences_of(event["ranges"], sender.owed_numbers)
+            may_name = sender.owed_numbers | {it.number for it in sender.free}
+            yield from differences_of(event["ranges"], sender.owed_numbers, may_name)
         case Rule.NUMBER_NOT_HIGHER:
             greatest = max(sender.spaces[event["space"]].by_number)
             yield f"greatest sent: {event['space']} {greatest}"
@@ -399,10 +400,10 @@ def without(ranges: Ranges, numbers: Iterable[int]) -> Ranges:
     return left
 
 
-def differences_of(ranges: Ranges, owed: set[int]) -> Iterable[str]:
-    """How ranges differ from the numbers that are owed."""
+def differences_of(ranges: Ranges, owed: set[int], may_name: set[int]) -> Iterable[str]:
+    """How ranges differ from the numbers that are owed, and from those that they may name."""
     unnamed = [n for n in owed if not any(low <= n <= high for low, high in ranges)]
-    unowed = without(ranges, owed)
+    unowed = without(ranges, may_name)
     if unnamed:
         yield "owed but not named:" + runs_text(runs_of([[n, n] for n in unnamed]))
     if unowed:

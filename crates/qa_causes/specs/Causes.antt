@@ -12,7 +12,7 @@ use Rattle.qa_base.specs.machine.Breaches.{numbers}
 use Rattle.qa_base.specs.machine.Estimates.{rtt}
 use Rattle.qa_base.specs.machine.Kept.{numbers_of}
 use Rattle.qa_base.specs.machine.Leave.{probe_spent, recovery_spent}
-use Rattle.qa_base.specs.machine.Loss.{bytes_in_flight, is_open, owed}
+use Rattle.qa_base.specs.machine.Loss.{bytes_in_flight, is_open, nameable, owed}
 use Rattle.qa_base.specs.machine.Packets.{Packet, greatest_of, packets_of}
 use Rattle.qa_base.specs.machine.Probes.{probe_due}
 use Rattle.qa_base.specs.machine.State.{totals}
@@ -41,6 +41,10 @@ owed_space c h = first_space (reverse (owed c h))
 -- their numbers, which rise
 abbrev pub owed_numbers : Settings → List Event → List ℕ
 owed_numbers c h = reverse (numbers (owed c h))
+
+-- the numbers of those that the next Lost line may name: what is owed, and what is free
+abbrev pub nameable_numbers : Settings → List Event → List ℕ
+nameable_numbers c h = reverse (numbers (nameable c h))
 
 abbrev pub owed_now : Settings → List Event → Owed
 owed_now c h = record { space = owed_space c h; numbers = runs_of (owed_numbers c h) }
@@ -117,7 +121,7 @@ cause_of c h e rule.TimeBack = cause.TimeBack (time_of_moment h)
 cause_of c h e rule.LossOwed = cause.LossOwed (owed_now c h)
 cause_of c h e rule.LossNotOwed = cause.LossNotOwed (owed_now c h)
 cause_of c h e rule.LossSet =
-    cause.LossSet (owed_now c h) (runs_of (unnamed (lost_ranges e) (owed_numbers c h))) (others (lost_ranges e) (owed_numbers c h))
+    cause.LossSet (owed_now c h) (runs_of (unnamed (lost_ranges e) (owed_numbers c h))) (others (lost_ranges e) (nameable_numbers c h))
 cause_of c h e rule.SpaceGone = cause.SpaceGone
 cause_of c h e rule.NumberNotHigher = cause.NumberNotHigher (greatest_before h e)
 cause_of c h e rule.PastWindow = cause.PastWindow (bytes_in_flight c h) (window c h) c.options.window_overshoot

@@ -87,7 +87,7 @@ pub enum Cause {
         owed: Owed,
         /// The numbers of it that the line does not name.
         unnamed: Ranges,
-        /// The numbers that the line names and that are not owed.
+        /// The numbers that the line names and that are neither owed nor free.
         unowed: Ranges,
     },
     /// V5: the keys of the space were discarded.

@@ -22,7 +22,13 @@ pub trait Facts: State {
         ensures { IfOk result (λ found. (c : Settings) (h : List AnEvent)
             → Self.tells self.now c h → found.items ≡ causes.owed_numbers c h) };
 
-    /// Their space; None where nothing is owed.
+    /// The numbers of the packets that the next Lost line may name, which are owed or free, in the order
+    /// of sending. `AllocError` comes where it is out of memory.
+    fn nameable_numbers(&self) -> Result<Vec<PacketNumber>, AllocError>
+        ensures { IfOk result (λ found. (c : Settings) (h : List AnEvent)
+            → Self.tells self.now c h → found.items ≡ causes.nameable_numbers c h) };
+
+    /// The space of those that are owed; None where nothing is.
     fn owed_space(&self) -> Option<Space>
         ensures { (c : Settings) (h : List AnEvent) → Self.tells self.now c h
             → result ≡ causes.owed_space c h };

@@ -42,28 +42,31 @@ fn owed_by(
     Ok(Owed { space, numbers })
 }
 
-/// V4: what is owed, and how the ranges differ from it.
+/// V4: what is owed, and how the ranges differ from what they may name.
 fn loss_set<S: Facts>(alloc: Global, state: &S, ranges: &[Span]) -> Result<Cause, AllocError>
     ensures { IfOk result (λ cause. (c : Settings) (h : List AnEvent) → S.tells state.now c h
-        → cause ≡ Cause.LossSet (causes.owed_now c h) (sets.runs_of (sets.unnamed ranges.now (causes.owed_numbers c h))) (sets.others ranges.now (causes.owed_numbers c h))) }
+        → cause ≡ Cause.LossSet (causes.owed_now c h) (sets.runs_of (sets.unnamed ranges.now (causes.owed_numbers c h))) (sets.others ranges.now (causes.nameable_numbers c h))) }
 {
     let numbers = state.owed_numbers()?;
-    differing(alloc, state.owed_space(), &numbers, ranges)
+    let nameable = state.nameable_numbers()?;
+    differing(alloc, state.owed_space(), &numbers, &nameable, ranges)
 }
 
-/// How the ranges differ from the numbers that are owed in a space.
+/// How the ranges differ from the numbers that are owed in a space, all of which they have to name, and
+/// from those that they may name.
 fn differing(
     alloc: Global,
     space: Option<Space>,
     numbers: &[PacketNumber],
+    nameable: &[PacketNumber],
     ranges: &[Span],
 ) -> Result<Cause, AllocError>
     ensures { IfOk result (λ cause. cause
-        ≡ Cause.LossSet (record { space = space; numbers = sets.runs_of numbers.now }) (sets.runs_of (sets.unnamed ranges.now numbers.now)) (sets.others ranges.now numbers.now)) }
+        ≡ Cause.LossSet (record { space = space; numbers = sets.runs_of numbers.now }) (sets.runs_of (sets.unnamed ranges.now numbers.now)) (sets.others ranges.now nameable.now)) }
 {
     let owed = owed_by(alloc, space, numbers)?;
     let unnamed = Ranges::of_unnamed(alloc, ranges, numbers)?;
-    let unowed = Ranges::of_others(alloc, ranges, numbers)?;
+    let unowed = Ranges::of_others(alloc, ranges, nameable)?;
     Ok(Cause::LossSet {
         owed,
         unnamed,

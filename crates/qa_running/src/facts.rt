@@ -1,5 +1,6 @@
 //! What a cause asks of the events before an event, answered by what is kept.
 use crate::answers::open_packets;
+use crate::freeing::free_packets;
 use crate::running::Running;
 use qa_base::{Due, Event, PacketNumber, Rule, Space, Span, Ticks};
 use qa_causes::{Cause, Explains, Facts, Oldest, Owed, cause_of, owed_of};
@@ -8,6 +9,11 @@ use std::alloc::AllocError;
 impl Facts for Running {
     fn owed_numbers(&self) -> Result<Vec<PacketNumber>, AllocError> {
         self.machine.packets.owed_numbers()
+    }
+
+    fn nameable_numbers(&self) -> Result<Vec<PacketNumber>, AllocError> {
+        let free = free_packets(&self.machine.connection);
+        self.machine.packets.nameable_numbers(free)
     }
 
     fn owed_space(&self) -> Option<Space> {

@@ -172,7 +172,7 @@ written_there s test n (x ∷ ps) zero p y ordered waits within is number here s
 written_there s test n (x ∷ ps) (suc at) p y ordered waits within is number here same =
     rw (numbers_if test x (set ps at y) (test x) refl) (passed_if test x (set ps at y) n (test x) (test y) refl
     (λ passes at_n. let before = each_get (λ q. IsBefore q x) ps at p ordered.0 (omega arith) is in
-        let above = above_of s x p before (here_of s x (waits.0 passes)) here in absurd (omega (arith, above, number, at_n)))
+    let above = above_of s x p before (here_of s x (waits.0 passes)) here in absurd (omega (arith, above, number, at_n)))
     (written_there s test n ps at p y ordered.1 waits.1 (omega arith) is number here same))
 
 -- whether the packet that has the number passes says whether one with that number passes

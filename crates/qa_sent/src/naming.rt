@@ -1,5 +1,5 @@
 //! Whether ranges name the packets that are owed, and none that may not be named.
-ghost use Rattle.std.specs.Prelude.{◌≡◌, ◌≤◌, length, slice_range};
+ghost use Rattle.std.specs.Prelude.{◌≡◌, ◌≤◌, IfOk, length, slice_range};
 ghost use Rattle.std.specs.List.{list_all};
 ghost use Rattle.qa_base.specs.machine.Numbers.{has_all, is_in};
 ghost use Rattle.qa_base.specs.values.Events.{is_named};
@@ -13,7 +13,8 @@ use crate::free::FreePackets;
 use crate::lane::Lane;
 use crate::named::NamedNumbers;
 use crate::packet::SentPacket;
-use qa_base::Span;
+use qa_base::{PacketNumber, Span};
+use std::alloc::{AllocError, Global};
 use std::collections::VecDeque;
 use std::ops::Range;
 
@@ -62,11 +63,7 @@ pub(crate) fn are_nameable(
 }
 
 /// Whether the spans name each packet in this part that is owed.
-pub(crate) fn are_named(
-    packets: &VecDeque<SentPacket>,
-    part: Range<usize>,
-    spans: &[Span],
-) -> bool
+pub(crate) fn are_named(packets: &VecDeque<SentPacket>, part: Range<usize>, spans: &[Span]) -> bool
     requires order { part.start ≤ part.end }
     requires within { part.end ≤ length packets.now.items }
     ensures { result ≡ list_all (is_named spans.now) (owed_numbers (slice_range packets.now.items part.start part.end)) }
@@ -78,4 +75,21 @@ pub(crate) fn are_named(
         }
     }
     true
+}
+
+/// The numbers of the packets that are owed or free.
+pub(crate) fn nameable_numbers_in(
+    alloc: Global,
+    packets: &VecDeque<SentPacket>,
+    free: FreePackets,
+) -> Result<Vec<PacketNumber>, AllocError>
+    ensures { IfOk result (λ found. found.items ≡ nameable_numbers free packets.now.items) }
+{
+    let mut found = Vec::new(alloc);
+    for packet in packets {
+        if packet.is_owed() || free.has(packet) {
+            found.push(packet.number)?;
+        }
+    }
+    Ok(found)
 }

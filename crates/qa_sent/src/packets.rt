@@ -22,9 +22,9 @@ use crate::covering::cover_in_lane;
 use crate::declaring::declare_in;
 use crate::detecting::{Thresholds, detect_in_lane};
 use crate::discarding::discard_all;
-use crate::lane::Lane;
 use crate::free::FreePackets;
-use crate::naming::{are_named, are_nameable};
+use crate::lane::Lane;
+use crate::naming::{are_nameable, are_named, nameable_numbers_in};
 use crate::owing::{are_apart_in, last_owed_in, owed_numbers_in};
 use crate::packet::SentPacket;
 use crate::pushing::{add, are_before};
@@ -214,6 +214,14 @@ impl SentPackets {
         ensures { IfOk result (λ found. found.items ≡ owed_numbers self.now.packets) }
     {
         owed_numbers_in(self.alloc, &self.packets, self.owed_part())
+    }
+
+    /// The numbers of the packets that the next Lost line may name, which are owed or free, in the
+    /// order of sending. `AllocError` comes where it is out of memory.
+    pub fn nameable_numbers(&self, free: FreePackets) -> Result<Vec<PacketNumber>, AllocError>
+        ensures { IfOk result (λ found. found.items ≡ nameable_numbers free self.now.packets) }
+    {
+        nameable_numbers_in(self.alloc, &self.packets, free)
     }
 
     /// The space of the packets that are owed, which is one: a detection looks at the space of its
