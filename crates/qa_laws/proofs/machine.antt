@@ -36,3 +36,4 @@ pub mod Alike
 pub mod LowerThreshold
 pub mod Looser
 pub mod SameVersion
+pub mod NothingFree

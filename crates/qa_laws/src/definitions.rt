@@ -40,7 +40,7 @@ ghost use Rattle.qa_format.specs.verdicts.Verdict.{Reading, IsFixed, IsTraceOfRu
 ghost use Rattle.qa_format.specs.format.Written.{Pairs, written};
 ghost use Rattle.qa_base.specs.machine.Widths.{Fits, IsTimely, acknowledged_count};
 ghost use Rattle.qa_base.specs.machine.Window.{window};
-ghost use Rattle.qa_laws.specs.machine.Alike.{IsLooser, of_version};
+ghost use Rattle.qa_laws.specs.machine.Alike.{IsLooser, NothingFree, of_version, where_they_must};
 ghost use Rattle.qa_laws.specs.machine.Declared.{named_free};
 ghost use Rattle.std.specs.List.{AllByRecursion};
 
@@ -137,6 +137,17 @@ pub fn losses_must_be_declared()
         → nameable c h ≡ owed c h }
     ensures declared { (c : Settings) (e : Event) (h : List Event) → is_may c.options.loss_by_number ≡ false
         → declared c (e ∷ h) ≡ owed c (e ∷ h) }
+{}
+
+/// Where nothing is free at any time, losses that may be declared are those that must be: the runs
+/// are the same, and so are their totals and what they owe.
+pub fn may_is_must_where_nothing_is_free()
+    ensures runs { (c : Settings) (h : List Event) → NothingFree c h
+        → IsRun (where_they_must c) h ↔ IsRun c h }
+    ensures totals { (c : Settings) (h : List Event) → NothingFree c h
+        → totals (where_they_must c) h ≡ totals c h }
+    ensures owed { (c : Settings) (h : List Event) → NothingFree c h
+        → owed (where_they_must c) h ≡ owed c h }
 {}
 
 /// A packet is old exactly when the loss delay has passed since it was sent. That the loss delay is

@@ -1,7 +1,8 @@
 -- What alike headers have in common: all that a history makes, where losses are looked for as of the same times.
-use Rattle.std.proofs.Common.{◌≡◌, ◌∙◌, ◌+◌, ◌*◌, ◌^◌, ◌&&◌, ◌||◌, not, ℕ, List, [], ◌∷◌, ◌++◌, Bool, true, false, Option, Some, None, refl, sym, ap, ap₂, fold, count_by, map, min, option_map, is_none, sum_by, Contains, inl, inr, ◌⊎◌, ◌-◌}
-use Rattle.std.proofs.Math.Path.{fun_ext}
-use Rattle.std.specs.List.{filter, list_any, AllByRecursion}
+use Rattle.qa_base.proofs.machine.Quiet.{same_sum}
+use Rattle.qa_base.specs.declared.space.LossByNumber.{LossByNumber}
+use Rattle.std.proofs.Common.{◌≡◌, ◌∙◌, ◌+◌, ◌*◌, ◌^◌, ◌&&◌, ◌||◌, not, ℕ, List, [], ◌∷◌, ◌++◌, Bool, true, false, Option, Some, None, refl, sym, ap, ap₂, fold, count_by, map, min, option_map, is_none, Contains, inl, inr, ◌⊎◌, ◌-◌}
+use Rattle.std.specs.List.{list_any, AllByRecursion}
 use Rattle.std.specs.Option.{option_or}
 use Rattle.std.specs.Prelude.{if◌then◌else◌, nat_lt, nat_le}
 use Rattle.qa_base.specs.declared.event.Event.{Event}
@@ -16,7 +17,7 @@ use Rattle.qa_base.specs.machine.Detection.{are_ends, detection_by, is_found_at,
 use Rattle.qa_base.specs.machine.Estimates.{refreshed_by, rtt, sampled}
 use Rattle.qa_base.specs.machine.Handshake.{is_confirmed, is_validated, has_keys}
 use Rattle.qa_base.specs.machine.Leave.{is_recovery_packet, recovery_spent}
-use Rattle.qa_base.specs.machine.Loss.{bytes_in_flight, declared, is_free, is_open, is_owed, is_persistent, nameable, owed}
+use Rattle.qa_base.specs.machine.Loss.{bytes_in_flight, declared, is_free, is_open, is_owed, is_persistent, nameable, owed, flight_size, is_nameable}
 use Rattle.qa_base.specs.machine.Moments.{before_last, detection_of, last_time, moments, since}
 use Rattle.qa_base.specs.machine.Numbers.{names_between}
 use Rattle.qa_base.specs.machine.Packets.{Packet, packets, packets_of, is_of, is_discarded, is_some_packet, newly_acknowledged, largest_acknowledged, least_of, is_below_largest}
@@ -30,7 +31,7 @@ use Rattle.qa_base.specs.values.Settings.{Settings, early, granularity, is_may, 
 use Rattle.qa_base.proofs.machine.Collapses.{since_collapse_after}
 use Rattle.qa_base.proofs.machine.Declared.{declared_is, owed_is}
 use Rattle.qa_laws.specs.machine.Alike.{AreAlike}
-use Rattle.qa_laws.proofs.machine.Pairs.{of_each, same_part}
+use Rattle.qa_laws.proofs.machine.Pairs.{of_each, part_is, same_part}
 
 -- ---- alike headers
 
@@ -41,6 +42,7 @@ pub record Tolerances : Type 0 where
   pub window_overshoot : Bool
   pub packet_threshold : ℕ
   pub timer_early_us : ℕ
+  pub loss_by_number : LossByNumber
   pub report_slack_us : ℕ
   pub report_slack_bytes : ℕ
 
@@ -51,6 +53,7 @@ tolerances_of c = record {
   window_overshoot = c.options.window_overshoot;
   packet_threshold = c.options.packet_threshold;
   timer_early_us = c.options.timer_early_us;
+  loss_by_number = c.options.loss_by_number;
   report_slack_us = c.options.report_slack_us;
   report_slack_bytes = c.options.report_slack_bytes;
 }
@@ -75,7 +78,7 @@ like c t = record {
     sample_eliciting_only = c.options.sample_eliciting_only;
     packet_threshold = t.packet_threshold;
     timer_early_us = t.timer_early_us;
-    loss_by_number = c.options.loss_by_number;
+    loss_by_number = t.loss_by_number;
   };
 }
 
@@ -90,7 +93,6 @@ like_is c d a = rw (
   sym a.refresh_min_rtt,
   sym a.controller,
   sym a.sample_eliciting_only,
-  sym a.loss_by_number,
 ) refl
 
 -- behind each event of the history losses are looked for in the same place, as of the same time
@@ -118,7 +120,7 @@ detects_at c t (e ∷ h) detects = detects.1
 
 -- the event finds the same packets lost, and names the same of those that are free, by the samples of the header
 pub record AgreesAt (c : Settings) (t : Tolerances) (e : Event) (h : List Event) : Type 0 where
-  pub owes : (p : Packet) → is_owed_by (like c t) (sampled c (e ∷ h)) (e ∷ h) p ≡ is_owed_by c (sampled c (e ∷ h)) (e ∷ h) p
+  pub owes : (p : Packet) → Contains (packets (e ∷ h)) p → is_owed_by (like c t) (sampled c (e ∷ h)) (e ∷ h) p ≡ is_owed_by c (sampled c (e ∷ h)) (e ∷ h) p
   pub names : (p : Packet) → Contains (packets h) p
       → (is_free_by (like c t) (sampled c h) h p && declares_lost p.space p.number e) ≡ (is_free_by c (sampled c h) h p && declares_lost p.space p.number e)
 
@@ -129,26 +131,30 @@ Agree c t (e ∷ h) = Agree c t h × AgreesAt c t e h
 
 -- ---- thresholds
 
--- they are the same, or what lies behind by number is not owed
+-- losses by number are asked for alike, and the thresholds are the same, or what lies behind by number is not owed
 abbrev pub OwesAlike : Settings → Tolerances → Type 0
-OwesAlike c t = (t.packet_threshold ≡ c.options.packet_threshold) ⊎ (is_may c.options.loss_by_number ≡ true)
+OwesAlike c t = (t.loss_by_number ≡ c.options.loss_by_number) × ((t.packet_threshold ≡ c.options.packet_threshold) ⊎ (is_may c.options.loss_by_number ≡ true))
+
+-- and in any case the same
+abbrev pub SameLosses : Settings → Tolerances → Type 0
+SameLosses c t = (t.loss_by_number ≡ c.options.loss_by_number) × (t.packet_threshold ≡ c.options.packet_threshold)
 
 past_alike : (c : Settings) (t : Tolerances) → OwesAlike c t → (r : Estimate) (now : ℕ) (most : Option ℕ) (p : Packet) → is_past_threshold (like c t) r now most p ≡ is_past_threshold c r now most p
 past_alike c t alike r now None p = refl
-past_alike c t (inl same) r now (Some m) p = ap (λ k. nat_lt p.number m && ((not (is_may c.options.loss_by_number) && nat_le k (m - p.number)) || is_old c r now p)) same
-past_alike c t (inr may) r now (Some m) p = rw may refl
+past_alike c t (asked, inl same) r now (Some m) p = ap₂ (λ l k. nat_lt p.number m && ((not (is_may l) && nat_le k (m - p.number)) || is_old c r now p)) asked same
+past_alike c t (asked, inr may) r now (Some m) p = ap (λ l. nat_lt p.number m && ((not (is_may l) && nat_le t.packet_threshold (m - p.number)) || is_old c r now p)) asked ∙ rw may refl
 
 pub found_alike : (c : Settings) (t : Tolerances) → OwesAlike c t → (r : Estimate) (h : List Event) (p : Packet) (d : Option (Space × ℕ)) → is_found_at (like c t) r h p d ≡ is_found_at c r h p d
 found_alike c t alike r h p None = refl
 found_alike c t alike r h p (Some d) =
     ap (λ b. is_of d.0 p && (p.in_flight && is_unsettled h p && b)) (past_alike c t alike r d.1 (largest_acknowledged h d.0) p)
 
-spared_alike : (c : Settings) (t : Tolerances) → t.packet_threshold ≡ c.options.packet_threshold → (r : Estimate) (now : ℕ) (most : Option ℕ) (p : Packet)
+spared_alike : (c : Settings) (t : Tolerances) → SameLosses c t → (r : Estimate) (now : ℕ) (most : Option ℕ) (p : Packet)
     → may_be_spared (like c t) r now most p ≡ may_be_spared c r now most p
 spared_alike c t same r now None p = refl
-spared_alike c t same r now (Some m) p = ap (λ k. nat_lt p.number m && (is_may c.options.loss_by_number && nat_le k (m - p.number)) && not (is_old c r now p)) same
+spared_alike c t same r now (Some m) p = ap₂ (λ l k. nat_lt p.number m && (is_may l && nat_le k (m - p.number)) && not (is_old c r now p)) same.0 same.1
 
-left_alike : (c : Settings) (t : Tolerances) → t.packet_threshold ≡ c.options.packet_threshold → (r : Estimate) (h : List Event) (p : Packet) (d : Option (Space × ℕ))
+left_alike : (c : Settings) (t : Tolerances) → SameLosses c t → (r : Estimate) (h : List Event) (p : Packet) (d : Option (Space × ℕ))
     → is_left_at (like c t) r h p d ≡ is_left_at c r h p d
 left_alike c t same r h p None = refl
 left_alike c t same r h p (Some d) =
@@ -158,34 +164,36 @@ pub owes_alike : (c : Settings) (t : Tolerances) → OwesAlike c t → (h : List
 owes_alike c t alike h detects p =
     ap (is_found_at (like c t) (sampled c h) h p) (detects_at c t h detects) ∙ found_alike c t alike (sampled c h) h p (detection_by c (sampled c h) h)
 
-frees_alike : (c : Settings) (t : Tolerances) → t.packet_threshold ≡ c.options.packet_threshold → (h : List Event) → Detects c t h → (p : Packet)
+frees_alike : (c : Settings) (t : Tolerances) → SameLosses c t → (h : List Event) → Detects c t h → (p : Packet)
     → is_free_by (like c t) (sampled c h) h p ≡ is_free_by c (sampled c h) h p
 frees_alike c t same h detects p =
     ap (is_left_at (like c t) (sampled c h) h p) (detects_at c t h detects) ∙ left_alike c t same (sampled c h) h p (detection_by c (sampled c h) h)
 
 -- where the thresholds are the same, all agree that detect alike
-agree_if : (c : Settings) (t : Tolerances) (h : List Event) → t.packet_threshold ≡ c.options.packet_threshold → Detects c t h → Agree c t h
+agree_if : (c : Settings) (t : Tolerances) (h : List Event) → SameLosses c t → Detects c t h → Agree c t h
 agree_if c t [] same detects = tt
 agree_if c t (e ∷ h) same detects = (
   agree_if c t h same detects.0,
   record {
-    owes = owes_alike c t (inl same) (e ∷ h) detects;
+    owes = λ p has. owes_alike c t (same.0, inl same.1) (e ∷ h) detects p;
     names = λ p has. ap (λ b. b && declares_lost p.space p.number e) (frees_alike c t same h detects.0 p);
   },
 )
 
-pub agree_if_equally_early : (c : Settings) (t : Tolerances) (h : List Event) → t.packet_threshold ≡ c.options.packet_threshold → t.timer_early_us ≡ c.options.timer_early_us → Agree c t h
+pub agree_if_equally_early : (c : Settings) (t : Tolerances) (h : List Event) → SameLosses c t → t.timer_early_us ≡ c.options.timer_early_us → Agree c t h
 agree_if_equally_early c t h same early = agree_if c t h same (detects_if_equally_early c t h early)
 
 -- ---- the estimate, and what is lost by it
 
-is_owed_by_samples : (c : Settings) (t : Tolerances) (h : List Event) → Agree c t h → sampled (like c t) h ≡ sampled c h → (p : Packet) → is_owed (like c t) h p ≡ is_owed c h p
-is_owed_by_samples c t [] agree same p = refl
-is_owed_by_samples c t (e ∷ h) agree same p = ap (λ r. is_owed_by (like c t) r (e ∷ h) p) same ∙ agree.1.owes p
+is_owed_by_samples : (c : Settings) (t : Tolerances) (h : List Event) → Agree c t h → sampled (like c t) h ≡ sampled c h → (p : Packet) → Contains (packets h) p → is_owed (like c t) h p ≡ is_owed c h p
+is_owed_by_samples c t [] agree same p has = refl
+is_owed_by_samples c t (e ∷ h) agree same p has = ap (λ r. is_owed_by (like c t) r (e ∷ h) p) same ∙ agree.1.owes p has
 
 owed_by_samples : (c : Settings) (t : Tolerances) (h : List Event) → Agree c t h → sampled (like c t) h ≡ sampled c h → owed (like c t) h ≡ owed c h
 owed_by_samples c t h agree same =
-    owed_is (like c t) h ∙ ap (λ (owes : Packet → Bool). filter owes (packets h)) (fun_ext (is_owed_by_samples c t h agree same)) ∙ sym (owed_is c h)
+    owed_is (like c t) h
+    ∙ same_part (is_owed (like c t) h) (is_owed c h) (packets h) (of_each (λ p. is_owed (like c t) h p ≡ is_owed c h p) (packets h) (is_owed_by_samples c t h agree same))
+    ∙ sym (owed_is c h)
 
 same_any : (f g : Packet → Bool) (ps : List Packet) → AllByRecursion (λ p. f p ≡ g p) ps → list_any f ps ≡ list_any g ps
 same_any f g [] same = refl
@@ -200,7 +208,7 @@ lost_by_samples c t (Lost time space ranges) h agree before now =
     let names : (p : Packet) → Contains (packets h) p → frees p ≡ freed p =
     λ p has. ap (λ r. is_free_by (like c t) r h p && declares_lost p.space p.number e) before ∙ agree.1.names p has in
     let takes : (p : Packet) → Contains (packets h) p → (is_owed (like c t) h p || frees p) ≡ (is_owed c h p || freed p) =
-    λ p has. ap₂ (λ a b. a || b) (is_owed_by_samples c t h agree.0 before p) (names p has) in
+    λ p has. ap₂ (λ a b. a || b) (is_owed_by_samples c t h agree.0 before p has) (names p has) in
     declared_is (like c t) time space ranges h
     ∙ ap₂ (λ (b : Bool) (ps : List Packet). if b then ps else [])
     (same_any frees freed (packets h) (of_each (λ p. frees p ≡ freed p) (packets h) names))
@@ -239,26 +247,28 @@ same_declared c t h agree = (same_estimate c t h agree).lost
 pub same_owed : (c : Settings) (t : Tolerances) (h : List Event) → Agree c t h → owed (like c t) h ≡ owed c h
 same_owed c t h agree = owed_by_samples c t h agree (same_sampled c t h agree)
 
-pub same_is_owed : (c : Settings) (t : Tolerances) (h : List Event) → Agree c t h → (p : Packet) → is_owed (like c t) h p ≡ is_owed c h p
-same_is_owed c t h agree p = is_owed_by_samples c t h agree (same_sampled c t h agree) p
+same_is_owed : (c : Settings) (t : Tolerances) (h : List Event) → Agree c t h → (p : Packet) → Contains (packets h) p → is_owed (like c t) h p ≡ is_owed c h p
+same_is_owed c t h agree p has = is_owed_by_samples c t h agree (same_sampled c t h agree) p has
 
-pub is_free_alike : (c : Settings) (t : Tolerances) (h : List Event) → t.packet_threshold ≡ c.options.packet_threshold → Detects c t h → (p : Packet) → is_free (like c t) h p ≡ is_free c h p
+is_free_alike : (c : Settings) (t : Tolerances) (h : List Event) → SameLosses c t → Detects c t h → (p : Packet) → is_free (like c t) h p ≡ is_free c h p
 is_free_alike c t h same detects p =
     ap (λ r. is_free_by (like c t) r h p) (same_sampled c t h (agree_if c t h same detects)) ∙ frees_alike c t same h detects p
 
-pub same_nameable : (c : Settings) (t : Tolerances) (h : List Event) → t.packet_threshold ≡ c.options.packet_threshold → Detects c t h → nameable (like c t) h ≡ nameable c h
+pub same_nameable : (c : Settings) (t : Tolerances) (h : List Event) → SameLosses c t → Detects c t h → nameable (like c t) h ≡ nameable c h
 same_nameable c t h same detects =
-    ap₂ (λ (frees owes : Packet → Bool). filter (λ p. owes p || frees p) (packets h))
-    (fun_ext (is_free_alike c t h same detects)) (fun_ext (same_is_owed c t h (agree_if c t h same detects)))
+    same_part (is_nameable (like c t) h) (is_nameable c h) (packets h) (of_each (λ p. is_nameable (like c t) h p ≡ is_nameable c h p) (packets h)
+    (λ p has. ap₂ (λ a b. a || b) (same_is_owed c t h (agree_if c t h same detects) p has) (is_free_alike c t h same detects p)))
 
 same_persistent : (c : Settings) (t : Tolerances) (h : List Event) → Agree c t h → is_persistent (like c t) h ≡ is_persistent c h
 same_persistent c t h agree = ap₂ (λ r ps. list_any (λ p. list_any (are_ends r c h p) ps) ps) (same_sampled c t h agree) (same_declared c t h agree)
 
-same_open : (c : Settings) (t : Tolerances) (h : List Event) → Agree c t h → (p : Packet) → is_open (like c t) h p ≡ is_open c h p
-same_open c t h agree p = ap (λ is. is_unsettled h p && not is && not (is_discarded h p.space)) (same_is_owed c t h agree p)
+same_open : (c : Settings) (t : Tolerances) (h : List Event) → Agree c t h → (p : Packet) → Contains (packets h) p → is_open (like c t) h p ≡ is_open c h p
+same_open c t h agree p has = ap (λ is. is_unsettled h p && not is && not (is_discarded h p.space)) (same_is_owed c t h agree p has)
 
 pub same_bytes : (c : Settings) (t : Tolerances) (h : List Event) → Agree c t h → bytes_in_flight (like c t) h ≡ bytes_in_flight c h
-same_bytes c t h agree = ap (λ (f : Packet → ℕ). sum_by f (packets h)) (fun_ext (λ (p : Packet). ap (λ here. if p.in_flight && here then p.size else 0) (same_open c t h agree p)))
+same_bytes c t h agree =
+    same_sum (flight_size (like c t) h) (flight_size c h) (packets h) (of_each (λ p. flight_size (like c t) h p ≡ flight_size c h p) (packets h)
+    (λ p has. ap (λ here. if p.in_flight && here then p.size else 0) (same_open c t h agree p has)))
 
 -- ---- the window
 
@@ -324,27 +334,29 @@ same_recovery c t h agree =
 
 -- ---- the timer
 
-same_awaits_loss : (c : Settings) (t : Tolerances) (h : List Event) → Agree c t h → (p : Packet) → awaits_loss (like c t) h p ≡ awaits_loss c h p
-same_awaits_loss c t h agree p = ap (λ here. p.in_flight && here && is_below_largest p.number (largest_acknowledged h p.space)) (same_open c t h agree p)
+same_awaits_loss : (c : Settings) (t : Tolerances) (h : List Event) → Agree c t h → (p : Packet) → Contains (packets h) p → awaits_loss (like c t) h p ≡ awaits_loss c h p
+same_awaits_loss c t h agree p has = ap (λ here. p.in_flight && here && is_below_largest p.number (largest_acknowledged h p.space)) (same_open c t h agree p has)
 
 same_loss_due : (c : Settings) (t : Tolerances) (h : List Event) → Agree c t h → (s : Space) → loss_due (like c t) h s ≡ loss_due c h s
 same_loss_due c t h agree s =
-    ap₂ (λ r awaits. option_map (λ sent. record { kind = Loss; space = s; time = sent + loss_delay (granularity c) r }) (least_of (map (λ p. p.time) (filter awaits (packets_of h s)))))
-    (same_rtt c t h agree) (fun_ext (same_awaits_loss c t h agree))
+    ap₂ (λ r awaiting. option_map (λ sent. record { kind = Loss; space = s; time = sent + loss_delay (granularity c) r }) (least_of (map (λ p. p.time) awaiting)))
+    (same_rtt c t h agree) (same_part (awaits_loss (like c t) h) (awaits_loss c h) (packets_of h s) (of_each (λ p. awaits_loss (like c t) h p ≡ awaits_loss c h p) (packets_of h s)
+    (λ p has. same_awaits_loss c t h agree p (part_is (is_of s) (packets h) p has).0)))
 
 same_earliest_loss : (c : Settings) (t : Tolerances) (h : List Event) → Agree c t h → earliest_loss (like c t) h ≡ earliest_loss c h
 same_earliest_loss c t h agree =
     ap₂ earlier (same_loss_due c t h agree Initial) (ap₂ earlier (same_loss_due c t h agree Handshake) (same_loss_due c t h agree App))
 
-same_awaits : (c : Settings) (t : Tolerances) (h : List Event) → Agree c t h → (p : Packet) → awaits_acknowledgment (like c t) h p ≡ awaits_acknowledgment c h p
-same_awaits c t h agree p = ap (λ here. p.eliciting && here) (same_open c t h agree p)
+same_awaits : (c : Settings) (t : Tolerances) (h : List Event) → Agree c t h → (p : Packet) → Contains (packets h) p → awaits_acknowledgment (like c t) h p ≡ awaits_acknowledgment c h p
+same_awaits c t h agree p has = ap (λ here. p.eliciting && here) (same_open c t h agree p has)
 
 same_pto_due : (c : Settings) (t : Tolerances) (h : List Event) → Agree c t h → (delay : ℕ) (s : Space) → pto_due (like c t) h delay s ≡ pto_due c h delay s
 same_pto_due c t h agree delay s =
-    ap₂ (λ r awaits. if list_any awaits (packets_of h s)
+    ap₂ (λ r some. if some
     then option_map (λ sent. record { kind = Pto; space = s; time = sent + (pto_base (granularity c) r + delay) * 2 ^ pto_count c h }) (last_eliciting h s)
     else None)
-    (same_rtt c t h agree) (fun_ext (same_awaits c t h agree))
+    (same_rtt c t h agree) (same_any (awaits_acknowledgment (like c t) h) (awaits_acknowledgment c h) (packets_of h s) (of_each (λ p. awaits_acknowledgment (like c t) h p ≡ awaits_acknowledgment c h p) (packets_of h s)
+    (λ p has. same_awaits c t h agree p (part_is (is_of s) (packets h) p has).0)))
 
 same_earliest_pto : (c : Settings) (t : Tolerances) (h : List Event) → Agree c t h → earliest_pto (like c t) h ≡ earliest_pto c h
 same_earliest_pto c t h agree =

@@ -17,22 +17,24 @@ use Rattle.qa_base.specs.machine.Rules.{IsRun}
 use Rattle.qa_base.specs.values.Events.{declares_lost, is_named}
 use Rattle.qa_base.specs.values.Settings.{Settings, is_may}
 use Rattle.qa_base.proofs.machine.Ranges.{has_all_names}
-use Rattle.qa_laws.proofs.machine.Alike.{Agree, Detects, OwesAlike, Tolerances, detects_at, like, owes_alike, same_is_owed, same_owed, same_sampled}
+use Rattle.qa_laws.proofs.machine.Alike.{Agree, Detects, OwesAlike, Tolerances, detects_at, like, owes_alike, same_owed, same_sampled}
 use Rattle.qa_laws.proofs.machine.Changes.{named_is_nameable, spared_is_young}
 
 -- ---- what is free
 
--- the threshold is the same, or packets may be spared and it is no higher
+-- losses by number are asked for alike, and the threshold is the same, or packets may be spared and it is no higher
 abbrev pub NoStricter : Settings → Tolerances → Type 0
-NoStricter c t = (t.packet_threshold ≡ c.options.packet_threshold) ⊎ ((is_may c.options.loss_by_number ≡ true) × (t.packet_threshold ≤ c.options.packet_threshold))
+NoStricter c t =
+    (t.loss_by_number ≡ c.options.loss_by_number)
+    × ((t.packet_threshold ≡ c.options.packet_threshold) ⊎ ((is_may c.options.loss_by_number ≡ true) × (t.packet_threshold ≤ c.options.packet_threshold)))
 
 pub owes_if : (c : Settings) (t : Tolerances) → NoStricter c t → OwesAlike c t
-owes_if c t (inl same) = inl same
-owes_if c t (inr no_higher) = inr no_higher.0
+owes_if c t (asked, inl same) = (asked, inl same)
+owes_if c t (asked, inr no_higher) = (asked, inr no_higher.0)
 
 at_most : (c : Settings) (t : Tolerances) → NoStricter c t → t.packet_threshold ≤ c.options.packet_threshold
-at_most c t (inl same) = omega (arith, same)
-at_most c t (inr no_higher) = no_higher.1
+at_most c t (asked, inl same) = omega (arith, same)
+at_most c t (asked, inr no_higher) = no_higher.1
 
 spared_more : (c : Settings) (t : Tolerances) → NoStricter c t → (r : Estimate) (now : ℕ) (most : Option ℕ) (p : Packet) → may_be_spared c r now most p ≡ true → may_be_spared (like c t) r now most p ≡ true
 spared_more c t no_stricter r now None p is = cc
@@ -43,9 +45,10 @@ spared_more c t no_stricter r now (Some m) p is =
     let by_number = and_parts may (nat_le c.options.packet_threshold (m - p.number)) both.1 in
     let far = leb-true c.options.packet_threshold (m - p.number) by_number.1 in
     let less = at_most c t no_stricter in
-    and_from (nat_lt p.number m && (may && nat_le t.packet_threshold (m - p.number))) (not (is_old c r now p))
-    (and_from (nat_lt p.number m) (may && nat_le t.packet_threshold (m - p.number)) both.0
-    (and_from may (nat_le t.packet_threshold (m - p.number)) by_number.0 (le-leb t.packet_threshold (m - p.number) (omega (arith, far, less))))) young.1
+    let may_too : is_may t.loss_by_number ≡ true = ap is_may no_stricter.0 ∙ by_number.0 in
+    and_from (nat_lt p.number m && (is_may t.loss_by_number && nat_le t.packet_threshold (m - p.number))) (not (is_old c r now p))
+    (and_from (nat_lt p.number m) (is_may t.loss_by_number && nat_le t.packet_threshold (m - p.number)) both.0
+    (and_from (is_may t.loss_by_number) (nat_le t.packet_threshold (m - p.number)) may_too (le-leb t.packet_threshold (m - p.number) (omega (arith, far, less))))) young.1
 
 left_more : (c : Settings) (t : Tolerances) → NoStricter c t → (r : Estimate) (h : List Event) (p : Packet) (d : Option (Space × ℕ)) → is_left_at c r h p d ≡ true → is_left_at (like c t) r h p d ≡ true
 left_more c t no_stricter r h p None is = cc
@@ -101,14 +104,14 @@ pub agree_in : (c : Settings) (t : Tolerances) (h : List Event) → NoStricter c
 agree_in c t [] no_stricter detects run = tt
 agree_in c t (e ∷ h) no_stricter detects run = (
   agree_in c t h no_stricter detects.0 run.0,
-  record { owes = owes_alike c t (owes_if c t no_stricter) (e ∷ h) detects; names = names_alike c t no_stricter e h run detects.0 },
+  record { owes = λ p has. owes_alike c t (owes_if c t no_stricter) (e ∷ h) detects p; names = names_alike c t no_stricter e h run detects.0 },
 )
 
 -- ---- what a Lost line may name
 
 nameable_more : (c : Settings) (t : Tolerances) (h : List Event) → NoStricter c t → Detects c t h → Agree c t h → (p : Packet) → is_nameable c h p ≡ true → is_nameable (like c t) h p ≡ true
 nameable_more c t h no_stricter detects agree p is = elim (or_cases (is_owed c h p) (is_free c h p) is) [
-  | inl owed_then ↦ or_left (is_owed (like c t) h p) (is_free (like c t) h p) (same_is_owed c t h agree p ∙ owed_then)
+  | inl owed_then ↦ or_left (is_owed (like c t) h p) (is_free (like c t) h p) (ap (λ r. is_owed_by (like c t) r h p) (same_sampled c t h agree) ∙ owes_alike c t (owes_if c t no_stricter) h detects p ∙ owed_then)
   | inr free_then ↦ or_right (is_owed (like c t) h p) (is_free (like c t) h p)
       (ap (λ r. is_free_by (like c t) r h p) (same_sampled c t h agree) ∙ frees_more c t no_stricter h detects p free_then)
 ]

@@ -1,4 +1,5 @@
 -- A header in another version asks the same.
+use Rattle.qa_base.specs.declared.space.LossByNumber.{LossByNumber}
 use Rattle.std.proofs.Common.{◌≡◌, ◌∙◌, ◌+◌, ◌&&◌, ◌↔◌, List, [], ◌∷◌, ◌++◌, Bool, true, false, Result, Ok, Err, refl, sym, ap, ap₂, subst}
 use Rattle.std.specs.Prelude.{if◌then◌else◌, unwrap_or}
 use Rattle.qa_base.specs.declared.event.Event.{Event}
@@ -21,65 +22,73 @@ use Rattle.qa_base.specs.values.Events.{time_of}
 use Rattle.qa_base.specs.values.Settings.{Settings, choosing_options, early, is_outside, is_reported, spares_unreported}
 use Rattle.qa_base.specs.values.Limits.{max_timer_late, max_report_slack_us, max_report_slack_bytes, min_packet_threshold, max_packet_threshold, max_timer_early_us}
 use Rattle.qa_laws.specs.machine.Alike.{of_version}
-use Rattle.qa_laws.proofs.machine.Alike.{Agree, Tolerances, agree_if_equally_early, detects_if_equally_early, same_bytes, same_collapse, same_deadline, same_loss_not_owed, same_loss_owed, same_loss_set, same_nameable, same_not_set, same_other, same_owed, same_past_recovery, same_totals, same_window, tolerances_of}
+use Rattle.qa_laws.proofs.machine.Alike.{Agree, Tolerances, agree_if_equally_early, detects_if_equally_early, same_bytes, same_collapse, same_deadline, same_loss_not_owed, same_loss_owed, same_loss_set, same_nameable, same_not_set, same_other, same_owed, same_past_recovery, same_totals, same_window, tolerances_of, like}
 use Rattle.qa_laws.proofs.machine.Looser.{same_late}
 
--- the tolerances of the header, and this version: the header with these is that header in this version
-abbrev in_version : Settings → Version → Tolerances
-in_version c version = record (tolerances_of c) { version = version }
+-- what the header says of them, but for its version and for losses by number
+abbrev pub varied : Settings → Version → LossByNumber → Tolerances
+varied c version losses = record (tolerances_of c) { version = version; loss_by_number = losses }
 
-agree : (c : Settings) (version : Version) (h : List Event) → Agree c (in_version c version) h
-agree c version h = agree_if_equally_early c (in_version c version) h refl refl
-
-may_name : (c : Settings) (version : Version) (h : List Event) → nameable (of_version c version) h ≡ nameable c h
-may_name c version h = same_nameable c (in_version c version) h refl (detects_if_equally_early c (in_version c version) h refl)
+-- the header with these
+abbrev vary : Settings → Version → LossByNumber → Settings
+vary c version losses = like c (varied c version losses)
 
 -- ---- the rules
 
-same_past_window : (c : Settings) (version : Version) (h : List Event) (e : Event) → is_past_window (of_version c version) h e ≡ is_past_window c h e
-same_past_window c version h (Sent time space number size eliciting in_flight Window) =
-    ap₂ (λ limit n. in_flight && is_past c.options.window_overshoot limit n size) (same_window c (in_version c version) h (agree c version h)) (same_bytes c (in_version c version) h (agree c version h))
-same_past_window c version h _ = refl
+same_past_window : (c : Settings) (version : Version) (losses : LossByNumber) (h : List Event) → Agree c (varied c version losses) h → (e : Event) → is_past_window (vary c version losses) h e ≡ is_past_window c h e
+same_past_window c version losses h a (Sent time space number size eliciting in_flight Window) =
+    ap₂ (λ limit n. in_flight && is_past c.options.window_overshoot limit n size) (same_window c (varied c version losses) h a) (same_bytes c (varied c version losses) h a)
+same_past_window c version losses h a _ = refl
 
-same_timer_early : (c : Settings) (version : Version) (h : List Event) (e : Event) → is_timer_early (of_version c version) h e ≡ is_timer_early c h e
-same_timer_early c version h (Timer time kind space) = ap (is_before (time + early c)) (same_deadline c (in_version c version) h (agree c version h))
-same_timer_early c version h _ = refl
+same_timer_early : (c : Settings) (version : Version) (losses : LossByNumber) (h : List Event) → Agree c (varied c version losses) h → (e : Event) → is_timer_early (vary c version losses) h e ≡ is_timer_early c h e
+same_timer_early c version losses h a (Timer time kind space) = ap (is_before (time + early c)) (same_deadline c (varied c version losses) h a)
+same_timer_early c version losses h a _ = refl
 
-same_missing : (c : Settings) (version : Version) (h : List Event) (e : Event) → is_collapse_missing (of_version c version) h e ≡ is_collapse_missing c h e
-same_missing c version h e =
+same_missing : (c : Settings) (version : Version) (losses : LossByNumber) (h : List Event) → Agree c (varied c version losses) h → (e : Event) → is_collapse_missing (vary c version losses) h e ≡ is_collapse_missing c h e
+same_missing c version losses h a e =
     ap (λ acknowledged. is_reported c.options.controller && is_above_collapse (minimum_window c.max_datagram_size + c.options.report_slack_bytes) (other_window c h e) acknowledged)
-    (same_collapse c (in_version c version) h (agree c version h))
+    (same_collapse c (varied c version losses) h a)
 
-same_metrics : (c : Settings) (version : Version) (h : List Event) (e : Event) → metric_tests (of_version c version) h e ≡ metric_tests c h e
-same_metrics c version h (Metrics time values) = ap (tests c values) (same_totals c (in_version c version) h (agree c version h))
-same_metrics c version h _ = refl
+same_metrics : (c : Settings) (version : Version) (losses : LossByNumber) (h : List Event) → Agree c (varied c version losses) h → (e : Event) → metric_tests (vary c version losses) h e ≡ metric_tests c h e
+same_metrics c version losses h a (Metrics time values) = ap (tests c values) (same_totals c (varied c version losses) h a)
+same_metrics c version losses h a _ = refl
 
 beside : (r : Rule) (a b : Bool) (xs ys : List (Bool × Rule)) → a ≡ b → xs ≡ ys → (a, r) ∷ xs ≡ (b, r) ∷ ys
 beside r a b xs ys same rest = ap₂ (λ k more. (k, r) ∷ more) same rest
 
--- it breaks the same rule
-pub same_broken : (c : Settings) (version : Version) (h : List Event) (e : Event) → first_broken (of_version c version) h e ≡ first_broken c h e
+-- where they agree, and a Lost line may name the same, it breaks the same rule
+pub same_broken_by : (c : Settings) (version : Version) (losses : LossByNumber) (h : List Event) → Agree c (varied c version losses) h → nameable (vary c version losses) h ≡ nameable c h → (e : Event) → first_broken (vary c version losses) h e ≡ first_broken c h e
 unfolding first_broken
-same_broken c version h e =
-    let d = of_version c version in
-    let t = in_version c version in
-    let a = agree c version h in
+same_broken_by c version losses h a may_name e =
+    let d = vary c version losses in
+    let t = varied c version losses in
     let late : is_timer_late d h e ≡ is_timer_late c h e = same_late c t h a (time_of e) c.options.timer_late in
-    let ends = ap₂ (λ here there. (here, rule.TimerLate) ∷ (there, rule.CollapseMissing) ∷ []) late (same_missing c version h e) in
-    let metrics = ap₂ (λ ms more. ms ++ more) (same_metrics c version h e) ends in
-    let own = ap₂ (λ timer more. (timer, rule.TimerEarly) ∷ (is_probe_owed h e, rule.ProbeOwed) ∷ (is_not_confirmed h e, rule.NotConfirmed) ∷ more) (same_timer_early c version h e) metrics in
+    let ends = ap₂ (λ here there. (here, rule.TimerLate) ∷ (there, rule.CollapseMissing) ∷ []) late (same_missing c version losses h a e) in
+    let metrics = ap₂ (λ ms more. ms ++ more) (same_metrics c version losses h a e) ends in
+    let own = ap₂ (λ timer more. (timer, rule.TimerEarly) ∷ (is_probe_owed h e, rule.ProbeOwed) ∷ (is_not_confirmed h e, rule.NotConfirmed) ∷ more) (same_timer_early c version losses h a e) metrics in
     let other = ap₂ (λ timer more. (timer, rule.TimerOther) ∷ more) (same_other c t h a e) own in
     let set = ap₂ (λ timer more. (is_ack_unsent h e, rule.AckUnsent) ∷ (timer, rule.TimerNotSet) ∷ more) (same_not_set c t h a e) other in
     let recovery = ap₂ (λ past more. (is_past_probe c h e, rule.PastProbe) ∷ (past, rule.PastRecovery) ∷ more) (same_past_recovery c t h a e) set in
-    let past = ap₂ (λ past more. (is_space_gone h e, rule.SpaceGone) ∷ (is_number_not_higher h e, rule.NumberNotHigher) ∷ (past, rule.PastWindow) ∷ more) (same_past_window c version h e) recovery in
-    let losses = ap₂ (λ other more. (other, rule.LossSet) ∷ more) (same_loss_set c t h a (may_name c version h) e) past in
-    let unowed = ap₂ (λ not_owed more. (not_owed, rule.LossNotOwed) ∷ more) (same_loss_not_owed c t h (may_name c version h) e) losses in
+    let past = ap₂ (λ past more. (is_space_gone h e, rule.SpaceGone) ∷ (is_number_not_higher h e, rule.NumberNotHigher) ∷ (past, rule.PastWindow) ∷ more) (same_past_window c version losses h a e) recovery in
+    let losses = ap₂ (λ other more. (other, rule.LossSet) ∷ more) (same_loss_set c t h a may_name e) past in
+    let unowed = ap₂ (λ not_owed more. (not_owed, rule.LossNotOwed) ∷ more) (same_loss_not_owed c t h may_name e) losses in
     ap₂ (λ is_owed more. first_of ((is_time_back h e, rule.TimeBack) ∷ (is_owed, rule.LossOwed) ∷ more)) (same_loss_owed c t h a e) unowed
+
+-- ---- a version alone
+
+agree : (c : Settings) (version : Version) (h : List Event) → Agree c (varied c version c.options.loss_by_number) h
+agree c version h = agree_if_equally_early c (varied c version c.options.loss_by_number) h (refl, refl) refl
+
+may_name : (c : Settings) (version : Version) (h : List Event) → nameable (of_version c version) h ≡ nameable c h
+may_name c version h = let t = varied c version c.options.loss_by_number in same_nameable c t h (refl, refl) (detects_if_equally_early c t h refl)
+
+pub same_broken : (c : Settings) (version : Version) (h : List Event) (e : Event) → first_broken (of_version c version) h e ≡ first_broken c h e
+same_broken c version h e = same_broken_by c version c.options.loss_by_number h (agree c version h) (may_name c version h) e
 
 -- ---- totals, runs and their ends
 
 pub same_held : (c : Settings) (version : Version) (h : List Event) → totals (of_version c version) h ≡ totals c h
-same_held c version h = same_totals c (in_version c version) h (agree c version h)
+same_held c version h = same_totals c (varied c version c.options.loss_by_number) h (agree c version h)
 
 run_there : (c : Settings) (version : Version) (h : List Event) → IsRun c h → IsRun (of_version c version) h
 run_there c version [] run = tt
@@ -93,7 +102,7 @@ pub same_runs : (c : Settings) (version : Version) (h : List Event) → IsRun (o
 same_runs c version h = (run_back c version h, run_there c version h)
 
 pub same_ends : (c : Settings) (version : Version) (h : List Event) → IsComplete (of_version c version) h ↔ IsComplete c h
-same_ends c version h = let same = same_owed c (in_version c version) h (agree c version h) in (λ none. sym same ∙ none, λ none. same ∙ none)
+same_ends c version h = let same = same_owed c (varied c version c.options.loss_by_number) h (agree c version h) in (λ none. sym same ∙ none, λ none. same ∙ none)
 
 -- ---- a header that is chosen to be of version 3, with the options that it had
 

@@ -1,5 +1,8 @@
 -- Headers of which the same machine is asked: they differ by their version and by what they tolerate alone.
-use Rattle.std.specs.Prelude.{◌≡◌, ◌⊎◌, ℕ, ◌≤◌, true, Option, Some, None}
+use Rattle.qa_base.specs.machine.Loss.{free}
+use Rattle.qa_base.specs.declared.event.Event.{Event}
+use Rattle.qa_base.specs.declared.space.LossByNumber.TheVariants.{Must}
+use Rattle.std.specs.Prelude.{◌≡◌, ◌⊎◌, ℕ, ◌≤◌, true, Option, Some, None, List, [], ◌∷◌}
 use Rattle.qa_base.specs.declared.header.Version.{Version}
 use Rattle.qa_base.specs.values.Settings.{Settings, is_may}
 
@@ -42,3 +45,12 @@ pub record IsLooser (c d : Settings) : Type 0 where
 -- the header in another version, with all else as it is
 abbrev pub of_version : Settings → Version → Settings
 of_version c version = record c { version = version }
+
+-- the header under which losses by number must be declared, with all else as it is
+abbrev pub where_they_must : Settings → Settings
+where_they_must c = record c { options = record c.options { loss_by_number = Must } }
+
+-- nothing is free after the history, nor was after any before it
+abbrev pub NothingFree : Settings → List Event → Type 0
+NothingFree c [] = Unit {0}
+NothingFree c (e ∷ h) = NothingFree c h × (free c (e ∷ h) ≡ [])
