@@ -10,9 +10,7 @@ use qa_base::{PacketNumber, Span};
 fn is_named(spans: &[Span], number: u64) -> bool
     ensures { result ≡ events.is_named spans.now number }
 {
-    spans
-        .iter()
-        .any(|span| span.lo().get() <= number && number <= span.hi().get())
+    spans.iter().any(|span| span.lo().get() <= number && number <= span.hi().get())
 }
 
 /// A walk along the numbers that spans name, as far as was asked.

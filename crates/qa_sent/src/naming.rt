@@ -62,11 +62,7 @@ pub(crate) fn are_nameable(
 }
 
 /// Whether the spans name each packet in this part that is owed.
-pub(crate) fn are_named(
-    packets: &VecDeque<SentPacket>,
-    part: Range<usize>,
-    spans: &[Span],
-) -> bool
+pub(crate) fn are_named(packets: &VecDeque<SentPacket>, part: Range<usize>, spans: &[Span]) -> bool
     requires order { part.start ≤ part.end }
     requires within { part.end ≤ length packets.now.items }
     ensures { result ≡ list_all (is_named spans.now) (owed_numbers (slice_range packets.now.items part.start part.end)) }
