@@ -1,8 +1,8 @@
 -- Which numbers a Lost line may name, and whether it names those of all that is owed.
-use Rattle.std.proofs.Common.{◌≡◌, ◌∙◌, ℕ, ◌+◌, ◌≤◌, ◌<◌, Bool, true, false, ◌&&◌, ◌||◌, List, [], ◌∷◌, map, find, Option, Some, None, refl, sym, ap, subst, arith, inl, inr}
+use Rattle.std.proofs.Common.{◌≡◌, ◌∙◌, ℕ, ◌+◌, ◌<◌, Bool, true, false, ◌&&◌, ◌||◌, List, [], ◌∷◌, find, Option, Some, None, refl, sym, ap, subst, arith, inl, inr}
 use Rattle.std.specs.Prelude.{if◌then◌else◌, nat_lt}
 use Rattle.std.specs.List.{AllByRecursion, list_all, list_any}
-use Rattle.std.proofs.lemmas.Bool.{both_ways, cases_Bool, cases_order, false_from_ne_true, le-ltb, leb-false, ltb-false, lt-ltb}
+use Rattle.std.proofs.lemmas.Bool.{both_ways, cases_Bool, cases_order, false_from_ne_true, le-ltb, ltb-false}
 use Rattle.qa_base.specs.declared.space.Space.{Space}
 use Rattle.qa_base.specs.machine.Numbers.{AreRanges, has_all, is_in}
 use Rattle.qa_base.specs.values.Events.{is_named, is_space}
@@ -11,7 +11,7 @@ use Rattle.qa_sent.specs.Fates.{is_flying, is_owed}
 use Rattle.qa_sent.specs.Free.{is_free_by}
 use Rattle.qa_sent.specs.Held.{AreOrdered, IsBefore}
 use Rattle.qa_sent.specs.Naming.{IsFirst, NoneFrom}
-use Rattle.qa_sent.specs.Walks.{owed_numbers, owed_of}
+use Rattle.qa_sent.specs.Walks.{owed_numbers}
 use Rattle.qa_sent.specs.declared.free.FreePackets.{FreePackets}
 use Rattle.qa_sent.specs.declared.packet.SentPacket.{SentPacket}
 use Rattle.qa_sent.proofs.Alike.{space_is}

@@ -44,11 +44,6 @@ abbrev pub IsNext : (ℕ → Bool) → ℕ → Option ℕ → Type 0
 IsNext test from None = NoneFrom test from
 IsNext test from (Some n) = IsFirst test from n
 
--- these are all of them, in rising order
-abbrev pub AreNext : (ℕ → Bool) → ℕ → List ℕ → Type 0
-AreNext test from [] = NoneFrom test from
-AreNext test from (n ∷ ns) = IsFirst test from n × AreNext test (n + 1) ns
-
 -- ---- a walk along the numbers that spans name
 
 pub record IsWalk (spans : List (ℕ × ℕ)) (walk : NamedNumbers) : Type 0 where

@@ -1,4 +1,4 @@
-use Rattle.std.proofs.Common.{◌≡◌, ◌∙◌, sym}
+use Rattle.std.proofs.Common.{◌∙◌, sym}
 use Rattle.qa_sent.specs.Free.{nameable_numbers}
 use Rattle.qa_sent.proofs.Numbers.{all_by_walk, not_by_walk}
 use Rattle.qa_sent.proofs.naming.are_nameable.Goals as goal

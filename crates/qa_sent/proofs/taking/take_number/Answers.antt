@@ -1,19 +1,18 @@
-use Rattle.std.proofs.Common.{◌≡◌, ◌∙◌, ◌+◌, ◌-◌, ◌≤◌, true, false, length, set, sym, ap, refl, subst, arith}
+use Rattle.std.proofs.Common.{◌≡◌, ◌∙◌, ◌-◌, true, false, length, set, sym, ap, refl, subst, arith}
 use Rattle.std.specs.Prelude.{nat_lt}
 use Rattle.std.specs.VecDeque.{deque_len}
 use Rattle.std.proofs.lemmas.Bool.{and_parts}
-use Rattle.std.proofs.lemmas.List.{set-get_or}
 use Rattle.qa_base.specs.values.Events.{is_named, is_space}
 use Rattle.qa_base.specs.declared.space.Space.{Space}
-use Rattle.qa_sent.specs.Fates.{is_flying, is_owed}
-use Rattle.qa_sent.specs.Free.{is_free_by, numbers_of}
+use Rattle.qa_sent.specs.Fates.{is_flying}
+use Rattle.qa_sent.specs.Free.{is_free_by}
 use Rattle.qa_sent.specs.Held.{AreLosses}
 use Rattle.qa_sent.specs.Steps.{with_fate}
 use Rattle.qa_sent.specs.declared.fate.Fate.TheVariants.{Owed}
 use Rattle.qa_sent.proofs.Detected.{marked}
 use Rattle.qa_sent.proofs.Entries.{found_here}
 use Rattle.qa_sent.proofs.Sums.{weighed}
-use Rattle.qa_sent.proofs.Taken.{all_free_wait, entry_leads, entry_none, entry_passes, entry_written, fewer_pass, flies_of, left_of, losses_with, open_not_owed, ordered_set, taken_out, taken_written}
+use Rattle.qa_sent.proofs.Taken.{all_free_wait, entry_leads, entry_none, entry_written, fewer_pass, flies_of, left_of, losses_with, open_not_owed, ordered_set, taken_out, taken_written}
 use Rattle.qa_sent.proofs.taking.take_number.Goals as goal
 
 pub overflow_sub-entry : goal.overflow_sub-entry

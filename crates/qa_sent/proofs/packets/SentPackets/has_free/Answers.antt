@@ -1,8 +1,5 @@
-use Rattle.std.proofs.Common.{◌≡◌, ◌∙◌, Some, sym, ap, subst}
-use Rattle.std.specs.List.{list_any}
-use Rattle.std.specs.Prelude.{find, nat_lt}
-use Rattle.qa_sent.specs.Fates.{is_flying}
-use Rattle.qa_sent.specs.Free.{is_free_by}
+use Rattle.std.proofs.Common.{◌∙◌, sym, ap, subst}
+use Rattle.std.specs.Prelude.{nat_lt}
 use Rattle.qa_sent.specs.Held.{AreOrdered, Held}
 use Rattle.qa_sent.proofs.Numbers.{first_tells, none_free}
 use Rattle.qa_sent.proofs.packets.SentPackets.has_free.Goals as goal

@@ -1,4 +1,4 @@
-use Rattle.std.proofs.Common.{◌≡◌, ◌∙◌, ◌&&◌, Bool, sym, ap, subst}
+use Rattle.std.proofs.Common.{◌∙◌, ◌&&◌, sym, ap, subst}
 use Rattle.std.specs.List.{list_all}
 use Rattle.qa_base.specs.machine.Numbers.{names_between}
 use Rattle.qa_base.specs.values.Events.{is_named}
