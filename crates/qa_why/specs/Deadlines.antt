@@ -1,7 +1,6 @@
 -- Deadlines, and the sums that they are.
 use Rattle.std.specs.Prelude.{ℕ, nat_le, nat_lt, max, ◌+◌, ◌-◌, ◌*◌, ◌/◌, codes, List, [], ◌++◌, Option, Some, None, unwrap_or, if◌then◌else◌}
 use Rattle.qa_base.specs.declared.event.Event.{Event}
-use Rattle.qa_base.specs.declared.space.Space.{Space}
 use Rattle.qa_base.specs.machine.Timer.{Due}
 use Rattle.qa_base.specs.values.Events.{time_of}
 use Rattle.qa_base.specs.values.Names.{kind_name, space_name}

@@ -1,5 +1,5 @@
 -- What an event did, behind what it is.
-use Rattle.std.specs.Prelude.{ℕ, max, ◌+◌, ◌-◌, nat_lt, Bool, true, false, codes, List, [], ◌++◌, Option, unwrap_or, if◌then◌else◌}
+use Rattle.std.specs.Prelude.{ℕ, max, ◌+◌, ◌-◌, nat_lt, Bool, true, false, codes, List, [], ◌++◌, unwrap_or, if◌then◌else◌}
 use Rattle.qa_base.specs.declared.event.Event.{Event}
 use Rattle.qa_base.specs.declared.rule.Rule.{Rule}
 use Rattle.qa_base.specs.declared.rule.Rule.TheVariants as rule

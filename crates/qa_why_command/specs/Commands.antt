@@ -4,7 +4,7 @@ use Rattle.qa_check.specs.declared.auditing.AuditFault.TheVariants as faults
 use Rattle.qa_check.specs.declared.auditing.Outcome.{Outcome}
 use Rattle.qa_why_command.specs.Tally.{failed, with_outcome}
 use Rattle.qa_why_command.specs.declared.commanding.Failure.{Failure}
-use Rattle.qa_why_command.specs.declared.commanding.Failure.TheVariants.{Open, Audit}
+use Rattle.qa_why_command.specs.declared.commanding.Failure.TheVariants.{Audit}
 use Rattle.qa_why_command.specs.declared.tally.Tally.{Tally}
 
 -- a failed write ends the program
