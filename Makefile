@@ -32,7 +32,7 @@ python_of_fuzz := conformance/fuzz/run
 python_of_qlog := qlog/qlog-to-trace qlog/test_qlog.py $(wildcard qlog/qlog_to_trace/*.py)
 # captures/transfer.py runs where aioquic is, and is checked for style alone.
 python_of_captures := captures/audit.py captures/run captures/table examples/delay.py examples/logger.py
-python_of_bench := $(addprefix bench/,peers run trace) $(wildcard bench/*.py) bench/programs/read.py
+python_of_bench := $(addprefix bench/,instructions peers run trace) $(wildcard bench/*.py) bench/programs/read.py
 
 # The programs of conformance/ over what the gate built, the longest first. None waits for another.
 conformance := conformance-cuts conformance-failing conformance-refusals conformance-simulate conformance-mutations \
@@ -160,6 +160,7 @@ bench: build
 	python3 bench/test_bench.py
 	bench/run $(built)
 	bench/peers $(built)
+	bench/instructions $(built)
 
 # A release is a folder that installs itself, so that there is one way to install.
 install: build

@@ -27,6 +27,9 @@ INITIAL_WINDOW = 12_000
 # A window into which all packets of a trace fit.
 WIDE_WINDOW = 4_294_967_295
 RANGES = 32
+FEW_RANGES = 6
+# Pairs of packets that go well between two losses, where a receiver repeats its ranges.
+PAIRS_BETWEEN_GAPS = 8
 SPACES = (b"initial", b"handshake", b"app")
 
 HEADER = (
@@ -144,6 +147,44 @@ def lost(log: Log) -> Iterator[Round]:
 def all_lost(log: Log) -> Iterator[Round]:
     """All packets are lost but one of sixteen, without which no loss would be seen."""
     return last_of(log, 16)
+
+
+def pair(log: Log, number: int, first: int, old: Iterable[Span]) -> Round:
+    """Two packets, and an acknowledgment of all from a number on, with older ranges behind it."""
+    packets = [log.sent(number), log.sent(number + 1)]
+    return [*packets, log.ack([(first, number + 1), *old], template=DELAYED)]
+
+
+def repeating(log: Log, ranges: int) -> Iterator[Round]:
+    """An acknowledgment for every two packets that repeats older ranges, as receivers write it: of
+    so many ranges the first alone says anything new. Of each twenty packets one is lost."""
+    old: deque[Span] = deque(maxlen=ranges - 1)
+    first = number = FIRST_NUMBER
+    while True:
+        for _ in range(PAIRS_BETWEEN_GAPS):
+            yield pair(log, number, first, old)
+            number += 2
+        old.appendleft((first, number - 1))
+        first = number + 1
+        lines = pair(log, number, first, old) + pair(log, number + 2, first, old)
+        yield [*lines, log.lost([(number, number)])]
+        number += 4
+
+
+def receiver(log: Log) -> Iterator[Round]:
+    """Six ranges, of which five are old."""
+    return repeating(log, FEW_RANGES)
+
+
+def receiver_32(log: Log) -> Iterator[Round]:
+    """32 ranges, of which 31 are old."""
+    return repeating(log, RANGES)
+
+
+def receiver_32_bare(log: Log) -> Iterator[Round]:
+    """The same behind a packet that is not in flight and never acknowledged."""
+    yield [log.sent(FIRST_NUMBER - 1, template=SENT_ALONE)]
+    yield from repeating(log, RANGES)
 
 
 def three_spaces(log: Log) -> Iterator[Round]:
@@ -317,7 +358,12 @@ SHAPES = (
 STEADY = Shape("steady", steady)
 MIXED = Shape("mixed", mixed, ending=end_of_handshake)
 ALL_LOST = Shape("all-lost", all_lost)
-COMPARED = (STEADY, MIXED, MANY_RANGES, UNACKNOWLEDGED, ALL_LOST)
+RECEIVERS = (
+    Shape("receiver", receiver),
+    Shape("receiver-32", receiver_32),
+    Shape("receiver-32-bare", receiver_32_bare),
+)
+COMPARED = (STEADY, MIXED, MANY_RANGES, UNACKNOWLEDGED, ALL_LOST, *RECEIVERS)
 
 
 def header_of(shape: Shape, form: Form) -> bytes:

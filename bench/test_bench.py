@@ -5,9 +5,11 @@ refuse what is not in the format, and that the tables and aims say what was meas
 import contextlib
 import io
 import json
+import os
 import subprocess
 import sys
 import unittest
+import unittest.mock
 from pathlib import Path
 from typing import Any
 
@@ -18,14 +20,25 @@ from comparing import AUDITOR, PACKETS, PEER, Row, clock, processor
 from constants import METRICS
 from forms import FORMAT, FORMS, Form
 from readers import MissingError, WrongAnswerError, auditor, python, ran, serde
-from shapes import COMPARED, SHAPES, Shape, header_of, rounds_of
+from shapes import (
+    COMPARED,
+    MANY_RANGES,
+    RECEIVERS,
+    SHAPES,
+    Shape,
+    header_of,
+    rounds_of,
+)
 from tables import Table
 from testing import new_folder, script
 from traces import Trace, written
 from usage import Usage, run
 
 ALL_SHAPES = (*SHAPES, *COMPARED)
+PLAIN = SHAPES[0]
 EVENTS = 220
+# Of a trace in which a receiver has 32 ranges to repeat.
+MANY_EVENTS = 1_200
 # The keys of a line in the order of the tables of docs/format.md.
 # fmt: off
 ORDER = (
@@ -37,6 +50,7 @@ UNKNOWN = ("note", "serial")
 
 
 peers = script(Path(__file__).resolve().parent / "peers")
+instructions = script(Path(__file__).resolve().parent / "instructions")
 
 
 def lines_of(shape: Shape, form: Form, least: int = EVENTS) -> list[bytes]:
@@ -65,7 +79,8 @@ class Traces(unittest.TestCase):
 
     def test_the_sender_makes_them(self) -> None:
         for shape in ALL_SHAPES:
-            header, *events = map(json.loads, lines_of(shape, FORMAT))
+            least = MANY_EVENTS if shape in RECEIVERS else EVENTS
+            header, *events = map(json.loads, lines_of(shape, FORMAT, least))
             report = sender.report_of(header, list(enumerate(events, 2)))
             self.assertEqual(
                 report.splitlines()[:2], ["accepted", f"events {len(events)}"], shape.name
@@ -112,9 +127,15 @@ class Traces(unittest.TestCase):
             {"header", "sent", "ack", "timer", "discard", "confirmed", "keys", "metrics"},
         )
         self.assertEqual(kinds["unacknowledged"], {"header", "sent"})
-        shape = next(it for it in COMPARED if it.name == "32-ranges")
+
+    def test_how_many_ranges(self) -> None:
+        most = {
+            shape.name: max(len(known(line).get("ranges", [])) for line in lines)
+            for shape in (MANY_RANGES, *RECEIVERS)
+            for lines in [lines_of(shape, FORMAT, MANY_EVENTS)]
+        }
         self.assertEqual(
-            max(len(known(line).get("ranges", [])) for line in lines_of(shape, FORMAT)), 32
+            most, {"32-ranges": 32, "receiver": 6, "receiver-32": 32, "receiver-32-bare": 32}
         )
 
 
@@ -239,12 +260,45 @@ class Results(unittest.TestCase):
         seconds = {AUDITOR: 1.0, PEER: 3.9}
         rows.append(row(seconds, "unacknowledged", "sorted", PACKETS + 1, 195_313))
         said = [said_of(aim, rows).partition(":")[0] for aim in AIMS]
-        self.assertEqual(said, ["missed", "missed", "missed", "missed", "missed", "met"])
+        self.assertEqual(said, ["missed"] * 6 + ["met"])
         rows = [
-            it._replace(rounds=[{AUDITOR: Usage(1, 1, 7_813), PEER: Usage(5, 5, 0)}]) for it in rows
+            it._replace(rounds=[{AUDITOR: Usage(1, 1, 7_813), PEER: Usage(6, 6, 0)}]) for it in rows
         ]
         said = [said_of(aim, rows).partition(":")[0] for aim in AIMS]
-        self.assertEqual(said, ["met", "met", "met", "met", "met", "missed"])
+        self.assertEqual(said, ["met"] * 6 + ["missed"])
+
+
+class Instructions(unittest.TestCase):
+    """Instructions are those that callgrind says, of a trace that is accepted."""
+
+    def counted(self, answer: str, told: str, status: int = 0) -> str:
+        """The row of a trace, with a program that stands in for valgrind."""
+        folder = new_folder(self)
+        program = folder / "valgrind"
+        words = f"#!/bin/sh\necho '{answer}'\necho '{told}' >&2\nexit {status}\n"
+        program.write_text(words, encoding="ascii")
+        program.chmod(0o755)
+        path = f"{folder}{os.pathsep}{os.environ['PATH']}"
+        with unittest.mock.patch.dict(os.environ, {"PATH": path}):
+            row: str = instructions.row("/program", PLAIN, FORMAT, 3, str(folder))
+        return row
+
+    def test_rows(self) -> None:
+        told = "==1== Collected : 4800"
+        self.assertEqual(self.counted("accepted\nevents 3", told), "| plain | 1,200 |  |")
+        for answer, words, status in (
+            ("accepted\nevents 3", told, 1),
+            ("accepted\nevents 2", told, 0),
+            ("accepted\nevents 3", "==1== Events : Ir", 0),
+        ):
+            with self.assertRaises(WrongAnswerError):
+                self.counted(answer, words, status)
+
+    def test_arguments(self) -> None:
+        given = instructions.parsed([sys.executable])
+        self.assertEqual((given.lines, given.form, given.shape), (20_000, "sorted", None))
+        given = instructions.parsed(["--form", "spaces", "--shape", "lost", sys.executable])
+        self.assertEqual((given.form, given.shape), ("spaces", ["lost"]))
 
 
 class Arguments(unittest.TestCase):
