@@ -89,14 +89,17 @@ conformance: $(conformance) links made_up $(runner_tests) test_qlog
 
 conformance-cuts:
 	conformance/cuts $(program)
+	conformance/cuts --reasons $(program_why)
 
 conformance-failing:
 	conformance/failing $(program)
 	conformance/failing --traces $(program_by_one_byte)
+	conformance/failing --reasons $(program_why)
 
 conformance-refusals:
 	conformance/refusals $(program)
 	conformance/refusals --traces $(program_by_one_byte)
+	conformance/refusals --reasons $(program_why)
 
 conformance-simulate:
 	conformance/simulate $(program) $(program_by_one_byte)

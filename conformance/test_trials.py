@@ -131,6 +131,16 @@ int main(int count, char **arguments)
     return status;
 }
 """
+# The same of standard input alone, with the texts of a program that says why.
+REASONER = (
+    AUDITOR.replace("arguments[1][0] == 'e'", "0")
+    .replace("arguments[1][0] == 'a'", "0")
+    .replace("count == 2", "count == 1")
+    .replace(r'"accepted\nevents 0\n"', r'"-: accepted, 0 events\n"')
+    .replace('"qaudit: read fault: ", name', '"qaudit-why: read fault: -", ""')
+    .replace('"qaudit: write fault", ""', '"qaudit-why: write fault: -", ""')
+)
+REASON = b"-: accepted, 0 events\n"
 RIGHT = {
     "START": "",
     "ALLOCATIONS": "5",
@@ -477,6 +487,45 @@ class CutsTest(TrialCase):
     def test_program_that_writes_in_parts(self) -> None:
         self.compile_program(WRITES="20")
         self.assert_first_failure("check bad uncut: 2 writes, wanted 1")
+
+
+class ReasonsTest(TrialCase):
+    """The three of a program that says why."""
+
+    part = ("--reasons",)
+
+    def setUp(self) -> None:
+        super().setUp()
+        for path in (self.corpus / "traces").glob("bad.*"):
+            path.unlink()
+
+    def compile_reasoner(self, **other: str) -> None:
+        """The right program that says why, but for these macros."""
+        refused = 'return fault("qaudit-why: out of memory: -", "")'
+        self.compile_program(REASONER, **{"REFUSED": refused, **other})
+
+    def test_refusals(self) -> None:
+        self.runner = "refusals"
+        self.compile_reasoner()
+        self.assert_passes(2 * 5 + 1)
+        self.compile_reasoner(REFUSED='return fault("qaudit: out of memory", "")')
+        self.assert_first_failure("why first-loss without allocation 1: status 3, wanted 0")
+
+    def test_failing(self) -> None:
+        self.runner, self.more = "failing", (self.other,)
+        self.compile_reasoner()
+        self.assert_passes(3 * (len(TRACE) + 2) + 4 * (len(REASON) + 1))
+        self.compile_reasoner(GOES_ON_WRITING="1")
+        self.assert_first_failure("why first-loss where write 1 fails: status 0, wanted 3")
+        self.compile_reasoner(IGNORES_FAULTS="1")
+        self.assert_first_failure("why first-loss where read 1 fails: status 0, wanted 3")
+
+    def test_cuts(self) -> None:
+        self.runner = "cuts"
+        self.compile_reasoner()
+        self.assert_passes(len(TRACE) - 1 + 2)
+        self.compile_reasoner(WRITES="20")
+        self.assert_first_failure("why first-loss uncut: 2 writes, wanted 1")
 
 
 if __name__ == "__main__":

@@ -15,12 +15,15 @@ from typing import NamedTuple, Self
 from constants import MAX_LINE_LENGTH
 from processes import Outcome, Words, differences, joined, status_of
 from runners import Parser, Result, Results, tell_of
+from why import why
 
 ALL = 2**62
 # The traces that are tried at each place, which are those that `run` gives byte by byte.
 MAX_TRACE = 4096
 # Of a longer one less is tried, where a program is not asked to try all.
 MAX_SHORT_TRACE = 256
+# The name of it, where a program says why.
+STANDARD_INPUT = "-"
 # What a program here reads at once.
 PIECE = 4096
 ANSWER = struct.Struct("7l")
@@ -144,18 +147,20 @@ def compiled(folder: Path) -> Path:
 
 
 class Command(NamedTuple):
-    """A subcommand that is given a trace, what the report of that is, and how it ends where nothing
-    fails."""
+    """A command that is given a trace, what the report of that is, how it ends where nothing fails,
+    and what it writes at once, which is the report where nothing else is said."""
 
     name: str
     arguments: list[str]
     data: bytes
     report: bytes
     whole: Outcome
+    at_once: bytes | None = None
 
     def rows(self) -> list[bytes]:
-        """The rows that stand before the report."""
-        return self.whole.text().removesuffix(self.report).splitlines(keepends=True)
+        """The rows that stand before what is written at once."""
+        last = self.report if self.at_once is None else self.at_once
+        return self.whole.text().removesuffix(last).splitlines(keepends=True)
 
 
 class Auditor(NamedTuple):
@@ -168,6 +173,8 @@ class Auditor(NamedTuple):
     out_of_memory: bytes = b"qaudit: out of memory\n"
     read_fault: bytes = b"qaudit: read fault: standard input\n"
     write_fault: bytes = b"qaudit: write fault\n"
+    # What it may write where there is no memory for its arguments.
+    no_arguments: bytes = out_of_memory
 
     def explains(self) -> bool:
         """Whether it has subcommands, and so explains traces and takes files."""
@@ -178,9 +185,13 @@ class Auditor(NamedTuple):
         return Held(self.library, [self.program, *arguments], data, folder)
 
     def commands(self, trace: Path) -> Iterator[Command]:
-        """A trace of the corpus, given to each subcommand. What `explain` writes is asked of the
-        program where it lies nowhere."""
+        """A trace of the corpus, given to each subcommand, or to a program that has none and says
+        why. What `explain` writes is asked of the program where it lies nowhere."""
         data, report = trace.read_bytes(), trace.with_suffix(".report").read_bytes()
+        if not self.subcommands:
+            text = why(STANDARD_INPUT, data, report.decode())
+            whole = Outcome(status_of(report), text, b"")
+            yield Command(f"why {trace.stem}", [], data, report, whole, text)
         for word in self.subcommands:
             wanted = trace.with_suffix(".explain" if word == "explain" else ".report")
             text = wanted.read_bytes() if wanted.exists() else self.written([word], data)
@@ -195,7 +206,21 @@ class Auditor(NamedTuple):
 
 def silent(program: str, library: Path) -> Auditor:
     """An auditor that takes no arguments and writes no messages."""
-    return Auditor(program, library, ("check",), b"", b"", b"")
+    return Auditor(program, library, ("check",), b"", b"", b"", b"")
+
+
+def that_says_why(program: str, library: Path) -> Auditor:
+    """A program that says why, of standard input."""
+    messages = (
+        f"qaudit-why: {fault}\n".encode()
+        for fault in (
+            f"out of memory: {STANDARD_INPUT}",
+            f"read fault: {STANDARD_INPUT}",
+            f"write fault: {STANDARD_INPUT}",
+            "out of memory: arguments",
+        )
+    )
+    return Auditor(program, library, (), *messages)
 
 
 def reads_wanted(command: Command, at_once: int = PIECE) -> int:
@@ -272,15 +297,26 @@ def parser_of(text: str | None, *, may_be_silent: bool = False, names: str = "")
     """The parser of a program that tries an auditor; `names` says what may be named behind the
     corpus, if anything may."""
     parser = Parser(text)
-    parser.set_defaults(traces=False, names=[])
+    parser.set_defaults(traces=False, reasons=False, names=[])
+    group = parser.add_mutually_exclusive_group()
     if may_be_silent:
         about = "PROGRAM takes no arguments and writes no message, and is given traces alone"
-        parser.add_argument("--traces", action="store_true", help=about)
+        group.add_argument("--traces", action="store_true", help=about)
+    if names:
+        about = "PROGRAM has no subcommands and says why, as `reasons` has it"
+        group.add_argument("--reasons", action="store_true", help=about)
     parser.add_program()
     parser.add_corpus()
     if names:
         parser.add_argument("names", metavar="NAME", nargs="*", help=names)
     return parser
+
+
+def auditor_of(given: argparse.Namespace) -> Callable[[str, Path], Auditor]:
+    """What kind of program the arguments say that it is."""
+    if given.reasons:
+        return that_says_why
+    return silent if given.traces else Auditor
 
 
 def try_all(given: argparse.Namespace, tries: Callable[[Setup], Results]) -> int:
@@ -289,8 +325,7 @@ def try_all(given: argparse.Namespace, tries: Callable[[Setup], Results]) -> int
     def results() -> Results:
         with tempfile.TemporaryDirectory() as name:
             folder = Path(name)
-            program, library = given.program, compiled(folder)
-            auditor = silent(program, library) if given.traces else Auditor(program, library)
+            auditor = auditor_of(given)(given.program, compiled(folder))
             yield from held_tries(
                 Setup(auditor, given.corpus / "traces", folder, given.names), tries
             )
