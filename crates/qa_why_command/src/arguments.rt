@@ -1,4 +1,8 @@
 //! What the arguments ask for.
+ghost use Rattle.std.specs.Prelude.{◌≡◌, IfOk, IsErr};
+ghost use Rattle.clap.specs.Words.{kind_of};
+ghost use Rattle.clap.specs.declared.error.kind.ErrorKind.TheVariants as kinds;
+ghost use Rattle.qa_why_command.specs.Asked.{is_shown, is_text};
 
 use clap::error::ErrorKind;
 use clap::{Arg, ArgAction, ArgMatches, Command, Error};
@@ -55,13 +59,18 @@ fn inquiry_of<'a>(alloc: Global, matches: &ArgMatches<'a>) -> Result<Inquiry<'a>
     })
 }
 
-/// The text by which the parser ends.
-fn text_of<'a>(alloc: Global, error: &Error) -> Result<Asked<'a>, AllocError> {
-    let text = format!(in alloc; "{error}")?;
-    Ok(match error.kind() {
-        ErrorKind::DisplayHelp | ErrorKind::DisplayVersion => Asked::Text(text),
-        _ => Asked::Nothing(text),
-    })
+/// The text by which the parser ends. An error of its own that says it is out of memory is no text.
+fn text_of<'a>(alloc: Global, error: &Error) -> Result<Asked<'a>, AllocError>
+    ensures memory { kind_of error.now ≡ kinds.OutOfMemory → IsErr result }
+    ensures shown { IfOk result (λ asked. is_text asked ≡ is_shown (kind_of error.now)) }
+{
+    match error.kind() {
+        ErrorKind::OutOfMemory => Err(AllocError),
+        ErrorKind::DisplayHelp | ErrorKind::DisplayVersion => {
+            Ok(Asked::Text(format!(in alloc; "{error}")?))
+        }
+        _ => Ok(Asked::Nothing(format!(in alloc; "{error}")?)),
+    }
 }
 
 /// The parser of the command line.
