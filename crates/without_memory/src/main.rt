@@ -31,18 +31,38 @@ fn main(rt: HostRuntime) -> ExitCode {
 fn tell_all<R: Read, W: Write>(alloc: Global, reader: &mut R, writer: &mut W) -> io::Result<()> {
     let mut input = Vec::new(alloc);
     reader.read_to_end(&mut input)?;
-    tell_splitter(alloc, &input, writer)?;
-    tell_lines(alloc, &input, writer)?;
+    tell_reading(alloc, &input, writer)?;
+    tell_checkers(alloc, &input, writer)?;
+    tell_ledgers(alloc, &input, writer)?;
+    tell_reports(alloc, &input, writer)
+}
+
+/// Splits the input, and reads its lines.
+fn tell_reading<W: Write>(alloc: Global, input: &[u8], writer: &mut W) -> io::Result<()> {
+    tell_splitter(alloc, input, writer)?;
+    tell_lines(alloc, input, writer)
+}
+
+/// Has a checker over each ledger take the input.
+fn tell_checkers<W: Write>(alloc: Global, input: &[u8], writer: &mut W) -> io::Result<()> {
     tell(writer, "checker over the definitions")?;
-    tell_checker::<Whole, W>(alloc, &input, writer)?;
+    tell_checker::<Whole, W>(alloc, input, writer)?;
     tell(writer, "checker over the running state")?;
-    tell_checker::<Running, W>(alloc, &input, writer)?;
+    tell_checker::<Running, W>(alloc, input, writer)
+}
+
+/// Has each ledger take the input.
+fn tell_ledgers<W: Write>(alloc: Global, input: &[u8], writer: &mut W) -> io::Result<()> {
     tell(writer, "ledger of the definitions")?;
-    tell_ledger::<Whole, W>(alloc, &input, writer)?;
+    tell_ledger::<Whole, W>(alloc, input, writer)?;
     tell(writer, "ledger of the running state")?;
-    tell_ledger::<Running, W>(alloc, &input, writer)?;
-    tell_audit(alloc, &input, writer)?;
-    tell_explanation(alloc, &input, writer)
+    tell_ledger::<Running, W>(alloc, input, writer)
+}
+
+/// Audits the input, and explains it.
+fn tell_reports<W: Write>(alloc: Global, input: &[u8], writer: &mut W) -> io::Result<()> {
+    tell_audit(alloc, input, writer)?;
+    tell_explanation(alloc, input, writer)
 }
 
 /// Writes a line.
