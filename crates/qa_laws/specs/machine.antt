@@ -1,12 +1,5 @@
 -- Words for laws of the machine: what a sender does in a run, and what one more event makes of its packets.
-pub mod Sequence
-pub mod Parts
 pub mod Useful
-pub mod Latest
-pub mod Oldest
 pub mod Fates
-pub mod Sums
 pub mod Alike
-pub mod Declared
-pub mod Among
 pub mod Conduct

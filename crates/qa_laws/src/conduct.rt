@@ -27,8 +27,8 @@ ghost use Rattle.qa_base.specs.values.Events.{is_named, time_of};
 ghost use Rattle.qa_format.specs.format.Proper.{IsProperEvent};
 ghost use Rattle.qa_base.specs.values.Settings.{Settings, AreInRange, granularity, is_may, is_reported};
 ghost use Rattle.qa_format.specs.verdicts.Verdict.{sayings, trace_of, verdict};
-ghost use Rattle.qa_laws.specs.machine.Declared.{IsFarBelow, named_free};
-ghost use Rattle.qa_laws.specs.machine.Oldest.{is_flying};
+ghost use Rattle.qa_history.specs.machine.Declared.{IsFarBelow, named_free};
+ghost use Rattle.qa_history.specs.machine.Oldest.{is_flying};
 ghost use Rattle.qa_laws.specs.machine.Conduct.{is_entered_by, HasMoment, IsAmong, IsConduct, IsLostRightly, IsSentAfter, NoCollapse, is_probe, is_pto_event, is_recovery, probe_bytes};
 
 /// In a run each number that a Lost line names is that of an in-flight packet of its space that was

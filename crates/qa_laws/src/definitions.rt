@@ -41,7 +41,7 @@ ghost use Rattle.qa_format.specs.format.Written.{Pairs, written};
 ghost use Rattle.qa_base.specs.machine.Widths.{Fits, IsTimely, acknowledged_count};
 ghost use Rattle.qa_base.specs.machine.Window.{window};
 ghost use Rattle.qa_laws.specs.machine.Alike.{IsLooser, NothingFree, of_version, where_they_must};
-ghost use Rattle.qa_laws.specs.machine.Declared.{named_free};
+ghost use Rattle.qa_history.specs.machine.Declared.{named_free};
 ghost use Rattle.std.specs.List.{AllByRecursion};
 
 /// No byte that follows changes a verdict that is fixed, whatever the reading of lines.

@@ -19,15 +19,15 @@ ghost use Rattle.qa_base.specs.machine.Rules.{IsRun};
 ghost use Rattle.qa_base.specs.machine.Timer.{awaits_acknowledgment, loss_due};
 ghost use Rattle.qa_base.specs.values.Events.{acknowledges, is_quiet, is_space};
 ghost use Rattle.qa_base.specs.values.Settings.{Settings, granularity, is_may};
-ghost use Rattle.qa_laws.specs.machine.Among.{counts_as_end, finds_apart, is_persistent_among};
-ghost use Rattle.qa_laws.specs.machine.Declared.{is_named_free, named_free};
+ghost use Rattle.qa_history.specs.machine.Among.{counts_as_end, finds_apart, is_persistent_among};
+ghost use Rattle.qa_history.specs.machine.Declared.{is_named_free, named_free};
 ghost use Rattle.qa_laws.specs.machine.Fates.{fate, fate_next, is_unacknowledged};
-ghost use Rattle.qa_laws.specs.machine.Latest.{first_if_numbered, is_first_at_or_above, time_of_first};
-ghost use Rattle.qa_laws.specs.machine.Oldest.{NoneFlies, due_of, is_asked, is_flying, is_passed};
-ghost use Rattle.qa_laws.specs.machine.Parts.{AreClosed, AreDropped, AreOf, BeginsKept};
-ghost use Rattle.qa_laws.specs.machine.Sequence.{EachTwo, WasSentBefore};
+ghost use Rattle.qa_history.specs.machine.Latest.{first_if_numbered, is_first_at_or_above, time_of_first};
+ghost use Rattle.qa_history.specs.machine.Oldest.{NoneFlies, due_of, is_asked, is_flying, is_passed};
+ghost use Rattle.qa_history.specs.machine.Parts.{AreClosed, AreDropped, AreOf, BeginsKept};
+ghost use Rattle.qa_history.specs.machine.Sequence.{EachTwo, WasSentBefore};
 ghost use Rattle.qa_laws.specs.machine.Useful.{from_first, runs_begun};
-ghost use Rattle.qa_laws.specs.machine.Sums.{asks_of, bytes, bytes_of, counted, discarded, is_discarded_by, open_sum, within_space};
+ghost use Rattle.qa_history.specs.machine.Sums.{asks_of, bytes, bytes_of, counted, discarded, is_discarded_by, open_sum, within_space};
 
 /// In a run, of two packets of one space the one with the lower number was sent no later and stands
 /// no further on, and two with one number are one. All packets stand in the order of sending, the

@@ -9,11 +9,11 @@ use Rattle.qa_base.specs.machine.Loss.{is_open as opens, is_owed as owes, owed}
 use Rattle.qa_base.specs.machine.Packets.{Packet, packets, is_some_packet}
 use Rattle.qa_base.specs.machine.Rules.{IsRun}
 use Rattle.qa_base.specs.values.Settings.{Settings}
-use Rattle.qa_laws.proofs.machine.Changes.{owed_was_flying}
-use Rattle.qa_laws.proofs.machine.Pairs.{at_one, of_each, each_weaker}
-use Rattle.qa_laws.proofs.machine.Settled.{closed_stays, has_some, owed_has}
-use Rattle.qa_laws.proofs.machine.Walks.{turned_has}
-use Rattle.qa_laws.specs.machine.Parts.{AreClosed, AreDropped}
+use Rattle.qa_history.proofs.machine.Changes.{owed_was_flying}
+use Rattle.qa_history.proofs.machine.Pairs.{at_one, of_each, each_weaker}
+use Rattle.qa_history.proofs.machine.Settled.{closed_stays, has_some, owed_has}
+use Rattle.qa_history.proofs.machine.Walks.{turned_has}
+use Rattle.qa_history.specs.machine.Parts.{AreClosed, AreDropped}
 use Rattle.qa_running.proofs.Fates.{is_owed_told}
 use Rattle.qa_connection.proofs.Lists.{each_of_map, map_fused}
 use Rattle.qa_running.specs.Standing.{StandsFor}

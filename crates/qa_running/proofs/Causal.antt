@@ -11,8 +11,8 @@ use Rattle.qa_base.specs.machine.Rules.{IsRun}
 use Rattle.qa_base.specs.values.Settings.{Settings}
 use Rattle.qa_causes.specs.Causes.{first_space, oldest, owed_space}
 use Rattle.qa_causes.specs.declared.cause.Oldest.{Oldest}
-use Rattle.qa_laws.proofs.machine.Pairs.{each_weaker, part_turned}
-use Rattle.qa_laws.specs.machine.Oldest.{is_flying as flies}
+use Rattle.qa_history.proofs.machine.Pairs.{each_weaker, part_turned}
+use Rattle.qa_history.specs.machine.Oldest.{is_flying as flies}
 use Rattle.qa_running.proofs.Carrying.{dropped_closed}
 use Rattle.qa_running.proofs.Fates.{is_open_told}
 use Rattle.qa_connection.proofs.Lists.{each_value, find_of_map}

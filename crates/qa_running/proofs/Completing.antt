@@ -14,7 +14,7 @@ use Rattle.qa_connection.specs.Known.{HasParts, IsMeasured, IsOf, IsProperRun}
 use Rattle.qa_connection.specs.Steps.{last_sent}
 use Rattle.qa_connection.specs.declared.connection.Connection.{Connection}
 use Rattle.qa_connection.specs.declared.detection.Detection.{Detection}
-use Rattle.qa_laws.specs.machine.Declared.{is_named_free}
+use Rattle.qa_history.specs.machine.Declared.{is_named_free}
 use Rattle.qa_running.proofs.Losses.{completed_detects, nothing_completed}
 
 -- the same is measured

@@ -12,9 +12,9 @@ use Rattle.qa_base.specs.machine.Rules.{IsRun}
 use Rattle.qa_base.specs.values.Settings.{Settings}
 use Rattle.qa_base.proofs.machine.WindowBound.{each_append}
 use Rattle.qa_connection.proofs.Grown.{packets_few}
-use Rattle.qa_laws.proofs.machine.KeptCount.{kept_count_is}
-use Rattle.qa_laws.proofs.machine.Pairs.{each_weaker}
-use Rattle.qa_laws.specs.machine.Parts.{BeginsKept}
+use Rattle.qa_history.proofs.machine.KeptCount.{kept_count_is}
+use Rattle.qa_history.proofs.machine.Pairs.{each_weaker}
+use Rattle.qa_history.specs.machine.Parts.{BeginsKept}
 use Rattle.qa_running.proofs.Fates.{is_open_told, is_owed_told}
 use Rattle.qa_connection.proofs.Lists.{each_value, front_of_map, front_passes}
 use Rattle.qa_running.specs.Standing.{StandsFor}

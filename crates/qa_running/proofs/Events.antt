@@ -19,10 +19,10 @@ use Rattle.qa_base.specs.values.Events.{acknowledges, declares_lost, discards}
 use Rattle.qa_base.specs.values.Settings.{Settings, early}
 use Rattle.qa_base.proofs.machine.Quiet.{not_followed}
 use Rattle.qa_base.proofs.machine.RunLaws.{all_hold}
-use Rattle.qa_laws.proofs.machine.Courses.{in_order}
-use Rattle.qa_laws.proofs.machine.Pairs.{at_one}
-use Rattle.qa_laws.proofs.machine.Sending.{newly_of_kept_in_order, parts_after}
-use Rattle.qa_laws.specs.machine.Sequence.{WasSentBefore}
+use Rattle.qa_history.proofs.machine.Courses.{in_order}
+use Rattle.qa_history.proofs.machine.Pairs.{at_one}
+use Rattle.qa_history.proofs.machine.Sending.{newly_of_kept_in_order, parts_after}
+use Rattle.qa_history.specs.machine.Sequence.{WasSentBefore}
 use Rattle.qa_running.proofs.Carrying.{dropped_closed, dropped_stay, each_kept, none_held_owed, none_owes, stands_after}
 use Rattle.qa_running.proofs.Fates.{covered_told, declared_told, discarded_told, fate_after, found_told, new_told, same_told}
 use Rattle.qa_connection.proofs.Lists.{each_of_map, each_value, filter_of_map, map_fused, map_same}

@@ -14,10 +14,10 @@ use Rattle.qa_base.specs.machine.Rtt.{Estimate}
 use Rattle.qa_base.specs.machine.Rules.{IsRun}
 use Rattle.qa_base.specs.values.Events.{is_space, is_named, acknowledges, declares_lost, discards}
 use Rattle.qa_base.specs.values.Settings.{Settings}
-use Rattle.qa_laws.proofs.machine.Changes.{covered_after, lost_is_taken, found_unsettled, free_is_flying}
-use Rattle.qa_laws.proofs.machine.Courses.{is_space_is, is_space_same}
-use Rattle.qa_laws.proofs.machine.Detection.{space_of_detection}
-use Rattle.qa_laws.proofs.machine.Settled.{nameable_space}
+use Rattle.qa_history.proofs.machine.Changes.{covered_after, lost_is_taken, found_unsettled, free_is_flying}
+use Rattle.qa_history.proofs.machine.Courses.{is_space_is, is_space_same}
+use Rattle.qa_history.proofs.machine.Detection.{space_of_detection}
+use Rattle.qa_history.proofs.machine.Settled.{nameable_space}
 use Rattle.qa_running.specs.Losing.{told}
 use Rattle.qa_running.specs.Thresholds.{AreThresholdsAt}
 use Rattle.qa_sent.specs.Fates.{is_acknowledged, is_flying, is_new, is_open, is_owed, is_unacknowledged}

@@ -22,15 +22,15 @@ use Rattle.qa_base.specs.values.Settings.{Settings, granularity}
 use Rattle.qa_base.proofs.machine.Declared.{declared_is}
 use Rattle.qa_connection.proofs.Lists.{any_of_map, any_turned, each_value, filter_of_map, map_fused, map_turned}
 use Rattle.qa_connection.specs.Steps.{last_sent}
-use Rattle.qa_laws.proofs.machine.Courses.{in_order}
-use Rattle.qa_laws.proofs.machine.Forward.{persistent_is_forward}
-use Rattle.qa_laws.proofs.machine.LostNow.{lost_now_part}
-use Rattle.qa_laws.proofs.machine.Pairs.{each_weaker, none_left, of_each, part_of_part, part_turned, turned, two_of_part, two_weaker}
-use Rattle.qa_laws.proofs.machine.Settled.{nameable_space}
-use Rattle.qa_laws.specs.machine.Among.{counts_as_end, finds_apart}
-use Rattle.qa_laws.specs.machine.Declared.{is_lost_now, is_named_free}
-use Rattle.qa_laws.specs.machine.Latest.{time_of_first}
-use Rattle.qa_laws.specs.machine.Sequence.{EachTwo, WasSentBefore}
+use Rattle.qa_history.proofs.machine.Courses.{in_order}
+use Rattle.qa_history.proofs.machine.Forward.{persistent_is_forward}
+use Rattle.qa_history.proofs.machine.LostNow.{lost_now_part}
+use Rattle.qa_history.proofs.machine.Pairs.{each_weaker, none_left, of_each, part_of_part, part_turned, turned, two_of_part, two_weaker}
+use Rattle.qa_history.proofs.machine.Settled.{nameable_space}
+use Rattle.qa_history.specs.machine.Among.{counts_as_end, finds_apart}
+use Rattle.qa_history.specs.machine.Declared.{is_lost_now, is_named_free}
+use Rattle.qa_history.specs.machine.Latest.{time_of_first}
+use Rattle.qa_history.specs.machine.Sequence.{EachTwo, WasSentBefore}
 use Rattle.qa_running.proofs.Carrying.{dropped_free}
 use Rattle.qa_running.proofs.Events.{some_by_length}
 use Rattle.qa_running.proofs.Fates.{free_opened, is_acknowledged_told, is_owed_told, same_as_line}

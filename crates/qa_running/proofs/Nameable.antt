@@ -28,10 +28,10 @@ use Rattle.qa_connection.specs.Spaces.{space_after}
 use Rattle.qa_connection.specs.declared.connection.Connection.{Connection}
 use Rattle.qa_connection.specs.declared.detection.Detection.{Detection}
 use Rattle.qa_connection.specs.declared.spaces.SpaceState.{SpaceState}
-use Rattle.qa_laws.proofs.machine.Changes.{free_is_flying}
-use Rattle.qa_laws.proofs.machine.Courses.{is_space_is}
-use Rattle.qa_laws.proofs.machine.Detection.{space_of_detection}
-use Rattle.qa_laws.proofs.machine.Pairs.{each_weaker, none_left, part_turned}
+use Rattle.qa_history.proofs.machine.Changes.{free_is_flying}
+use Rattle.qa_history.proofs.machine.Courses.{is_space_is}
+use Rattle.qa_history.proofs.machine.Detection.{space_of_detection}
+use Rattle.qa_history.proofs.machine.Pairs.{each_weaker, none_left, part_turned}
 use Rattle.qa_running.proofs.Carrying.{dropped_closed, dropped_free}
 use Rattle.qa_running.proofs.Fates.{is_open_told, is_owed_told, space_turned}
 use Rattle.qa_running.specs.Freeing.{end_of, free_of, freed}

@@ -13,13 +13,13 @@ use Rattle.qa_base.specs.machine.Rules.{IsRun}
 use Rattle.qa_base.specs.machine.Timer.{awaits_acknowledgment, loss_due}
 use Rattle.qa_base.specs.values.Settings.{Settings, granularity}
 use Rattle.qa_connection.specs.Deadlines as deadlines
-use Rattle.qa_laws.proofs.machine.Closing.{bytes_in_flight_is}
-use Rattle.qa_laws.proofs.machine.Deadline.{loss_due_by_next}
-use Rattle.qa_laws.proofs.machine.Forgotten.{none_of}
-use Rattle.qa_laws.proofs.machine.Pairs.{each_weaker}
-use Rattle.qa_laws.proofs.machine.Sending.{open_sum_of_kept_in_order}
-use Rattle.qa_laws.specs.machine.Oldest.{NoneFlies, due_of, is_flying as flies}
-use Rattle.qa_laws.specs.machine.Sums.{bytes, counted}
+use Rattle.qa_history.proofs.machine.Closing.{bytes_in_flight_is}
+use Rattle.qa_history.proofs.machine.Deadline.{loss_due_by_next}
+use Rattle.qa_history.proofs.machine.Forgotten.{none_of}
+use Rattle.qa_history.proofs.machine.Pairs.{each_weaker}
+use Rattle.qa_history.proofs.machine.Sending.{open_sum_of_kept_in_order}
+use Rattle.qa_history.specs.machine.Oldest.{NoneFlies, due_of, is_flying as flies}
+use Rattle.qa_history.specs.machine.Sums.{bytes, counted}
 use Rattle.qa_running.proofs.Carrying.{dropped_closed}
 use Rattle.qa_running.proofs.Fates.{is_open_told}
 use Rattle.qa_connection.proofs.Lists.{any_in_filter, any_of_map, any_turned, each_value, find_of_map, sum_of_map}

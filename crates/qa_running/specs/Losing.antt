@@ -5,7 +5,7 @@ use Rattle.qa_base.specs.declared.event.Event.{Event}
 use Rattle.qa_base.specs.machine.Packets.{Packet, packets, is_acknowledged as covers}
 use Rattle.qa_base.specs.machine.Loss.{is_owed as owes}
 use Rattle.qa_base.specs.values.Settings.{Settings}
-use Rattle.qa_laws.specs.machine.Declared.{is_lost_now}
+use Rattle.qa_history.specs.machine.Declared.{is_lost_now}
 use Rattle.qa_sent.specs.Fates.{is_acknowledged, is_owed}
 use Rattle.qa_sent.specs.Held.{Held}
 use Rattle.qa_sent.specs.declared.fate.Fate.{Fate}

@@ -3,7 +3,7 @@ use Rattle.std.specs.Prelude.{◌≡◌, List, ◌++◌, length, map, reverse}
 use Rattle.qa_base.specs.declared.event.Event.{Event}
 use Rattle.qa_base.specs.machine.Packets.{Packet, packets}
 use Rattle.qa_base.specs.values.Settings.{Settings}
-use Rattle.qa_laws.specs.machine.Parts.{AreDropped}
+use Rattle.qa_history.specs.machine.Parts.{AreDropped}
 use Rattle.qa_sent.specs.Held.{Held}
 use Rattle.qa_sent.specs.Told.{sent_of}
 use Rattle.qa_sent.specs.declared.packet.SentPacket.{SentPacket}

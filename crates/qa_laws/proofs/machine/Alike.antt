@@ -31,7 +31,7 @@ use Rattle.qa_base.specs.values.Settings.{Settings, early, granularity, is_may, 
 use Rattle.qa_base.proofs.machine.Collapses.{since_collapse_after}
 use Rattle.qa_base.proofs.machine.Declared.{declared_is, owed_is}
 use Rattle.qa_laws.specs.machine.Alike.{AreAlike}
-use Rattle.qa_laws.proofs.machine.Pairs.{of_each, part_is, same_part}
+use Rattle.qa_history.proofs.machine.Pairs.{of_each, part_is, same_part}
 
 -- ---- alike headers
 

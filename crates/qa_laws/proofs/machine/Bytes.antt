@@ -1,7 +1,7 @@
 -- What each kind of event makes of the bytes in flight.
 use Rattle.qa_base.proofs.machine.Declared.{same_filter}
 use Rattle.std.proofs.lemmas.Bool.{and_right}
-use Rattle.qa_laws.specs.machine.Declared.{named_free, is_named_free}
+use Rattle.qa_history.specs.machine.Declared.{named_free, is_named_free}
 use Rattle.std.proofs.Common.{◌≡◌, ◌+◌, ℕ, List, [], ◌∷◌, length, Bool, true, false, ap, arith, sum_by, filter, ◌∙◌, refl}
 use Rattle.qa_base.specs.declared.event.Event.{Event}
 use Rattle.qa_base.specs.declared.event.Event.TheVariants.{Ack, Timer, Discard}
@@ -12,8 +12,8 @@ use Rattle.qa_base.specs.machine.Loss.{owed, bytes_in_flight, is_free}
 use Rattle.qa_base.specs.machine.Packets.{Packet, packets, packet_of, newly_acknowledged}
 use Rattle.qa_base.specs.machine.Rules.{IsRun}
 use Rattle.qa_base.specs.values.Settings.{Settings}
-use Rattle.qa_laws.specs.machine.Sums.{discarded, bytes}
-use Rattle.qa_laws.proofs.machine.Closing.{bytes_in_flight_is, open_sum_after}
+use Rattle.qa_history.specs.machine.Sums.{discarded, bytes}
+use Rattle.qa_history.proofs.machine.Closing.{bytes_in_flight_is, open_sum_after}
 use Rattle.qa_base.proofs.machine.Quiet.{none_passes, newly-quiet, owed-quiet}
 
 pub none_weigh : (weight : Packet → ℕ) (ps : List Packet) → sum_by weight (filter (λ p. false) ps) ≡ 0

@@ -18,14 +18,14 @@ use Rattle.qa_format.specs.format.Proper.{IsRange, IsProperEvent}
 use Rattle.qa_base.specs.machine.Rules.{IsRun}
 use Rattle.qa_base.specs.values.Settings.{Settings, granularity, is_may}
 use Rattle.qa_base.specs.machine.Rtt.{loss_delay}
-use Rattle.qa_laws.proofs.machine.Changes.{free_is_left, one_of_numbers}
-use Rattle.qa_laws.proofs.machine.Courses.{in_order, is_space_same, is_space_is}
+use Rattle.qa_history.proofs.machine.Changes.{free_is_left, one_of_numbers}
+use Rattle.qa_history.proofs.machine.Courses.{in_order, is_space_same, is_space_is}
 use Rattle.qa_base.proofs.machine.WindowBound.{placed}
-use Rattle.qa_laws.proofs.machine.Pairs.{at_one, has_later, part_is, two_of}
+use Rattle.qa_history.proofs.machine.Pairs.{at_one, has_later, part_is, two_of}
 use Rattle.qa_base.proofs.machine.Ranges.{has_all_names}
 use Rattle.qa_base.proofs.machine.RunLaws.{all_hold, old_is_after_loss_delay}
-use Rattle.qa_laws.proofs.machine.Settled.{raised, largest_after, covered_stays, nameable_is, nameable_space, names_all}
-use Rattle.qa_laws.specs.machine.Sequence.{WasSentBefore}
+use Rattle.qa_history.proofs.machine.Settled.{raised, largest_after, covered_stays, nameable_is, nameable_space, names_all}
+use Rattle.qa_history.specs.machine.Sequence.{WasSentBefore}
 
 -- ---- the largest acknowledged number is that of an acknowledged packet
 

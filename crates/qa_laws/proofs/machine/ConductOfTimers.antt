@@ -13,19 +13,19 @@ use Rattle.qa_base.specs.machine.Estimates.{rtt, sampled}
 use Rattle.qa_base.specs.machine.Rtt.{Estimate, loss_delay}
 use Rattle.qa_base.specs.machine.Detection.{is_found, is_past_threshold, is_old, is_unsettled, looks_at, old_at}
 use Rattle.qa_base.specs.machine.Loss.{owed, is_open}
-use Rattle.qa_laws.specs.machine.Oldest.{is_flying, due_of}
+use Rattle.qa_history.specs.machine.Oldest.{is_flying, due_of}
 use Rattle.qa_base.specs.machine.Packets.{Packet, packets_of, largest_acknowledged, is_below_largest}
 use Rattle.qa_base.specs.machine.Rules.{IsRun}
 use Rattle.qa_base.specs.values.Settings.{Settings, early, granularity, is_may}
 use Rattle.qa_base.specs.machine.Timer.{Due, deadline, earlier, earliest_loss, earliest_pto, anti_deadlock, loss_due}
-use Rattle.qa_laws.proofs.machine.Awaiting.{earliest_of_space, old_at_is}
-use Rattle.qa_laws.proofs.machine.Courses.{is_space_is}
-use Rattle.qa_laws.proofs.machine.Deadline.{first_passes, loss_due_is}
-use Rattle.qa_laws.proofs.machine.Detection.{probes, loss_of, earlier_is, timer_is}
-use Rattle.qa_laws.proofs.machine.Pairs.{part_has}
+use Rattle.qa_history.proofs.machine.Awaiting.{earliest_of_space, old_at_is}
+use Rattle.qa_history.proofs.machine.Courses.{is_space_is}
+use Rattle.qa_history.proofs.machine.Deadline.{first_passes, loss_due_is}
+use Rattle.qa_history.proofs.machine.Detection.{probes, loss_of, earlier_is, timer_is}
+use Rattle.qa_history.proofs.machine.Pairs.{part_has}
 use Rattle.qa_base.proofs.machine.RunLaws.{all_hold, old_is_after_loss_delay}
-use Rattle.qa_laws.proofs.machine.Settled.{opens_is}
-use Rattle.qa_laws.proofs.machine.Deadline.{oldest_flying}
+use Rattle.qa_history.proofs.machine.Settled.{opens_is}
+use Rattle.qa_history.proofs.machine.Deadline.{oldest_flying}
 
 -- a packet of the space is open and in flight, below the largest acknowledged number, and old when the loss timer goes off
 pub record Awaits (c : Settings) (h : List Event) (due : Due) : Type 0 where

@@ -12,7 +12,7 @@ use Rattle.qa_base.specs.machine.Packets.{Packet, newly_acknowledged}
 use Rattle.qa_base.specs.machine.Reno.{Control, is_outside_recovery, hit, collapse, growth, Move, Grow, latest_sent, hits, collapses, grows, is_app_limited, moves_of_last, moved, reno, enters, is_entry}
 use Rattle.qa_base.specs.machine.Rules.{IsRun}
 use Rattle.qa_base.specs.values.Settings.{Settings, is_may}
-use Rattle.qa_laws.proofs.machine.Pairs.{has_first, has_later}
+use Rattle.qa_history.proofs.machine.Pairs.{has_first, has_later}
 use Rattle.qa_base.proofs.machine.Declared.{must_declared_by}
 use Rattle.qa_base.proofs.machine.Quiet.{not_persistent}
 use Rattle.qa_base.proofs.machine.RunLaws.{all_hold, prefix_of_run}

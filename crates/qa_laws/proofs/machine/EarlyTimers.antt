@@ -21,12 +21,12 @@ use Rattle.qa_base.specs.values.Settings.{Settings, early, granularity, in_unit,
 use Rattle.qa_base.proofs.machine.RunLaws.{old_is_after_loss_delay}
 use Rattle.qa_format.specs.format.Proper.{IsProperEvent}
 use Rattle.qa_laws.proofs.machine.ConductOfTimers.{set_for}
-use Rattle.qa_laws.proofs.machine.Courses.{is_space_is}
-use Rattle.qa_laws.proofs.machine.Detection.{asked_was_flying}
+use Rattle.qa_history.proofs.machine.Courses.{is_space_is}
+use Rattle.qa_history.proofs.machine.Detection.{asked_was_flying}
 use Rattle.qa_laws.proofs.machine.Near.{flying_is_near, is_far}
-use Rattle.qa_laws.proofs.machine.Pairs.{first_or_rest, part_has}
-use Rattle.qa_laws.proofs.machine.Persistence.{apart_of}
-use Rattle.qa_laws.proofs.machine.Settled.{owed_has, owed_is, unsettled_before}
+use Rattle.qa_history.proofs.machine.Pairs.{first_or_rest, part_has}
+use Rattle.qa_history.proofs.machine.Persistence.{apart_of}
+use Rattle.qa_history.proofs.machine.Settled.{owed_has, owed_is, unsettled_before}
 
 -- ---- the first that awaits the timer
 

@@ -5,17 +5,17 @@ use Rattle.std.proofs.lemmas.Bool.{and_parts, and_from, both_ways, false_from_ne
 use Rattle.qa_base.specs.declared.event.Event.{Event}
 use Rattle.qa_base.specs.declared.space.Space.{Space}
 use Rattle.qa_base.specs.values.Events.{acknowledges, declares_lost}
-use Rattle.qa_laws.specs.machine.Declared.{is_named_free}
+use Rattle.qa_history.specs.machine.Declared.{is_named_free}
 use Rattle.qa_laws.specs.machine.Fates.{fate, fate_by, fate_next, is_unacknowledged}
 use Rattle.qa_base.specs.machine.Loss.{is_owed, is_free, is_open, detection}
-use Rattle.qa_laws.specs.machine.Oldest.{is_flying, NoneFlies}
+use Rattle.qa_history.specs.machine.Oldest.{is_flying, NoneFlies}
 use Rattle.qa_base.specs.machine.Packets.{Packet, packets, is_of, is_acknowledged, is_declared_lost, is_discarded}
 use Rattle.qa_base.specs.machine.Rules.{IsRun}
 use Rattle.qa_base.specs.values.Settings.{Settings}
-use Rattle.qa_laws.proofs.machine.Changes.{covered_after, free_is_left, lost_is_taken, found_unsettled}
-use Rattle.qa_laws.proofs.machine.Settled.{open_before}
-use Rattle.qa_laws.proofs.machine.Walks.{turned_has}
-use Rattle.qa_laws.proofs.machine.Pairs.{at_one, of_each}
+use Rattle.qa_history.proofs.machine.Changes.{covered_after, free_is_left, lost_is_taken, found_unsettled}
+use Rattle.qa_history.proofs.machine.Settled.{open_before}
+use Rattle.qa_history.proofs.machine.Walks.{turned_has}
+use Rattle.qa_history.proofs.machine.Pairs.{at_one, of_each}
 
 next_by : (names named was_covered was_lost was_owed covered_now lost_now owed_now : Bool) → covered_now ≡ (names || was_covered) → lost_now ≡ (was_owed || named || was_lost) → (owed_now ≡ true → (not covered_now && not lost_now) ≡ true)
     → (named ≡ true → was_covered ≡ false)

@@ -18,7 +18,7 @@ use Rattle.qa_base.specs.values.Events.{declares_lost, is_named}
 use Rattle.qa_base.specs.values.Settings.{Settings, is_may}
 use Rattle.qa_base.proofs.machine.Ranges.{has_all_names}
 use Rattle.qa_laws.proofs.machine.Alike.{Agree, Detects, OwesAlike, Tolerances, detects_at, like, owes_alike, same_owed, same_sampled}
-use Rattle.qa_laws.proofs.machine.Changes.{named_is_nameable, spared_is_young}
+use Rattle.qa_history.proofs.machine.Changes.{named_is_nameable, spared_is_young}
 
 -- ---- what is free
 

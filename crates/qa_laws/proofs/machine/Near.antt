@@ -19,13 +19,13 @@ use Rattle.qa_base.specs.values.Settings.{Settings, is_may}
 use Rattle.qa_base.proofs.machine.Quiet.{not_followed}
 use Rattle.qa_base.proofs.machine.RunLaws.{numbers_fall}
 use Rattle.qa_format.specs.format.Proper.{IsProperEvent}
-use Rattle.qa_laws.specs.machine.Declared.{is_named_free}
-use Rattle.qa_laws.specs.machine.Oldest.{is_flying}
-use Rattle.qa_laws.proofs.machine.Changes.{covered_after, free_is_left, lost_is_taken}
+use Rattle.qa_history.specs.machine.Declared.{is_named_free}
+use Rattle.qa_history.specs.machine.Oldest.{is_flying}
+use Rattle.qa_history.proofs.machine.Changes.{covered_after, free_is_left, lost_is_taken}
 use Rattle.qa_laws.proofs.machine.ConductOfLosses.{Acknowledged, largest_is_acknowledged}
-use Rattle.qa_laws.proofs.machine.Courses.{is_space_is, is_space_same}
-use Rattle.qa_laws.proofs.machine.Pairs.{at_one, first_or_rest, part_has}
-use Rattle.qa_laws.proofs.machine.Settled.{has_some, largest_after, open_before, opens_is, raised, settled_parts}
+use Rattle.qa_history.proofs.machine.Courses.{is_space_is, is_space_same}
+use Rattle.qa_history.proofs.machine.Pairs.{at_one, first_or_rest, part_has}
+use Rattle.qa_history.proofs.machine.Settled.{has_some, largest_after, open_before, opens_is, raised, settled_parts}
 
 -- ---- the packets of a history and the one that its last event sent
 

@@ -15,10 +15,10 @@ use Rattle.qa_base.specs.machine.Numbers.{is_in}
 use Rattle.qa_base.specs.machine.Packets.{Packet, packets, packet_of, packets_of, is_of}
 use Rattle.qa_base.specs.machine.Rules.{IsRun}
 use Rattle.qa_base.specs.values.Settings.{Settings}
-use Rattle.qa_laws.specs.machine.Sequence.{EachTwo}
+use Rattle.qa_history.specs.machine.Sequence.{EachTwo}
 use Rattle.qa_laws.specs.machine.Useful.{runs_begun}
-use Rattle.qa_laws.proofs.machine.Courses.{IsEarlier, in_order_of}
-use Rattle.qa_laws.proofs.machine.Pairs.{each_weaker}
+use Rattle.qa_history.proofs.machine.Courses.{IsEarlier, in_order_of}
+use Rattle.qa_history.proofs.machine.Pairs.{each_weaker}
 
 -- ---- counts
 

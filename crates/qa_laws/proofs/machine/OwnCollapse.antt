@@ -18,7 +18,7 @@ use Rattle.qa_base.specs.values.Settings.{AreInRange, Settings, is_reported}
 use Rattle.qa_base.proofs.machine.Collapses.{since_collapse_after}
 use Rattle.qa_base.proofs.machine.Steps.{reno_after}
 use Rattle.qa_base.proofs.machine.WindowBound.{grow_at_least, grown_little, window_low}
-use Rattle.qa_laws.proofs.machine.Sending.{sum_turned}
+use Rattle.qa_history.proofs.machine.Sending.{sum_turned}
 
 -- ---- growth is by the bytes in flight that are acknowledged
 

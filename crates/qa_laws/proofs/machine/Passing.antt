@@ -9,17 +9,17 @@ use Rattle.qa_base.specs.declared.space.Space.{Space}
 use Rattle.qa_base.specs.machine.Estimates.{sampled}
 use Rattle.qa_base.specs.machine.Detection.{is_past_threshold}
 use Rattle.qa_base.specs.machine.Loss.{owed, is_owed, is_open, detection}
-use Rattle.qa_laws.specs.machine.Declared.{is_named_free}
-use Rattle.qa_laws.specs.machine.Oldest.{is_flying, is_asked, is_passed, NoneFlies}
+use Rattle.qa_history.specs.machine.Declared.{is_named_free}
+use Rattle.qa_history.specs.machine.Oldest.{is_flying, is_asked, is_passed, NoneFlies}
 use Rattle.qa_base.specs.machine.Packets.{Packet, packets, is_of, is_newly_acknowledged, largest_acknowledged}
 use Rattle.qa_base.specs.machine.Rules.{IsRun}
 use Rattle.qa_base.specs.values.Settings.{Settings}
-use Rattle.qa_laws.specs.machine.Sums.{is_discarded_by}
-use Rattle.qa_laws.proofs.machine.Closing.{closes_is}
+use Rattle.qa_history.specs.machine.Sums.{is_discarded_by}
+use Rattle.qa_history.proofs.machine.Closing.{closes_is}
 use Rattle.qa_laws.proofs.machine.FateLaws.{none_flies_stays}
-use Rattle.qa_laws.proofs.machine.Pairs.{at_one, of_each}
-use Rattle.qa_laws.proofs.machine.Settled.{open_before}
-use Rattle.qa_laws.proofs.machine.Walks.{owed_of_rest, flies_after}
+use Rattle.qa_history.proofs.machine.Pairs.{at_one, of_each}
+use Rattle.qa_history.proofs.machine.Settled.{open_before}
+use Rattle.qa_history.proofs.machine.Walks.{owed_of_rest, flies_after}
 use Rattle.qa_base.proofs.machine.WindowBound.{each_append}
 
 -- ---- one walk in the place of two

@@ -12,18 +12,18 @@ use Rattle.qa_base.specs.values.Events.{is_space, is_named, acknowledges}
 use Rattle.qa_base.specs.machine.Estimates.{sampled}
 use Rattle.qa_base.specs.machine.Detection.{found_at, is_found}
 use Rattle.qa_base.specs.machine.Loss.{owed, detection}
-use Rattle.qa_laws.specs.machine.Sequence.{EachTwo, WasSentBefore}
+use Rattle.qa_history.specs.machine.Sequence.{EachTwo, WasSentBefore}
 use Rattle.qa_base.specs.machine.Packets.{Packet, packets, packets_of, is_of, is_acknowledged, is_declared_lost, is_newly_acknowledged, newly_acknowledged, greatest}
 use Rattle.qa_base.specs.machine.Reno.{latest_sent}
 use Rattle.qa_base.specs.machine.Rules.{IsRun}
 use Rattle.qa_base.specs.values.Settings.{Settings}
 use Rattle.qa_laws.proofs.machine.BySpace.{newly_are_of}
-use Rattle.qa_laws.proofs.machine.Courses.{IsEarlier, each_earlier, in_order, in_order_of}
-use Rattle.qa_laws.proofs.machine.Deadline.{find_none}
-use Rattle.qa_laws.proofs.machine.Forgotten.{none_of}
-use Rattle.qa_laws.proofs.machine.Pairs.{of_each, each_weaker, part_is, part_turned, two_of_part, two_turned, two_weaker}
-use Rattle.qa_laws.proofs.machine.Pairs.{two_of_rest}
-use Rattle.qa_laws.specs.machine.Latest.{first_if_numbered, is_first_at_or_above, time_of_first}
+use Rattle.qa_history.proofs.machine.Courses.{IsEarlier, each_earlier, in_order, in_order_of}
+use Rattle.qa_history.proofs.machine.Deadline.{find_none}
+use Rattle.qa_history.proofs.machine.Forgotten.{none_of}
+use Rattle.qa_history.proofs.machine.Pairs.{of_each, each_weaker, part_is, part_turned, two_of_part, two_turned, two_weaker}
+use Rattle.qa_history.proofs.machine.Pairs.{two_of_rest}
+use Rattle.qa_history.specs.machine.Latest.{first_if_numbered, is_first_at_or_above, time_of_first}
 
 -- ---- a named number is at most the greatest
 

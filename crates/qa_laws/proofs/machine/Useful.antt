@@ -1,6 +1,6 @@
 -- How many packets are still of use after one more event.
 use Rattle.qa_laws.proofs.machine.Bytes.{names_nothing}
-use Rattle.qa_laws.specs.machine.Declared.{is_named_free, named_free}
+use Rattle.qa_history.specs.machine.Declared.{is_named_free, named_free}
 use Rattle.std.proofs.Common.{◌≡◌, ◌∙◌, ◌≤◌, ◌+◌, ℕ, List, [], ◌∷◌, ◌++◌, length, Bool, true, false, ◌||◌, refl, sym, ap, arith, subst, reverse, Contains, append_assoc}
 use Rattle.std.proofs.lemmas.Bool.{and_parts, or_left, or_from, or_parts, both_ways, false_from_ne_true}
 use Rattle.std.proofs.lemmas.List.{length-append}
@@ -19,16 +19,16 @@ use Rattle.qa_base.specs.values.Events.{is_quiet}
 use Rattle.qa_base.specs.values.Settings.{Settings}
 use Rattle.qa_base.proofs.machine.RunLaws.{all_hold}
 use Rattle.qa_base.proofs.machine.WindowBound.{each_append}
-use Rattle.qa_laws.specs.machine.Parts.{AreDropped, BeginsKept}
-use Rattle.qa_laws.specs.machine.Sums.{is_discarded_by}
+use Rattle.qa_history.specs.machine.Parts.{AreDropped, BeginsKept}
+use Rattle.qa_history.specs.machine.Sums.{is_discarded_by}
 use Rattle.qa_laws.specs.machine.Useful.{from_first}
-use Rattle.qa_laws.proofs.machine.Changes.{not_owed_now, owed_was_flying}
-use Rattle.qa_laws.proofs.machine.Closing.{sent_is_open}
-use Rattle.qa_laws.proofs.machine.KeptCount.{kept_count_is}
-use Rattle.qa_laws.proofs.machine.Pairs.{at_one, of_each, turned, has_first, part_has}
+use Rattle.qa_history.proofs.machine.Changes.{not_owed_now, owed_was_flying}
+use Rattle.qa_history.proofs.machine.Closing.{sent_is_open}
+use Rattle.qa_history.proofs.machine.KeptCount.{kept_count_is}
+use Rattle.qa_history.proofs.machine.Pairs.{at_one, of_each, turned, has_first, part_has}
 use Rattle.qa_laws.proofs.machine.Passing.{stays_open}
-use Rattle.qa_laws.proofs.machine.Settled.{closed_stays, has_some}
-use Rattle.qa_laws.proofs.machine.Walks.{turned_has}
+use Rattle.qa_history.proofs.machine.Settled.{closed_stays, has_some}
+use Rattle.qa_history.proofs.machine.Walks.{turned_has}
 
 -- ---- the walk
 

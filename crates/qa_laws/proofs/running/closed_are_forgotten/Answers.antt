@@ -1,5 +1,5 @@
-use Rattle.qa_laws.proofs.machine.Forgotten as forgotten
-use Rattle.qa_laws.proofs.machine.Sending as lemmas
+use Rattle.qa_history.proofs.machine.Forgotten as forgotten
+use Rattle.qa_history.proofs.machine.Sending as lemmas
 use Rattle.qa_laws.proofs.running.closed_are_forgotten.Goals as goal
 
 pub returns : goal.returns

@@ -1,5 +1,5 @@
-use Rattle.qa_laws.proofs.machine.Settled as settled
-use Rattle.qa_laws.proofs.machine.Changes as changes
+use Rattle.qa_history.proofs.machine.Settled as settled
+use Rattle.qa_history.proofs.machine.Changes as changes
 use Rattle.qa_laws.proofs.machine.Passing as passing
 use Rattle.qa_laws.proofs.running.closed_stays_closed.Goals as goal
 

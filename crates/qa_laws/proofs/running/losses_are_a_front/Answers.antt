@@ -1,5 +1,5 @@
 use Rattle.qa_laws.proofs.machine.Passing as passing
-use Rattle.qa_laws.proofs.machine.Walks as walks
+use Rattle.qa_history.proofs.machine.Walks as walks
 use Rattle.qa_laws.proofs.running.losses_are_a_front.Goals as goal
 
 pub returns : goal.returns

@@ -1,4 +1,4 @@
-use Rattle.qa_laws.proofs.machine.Courses as lemmas
+use Rattle.qa_history.proofs.machine.Courses as lemmas
 use Rattle.qa_laws.proofs.machine.Samples as samples
 use Rattle.qa_laws.proofs.running.lower_numbers_are_earlier.Goals as goal
 

@@ -1,4 +1,4 @@
-use Rattle.qa_laws.proofs.machine.Deadline as lemmas
+use Rattle.qa_history.proofs.machine.Deadline as lemmas
 use Rattle.qa_laws.proofs.running.oldest_decides_loss_time.Goals as goal
 
 pub returns : goal.returns

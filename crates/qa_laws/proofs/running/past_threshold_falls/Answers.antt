@@ -1,4 +1,4 @@
-use Rattle.qa_laws.proofs.machine.Thresholds as lemmas
+use Rattle.qa_history.proofs.machine.Thresholds as lemmas
 use Rattle.qa_laws.proofs.running.past_threshold_falls.Goals as goal
 
 pub returns : goal.returns

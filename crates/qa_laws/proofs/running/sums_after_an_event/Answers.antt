@@ -1,4 +1,4 @@
-use Rattle.qa_laws.proofs.machine.Closing as lemmas
+use Rattle.qa_history.proofs.machine.Closing as lemmas
 use Rattle.qa_laws.proofs.running.sums_after_an_event.Goals as goal
 
 pub returns : goal.returns

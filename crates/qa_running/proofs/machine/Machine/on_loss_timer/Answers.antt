@@ -7,7 +7,7 @@ use Rattle.qa_base.specs.values.Settings.{AreInRange, early}
 use Rattle.qa_connection.proofs.Detections.{timed_detected}
 use Rattle.qa_connection.proofs.Due.{loss_time_is}
 use Rattle.qa_connection.proofs.OneMore.{timed_is, timed_measured}
-use Rattle.qa_laws.proofs.machine.Awaiting.{old_at_is}
+use Rattle.qa_history.proofs.machine.Awaiting.{old_at_is}
 use Rattle.qa_running.proofs.Acks.{sent_still}
 use Rattle.qa_running.proofs.Events.{stands_loss_timer}
 use Rattle.qa_running.specs.Machine.{StandsOnceFound}

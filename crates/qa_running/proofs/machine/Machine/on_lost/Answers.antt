@@ -7,7 +7,7 @@ use Rattle.qa_base.specs.values.Events.{is_named}
 use Rattle.qa_connection.specs.Changes.{completed}
 use Rattle.qa_connection.specs.Steps.{last_sent}
 use Rattle.qa_connection.specs.declared.detection.Detection.{Detection}
-use Rattle.qa_laws.specs.machine.Declared.{is_named_free}
+use Rattle.qa_history.specs.machine.Declared.{is_named_free}
 use Rattle.qa_running.proofs.Acks.{sent_still}
 use Rattle.qa_running.proofs.Completing.{events_completed, lost_measured, parts_completed}
 use Rattle.qa_running.proofs.Events.{stands_lost}

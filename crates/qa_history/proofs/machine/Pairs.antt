@@ -7,7 +7,7 @@ use Rattle.std.proofs.lemmas.Bool.{false≢true, false_from_ne_true, both_ways}
 use Rattle.std.proofs.lemmas.List.Folds.{Any-from_list_any}
 use Rattle.std.specs.List.{AllByRecursion, list_any}
 use Rattle.std.specs.Prelude.{if◌then◌else◌}
-use Rattle.qa_laws.specs.machine.Sequence.{EachTwo}
+use Rattle.qa_history.specs.machine.Sequence.{EachTwo}
 use Rattle.qa_base.specs.machine.Packets.{Packet}
 use Rattle.qa_base.proofs.machine.WindowBound.{each_of_part}
 

@@ -11,17 +11,16 @@ use Rattle.qa_base.specs.machine.Breaches.{is_before, is_timer_early}
 use Rattle.qa_base.specs.machine.Detection.{awaits_timer, is_unsettled, looks_at, old_at}
 use Rattle.qa_base.specs.machine.Estimates.{rtt}
 use Rattle.qa_base.specs.machine.Loss.{detection, is_owed, owed}
-use Rattle.qa_base.specs.machine.Packets.{is_below_largest, is_discarded, is_of, largest_acknowledged, least_of, packets, packets_of}
+use Rattle.qa_base.specs.machine.Packets.{is_below_largest, is_discarded, is_of, is_some_packet, largest_acknowledged, least_of, packets, packets_of}
 use Rattle.qa_base.specs.machine.Rtt.{loss_delay}
 use Rattle.qa_base.specs.machine.Rules.{IsRun}
 use Rattle.qa_base.specs.machine.Timer.{Due, awaits_loss, deadline, earlier, earliest_loss, loss_due}
 use Rattle.qa_base.specs.values.Settings.{Settings, early, granularity, per_microsecond}
-use Rattle.qa_base.proofs.machine.Quiet.{not_owed}
 use Rattle.qa_base.proofs.machine.RunLaws.{all_hold}
-use Rattle.qa_format.proofs.verdicts.Accepted.{no_packet}
-use Rattle.qa_laws.proofs.machine.Courses.{is_space_is}
-use Rattle.qa_laws.proofs.machine.Detection.{earlier_is, timer_there}
-use Rattle.qa_laws.proofs.machine.Pairs.{at_one, of_each, part_is, same_part}
+use Rattle.qa_history.proofs.machine.Changes.{not_owed_now}
+use Rattle.qa_history.proofs.machine.Courses.{is_space_is}
+use Rattle.qa_history.proofs.machine.Detection.{earlier_is, timer_there}
+use Rattle.qa_history.proofs.machine.Pairs.{at_one, of_each, part_is, same_part}
 
 twice : (flies unsettled below : Bool) → (flies && (unsettled && true && true) && below) ≡ (flies && unsettled && below)
 twice true true below = refl
@@ -31,10 +30,10 @@ twice false unsettled below = refl
 open_if : (flies unsettled owes gone below : Bool) → owes ≡ false → gone ≡ false → (flies && (unsettled && not owes && not gone) && below) ≡ (flies && unsettled && below)
 open_if flies unsettled owes gone below free there = rw (free, there) (twice flies unsettled below)
 
-same_awaits : (c : Settings) (h : List Event) (s : Space) → owed c h ≡ [] → is_discarded h s ≡ false → AllByRecursion (λ p. awaits_loss c h p ≡ awaits_timer h p) (packets_of h s)
-same_awaits c h s none there = of_each (λ p. awaits_loss c h p ≡ awaits_timer h p) (packets_of h s) (λ p has.
+same_awaits : (c : Settings) (e : Event) (h : List Event) (s : Space) → is_some_packet (owed c h) ≡ false → is_discarded h s ≡ false → AllByRecursion (λ p. awaits_loss c h p ≡ awaits_timer h p) (packets_of h s)
+same_awaits c e h s none there = of_each (λ p. awaits_loss c h p ≡ awaits_timer h p) (packets_of h s) (λ p has.
     let inside = part_is (is_of s) (packets h) p has in
-    let free : is_owed c h p ≡ false = at_one (λ q. is_owed c h q ≡ false) (packets h) p (not_owed c h none) inside.0 in
+    let free : is_owed c h p ≡ false = not_owed_now c e h p inside.0 none in
     let gone : is_discarded h p.space ≡ false = rw (← is_space_is s p.space inside.1) there in
     open_if p.in_flight (is_unsettled h p) (is_owed c h p) (is_discarded h p.space) (is_below_largest p.number (largest_acknowledged h p.space)) free gone)
 
@@ -47,10 +46,9 @@ mapped s delay (Some sent) = refl
 pub old_at_is : (c : Settings) (h : List Event) (time : ℕ) (s : Space) → IsRun c (Timer time Loss s ∷ h) → option_map (λ (d : Due). d.time) (loss_due c h s) ≡ old_at c (rtt c h) h s
 old_at_is c h time s run =
     let holds = all_hold c h (Timer time Loss s) run.1 in
-    let none = no_packet (owed c h) holds.loss_owed in
     let delay = loss_delay (granularity c) (rtt c h) in
     mapped s delay (least_of (map (λ p. p.time) (filter (awaits_loss c h) (packets_of h s))))
-    ∙ ap (λ ps. option_map (λ sent. sent + delay) (least_of (map (λ p. p.time) ps))) (same_part (awaits_loss c h) (awaits_timer h) (packets_of h s) (same_awaits c h s none (timer_there c h time s run)))
+    ∙ ap (λ ps. option_map (λ sent. sent + delay) (least_of (map (λ p. p.time) ps))) (same_part (awaits_loss c h) (awaits_timer h) (packets_of h s) (same_awaits c (Timer time Loss s) h s holds.loss_owed (timer_there c h time s run)))
 
 space_mapped : (s : Space) (delay : ℕ) (o : Option ℕ) (due : Due) → option_map (λ sent. record { kind = Loss; space = s; time = sent + delay }) o ≡ Some due → due.space ≡ s
 space_mapped s delay None due is = cc

@@ -10,16 +10,16 @@ use Rattle.qa_base.specs.machine.Estimates.{rtt}
 use Rattle.qa_base.specs.declared.event.Event.{Event}
 use Rattle.qa_base.specs.declared.space.TimerKind.TheVariants.{Loss}
 use Rattle.qa_base.specs.declared.space.Space.{Space}
-use Rattle.qa_laws.specs.machine.Oldest.{is_flying, due_of, NoneFlies}
-use Rattle.qa_laws.specs.machine.Sequence.{EachTwo}
+use Rattle.qa_history.specs.machine.Oldest.{is_flying, due_of, NoneFlies}
+use Rattle.qa_history.specs.machine.Sequence.{EachTwo}
 use Rattle.qa_base.specs.machine.Packets.{Packet, packets, packets_of, is_of, largest_acknowledged, least_of, is_below_largest}
 use Rattle.qa_base.specs.machine.Rules.{IsRun}
 use Rattle.qa_base.specs.values.Settings.{Settings, granularity}
 use Rattle.qa_base.specs.machine.Rtt.{loss_delay}
 use Rattle.qa_base.specs.machine.Timer.{Due, loss_due, awaits_loss}
-use Rattle.qa_laws.proofs.machine.Courses.{IsEarlier, are_of, in_order_of, is_space_is}
-use Rattle.qa_laws.proofs.machine.Pairs.{at_one, same_part, part_turned, has_first, has_later}
-use Rattle.qa_laws.specs.machine.Parts.{AreOf}
+use Rattle.qa_history.proofs.machine.Courses.{IsEarlier, are_of, in_order_of, is_space_is}
+use Rattle.qa_history.proofs.machine.Pairs.{at_one, same_part, part_turned, has_first, has_later}
+use Rattle.qa_history.specs.machine.Parts.{AreOf}
 
 -- ---- the first that was sent
 

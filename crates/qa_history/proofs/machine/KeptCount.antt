@@ -8,18 +8,18 @@ use Rattle.std.specs.Option.{option_or}
 use Rattle.std.specs.Prelude.{nat_le, if◌then◌else◌}
 use Rattle.qa_base.specs.declared.event.Event.{Event}
 use Rattle.qa_base.specs.declared.event.Event.TheVariants.{Sent}
-use Rattle.qa_laws.specs.machine.Sequence.{EachTwo}
+use Rattle.qa_history.specs.machine.Sequence.{EachTwo}
 use Rattle.qa_base.specs.machine.Packets.{Packet, packets, least_of}
 use Rattle.qa_base.specs.values.Settings.{Settings}
 use Rattle.qa_base.specs.machine.Kept.{is_kept, oldest_kept, count_from, kept_count}
 use Rattle.qa_base.proofs.machine.WindowBound.{placed}
-use Rattle.qa_laws.proofs.machine.Deadline.{first_sent_is, first_passes, find_none}
-use Rattle.qa_laws.proofs.machine.Forgotten.{all_behind}
-use Rattle.qa_laws.proofs.machine.Pairs.{at_one, of_each, each_weaker, two_turned, has_first}
-use Rattle.qa_laws.proofs.machine.Sending.{sum_turned}
-use Rattle.qa_laws.proofs.machine.Pairs.{two_of_rest}
-use Rattle.qa_laws.specs.machine.Parts.{AreDropped, BeginsKept}
-use Rattle.qa_laws.proofs.machine.Deadline.{first_sent}
+use Rattle.qa_history.proofs.machine.Deadline.{first_sent_is, first_passes, find_none}
+use Rattle.qa_history.proofs.machine.Forgotten.{all_behind}
+use Rattle.qa_history.proofs.machine.Pairs.{at_one, of_each, each_weaker, two_turned, has_first}
+use Rattle.qa_history.proofs.machine.Sending.{sum_turned}
+use Rattle.qa_history.proofs.machine.Pairs.{two_of_rest}
+use Rattle.qa_history.specs.machine.Parts.{AreDropped, BeginsKept}
+use Rattle.qa_history.proofs.machine.Deadline.{first_sent}
 
 -- ---- places
 

@@ -15,13 +15,13 @@ use Rattle.qa_base.specs.machine.Loss.{owed, is_owed, is_free, is_open, flight_s
 use Rattle.qa_base.specs.machine.Packets.{Packet, packets, packet_of, is_of, is_acknowledged, is_declared_lost, is_discarded, is_newly_acknowledged, newly_acknowledged}
 use Rattle.qa_base.specs.machine.Rules.{IsRun}
 use Rattle.qa_base.specs.values.Settings.{Settings}
-use Rattle.qa_laws.specs.machine.Declared.{is_named_free, named_free}
-use Rattle.qa_laws.specs.machine.Sums.{counted, open_sum, is_discarded_by, discarded, bytes}
-use Rattle.qa_laws.proofs.machine.Pairs.{of_each, same_part, part_of_part, none_left}
+use Rattle.qa_history.specs.machine.Declared.{is_named_free, named_free}
+use Rattle.qa_history.specs.machine.Sums.{counted, open_sum, is_discarded_by, discarded, bytes}
+use Rattle.qa_history.proofs.machine.Pairs.{of_each, same_part, part_of_part, none_left}
 use Rattle.qa_base.proofs.machine.Quiet.{same_sum, not_followed}
 use Rattle.qa_base.proofs.machine.RunLaws.{all_hold}
-use Rattle.qa_laws.proofs.machine.Settled.{opens_is, open_before, covered_settles}
-use Rattle.qa_laws.proofs.machine.Changes.{covered_after, lost_after, named_if_free, named_was_open, owed_was_flying, newly_was_open, found_unsettled}
+use Rattle.qa_history.proofs.machine.Settled.{opens_is, open_before, covered_settles}
+use Rattle.qa_history.proofs.machine.Changes.{covered_after, lost_after, named_if_free, named_was_open, owed_was_flying, newly_was_open, found_unsettled}
 
 -- ---- which packets an event closes
 

@@ -1,19 +1,19 @@
 -- Persistent congestion is two packets that lie apart.
-use Rattle.qa_laws.proofs.machine.LostNow.{declared_from, declared_has, lost_now_uncovered}
-use Rattle.qa_laws.specs.machine.Declared.{is_lost_now}
+use Rattle.qa_history.proofs.machine.LostNow.{declared_from, declared_has, lost_now_uncovered}
+use Rattle.qa_history.specs.machine.Declared.{is_lost_now}
 use Rattle.std.proofs.Common.{◌≡◌, ◌<◌, ◌-◌, ℕ, List, [], ◌∷◌, Bool, true, false, ◌&&◌, not, sym, arith, subst, Contains, inl, inr}
 use Rattle.std.proofs.lemmas.Bool.{and_parts, and_from, or_left, or_right, both_ways, false_from_ne_true, not-true, not_from_false, lt-ltb, ltb-true}
 use Rattle.std.specs.List.{list_any}
 use Rattle.std.specs.Prelude.{nat_lt}
 use Rattle.qa_base.specs.declared.event.Event.{Event}
-use Rattle.qa_laws.specs.machine.Among.{counts_as_end}
+use Rattle.qa_history.specs.machine.Among.{counts_as_end}
 use Rattle.qa_base.specs.machine.Estimates.{sampled}
 use Rattle.qa_base.specs.machine.Detection.{is_end, are_ends, is_acknowledged_between}
 use Rattle.qa_base.specs.machine.Loss.{is_persistent, declared}
 use Rattle.qa_base.specs.machine.Packets.{Packet, packets, is_acknowledged}
 use Rattle.qa_base.specs.machine.Rtt.{persistent_after}
 use Rattle.qa_base.specs.values.Settings.{Settings, granularity}
-use Rattle.qa_laws.proofs.machine.Pairs.{first_or_rest, some_one}
+use Rattle.qa_history.proofs.machine.Pairs.{first_or_rest, some_one}
 
 -- ---- what some packet passes
 

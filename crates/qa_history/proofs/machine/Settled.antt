@@ -15,9 +15,9 @@ use Rattle.qa_base.specs.machine.Numbers.{has_all, names_between}
 use Rattle.qa_base.specs.machine.Packets.{Packet, packets, packets_of, is_of, is_some_packet, is_acknowledged, is_declared_lost, is_discarded, greatest, greatest_in, greatest_of, largest_acknowledged, is_below_largest}
 use Rattle.qa_base.specs.machine.Rules.{IsRun}
 use Rattle.qa_base.specs.values.Settings.{Settings}
-use Rattle.qa_laws.proofs.machine.Courses.{is_space_same, is_space_is}
+use Rattle.qa_history.proofs.machine.Courses.{is_space_same, is_space_is}
 use Rattle.qa_base.proofs.machine.WindowBound.{placed}
-use Rattle.qa_laws.proofs.machine.Pairs.{at_one, part_has, part_is, some_one, first_or_rest}
+use Rattle.qa_history.proofs.machine.Pairs.{at_one, part_has, part_is, some_one, first_or_rest}
 use Rattle.qa_base.proofs.machine.RunLaws.{all_hold}
 
 -- ---- covered, lost, gone

@@ -8,14 +8,14 @@ use Rattle.qa_base.specs.declared.space.Space.{Space}
 use Rattle.qa_base.specs.declared.space.Space.TheVariants.{Initial, Handshake, App}
 use Rattle.qa_base.specs.values.Events.{time_of, is_space}
 use Rattle.qa_base.specs.machine.Order.{IsLower}
-use Rattle.qa_laws.specs.machine.Sequence.{WasSentBefore, EachTwo}
+use Rattle.qa_history.specs.machine.Sequence.{WasSentBefore, EachTwo}
 use Rattle.qa_base.specs.machine.Packets.{Packet, packets, packets_of, is_of}
 use Rattle.qa_base.specs.machine.Rules.{IsRun}
 use Rattle.qa_base.specs.values.Settings.{Settings}
-use Rattle.qa_laws.proofs.machine.Pairs.{of_each, each_weaker, two_of, two_of_part, part_is}
+use Rattle.qa_history.proofs.machine.Pairs.{of_each, each_weaker, two_of, two_of_part, part_is}
 use Rattle.qa_base.proofs.machine.RunLaws.{all_hold, numbers_fall}
 use Rattle.qa_base.proofs.machine.WindowBound.{placed}
-use Rattle.qa_laws.specs.machine.Parts.{AreOf}
+use Rattle.qa_history.specs.machine.Parts.{AreOf}
 
 -- ---- places
 

@@ -14,10 +14,10 @@ use Rattle.qa_base.specs.values.Events.{declares_lost}
 use Rattle.qa_base.specs.values.Settings.{Settings, is_may}
 use Rattle.qa_base.proofs.machine.Declared.{declared_is, none_free_by, owed_is}
 use Rattle.qa_base.proofs.machine.Quiet.{none_passes}
-use Rattle.qa_laws.specs.machine.Declared.{is_lost_now, is_named_free}
-use Rattle.qa_laws.proofs.machine.Changes.{found_unsettled, free_is_flying, free_is_left, owed_was_flying}
-use Rattle.qa_laws.proofs.machine.Closing.{owed_among}
-use Rattle.qa_laws.proofs.machine.Pairs.{part_has, part_is}
+use Rattle.qa_history.specs.machine.Declared.{is_lost_now, is_named_free}
+use Rattle.qa_history.proofs.machine.Changes.{found_unsettled, free_is_flying, free_is_left, owed_was_flying}
+use Rattle.qa_history.proofs.machine.Closing.{owed_among}
+use Rattle.qa_history.proofs.machine.Pairs.{part_has, part_is}
 
 if_all : (b : Bool) (test : Packet → Bool) (ps : List Packet) → (if b then filter test ps else []) ≡ filter (λ p. b && test p) ps
 if_all true test ps = refl

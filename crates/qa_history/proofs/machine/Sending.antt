@@ -1,7 +1,7 @@
 -- The same in the order of sending: what is asked of the packets that are kept, which stand behind closed ones.
-use Rattle.qa_laws.proofs.machine.LostNow.{closed_not_lost, dropped_not_lost}
+use Rattle.qa_history.proofs.machine.LostNow.{closed_not_lost, dropped_not_lost}
 use Rattle.qa_base.specs.machine.Kept.{is_kept}
-use Rattle.qa_laws.specs.machine.Declared.{is_lost_now}
+use Rattle.qa_history.specs.machine.Declared.{is_lost_now}
 use Rattle.std.proofs.Common.{◌≡◌, ◌∙◌, ℕ, List, [], ◌∷◌, ◌++◌, Bool, true, false, None, refl, sym, ap, subst, Contains, filter, reverse, sum_by, add_comm, ◌+◌, length, append_assoc}
 use Rattle.std.proofs.lemmas.Bool.{and_left}
 use Rattle.std.proofs.lemmas.List.{reverse-reverse, reverse-append, append-nil}
@@ -9,7 +9,7 @@ use Rattle.std.proofs.lemmas.List.Elements.{Contains-append_left}
 use Rattle.std.specs.List.{AllByRecursion}
 use Rattle.qa_base.specs.declared.event.Event.{Event}
 use Rattle.qa_base.specs.declared.event.Event.TheVariants.{Sent}
-use Rattle.qa_laws.specs.machine.Among.{finds_apart, counts_as_end}
+use Rattle.qa_history.specs.machine.Among.{finds_apart, counts_as_end}
 use Rattle.qa_base.specs.machine.Estimates.{sampled}
 use Rattle.qa_base.specs.machine.Detection.{is_end}
 use Rattle.qa_base.specs.machine.Loss.{owed, is_owed, is_open, is_persistent}
@@ -17,14 +17,14 @@ use Rattle.qa_base.specs.machine.Packets.{Packet, packets, packet_of, is_acknowl
 use Rattle.qa_base.specs.machine.Rtt.{persistent_after}
 use Rattle.qa_base.specs.machine.Rules.{IsRun}
 use Rattle.qa_base.specs.values.Settings.{Settings, granularity, is_may}
-use Rattle.qa_laws.specs.machine.Sums.{counted, open_sum}
-use Rattle.qa_laws.proofs.machine.Forgotten.{newly_of_kept, owed_of_kept, open_sum_of_kept}
-use Rattle.qa_laws.proofs.machine.Forward.{persistent_is_forward}
-use Rattle.qa_laws.proofs.machine.Pairs.{at_one, of_each, each_turned, part_turned, turned}
+use Rattle.qa_history.specs.machine.Sums.{counted, open_sum}
+use Rattle.qa_history.proofs.machine.Forgotten.{newly_of_kept, owed_of_kept, open_sum_of_kept}
+use Rattle.qa_history.proofs.machine.Forward.{persistent_is_forward}
+use Rattle.qa_history.proofs.machine.Pairs.{at_one, of_each, each_turned, part_turned, turned}
 use Rattle.std.proofs.lemmas.List.Sums.{sum_by-cons, sum_by_push}
-use Rattle.qa_laws.proofs.machine.Settled.{closed_stays}
-use Rattle.qa_laws.proofs.machine.Walks.{turned_has}
-use Rattle.qa_laws.specs.machine.Parts.{AreClosed, AreDropped}
+use Rattle.qa_history.proofs.machine.Settled.{closed_stays}
+use Rattle.qa_history.proofs.machine.Walks.{turned_has}
+use Rattle.qa_history.specs.machine.Parts.{AreClosed, AreDropped}
 
 -- ---- the parts of a list that is turned
 

@@ -12,20 +12,20 @@ use Rattle.qa_base.specs.machine.Estimates.{sampled}
 use Rattle.qa_base.specs.machine.Detection.{is_found, is_found_at, is_left, is_left_at, is_old, may_be_spared, is_unsettled}
 use Rattle.qa_base.specs.machine.Loss.{owed, is_owed, is_free, nameable, is_nameable, is_open, detection}
 use Rattle.qa_base.specs.machine.Numbers.{is_in, has_all}
-use Rattle.qa_laws.specs.machine.Declared.{is_named_free}
-use Rattle.qa_laws.specs.machine.Oldest.{is_flying}
+use Rattle.qa_history.specs.machine.Declared.{is_named_free}
+use Rattle.qa_history.specs.machine.Oldest.{is_flying}
 use Rattle.qa_base.specs.machine.Packets.{Packet, packets, is_of, is_some_packet, is_followed_by, is_acknowledged, is_declared_lost, is_discarded, is_newly_acknowledged, largest_acknowledged}
 use Rattle.qa_base.specs.machine.Detection.{is_past_threshold}
 use Rattle.qa_base.specs.machine.Rtt.{Estimate}
 use Rattle.qa_base.specs.machine.Rules.{IsRun}
 use Rattle.qa_base.specs.values.Settings.{Settings, is_may}
-use Rattle.qa_laws.proofs.machine.Courses.{is_space_same, is_space_is, same_number}
+use Rattle.qa_history.proofs.machine.Courses.{is_space_same, is_space_is, same_number}
 use Rattle.qa_base.proofs.machine.WindowBound.{placed}
-use Rattle.qa_laws.proofs.machine.Detection.{asked_was_flying, space_of_detection}
-use Rattle.qa_laws.proofs.machine.Pairs.{at_one, has_first, has_later}
+use Rattle.qa_history.proofs.machine.Detection.{asked_was_flying, space_of_detection}
+use Rattle.qa_history.proofs.machine.Pairs.{at_one, has_first, has_later}
 use Rattle.qa_base.proofs.machine.Ranges.{has_all_names}
 use Rattle.qa_base.proofs.machine.RunLaws.{all_hold}
-use Rattle.qa_laws.proofs.machine.Settled.{opens_from, owed_has, nameable_is, nameable_space, names_all, owed_is_named, has_some}
+use Rattle.qa_history.proofs.machine.Settled.{opens_from, owed_has, nameable_is, nameable_space, names_all, owed_is_named, has_some}
 
 -- ---- what one more event makes of a packet
 

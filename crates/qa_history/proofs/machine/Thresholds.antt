@@ -8,7 +8,7 @@ use Rattle.qa_base.specs.machine.Packets.{Packet, packets, is_of}
 use Rattle.qa_base.specs.machine.Rtt.{Estimate, loss_delay}
 use Rattle.qa_base.specs.machine.Rules.{IsRun}
 use Rattle.qa_base.specs.values.Settings.{Settings, granularity, is_may}
-use Rattle.qa_laws.proofs.machine.Courses.{lower_is_earlier}
+use Rattle.qa_history.proofs.machine.Courses.{lower_is_earlier}
 
 -- what was sent no later is no less old
 pub earlier_is_old : (c : Settings) (r : Estimate) (now : ℕ) (p q : Packet) → q.time ≤ p.time → is_old c r now p ≡ true → is_old c r now q ≡ true

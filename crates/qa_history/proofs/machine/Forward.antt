@@ -5,19 +5,19 @@ use Rattle.std.proofs.lemmas.List.{reverse-reverse}
 use Rattle.std.specs.List.{AllByRecursion}
 use Rattle.std.specs.Prelude.{nat_lt}
 use Rattle.qa_base.specs.declared.event.Event.{Event}
-use Rattle.qa_laws.specs.machine.Among.{finds_apart, is_far_from, earliest, counts_as_end}
+use Rattle.qa_history.specs.machine.Among.{finds_apart, is_far_from, earliest, counts_as_end}
 use Rattle.qa_base.specs.machine.Estimates.{sampled}
 use Rattle.qa_base.specs.machine.Loss.{is_persistent}
-use Rattle.qa_laws.specs.machine.Sequence.{EachTwo, WasSentBefore}
+use Rattle.qa_history.specs.machine.Sequence.{EachTwo, WasSentBefore}
 use Rattle.qa_base.specs.machine.Packets.{Packet, packets, is_acknowledged}
 use Rattle.qa_base.specs.machine.Rtt.{persistent_after}
 use Rattle.qa_base.specs.machine.Rules.{IsRun}
 use Rattle.qa_base.specs.values.Settings.{Settings, granularity}
-use Rattle.qa_laws.proofs.machine.Changes.{same_tests}
-use Rattle.qa_laws.proofs.machine.Courses.{in_order}
-use Rattle.qa_laws.proofs.machine.Pairs.{at_one, first_or_rest, has_first, has_later, two_turned, of_each}
-use Rattle.qa_laws.proofs.machine.Persistence.{AreApart, apart_of, of_apart, owed_not_covered}
-use Rattle.qa_laws.proofs.machine.Walks.{turned_has}
+use Rattle.qa_history.proofs.machine.Changes.{same_tests}
+use Rattle.qa_history.proofs.machine.Courses.{in_order}
+use Rattle.qa_history.proofs.machine.Pairs.{at_one, first_or_rest, has_first, has_later, two_turned, of_each}
+use Rattle.qa_history.proofs.machine.Persistence.{AreApart, apart_of, of_apart, owed_not_covered}
+use Rattle.qa_history.proofs.machine.Walks.{turned_has}
 
 -- p was sent before q
 abbrev Before : Packet → Packet → Type 0

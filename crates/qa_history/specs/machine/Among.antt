@@ -1,5 +1,5 @@
 -- Persistent congestion (RFC 9002, section 7.6), asked of a part of the packets that were sent.
-use Rattle.qa_laws.specs.machine.Declared.{is_lost_now}
+use Rattle.qa_history.specs.machine.Declared.{is_lost_now}
 use Rattle.std.specs.Prelude.{ℕ, ◌-◌, ◌&&◌, ◌||◌, not, nat_lt, Bool, false, List, [], ◌∷◌, filter, Option, Some, None, if◌then◌else◌}
 use Rattle.std.specs.List.{list_any}
 use Rattle.qa_base.specs.declared.event.Event.{Event}

@@ -1,7 +1,7 @@
 -- Closed packets before the oldest open one may be forgotten.
-use Rattle.qa_laws.proofs.machine.LostNow.{closed_not_lost, dropped_not_lost, lost_now_among}
+use Rattle.qa_history.proofs.machine.LostNow.{closed_not_lost, dropped_not_lost, lost_now_among}
 use Rattle.qa_base.specs.machine.Kept.{is_kept}
-use Rattle.qa_laws.specs.machine.Declared.{is_lost_now}
+use Rattle.qa_history.specs.machine.Declared.{is_lost_now}
 use Rattle.std.proofs.Common.{◌≡◌, ◌∙◌, ◌<◌, ◌+◌, ◌-◌, ℕ, List, [], ◌∷◌, ◌++◌, Bool, true, false, ◌&&◌, ◌||◌, not, add-zero, zero-add, refl, sym, ap, arith, subst, Contains, inl, inr, filter, sum_by}
 use Rattle.std.proofs.lemmas.Bool.{and_parts, both_ways, false_from_ne_true, le-ltb}
 use Rattle.std.proofs.lemmas.List.{append-nil}
@@ -12,21 +12,21 @@ use Rattle.std.specs.List.{AllByRecursion, list_any}
 use Rattle.std.specs.Prelude.{nat_lt, if◌then◌else◌}
 use Rattle.qa_base.specs.declared.event.Event.{Event}
 use Rattle.qa_base.specs.declared.event.Event.TheVariants.{Sent}
-use Rattle.qa_laws.specs.machine.Among.{are_ends_among, is_persistent_among}
+use Rattle.qa_history.specs.machine.Among.{are_ends_among, is_persistent_among}
 use Rattle.qa_base.specs.machine.Estimates.{sampled}
 use Rattle.qa_base.specs.machine.Detection.{is_end, are_ends}
 use Rattle.qa_base.specs.machine.Loss.{owed, is_owed, is_open, is_persistent, declared}
-use Rattle.qa_laws.specs.machine.Sequence.{EachTwo, WasSentBefore}
+use Rattle.qa_history.specs.machine.Sequence.{EachTwo, WasSentBefore}
 use Rattle.qa_base.specs.machine.Packets.{Packet, packets, is_acknowledged, is_newly_acknowledged, newly_acknowledged}
 use Rattle.qa_base.specs.machine.Rtt.{persistent_after}
 use Rattle.qa_base.specs.machine.Rules.{IsRun}
 use Rattle.qa_base.specs.values.Settings.{Settings, granularity, is_may}
-use Rattle.qa_laws.specs.machine.Sums.{counted, open_sum}
-use Rattle.qa_laws.proofs.machine.Closing.{owed_among}
-use Rattle.qa_laws.proofs.machine.Changes.{owed_was_flying, newly_was_open}
-use Rattle.qa_laws.proofs.machine.Courses.{in_order}
-use Rattle.qa_laws.proofs.machine.Pairs.{at_one, of_each, part_is, none_left, each_weaker, first_or_rest}
-use Rattle.qa_laws.specs.machine.Parts.{AreClosed, AreDropped}
+use Rattle.qa_history.specs.machine.Sums.{counted, open_sum}
+use Rattle.qa_history.proofs.machine.Closing.{owed_among}
+use Rattle.qa_history.proofs.machine.Changes.{owed_was_flying, newly_was_open}
+use Rattle.qa_history.proofs.machine.Courses.{in_order}
+use Rattle.qa_history.proofs.machine.Pairs.{at_one, of_each, part_is, none_left, each_weaker, first_or_rest}
+use Rattle.qa_history.specs.machine.Parts.{AreClosed, AreDropped}
 
 -- ---- by parts of a list
 

@@ -10,13 +10,13 @@ use Rattle.qa_base.specs.values.Events.{discards}
 use Rattle.qa_base.specs.machine.Estimates.{sampled}
 use Rattle.qa_base.specs.machine.Detection.{is_found, is_found_at, is_past_threshold, is_unsettled}
 use Rattle.qa_base.specs.machine.Loss.{owed, is_owed, detection}
-use Rattle.qa_laws.specs.machine.Oldest.{is_flying, is_asked, NoneFlies}
+use Rattle.qa_history.specs.machine.Oldest.{is_flying, is_asked, NoneFlies}
 use Rattle.qa_base.specs.machine.Packets.{Packet, packets, is_of, is_discarded, largest_acknowledged}
 use Rattle.qa_base.specs.machine.Rules.{IsRun}
 use Rattle.qa_base.specs.values.Settings.{Settings}
-use Rattle.qa_laws.proofs.machine.Courses.{is_space_is}
-use Rattle.qa_laws.proofs.machine.Detection.{asked, owed_is_front, asked_was_flying, space_of_detection}
-use Rattle.qa_laws.proofs.machine.Pairs.{at_one, of_each, none_left, each_turned}
+use Rattle.qa_history.proofs.machine.Courses.{is_space_is}
+use Rattle.qa_history.proofs.machine.Detection.{asked, owed_is_front, asked_was_flying, space_of_detection}
+use Rattle.qa_history.proofs.machine.Pairs.{at_one, of_each, none_left, each_turned}
 
 -- ---- the list turned has the same packets
 

@@ -15,21 +15,21 @@ use Rattle.qa_base.specs.values.Events.{is_space}
 use Rattle.qa_base.specs.machine.Estimates.{rtt, sampled}
 use Rattle.qa_base.specs.machine.Detection.{is_found, found_at, is_past_threshold, is_unsettled, looks_at, old_at}
 use Rattle.qa_base.specs.machine.Loss.{owed, is_owed, is_open, detection}
-use Rattle.qa_laws.specs.machine.Oldest.{is_flying, due_of, is_asked}
-use Rattle.qa_laws.specs.machine.Sequence.{EachTwo}
+use Rattle.qa_history.specs.machine.Oldest.{is_flying, due_of, is_asked}
+use Rattle.qa_history.specs.machine.Sequence.{EachTwo}
 use Rattle.qa_base.specs.machine.Packets.{Packet, packets, packets_of, is_of, is_some_packet, is_discarded, acknowledges_new, largest_acknowledged, is_below_largest}
 use Rattle.qa_base.specs.machine.Rtt.{Estimate, pto_base}
 use Rattle.qa_base.specs.machine.Rules.{IsRun}
 use Rattle.qa_base.specs.values.Settings.{Settings, early, granularity}
 use Rattle.qa_base.specs.machine.Handshake.{is_confirmed, is_validated, has_keys}
 use Rattle.qa_base.specs.machine.Timer.{Due, is_kind, deadline, awaits_acknowledgment, last_eliciting, last_set, pto_count, earlier, earliest_loss, earliest_pto, anti_deadlock, loss_due, pto_due}
-use Rattle.qa_laws.proofs.machine.Courses.{IsEarlier, in_order_of, is_space_is}
-use Rattle.qa_laws.proofs.machine.Deadline.{first_passes, loss_due_is}
-use Rattle.qa_laws.proofs.machine.Thresholds.{earlier_is_past_threshold}
-use Rattle.qa_laws.proofs.machine.Pairs.{two_weaker, two_of_part, two_turned, part_turned, part_of_part, part_is, front}
+use Rattle.qa_history.proofs.machine.Courses.{IsEarlier, in_order_of, is_space_is}
+use Rattle.qa_history.proofs.machine.Deadline.{first_passes, loss_due_is}
+use Rattle.qa_history.proofs.machine.Thresholds.{earlier_is_past_threshold}
+use Rattle.qa_history.proofs.machine.Pairs.{two_weaker, two_of_part, two_turned, part_turned, part_of_part, part_is, front}
 use Rattle.qa_base.proofs.machine.RunLaws.{all_hold}
-use Rattle.qa_laws.proofs.machine.Settled.{opens_is, opens_from, unsettled_before, owed_has, has_some}
-use Rattle.qa_laws.proofs.machine.Deadline.{oldest_flying}
+use Rattle.qa_history.proofs.machine.Settled.{opens_is, opens_from, unsettled_before, owed_has, has_some}
+use Rattle.qa_history.proofs.machine.Deadline.{oldest_flying}
 
 -- ---- what is owed is a front
 
