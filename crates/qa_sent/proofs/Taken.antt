@@ -384,6 +384,20 @@ pub left_of : (test : SentPacket → Bool) (number : ℕ) (qs ps : List SentPack
     → (n : ℕ) → is_in (numbers_of test qs) n ≡ true → (is_in (numbers_of test ps) n ≡ true) × (n ≡ number → ⊥)
 left_of test number qs ps out goes n is = (goes n is, λ same. both_ways (is_in (numbers_of test qs) number) out (subst (λ (m : ℕ). is_in (numbers_of test qs) m ≡ true) same is))
 
+-- ---- none is taken
+
+never_below : (flies : Bool) (n e : ℕ) → e ≡ 0 → (flies && nat_lt n e) ≡ false
+never_below true n e is = (let out : nat_lt n e ≡ false = grind (arith, nat_tests) in out)
+never_below false n e is = refl
+
+not_taken : (free : FreePackets) (ranges : List (ℕ × ℕ)) → free.end ≡ 0 → (p : SentPacket) → taken_by free ranges p ≡ p
+not_taken free ranges is p = ap (λ b. if b && is_named ranges p.number then with_fate Owed p else p) (never_below (is_flying free.space p) p.number free.end is)
+
+-- where nothing is free
+pub nothing_taken : (free : FreePackets) (ranges : List (ℕ × ℕ)) (ps : List SentPacket) → free.end ≡ 0 → map (taken_by free ranges) ps ≡ ps
+nothing_taken free ranges [] is = refl
+nothing_taken free ranges (p ∷ ps) is = ap (λ q. q ∷ map (taken_by free ranges) ps) (not_taken free ranges is p) ∙ ap (λ qs. p ∷ qs) (nothing_taken free ranges ps is)
+
 -- ---- how many are taken
 
 count_if : (free : FreePackets) (ranges : List (ℕ × ℕ)) (p : SentPacket) (b : Bool) → (is_free_by free p && is_named ranges p.number) ≡ b

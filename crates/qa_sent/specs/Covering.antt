@@ -1,5 +1,6 @@
 -- An acknowledgment of the numbers of one range, by which those of all its ranges are acknowledged.
-use Rattle.std.specs.Prelude.{ℕ, ◌&&◌, nat_le, Bool, List, [], ◌∷◌, Option, Some, None, if◌then◌else◌, ◌<◌}
+use Rattle.std.specs.Prelude.{ℕ, ◌&&◌, nat_le, Bool, List, [], ◌∷◌, Option, Some, None, if◌then◌else◌, ◌<◌, ◌≤◌}
+use Rattle.std.specs.List.{AllByRecursion}
 use Rattle.qa_base.specs.declared.space.Space.{Space}
 use Rattle.qa_base.specs.values.Events.{is_space}
 use Rattle.qa_sent.specs.Fates.{is_open, is_waiting}
@@ -14,6 +15,15 @@ is_between lo hi n = nat_le lo n && nat_le n hi
 abbrev pub first_between : ℕ → ℕ → List (ℕ × ℕ) → Option (ℕ × ℕ)
 first_between lo hi [] = None
 first_between lo hi (e ∷ es) = if is_between lo hi e.0 then Some e else first_between lo hi es
+
+-- the number of the first of these entries, and above all numbers where there is none
+abbrev pub first_number : List (ℕ × ℕ) → ℕ
+first_number [] = 18446744073709551615
+first_number (e ∷ es) = e.0
+
+-- each of these entries has this number or a higher one
+abbrev pub AreFrom : ℕ → List (ℕ × ℕ) → Type 0
+AreFrom n es = AllByRecursion (λ e. n ≤ e.0) es
 
 abbrev pub covered_in : Space → ℕ → ℕ → SentPacket → SentPacket
 covered_in s lo hi p = if is_waiting s p && is_between lo hi p.number then with_fate Acknowledged p else p

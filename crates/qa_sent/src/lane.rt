@@ -1,5 +1,6 @@
 //! What is kept for one packet number space beside the packets.
 use crate::packet::SentPacket;
+use qa_base::Span;
 use std::alloc::Global;
 use std::collections::BTreeMap;
 
@@ -19,6 +20,7 @@ pub(crate) struct Lane {
 
 impl Lane {
     ghost use Rattle.std.specs.Prelude.{◌≡◌, ◌+◌, ◌^◌, ◌<◌, ◌≤◌, []};
+    ghost use Rattle.qa_sent.specs.Covering.{AreFrom, first_number};
     ghost use Rattle.qa_sent.specs.Fates.{flight_bytes};
     ghost use Rattle.qa_sent.specs.Lanes.{awaiting_count};
 
@@ -35,6 +37,29 @@ impl Lane {
             awaiting: 0,
             in_flight: 0,
         }
+    }
+
+    /// The lowest number of those that an acknowledgment would still cover, and above all numbers where
+    /// there is none.
+    pub(crate) fn first_number(&self) -> u64
+        ensures first { result ≡ first_number self.now.unacknowledged.entries }
+        ensures from { AreFrom result self.now.unacknowledged.entries }
+    {
+        match self.unacknowledged.first_key_value() {
+            None => u64::MAX,
+            Some((number, _)) => *number,
+        }
+    }
+
+    /// A number below which there is none of those that an acknowledgment would still cover: the lowest
+    /// of them where there are several spans to be passed over by it, and else 0, which costs nothing.
+    pub(crate) fn first_for(&self, spans: &[Span]) -> u64
+        ensures { AreFrom result self.now.unacknowledged.entries }
+    {
+        if spans.len() < 2 {
+            return 0;
+        }
+        self.first_number()
     }
 
     /// A packet enters the sums, if it is open.

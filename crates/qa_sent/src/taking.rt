@@ -7,7 +7,7 @@ ghost use Rattle.qa_sent.specs.Free.{is_free_by, numbers_of, taken_by};
 ghost use Rattle.qa_sent.specs.Held.{AreLosses, AreOrdered, IsIndexed, IsLane};
 
 use crate::advancing::advance;
-use crate::covering::first_in;
+use crate::covering::entry_at;
 use crate::fate::Fate;
 use crate::free::FreePackets;
 use crate::lane::Lane;
@@ -41,7 +41,7 @@ pub(crate) fn take_in_lane(
     losses
 }
 
-/// Takes them, one number after another.
+/// Takes them, one number after another. Where nothing is free it looks at none.
 pub(crate) fn take_all(
     packets: &mut VecDeque<SentPacket>,
     dropped: u64,
@@ -60,6 +60,9 @@ pub(crate) fn take_all(
     ensures next { lane.new.next ≡ lane.old.next }
     ensures losses { AreLosses dropped packets.new.items result }
 {
+    if free.end == 0 {
+        return losses;
+    }
     let mut losses = losses;
     let mut named = NamedNumbers::start(spans);
     while let Some(number) = named.next(spans) {
@@ -94,7 +97,7 @@ pub(crate) fn take_number(
     ensures losses { AreLosses dropped packets.new.items result }
     ensures space { result.space ≡ free.space }
 {
-    match first_in(&lane.unacknowledged, number, number) {
+    match entry_at(&lane.unacknowledged, number) {
         None => losses,
         Some(entry) => {
             let packet = &mut packets[(entry.1 - dropped) as usize];

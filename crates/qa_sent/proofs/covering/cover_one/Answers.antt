@@ -1,12 +1,13 @@
-use Rattle.std.proofs.Common.{◌≡◌, ◌∙◌, ◌-◌, ap, refl, length, arith}
-use Rattle.std.specs.Map.{remove_entry}
+use Rattle.std.proofs.Common.{◌≡◌, ◌∙◌, ◌-◌, ℕ, List, ap, refl, subst, length, arith}
+use Rattle.std.specs.List.Sorted.{IsStrictlySortedBy}
+use Rattle.std.specs.Map.{keys_of, remove_entry}
 use Rattle.std.specs.BTreeMap.{is_at}
 use Rattle.std.specs.Ordering.{nat_cmp}
 use Rattle.std.specs.VecDeque.{deque_len}
-use Rattle.qa_sent.specs.Covering.{is_between}
+use Rattle.qa_sent.specs.Covering.{first_between, is_between}
 use Rattle.qa_sent.specs.declared.fate.Fate.TheVariants.{Acknowledged}
 use Rattle.qa_sent.proofs.Acknowledged.{cover_written}
-use Rattle.qa_sent.proofs.Entries.{found_at, found_here, in_range, removed_length}
+use Rattle.qa_sent.proofs.Entries.{found_at, found_here, in_range, none_left, removed_length}
 use Rattle.qa_sent.proofs.Sums.{entry_closed, weighed}
 use Rattle.qa_sent.proofs.covering.cover_one.Goals as goal
 
@@ -50,6 +51,13 @@ returns-clause-fewer c =
     let is : length c.remove.new.self.entries ≡ length (remove_entry (is_at (nat_cmp c.args.number)) c.args.lane.now.unacknowledged.entries) =
     ap length (c.remove.ensures.entries ∙ ap (remove_entry (is_at (nat_cmp c.args.number))) c.take_off.ensures.entries) in
     omega (arith, less, is)
+
+pub returns-clause-last : goal.returns-clause-last
+returns-clause-last c = λ lo is.
+    let n = c.args.number in
+    let sorted = subst (λ (es : List (ℕ × ℕ)). IsStrictlySortedBy nat_cmp (keys_of es)) c.take_off.ensures.entries c.len-entries.ensures.ordered in
+    ap (first_between lo n) (c.remove.ensures.entries ∙ ap (remove_entry (is_at (nat_cmp n))) c.take_off.ensures.entries)
+    ∙ none_left lo n c.args.place c.args.lane.now.unacknowledged.entries sorted is
 
 pub returns-clause-indexed : goal.returns-clause-indexed
 returns-clause-indexed c =
