@@ -1,0 +1,10 @@
+pub mod Owing
+pub mod Recovering
+pub mod Same
+pub mod Completed
+pub mod Settling
+pub mod Deadlines
+pub mod Since
+pub mod Late
+pub mod Rules
+pub mod Runs
