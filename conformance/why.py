@@ -157,7 +157,8 @@ def why(name: str, trace: bytes, report: str) -> bytes:
 
 def shown(number: int, line: bytes) -> bytes:
     """A line with its number; the first bytes of one that is long."""
-    return f"  {number} | ".encode() + printed(line[:SHOWN_BYTES]) + (b" ..\n" if len(line) > SHOWN_BYTES else b"\n")
+    end = b" ..\n" if len(line) > SHOWN_BYTES else b"\n"
+    return f"  {number} | ".encode() + printed(line[:SHOWN_BYTES]) + end
 
 
 # Lines that cannot be read.
@@ -330,9 +331,9 @@ def deed_of(sender: Sender, event: Event, rule: Rule, field: str) -> str:
 def facts_of(sender: Sender, event: Event, rule: Rule, field: str) -> str:
     """The facts of a rule, a line each."""
     lines = "".join(f"  {it}\n" for it in facts(sender, event, rule, field))
-    if rule in (Rule.LOSS_OWED, Rule.LOSS_NOT_OWED, Rule.LOSS_SET):
-        return owed_of(sender) + lines
-    return lines
+    if rule in (Rule.LOSS_NOT_OWED, Rule.LOSS_SET):
+        return owed_of(sender) + free_of(sender) + lines
+    return owed_of(sender) + lines if rule == Rule.LOSS_OWED else lines
 
 
 def facts(sender: Sender, event: Event, rule: Rule, field: str) -> Iterable[str]:
@@ -426,6 +427,16 @@ def owed_of(sender: Sender) -> str:
     runs = runs_of([[number, number] for number in sender.owed_numbers])
     space = sender.detection.space if sender.detection else ""
     return f"  owed: {space}{runs_text(runs)}\n"
+
+
+def free_of(sender: Sender) -> str:
+    """What is free, where the header lets the sender spare packets."""
+    if not sender.settings.may_spare:
+        return ""
+    if sender.detection is None or not sender.free:
+        return "  nothing is free\n"
+    runs = runs_of([[it.number, it.number] for it in sender.free])
+    return f"  free: {sender.detection.space}{runs_text(runs)}\n"
 
 
 # Leave to send.

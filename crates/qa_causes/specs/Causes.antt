@@ -1,5 +1,5 @@
 -- Why an event breaks a rule: what the rule asked of the history, and what it was answered.
-use Rattle.std.specs.Prelude.{ℕ, ◌*◌, ◌&&◌, Bool, true, false, List, [], ◌∷◌, find, reverse, is_some, Option, Some, None, option_map}
+use Rattle.std.specs.Prelude.{ℕ, ◌*◌, ◌&&◌, Bool, true, false, List, [], ◌∷◌, find, reverse, is_some, Option, Some, None, option_map, if◌then◌else◌}
 use Rattle.qa_base.specs.declared.event.Event.{Event}
 use Rattle.qa_base.specs.declared.event.Event.TheVariants.{Sent, Ack, Lost}
 use Rattle.qa_base.specs.declared.rule.Rule.{Rule}
@@ -12,18 +12,19 @@ use Rattle.qa_base.specs.machine.Breaches.{numbers}
 use Rattle.qa_base.specs.machine.Estimates.{rtt}
 use Rattle.qa_base.specs.machine.Kept.{numbers_of}
 use Rattle.qa_base.specs.machine.Leave.{probe_spent, recovery_spent}
-use Rattle.qa_base.specs.machine.Loss.{bytes_in_flight, is_open, nameable, owed}
+use Rattle.qa_base.specs.machine.Loss.{bytes_in_flight, detection, free, is_open, nameable, owed}
 use Rattle.qa_base.specs.machine.Packets.{Packet, greatest_of, packets_of}
 use Rattle.qa_base.specs.machine.Probes.{probe_due}
 use Rattle.qa_base.specs.machine.State.{totals}
 use Rattle.qa_base.specs.machine.Timer.{Due, deadline, last_eliciting, last_set, packet_deadline, pto_count, set_since, time_of_moment}
 use Rattle.qa_base.specs.machine.Window.{acknowledged_since_collapse, other_window, window}
 use Rattle.qa_base.specs.values.Constants.{minimum_window, probe_datagrams}
-use Rattle.qa_base.specs.values.Settings.{Settings, early, in_unit}
+use Rattle.qa_base.specs.values.Settings.{Settings, early, in_unit, is_may}
 use Rattle.qa_causes.specs.declared.cause.Basis.{Basis}
 use Rattle.qa_causes.specs.declared.cause.Basis.TheVariants as basis
 use Rattle.qa_causes.specs.declared.cause.Cause.{Cause}
 use Rattle.qa_causes.specs.declared.cause.Cause.TheVariants as cause
+use Rattle.qa_causes.specs.declared.cause.Free.{Free}
 use Rattle.qa_causes.specs.declared.cause.Oldest.{Oldest}
 use Rattle.qa_causes.specs.declared.cause.Owed.{Owed}
 use Rattle.qa_ranges.specs.Missing.{first_outside, others, runs_of, unnamed}
@@ -48,6 +49,22 @@ nameable_numbers c h = reverse (numbers (nameable c h))
 
 abbrev pub owed_now : Settings → List Event → Owed
 owed_now c h = record { space = owed_space c h; numbers = runs_of (owed_numbers c h) }
+
+-- ---- what is free
+
+-- the numbers of those that the next Lost line may name beyond what is owed
+abbrev pub free_numbers : Settings → List Event → List ℕ
+free_numbers c h = reverse (numbers (free c h))
+
+-- the space in which the last event looked for losses
+abbrev pub searched : Settings → List Event → Option Space
+searched c h = option_map (λ d. d.0) (detection c h)
+
+-- where the header lets a sender spare packets
+abbrev pub free_now : Settings → List Event → Option Free
+free_now c h = if is_may c.options.loss_by_number then Some (record { space = searched c h; numbers = runs_of (free_numbers c h) }) else None
+
+-- ---- what a Lost line names
 
 abbrev pub lost_ranges : Event → List (ℕ × ℕ)
 lost_ranges (Lost time space ranges) = ranges
@@ -119,9 +136,9 @@ limited_since c h = since_if_limited c.options.timer_late (set_since c h)
 abbrev pub cause_of : Settings → List Event → Event → Rule → Cause
 cause_of c h e rule.TimeBack = cause.TimeBack (time_of_moment h)
 cause_of c h e rule.LossOwed = cause.LossOwed (owed_now c h)
-cause_of c h e rule.LossNotOwed = cause.LossNotOwed (owed_now c h)
+cause_of c h e rule.LossNotOwed = cause.LossNotOwed (owed_now c h) (free_now c h)
 cause_of c h e rule.LossSet =
-    cause.LossSet (owed_now c h) (runs_of (unnamed (lost_ranges e) (owed_numbers c h))) (others (lost_ranges e) (nameable_numbers c h))
+    cause.LossSet (owed_now c h) (free_now c h) (runs_of (unnamed (lost_ranges e) (owed_numbers c h))) (others (lost_ranges e) (nameable_numbers c h))
 cause_of c h e rule.SpaceGone = cause.SpaceGone
 cause_of c h e rule.NumberNotHigher = cause.NumberNotHigher (greatest_before h e)
 cause_of c h e rule.PastWindow = cause.PastWindow (bytes_in_flight c h) (window c h) c.options.window_overshoot

@@ -11,6 +11,16 @@ pub struct Owed {
     pub numbers: Ranges,
 }
 
+/// What the next Lost line may name beyond what is owed, where the header lets a sender spare such
+/// packets (RFC 9002, section 6.1.1).
+#[derive(Drop)]
+pub struct Free {
+    /// The space in which the last event looked for losses; None where it did not.
+    pub space: Option<Space>,
+    /// Their numbers.
+    pub numbers: Ranges,
+}
+
 /// The oldest packet of a space that is open and in flight.
 #[derive(Clone, Copy)]
 pub struct Oldest {
@@ -76,15 +86,19 @@ pub enum Cause {
         /// What is owed.
         owed: Owed,
     },
-    /// V3: nothing is owed in the space of the Lost line.
+    /// V3: nothing is owed in the space of the Lost line, nor is it free.
     LossNotOwed {
         /// What is owed, in another space or none.
         owed: Owed,
+        /// What is free, in another space or none; None where the header lets a sender spare nothing.
+        free: Option<Free>,
     },
-    /// V4: the Lost line does not name exactly what is owed.
+    /// V4: the Lost line does not name all that is owed, or names what is neither owed nor free.
     LossSet {
         /// What is owed.
         owed: Owed,
+        /// What is free; None where the header lets a sender spare nothing.
+        free: Option<Free>,
         /// The numbers of it that the line does not name.
         unnamed: Ranges,
         /// The numbers that the line names and that are neither owed nor free.

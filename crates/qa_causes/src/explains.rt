@@ -5,7 +5,7 @@ ghost use Rattle.qa_base.specs.values.Settings.{Settings};
 ghost use Rattle.qa_causes.specs.Causes as causes;
 
 use crate::cause::{Cause, Owed};
-use qa_base::{Event, Rule};
+use qa_base::{Event, Rule, TimeUnit};
 use qa_ledger::Ledger;
 use std::alloc::AllocError;
 
@@ -24,4 +24,9 @@ pub trait Explains: Ledger {
     fn owed(&self) -> Result<Owed, AllocError>
         ensures { Self.has_failed self.now ≡ false → IfOk result (λ owed. (c : Settings)
             (h : List AnEvent) → Self.stands self.now c h → owed ≡ causes.owed_now c h) };
+
+    /// The unit of the trace's times.
+    fn unit(&self) -> TimeUnit
+        ensures { Self.has_failed self.now ≡ false → (c : Settings) (h : List AnEvent)
+            → Self.stands self.now c h → result ≡ c.unit };
 }

@@ -28,6 +28,17 @@ pub trait Facts: State {
         ensures { IfOk result (λ found. (c : Settings) (h : List AnEvent)
             → Self.tells self.now c h → found.items ≡ causes.nameable_numbers c h) };
 
+    /// The numbers of those of them that are free, in the order of sending. `AllocError` comes where it is
+    /// out of memory.
+    fn free_numbers(&self) -> Result<Vec<PacketNumber>, AllocError>
+        ensures { IfOk result (λ found. (c : Settings) (h : List AnEvent)
+            → Self.tells self.now c h → found.items ≡ causes.free_numbers c h) };
+
+    /// The space in which the last event looked for losses; None where it did not.
+    fn searched(&self) -> Option<Space>
+        ensures { (c : Settings) (h : List AnEvent) → Self.tells self.now c h
+            → result ≡ causes.searched c h };
+
     /// The space of those that are owed; None where nothing is.
     fn owed_space(&self) -> Option<Space>
         ensures { (c : Settings) (h : List AnEvent) → Self.tells self.now c h

@@ -1,5 +1,5 @@
 //! The cause of a refusal, from the events before the event.
-ghost use Rattle.std.specs.Prelude.{◌≡◌, List, IfOk};
+ghost use Rattle.std.specs.Prelude.{◌≡◌, List, IfOk, Some};
 ghost use Rattle.qa_base.specs.declared.event.Event.{Event as AnEvent};
 ghost use Rattle.qa_base.specs.machine.Loss as loss;
 ghost use Rattle.qa_base.specs.machine.State as states;
@@ -9,7 +9,7 @@ ghost use Rattle.qa_base.specs.values.Settings.{Settings, in_unit};
 ghost use Rattle.qa_causes.specs.Causes as causes;
 ghost use Rattle.qa_ranges.specs.Missing as sets;
 
-use crate::cause::{Cause, Owed};
+use crate::cause::{Cause, Free, Owed};
 use crate::deadline::{timer_early, timer_late};
 use crate::facts::Facts;
 use qa_base::constants::{PROBE_DATAGRAMS, minimum_window};
@@ -42,33 +42,72 @@ fn owed_by(
     Ok(Owed { space, numbers })
 }
 
-/// V4: what is owed, and how the ranges differ from what they may name.
+/// What is free after these events; None where the header lets a sender spare nothing.
+fn free_of<S: Facts>(alloc: Global, state: &S) -> Result<Option<Free>, AllocError>
+    ensures { IfOk result (λ free. (c : Settings) (h : List AnEvent) → S.tells state.now c h
+        → free ≡ causes.free_now c h) }
+{
+    let header = state.header();
+    if header.options().loss_by_number.is_may() {
+        let numbers = state.free_numbers()?;
+        return free_by(alloc, state.searched(), &numbers);
+    }
+    Ok(None)
+}
+
+/// What is free, by its space and its numbers.
+fn free_by(
+    alloc: Global,
+    space: Option<Space>,
+    numbers: &[PacketNumber],
+) -> Result<Option<Free>, AllocError>
+    ensures { IfOk result (λ free. free
+        ≡ Some (record { space = space; numbers = sets.runs_of numbers.now })) }
+{
+    let numbers = Ranges::of_numbers(alloc, numbers)?;
+    Ok(Some(Free { space, numbers }))
+}
+
+/// V3: what is owed and what is free, in other spaces than that of the Lost line.
+fn loss_not_owed<S: Facts>(alloc: Global, state: &S) -> Result<Cause, AllocError>
+    ensures { IfOk result (λ cause. (c : Settings) (h : List AnEvent) → S.tells state.now c h
+        → cause ≡ Cause.LossNotOwed (causes.owed_now c h) (causes.free_now c h)) }
+{
+    let owed = owed_of(alloc, state)?;
+    let free = free_of(alloc, state)?;
+    Ok(Cause::LossNotOwed { owed, free })
+}
+
+/// V4: what is owed and what is free, and how the ranges differ from what they may name.
 fn loss_set<S: Facts>(alloc: Global, state: &S, ranges: &[Span]) -> Result<Cause, AllocError>
     ensures { IfOk result (λ cause. (c : Settings) (h : List AnEvent) → S.tells state.now c h
-        → cause ≡ Cause.LossSet (causes.owed_now c h) (sets.runs_of (sets.unnamed ranges.now (causes.owed_numbers c h))) (sets.others ranges.now (causes.nameable_numbers c h))) }
+        → cause ≡ Cause.LossSet (causes.owed_now c h) (causes.free_now c h) (sets.runs_of (sets.unnamed ranges.now (causes.owed_numbers c h))) (sets.others ranges.now (causes.nameable_numbers c h))) }
 {
     let numbers = state.owed_numbers()?;
     let nameable = state.nameable_numbers()?;
-    differing(alloc, state.owed_space(), &numbers, &nameable, ranges)
+    let owed = owed_by(alloc, state.owed_space(), &numbers)?;
+    let free = free_of(alloc, state)?;
+    differing(alloc, owed, free, &numbers, &nameable, ranges)
 }
 
-/// How the ranges differ from the numbers that are owed in a space, all of which they have to name, and
-/// from those that they may name.
+/// How the ranges differ from the numbers that are owed, all of which they have to name, and from
+/// those that they may name.
 fn differing(
     alloc: Global,
-    space: Option<Space>,
+    owed: Owed,
+    free: Option<Free>,
     numbers: &[PacketNumber],
     nameable: &[PacketNumber],
     ranges: &[Span],
 ) -> Result<Cause, AllocError>
     ensures { IfOk result (λ cause. cause
-        ≡ Cause.LossSet (record { space = space; numbers = sets.runs_of numbers.now }) (sets.runs_of (sets.unnamed ranges.now numbers.now)) (sets.others ranges.now nameable.now)) }
+        ≡ Cause.LossSet owed free (sets.runs_of (sets.unnamed ranges.now numbers.now)) (sets.others ranges.now nameable.now)) }
 {
-    let owed = owed_by(alloc, space, numbers)?;
     let unnamed = Ranges::of_unnamed(alloc, ranges, numbers)?;
     let unowed = Ranges::of_others(alloc, ranges, nameable)?;
     Ok(Cause::LossSet {
         owed,
+        free,
         unnamed,
         unowed,
     })
@@ -172,10 +211,7 @@ pub fn cause_of<S: Facts>(
             let owed = owed_of(alloc, state)?;
             Ok(Cause::LossOwed { owed })
         }
-        Rule::LossNotOwed => {
-            let owed = owed_of(alloc, state)?;
-            Ok(Cause::LossNotOwed { owed })
-        }
+        Rule::LossNotOwed => loss_not_owed(alloc, state),
         Rule::LossSet => loss_set(alloc, state, lost_ranges(event)),
         Rule::SpaceGone => Ok(Cause::SpaceGone),
         Rule::NumberNotHigher => Ok(Cause::NumberNotHigher {

@@ -12,3 +12,4 @@ pub mod Watching
 pub mod Causal
 pub mod Nameable
 pub mod Completing
+pub mod Sparing

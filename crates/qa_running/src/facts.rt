@@ -2,8 +2,9 @@
 use crate::answers::open_packets;
 use crate::freeing::free_packets;
 use crate::running::Running;
-use qa_base::{Due, Event, PacketNumber, Rule, Space, Span, Ticks};
+use qa_base::{Due, Event, PacketNumber, Rule, Space, Span, Ticks, TimeUnit};
 use qa_causes::{Cause, Explains, Facts, Oldest, Owed, cause_of, owed_of};
+use qa_ledger::State;
 use std::alloc::AllocError;
 
 impl Facts for Running {
@@ -14,6 +15,18 @@ impl Facts for Running {
     fn nameable_numbers(&self) -> Result<Vec<PacketNumber>, AllocError> {
         let free = free_packets(&self.machine.connection);
         self.machine.packets.nameable_numbers(free)
+    }
+
+    fn free_numbers(&self) -> Result<Vec<PacketNumber>, AllocError> {
+        let free = free_packets(&self.machine.connection);
+        self.machine.packets.free_numbers(free)
+    }
+
+    fn searched(&self) -> Option<Space> {
+        match self.machine.connection.detection {
+            None => None,
+            Some(detection) => Some(detection.space),
+        }
     }
 
     fn owed_space(&self) -> Option<Space> {
@@ -71,5 +84,9 @@ impl Explains for Running {
 
     fn owed(&self) -> Result<Owed, AllocError> {
         owed_of(self.alloc, self)
+    }
+
+    fn unit(&self) -> TimeUnit {
+        self.header().unit()
     }
 }

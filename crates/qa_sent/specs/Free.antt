@@ -27,6 +27,9 @@ numbers_of test ps = map (λ p. p.number) (filter test ps)
 abbrev pub nameable_numbers : FreePackets → List SentPacket → List ℕ
 nameable_numbers free ps = numbers_of (is_nameable_by free) ps
 
+abbrev pub free_numbers : FreePackets → List SentPacket → List ℕ
+free_numbers free ps = numbers_of (is_free_by free) ps
+
 -- those that are owed are of the space
 abbrev pub AreOwedIn : Space → List SentPacket → Type 0
 AreOwedIn s ps = AllByRecursion (λ p. is_owed p.fate ≡ true → is_space s p.space ≡ true) ps

@@ -3,12 +3,12 @@ ghost use Rattle.std.specs.Prelude.{◌≡◌, ◌≤◌, IfOk, length, slice_ra
 ghost use Rattle.std.specs.List.{list_all};
 ghost use Rattle.qa_base.specs.machine.Numbers.{has_all, is_in};
 ghost use Rattle.qa_base.specs.values.Events.{is_named};
-ghost use Rattle.qa_sent.specs.Free.{AreOwedIn, nameable_numbers};
+ghost use Rattle.qa_sent.specs.Free.{AreOwedIn, free_numbers, nameable_numbers};
 ghost use Rattle.qa_sent.specs.Held.{AreOrdered, IsIndexed};
 ghost use Rattle.qa_sent.specs.Walks.{owed_numbers};
 
 use crate::asking::NamedTest;
-use crate::covering::first_in;
+use crate::covering::entry_at;
 use crate::free::FreePackets;
 use crate::lane::Lane;
 use crate::named::NamedNumbers;
@@ -31,7 +31,7 @@ pub(crate) fn has_nameable(
     requires of_space { AreOwedIn free.space packets.now.items }
     ensures { result ≡ is_in (nameable_numbers free packets.now.items) number }
 {
-    match first_in(&lane.unacknowledged, number, number) {
+    match entry_at(&lane.unacknowledged, number) {
         None => false,
         Some(entry) => {
             let packet = &packets[(entry.1 - dropped) as usize];
@@ -88,6 +88,23 @@ pub(crate) fn nameable_numbers_in(
     let mut found = Vec::new(alloc);
     for packet in packets {
         if packet.is_owed() || free.has(packet) {
+            found.push(packet.number)?;
+        }
+    }
+    Ok(found)
+}
+
+/// The numbers of the packets that are free.
+pub(crate) fn free_numbers_in(
+    alloc: Global,
+    packets: &VecDeque<SentPacket>,
+    free: FreePackets,
+) -> Result<Vec<PacketNumber>, AllocError>
+    ensures { IfOk result (λ found. found.items ≡ free_numbers free packets.now.items) }
+{
+    let mut found = Vec::new(alloc);
+    for packet in packets {
+        if free.has(packet) {
             found.push(packet.number)?;
         }
     }

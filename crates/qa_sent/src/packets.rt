@@ -6,7 +6,7 @@ ghost use Rattle.qa_base.specs.values.Limits.{max_lines, max_packet_size};
 ghost use Rattle.qa_sent.specs.Covering.{AreApart};
 ghost use Rattle.qa_sent.specs.Dropping.{is_first_closed};
 ghost use Rattle.qa_sent.specs.Fates.{is_new, is_owed, is_owed_in, flight_bytes, is_awaiting, is_flying};
-ghost use Rattle.qa_sent.specs.Free.{AreOwedIn, is_free_by, nameable_numbers, taken_by};
+ghost use Rattle.qa_sent.specs.Free.{AreOwedIn, free_numbers, is_free_by, nameable_numbers, taken_by};
 ghost use Rattle.qa_sent.specs.Held.{IsBefore, unacknowledged_in};
 ghost use Rattle.qa_sent.specs.Owing.{IsOwedPart, first_space};
 ghost use Rattle.qa_sent.specs.Steps.{covered_by, found_by, declared, discarded_in, trimmed};
@@ -24,7 +24,7 @@ use crate::detecting::{Thresholds, detect_in_lane};
 use crate::discarding::discard_all;
 use crate::free::FreePackets;
 use crate::lane::Lane;
-use crate::naming::{are_nameable, are_named, nameable_numbers_in};
+use crate::naming::{are_nameable, are_named, free_numbers_in, nameable_numbers_in};
 use crate::owing::{are_apart_in, last_owed_in, owed_numbers_in};
 use crate::packet::SentPacket;
 use crate::pushing::{add, are_before};
@@ -222,6 +222,14 @@ impl SentPackets {
         ensures { IfOk result (λ found. found.items ≡ nameable_numbers free self.now.packets) }
     {
         nameable_numbers_in(self.alloc, &self.packets, free)
+    }
+
+    /// The numbers of those of them that are free, in the order of sending. `AllocError` comes where it is
+    /// out of memory.
+    pub fn free_numbers(&self, free: FreePackets) -> Result<Vec<PacketNumber>, AllocError>
+        ensures { IfOk result (λ found. found.items ≡ free_numbers free self.now.packets) }
+    {
+        free_numbers_in(self.alloc, &self.packets, free)
     }
 
     /// The space of the packets that are owed, which is one: a detection looks at the space of its

@@ -9,7 +9,7 @@ use Rattle.qa_causes.specs.declared.cause.Cause.{Cause}
 use Rattle.qa_causes.specs.declared.cause.Cause.TheVariants as cause
 use Rattle.qa_why.specs.Deadlines.{early_text, late_text, set_text}
 use Rattle.qa_why.specs.Reports.{collapse_text, metrics_text}
-use Rattle.qa_why.specs.Runs.{differing_text, owed_text}
+use Rattle.qa_why.specs.Runs.{differing_text, nameable_text, owed_text}
 use Rattle.qa_why.specs.Sending.{due_probe_text, greatest_text, probe_text, recovery_text, unsent_text, window_text}
 
 abbrev pub metric_text : Option Field → Event → Totals → ℕ → ℕ → List ℕ
@@ -19,8 +19,8 @@ metric_text (Some f) e held slack_bytes slack_time = metrics_text f e held slack
 unfoldable pub facts_text : Event → Rule → Cause → List ℕ
 facts_text e r (cause.TimeBack before) = []
 facts_text e r (cause.LossOwed o) = owed_text o
-facts_text e r (cause.LossNotOwed o) = owed_text o
-facts_text e r (cause.LossSet o unnamed unowed) = owed_text o ++ differing_text unnamed unowed
+facts_text e r (cause.LossNotOwed o f) = nameable_text o f
+facts_text e r (cause.LossSet o f unnamed unowed) = nameable_text o f ++ differing_text unnamed unowed
 facts_text e r cause.SpaceGone = []
 facts_text e r (cause.NumberNotHigher greatest) = greatest_text e greatest
 facts_text e r (cause.PastWindow in_flight window overshoot) = window_text e in_flight window overshoot

@@ -2,6 +2,7 @@
 use Rattle.std.specs.Prelude.{ℕ, nat_lt, ◌==◌, ◌-◌, codes, decimal, length, take, List, [], ◌∷◌, ◌++◌, Option, Some, None, if◌then◌else◌}
 use Rattle.qa_base.specs.declared.space.Space.{Space}
 use Rattle.qa_base.specs.values.Names.{space_name}
+use Rattle.qa_causes.specs.declared.cause.Free.{Free}
 use Rattle.qa_causes.specs.declared.cause.Owed.{Owed}
 use Rattle.qa_why.specs.Pieces.{named}
 
@@ -41,6 +42,27 @@ owed_in_text (Some s) runs = named (codes "  owed: ") (space_name s) ++ runs_lin
 -- what is owed as lost
 unfoldable pub owed_text : Owed → List ℕ
 owed_text o = owed_in_text o.space o.numbers
+
+-- the same of what is free
+unfoldable pub free_runs_text : List ℕ → List (ℕ × ℕ) → List ℕ
+free_runs_text space runs = named (codes "  free: ") space ++ runs_line [] runs
+
+abbrev pub some_free_text : List ℕ → List (ℕ × ℕ) → List ℕ
+some_free_text space [] = codes "  nothing is free\n"
+some_free_text space (run ∷ runs) = free_runs_text space (run ∷ runs)
+
+abbrev pub free_in_text : Option Space → List (ℕ × ℕ) → List ℕ
+free_in_text None runs = codes "  nothing is free\n"
+free_in_text (Some s) runs = some_free_text (space_name s) runs
+
+-- what is free, where the header lets a sender spare packets
+abbrev pub free_text : Option Free → List ℕ
+free_text None = []
+free_text (Some f) = free_in_text f.space f.numbers
+
+-- V3: what is owed, and what is free
+unfoldable pub nameable_text : Owed → Option Free → List ℕ
+nameable_text o f = owed_text o ++ free_text f
 
 -- V4: how a Lost line differs from what is owed
 unfoldable pub differing_text : List (ℕ × ℕ) → List (ℕ × ℕ) → List ℕ

@@ -4,7 +4,7 @@ ghost use Rattle.qa_why.specs.Facts as text;
 
 use crate::deadlines::{push_early, push_late, push_set};
 use crate::reports::{push_collapse, push_metrics};
-use crate::runs::{push_differing, push_owed};
+use crate::runs::{push_differing, push_nameable, push_owed};
 use crate::sending::{
     push_due_probe, push_greatest, push_probe, push_recovery, push_unsent, push_window,
 };
@@ -44,15 +44,15 @@ pub fn push_facts(
         Cause::TimeBack { .. } | Cause::SpaceGone | Cause::TimerNotSet | Cause::NotConfirmed => {
             Ok(())
         }
-        Cause::LossOwed { owed } | Cause::LossNotOwed { owed } | Cause::OwedAtEnd { owed } => {
-            push_owed(out, owed)
-        }
+        Cause::LossOwed { owed } | Cause::OwedAtEnd { owed } => push_owed(out, owed),
+        Cause::LossNotOwed { owed, free } => push_nameable(out, owed, free),
         Cause::LossSet {
             owed,
+            free,
             unnamed,
             unowed,
         } => {
-            push_owed(out, owed)?;
+            push_nameable(out, owed, free)?;
             push_differing(out, unnamed, unowed)
         }
         Cause::NumberNotHigher { greatest } => push_greatest(out, event, *greatest),

@@ -58,7 +58,7 @@ fn push_field(
 }
 
 /// Whether a reported value differs from the machine's by more than the slack.
-fn differs(slack: u128, reported: u64, held: Option<u64>) -> bool
+pub fn differs(slack: u128, reported: u64, held: Option<u64>) -> bool
     ensures { result ≡ metrics.differs slack (Some reported) held }
 {
     match held {
@@ -127,7 +127,7 @@ fn push_time_differences(
 }
 
 /// Whether the value is the congestion controller's.
-fn is_of_controller(field: Field) -> bool
+pub fn is_of_controller(field: Field) -> bool
     ensures { result ≡ text.is_of_controller field }
 {
     matches!(field, Field::Window | Field::Ssthresh)

@@ -4,7 +4,7 @@ ghost use Rattle.qa_why.specs.Runs as text;
 
 use crate::pieces::{push_name, push_words};
 use qa_base::Span;
-use qa_causes::{Owed, Ranges};
+use qa_causes::{Free, Owed, Ranges};
 use std::alloc::AllocError;
 use std::fmt::Write;
 
@@ -86,6 +86,49 @@ pub fn push_owed(out: &mut String, owed: &Owed) -> Result<(), AllocError>
             push_runs_line(out, "", owed.numbers.as_slice())
         }
     }
+}
+
+#[tactic(auto, unfolding(crate::specs::Runs::free_runs_text))]
+fn push_free_runs(out: &mut String, space: &str, runs: &[Span]) -> Result<(), AllocError>
+    ensures { OnOk result (string_bytes out.new
+        ≡ string_bytes out.old ++ text.free_runs_text space.now runs.now) }
+{
+    push_name(out, "  free: ", space)?;
+    push_runs_line(out, "", runs)
+}
+
+fn push_some_free(out: &mut String, space: &str, runs: &Ranges) -> Result<(), AllocError>
+    ensures { OnOk result (string_bytes out.new
+        ≡ string_bytes out.old ++ text.some_free_text space.now runs.now) }
+{
+    match runs.as_slice() {
+        [] => push_words(out, "  nothing is free\n"),
+        runs => push_free_runs(out, space, runs),
+    }
+}
+
+/// What is free, where the header lets a sender spare packets (RFC 9002, section 6.1.1).
+fn push_free(out: &mut String, free: &Option<Free>) -> Result<(), AllocError>
+    ensures { OnOk result (string_bytes out.new
+        ≡ string_bytes out.old ++ text.free_text free.now) }
+{
+    let Some(free) = free else {
+        return Ok(());
+    };
+    match free.space {
+        None => push_words(out, "  nothing is free\n"),
+        Some(space) => push_some_free(out, space.name(), &free.numbers),
+    }
+}
+
+/// V3: what is owed, and what is free.
+#[tactic(auto, unfolding(crate::specs::Runs::nameable_text))]
+pub fn push_nameable(out: &mut String, owed: &Owed, free: &Option<Free>) -> Result<(), AllocError>
+    ensures { OnOk result (string_bytes out.new
+        ≡ string_bytes out.old ++ text.nameable_text owed.now free.now) }
+{
+    push_owed(out, owed)?;
+    push_free(out, free)
 }
 
 /// V4: how a Lost line differs from what is owed.

@@ -6,6 +6,7 @@ ghost use Rattle.qa_why_command.specs.Asked.{is_shown, is_text};
 
 use clap::error::ErrorKind;
 use clap::{Arg, ArgAction, ArgMatches, Command, Error};
+use qa_why_trace::Form;
 use std::alloc::{AllocError, Global};
 
 /// The arguments, by the names that the parser has for them.
@@ -13,12 +14,16 @@ const FILE: &str = "FILE";
 
 const QUIET: &str = "quiet";
 
+const JSON: &str = "json";
+
 /// The version of the program.
 const VERSION: &str = "0.3.0";
 
 /// Which traces to tell of, and how.
 #[derive(Drop)]
 pub struct Inquiry<'a> {
+    /// In which form.
+    pub form: Form,
     /// Nothing is to be written of accepted traces.
     pub quiet: bool,
     /// The names of files; none for standard input.
@@ -53,7 +58,13 @@ fn inquiry_of<'a>(alloc: Global, matches: &ArgMatches<'a>) -> Result<Inquiry<'a>
         Some(names) => Vec::from_slice(alloc, names)?,
         None => Vec::new(alloc),
     };
+    let form = if matches.get_flag(JSON) {
+        Form::Json
+    } else {
+        Form::Text
+    };
     Ok(Inquiry {
+        form,
         quiet: matches.get_flag(QUIET),
         files,
     })
@@ -80,6 +91,11 @@ fn parser<'a>(alloc: Global) -> Result<Command<'a>, AllocError> {
         .long(QUIET)
         .help("Write nothing of accepted traces")
         .action(ArgAction::SetTrue);
+    let json = Arg::new(alloc, JSON)
+        .short('j')
+        .long(JSON)
+        .help("Write a JSON object for each trace, on one line")
+        .action(ArgAction::SetTrue);
     let files = Arg::new(alloc, FILE)
         .help("A trace; - is standard input, which is also read where no file is named")
         .action(ArgAction::Append);
@@ -90,6 +106,7 @@ fn parser<'a>(alloc: Global) -> Result<Command<'a>, AllocError> {
         .after_help(
             "The exit status is 0 where all traces are accepted, 1 where one is refused,\n2 where one cannot be read, 3 where a file or a stream failed, and 64 where\nthe arguments are refused; the greatest of these counts.",
         )
+        .arg(json)?
         .arg(quiet)?
         .arg(files)
 }

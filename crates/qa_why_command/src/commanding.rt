@@ -9,7 +9,7 @@ use qa_arguments::ArgumentsFault;
 use qa_check::{AuditFault, Metered, Outcome, Sink, Source, write_whole};
 use qa_commands::write_line;
 use qa_running::Running;
-use qa_why_trace::why;
+use qa_why_trace::{Form, why};
 use std::alloc::Global;
 use std::fs;
 use std::rt::Files;
@@ -119,44 +119,38 @@ fn tell<R: Files, I: Source, O: Sink, E: Sink>(
     let mut tally = Tally::new();
     match inquiry.files.as_slice() {
         [] => {
-            let told = tell_input(alloc, inquiry.quiet, input, output);
+            let told = tell_input(alloc, inquiry, input, output);
             count(STANDARD_INPUT, told, error, &mut tally);
         }
         [name] => {
-            let told = tell_of(rt, alloc, name, inquiry.quiet, input, output);
+            let told = tell_of(rt, alloc, inquiry, name, input, output);
             count(name, told, error, &mut tally);
         }
-        names => tell_several(
-            rt,
-            alloc,
-            names,
-            inquiry.quiet,
-            input,
-            output,
-            error,
-            &mut tally,
-        ),
+        names => tell_several(rt, alloc, inquiry, names, input, output, error, &mut tally),
     }
     tally.status
 }
 
-/// Tells of each trace, up to a failed write, and then how many came to which verdict.
+/// Tells of each trace, up to a failed write, and in text then how many came to which verdict.
 fn tell_several<R: Files, I: Source, O: Sink, E: Sink>(
     rt: &R,
     alloc: Global,
+    inquiry: &Inquiry<'_>,
     names: &[&str],
-    quiet: bool,
     input: &mut I,
     output: &mut O,
     error: &mut E,
     tally: &mut Tally,
 ) {
     for name in names {
-        let told = tell_of(rt, alloc, name, quiet, input, output);
+        let told = tell_of(rt, alloc, inquiry, name, input, output);
         count(name, told, error, tally);
         if stops(told) {
             return;
         }
+    }
+    if inquiry.form == Form::Json {
+        return;
     }
     if let Err(failure) = write_tally(alloc, tally, output) {
         count(STANDARD_INPUT, Err(failure), error, tally);
@@ -201,18 +195,26 @@ fn write_tally<O: Sink>(alloc: Global, tally: &Tally, output: &mut O) -> Result<
 fn tell_of<R: Files, I: Source, O: Sink>(
     rt: &R,
     alloc: Global,
+    inquiry: &Inquiry<'_>,
     name: &str,
-    quiet: bool,
     input: &mut I,
     output: &mut O,
 ) -> Result<Outcome, Failure> {
     if name == STANDARD_INPUT {
-        return tell_input(alloc, quiet, input, output);
+        return tell_input(alloc, inquiry, input, output);
     }
     let Ok(file) = fs::open(rt, name) else {
         return Err(Failure::Open);
     };
-    match why::<Running, _, O>(alloc, name, quiet, &mut Metered::new(file), output) {
+    let mut reader = Metered::new(file);
+    match why::<Running, _, O>(
+        alloc,
+        inquiry.form,
+        name,
+        inquiry.quiet,
+        &mut reader,
+        output,
+    ) {
         Ok(outcome) => Ok(outcome),
         Err(fault) => Err(Failure::Audit(fault)),
     }
@@ -221,14 +223,15 @@ fn tell_of<R: Files, I: Source, O: Sink>(
 /// Tells of the trace on standard input.
 fn tell_input<I: Source, O: Sink>(
     alloc: Global,
-    quiet: bool,
+    inquiry: &Inquiry<'_>,
     input: &mut I,
     output: &mut O,
 ) -> Result<Outcome, Failure>
     ensures { (bytes : List ℕ) → I.left input.old ≡ Some bytes
-        → IfOk result (λ outcome. Writes (O.held output.old) (O.held output.new) quiet (codes "-") outcome bytes) }
+        → IfOk result (λ outcome. Writes (O.held output.old) (O.held output.new) inquiry.now.form inquiry.now.quiet (codes "-") outcome bytes) }
 {
-    match why::<Running, I, O>(alloc, STANDARD_INPUT, quiet, input, output) {
+    let (form, quiet) = (inquiry.form, inquiry.quiet);
+    match why::<Running, I, O>(alloc, form, STANDARD_INPUT, quiet, input, output) {
         Ok(outcome) => Ok(outcome),
         Err(fault) => Err(Failure::Audit(fault)),
     }

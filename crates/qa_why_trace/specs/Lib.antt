@@ -3,4 +3,5 @@ pub mod Faults
 pub mod Hints
 pub mod Values
 pub mod Texts
+pub mod Objects
 pub mod Why

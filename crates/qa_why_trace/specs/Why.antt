@@ -3,41 +3,67 @@ use Rattle.std.specs.Prelude.{◌≡◌, ℕ, Bool, true, is_some, List, [], ◌
 use Rattle.std.specs.Io.KnownBytes.{Appends}
 use Rattle.qa_base.specs.declared.event.Event.{Event}
 use Rattle.qa_base.specs.declared.rule.Rule.{Rule}
+use Rattle.qa_base.specs.declared.space.TimeUnit.{TimeUnit}
+use Rattle.qa_base.specs.declared.totals.Totals.{Totals}
 use Rattle.qa_base.specs.machine.Packets.{history_of}
 use Rattle.qa_base.specs.values.Settings.{Settings}
 use Rattle.qa_causes.specs.Causes.{cause_of, owed_now}
+use Rattle.qa_causes.specs.declared.cause.Cause.{Cause}
+use Rattle.qa_causes.specs.declared.cause.Owed.{Owed}
 use Rattle.qa_check.specs.Audit.{outcome_of}
 use Rattle.qa_check.specs.declared.auditing.Outcome.{Outcome}
 use Rattle.qa_check.specs.declared.auditing.Outcome.TheVariants as outcomes
+use Rattle.qa_format.specs.declared.fault.Fault.{Fault}
 use Rattle.qa_format.specs.declared.verdict.Verdict.{Verdict}
 use Rattle.qa_format.specs.declared.verdict.Verdict.TheVariants.{Accepted, Refused, Unreadable}
 use Rattle.qa_format.specs.format.Lines.{lines}
 use Rattle.qa_format.specs.format.Reading.{reading}
 use Rattle.qa_format.specs.verdicts.Verdict.{event_said, events_in, header_in, stop_after, verdict}
+use Rattle.qa_why_trace.specs.Objects.{accepted_object, owed_at_end_object, refused_object, unreadable_object}
 use Rattle.qa_why_trace.specs.Texts.{accepted_text, owed_at_end_text, refused_text, unreadable_text}
+use Rattle.qa_why_trace.specs.declared.form.Form.{Form}
+use Rattle.qa_why_trace.specs.declared.form.Form.TheVariants as forms
+
+-- ---- in a form
+
+abbrev pub accepted_in : Form → List ℕ → Totals → List ℕ
+accepted_in forms.Text name t = accepted_text name t
+accepted_in forms.Json name t = accepted_object name t
+
+abbrev pub refused_in : Form → TimeUnit → List ℕ → ℕ → Rule → Event → Cause → List ℕ → List ℕ
+refused_in forms.Text u name n r e k l = refused_text name n r e k l
+refused_in forms.Json u name n r e k l = refused_object u name n r e k
+
+abbrev pub owed_at_end_in : Form → List ℕ → ℕ → Owed → List ℕ
+owed_at_end_in forms.Text name n o = owed_at_end_text name n o
+owed_at_end_in forms.Json name n o = owed_at_end_object name n o
+
+abbrev pub unreadable_in : Form → List ℕ → ℕ → Fault → Bool → Option (List ℕ) → List ℕ
+unreadable_in forms.Text name n f headed line = unreadable_text name n f headed line
+unreadable_in forms.Json name n f headed line = unreadable_object name n f headed
 
 -- ---- by the header and the history before
 
 -- why an event is refused, which a line says
-abbrev pub event_text : List ℕ → ℕ → Rule → Option Settings → List Event → Option Event → List ℕ → List ℕ
-event_text name n r (Some c) h (Some e) l = refused_text name n r e (cause_of c h e r) l
-event_text name n r header h said l = []
+abbrev pub event_text : Form → List ℕ → ℕ → Rule → Option Settings → List Event → Option Event → List ℕ → List ℕ
+event_text form name n r (Some c) h (Some e) l = refused_in form c.unit name n r e (cause_of c h e r) l
+event_text form name n r header h said l = []
 
 -- why the end is refused
-abbrev pub end_text : List ℕ → ℕ → Option Settings → List Event → List ℕ
-end_text name n (Some c) h = owed_at_end_text name n (owed_now c h)
-end_text name n None h = []
+abbrev pub end_text : Form → List ℕ → ℕ → Option Settings → List Event → List ℕ
+end_text form name n (Some c) h = owed_at_end_in form name n (owed_now c h)
+end_text form name n None h = []
 
 -- why line n is refused, or the end behind it
-abbrev pub refusal_text : List ℕ → ℕ → Rule → Option Settings → List Event → Option (List ℕ) → List ℕ
-refusal_text name n r header h (Some l) = event_text name n r header h (event_said (reading l)) l
-refusal_text name n r header h None = end_text name n header h
+abbrev pub refusal_text : Form → List ℕ → ℕ → Rule → Option Settings → List Event → Option (List ℕ) → List ℕ
+refusal_text form name n r header h (Some l) = event_text form name n r header h (event_said (reading l)) l
+refusal_text form name n r header h None = end_text form name n header h
 
 -- what is told of a verdict on a line that is not good, or else on the end, after this header and this history
-abbrev pub told : List ℕ → Verdict → Option Settings → List Event → Option (List ℕ) → List ℕ
-told name (Accepted t) header h line = accepted_text name t
-told name (Refused n r t) header h line = refusal_text name n r header h line
-told name (Unreadable n f t) header h line = unreadable_text name n f (is_some t) line
+abbrev pub told : Form → List ℕ → Verdict → Option Settings → List Event → Option (List ℕ) → List ℕ
+told form name (Accepted t) header h line = accepted_in form name t
+told form name (Refused n r t) header h line = refusal_text form name n r header h line
+told form name (Unreadable n f t) header h line = unreadable_in form name n f (is_some t) line
 
 -- ---- where lines are judged
 
@@ -46,27 +72,27 @@ abbrev pub judged_at : List (List ℕ) → List (List ℕ) → List (List ℕ) �
 judged_at before [] = (before, None)
 judged_at before (l ∷ ls) = if is_some (stop_after reading before l) then (before, Some l) else judged_at (before ++ l ∷ []) ls
 
-abbrev pub told_at : List ℕ → Verdict → List (List ℕ) × Option (List ℕ) → List ℕ
-told_at name v place = told name v (header_in reading place.0) (history_of (events_in reading place.0)) place.1
+abbrev pub told_at : Form → List ℕ → Verdict → List (List ℕ) × Option (List ℕ) → List ℕ
+told_at form name v place = told form name v (header_in reading place.0) (history_of (events_in reading place.0)) place.1
 
 -- ---- the bytes
 
--- what is told of bytes, under the name of their file
-unfoldable pub why : List ℕ → List ℕ → List ℕ
-why name bytes = told_at name (verdict reading bytes) (judged_at [] (lines bytes))
+-- what is told of bytes in a form, under the name of their file
+unfoldable pub why : Form → List ℕ → List ℕ → List ℕ
+why form name bytes = told_at form name (verdict reading bytes) (judged_at [] (lines bytes))
 
 -- it is this text, and the kind of their verdict is this
-abbrev pub Tells : List ℕ → Outcome → List ℕ → List ℕ → Type 0
-Tells name outcome text bytes = (text ≡ why name bytes) × (outcome ≡ outcome_of (verdict reading bytes))
+abbrev pub Tells : Form → List ℕ → Outcome → List ℕ → List ℕ → Type 0
+Tells form name outcome text bytes = (text ≡ why form name bytes) × (outcome ≡ outcome_of (verdict reading bytes))
 
 -- what is written: where it is to be quiet, nothing of accepted bytes
 abbrev pub unless_accepted : Bool → Outcome → List ℕ → List ℕ
 unless_accepted true outcomes.Accepted text = []
 unless_accepted quiet outcome text = text
 
-abbrev pub written : Bool → List ℕ → List ℕ → List ℕ
-written quiet name bytes = unless_accepted quiet (outcome_of (verdict reading bytes)) (why name bytes)
+abbrev pub written : Form → Bool → List ℕ → List ℕ → List ℕ
+written form quiet name bytes = unless_accepted quiet (outcome_of (verdict reading bytes)) (why form name bytes)
 
 -- it was written, and the kind of their verdict is returned
-abbrev pub Writes : Option (List ℕ) → Option (List ℕ) → Bool → List ℕ → Outcome → List ℕ → Type 0
-Writes held held' quiet name outcome bytes = Appends held held' (written quiet name bytes) × (outcome ≡ outcome_of (verdict reading bytes))
+abbrev pub Writes : Option (List ℕ) → Option (List ℕ) → Form → Bool → List ℕ → Outcome → List ℕ → Type 0
+Writes held held' form quiet name outcome bytes = Appends held held' (written form quiet name bytes) × (outcome ≡ outcome_of (verdict reading bytes))

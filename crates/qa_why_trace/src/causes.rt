@@ -9,11 +9,13 @@ ghost use Rattle.qa_format.specs.format.Reading.{reading};
 ghost use Rattle.qa_format.specs.verdicts.Verdict.{event_said, verdict_of};
 ghost use Rattle.qa_why_trace.specs.Why as defined;
 
+use crate::form::Form;
+use crate::objects::{accepted_object, owed_at_end_object, refused_object, unreadable_object};
 use crate::texts::{accepted, owed_at_end, refused, unreadable};
-use qa_base::{Event, Rule};
+use qa_base::{Event, Rule, Totals};
 use qa_causes::Explains;
 use qa_check::{AuditFault, Checker, Outcome};
-use qa_format::{Line, Verdict};
+use qa_format::{Fault, Line, Verdict};
 use qa_read::read_line;
 use std::alloc::{AllocError, Global};
 
@@ -29,6 +31,7 @@ pub struct Why {
 /// Why the ledger refuses the event, by the rule.
 fn of_event<L: Explains + Drop>(
     alloc: Global,
+    form: Form,
     name: &str,
     ledger: &L,
     n: u64,
@@ -38,15 +41,19 @@ fn of_event<L: Explains + Drop>(
 ) -> Result<Vec<u8>, AllocError>
     ensures { L.has_failed ledger.now ≡ false → IfOk result (λ text. (c : Settings)
         (h : List AnEvent) → L.stands ledger.now c h
-        → text.items ≡ defined.event_text name.now n rule (Some c) h (Some event.now) line.now) }
+        → text.items ≡ defined.event_text form name.now n rule (Some c) h (Some event.now) line.now) }
 {
     let cause = ledger.cause(event, rule)?;
-    refused(alloc, name, n, rule, event, &cause, line)
+    match form {
+        Form::Text => refused(alloc, name, n, rule, event, &cause, line),
+        Form::Json => refused_object(alloc, ledger.unit(), name, n, rule, event, &cause),
+    }
 }
 
 /// Why the ledger refuses the event that this line says.
 fn of_line<L: Explains + Drop>(
     alloc: Global,
+    form: Form,
     name: &str,
     ledger: &L,
     n: u64,
@@ -55,11 +62,11 @@ fn of_line<L: Explains + Drop>(
 ) -> Result<Vec<u8>, AllocError>
     ensures { L.has_failed ledger.now ≡ false → IfOk result (λ text. (c : Settings)
         (h : List AnEvent) → L.stands ledger.now c h
-        → text.items ≡ defined.event_text name.now n rule (Some c) h (event_said (reading line.now)) line.now) }
+        → text.items ≡ defined.event_text form name.now n rule (Some c) h (event_said (reading line.now)) line.now) }
 {
     let read = read_line(alloc, line);
     match &read {
-        Ok(Line::Event(event)) => of_event(alloc, name, ledger, n, rule, event, line),
+        Ok(Line::Event(event)) => of_event(alloc, form, name, ledger, n, rule, event, line),
         _ => Err(AllocError),
     }
 }
@@ -67,21 +74,26 @@ fn of_line<L: Explains + Drop>(
 /// Why the end of the trace is refused.
 fn of_end<L: Explains + Drop>(
     alloc: Global,
+    form: Form,
     name: &str,
     ledger: &L,
     n: u64,
 ) -> Result<Vec<u8>, AllocError>
     ensures { L.has_failed ledger.now ≡ false → IfOk result (λ text. (c : Settings)
         (h : List AnEvent) → L.stands ledger.now c h
-        → text.items ≡ defined.end_text name.now n (Some c) h) }
+        → text.items ≡ defined.end_text form name.now n (Some c) h) }
 {
     let owed = ledger.owed()?;
-    owed_at_end(alloc, name, n, &owed)
+    match form {
+        Form::Text => owed_at_end(alloc, name, n, &owed),
+        Form::Json => owed_at_end_object(alloc, name, n, &owed),
+    }
 }
 
 /// Why the event of this line is refused, or the end of the trace.
 fn of_refusal<L: Explains + Drop>(
     alloc: Global,
+    form: Form,
     name: &str,
     ledger: &L,
     n: u64,
@@ -90,17 +102,18 @@ fn of_refusal<L: Explains + Drop>(
 ) -> Result<Vec<u8>, AllocError>
     ensures { L.has_failed ledger.now ≡ false → IfOk result (λ text. (c : Settings)
         (h : List AnEvent) → L.stands ledger.now c h
-        → text.items ≡ defined.refusal_text name.now n rule (Some c) h (option_copied line.entry)) }
+        → text.items ≡ defined.refusal_text form name.now n rule (Some c) h (option_copied line.entry)) }
 {
     match line {
-        Some(line) => of_line(alloc, name, ledger, n, rule, line),
-        None => of_end(alloc, name, ledger, n),
+        Some(line) => of_line(alloc, form, name, ledger, n, rule, line),
+        None => of_end(alloc, form, name, ledger, n),
     }
 }
 
 /// The same by the ledger of a checker, which has one where it refuses an event.
 fn of_held_refusal<L: Explains + Drop>(
     alloc: Global,
+    form: Form,
     name: &str,
     checker: &Checker<L>,
     n: u64,
@@ -110,17 +123,52 @@ fn of_held_refusal<L: Explains + Drop>(
     requires whole { checker.now.failed ≡ false }
     ensures { IfOk result (λ text. (header : Option Settings) (h : List AnEvent)
         → HoldsRun L.stands checker.now.ledger header h
-        → text.items ≡ defined.refusal_text name.now n rule header h (option_copied line.entry)) }
+        → text.items ≡ defined.refusal_text form name.now n rule header h (option_copied line.entry)) }
 {
     match checker.ledger() {
-        Some(ledger) => of_refusal(alloc, name, ledger, n, rule, line),
+        Some(ledger) => of_refusal(alloc, form, name, ledger, n, rule, line),
         None => Err(AllocError),
+    }
+}
+
+/// What is told of an accepted trace.
+fn of_accepted(
+    alloc: Global,
+    form: Form,
+    name: &str,
+    totals: &Totals,
+) -> Result<Vec<u8>, AllocError>
+    ensures { IfOk result (λ text. text.items ≡ defined.accepted_in form name.now totals.now) }
+{
+    match form {
+        Form::Text => accepted(alloc, name, totals),
+        Form::Json => accepted_object(alloc, name, totals),
+    }
+}
+
+/// Why line n cannot be read.
+fn of_fault(
+    alloc: Global,
+    form: Form,
+    name: &str,
+    n: u64,
+    fault: Fault,
+    headed: bool,
+    line: Option<&[u8]>,
+) -> Result<Vec<u8>, AllocError>
+    ensures { IfOk result (λ text. text.items
+        ≡ defined.unreadable_in form name.now n fault headed (option_copied line.entry)) }
+{
+    match form {
+        Form::Text => unreadable(alloc, name, n, fault, headed, line),
+        Form::Json => unreadable_object(alloc, name, n, fault, headed),
     }
 }
 
 /// What is told of this verdict, which is that of the line, or else of the end.
 fn of_verdict<L: Explains + Drop>(
     alloc: Global,
+    form: Form,
     name: &str,
     checker: &Checker<L>,
     verdict: &Verdict,
@@ -129,13 +177,15 @@ fn of_verdict<L: Explains + Drop>(
     requires whole { checker.now.failed ≡ false }
     ensures { IfOk result (λ text. (header : Option Settings) (h : List AnEvent)
         → HoldsRun L.stands checker.now.ledger header h
-        → text.items ≡ defined.told name.now verdict.now header h (option_copied line.entry)) }
+        → text.items ≡ defined.told form name.now verdict.now header h (option_copied line.entry)) }
 {
     match verdict {
-        Verdict::Accepted(totals) => accepted(alloc, name, totals),
-        Verdict::Refused(n, rule, _) => of_held_refusal(alloc, name, checker, *n, *rule, line),
+        Verdict::Accepted(totals) => of_accepted(alloc, form, name, totals),
+        Verdict::Refused(n, rule, _) => of_held_refusal(
+            alloc, form, name, checker, *n, *rule, line,
+        ),
         Verdict::Unreadable(n, fault, totals) => {
-            unreadable(alloc, name, *n, *fault, totals.is_some(), line)
+            of_fault(alloc, form, name, *n, *fault, totals.is_some(), line)
         }
     }
 }
@@ -146,6 +196,7 @@ fn of_verdict<L: Explains + Drop>(
 /// `AuditFault::OutOfMemory` comes where it is out of memory.
 pub fn why_of<L: Explains + Drop>(
     alloc: Global,
+    form: Form,
     name: &str,
     checker: &Checker<L>,
     line: Option<&[u8]>,
@@ -156,13 +207,13 @@ pub fn why_of<L: Explains + Drop>(
     ensures text { IfOk result (λ why. (ls : List (List ℕ)) (header : Option Settings)
         (h : List AnEvent) → StandsFor L.stands checker.now ls
         → HoldsRun L.stands checker.now.ledger header h
-        → why.text.items ≡ defined.told name.now (verdict_of reading ls) header h (option_copied line.entry)) }
+        → why.text.items ≡ defined.told form name.now (verdict_of reading ls) header h (option_copied line.entry)) }
     ensures memory { IfErr result (λ fault. fault ≡ AuditFault.OutOfMemory) }
 {
     let Some(verdict) = checker.verdict() else {
         return Err(AuditFault::OutOfMemory);
     };
-    let Ok(text) = of_verdict(alloc, name, checker, &verdict, line) else {
+    let Ok(text) = of_verdict(alloc, form, name, checker, &verdict, line) else {
         return Err(AuditFault::OutOfMemory);
     };
     let outcome = Outcome::of(&verdict);

@@ -4,11 +4,14 @@
 
 mod causes;
 mod faults;
+mod form;
 mod hints;
 mod lines;
+mod objects;
 mod telling;
 mod texts;
 mod values;
 
 pub use causes::{Why, why_of};
+pub use form::Form;
 pub use telling::why;

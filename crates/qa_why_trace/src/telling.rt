@@ -12,6 +12,7 @@ ghost use Rattle.qa_why_trace.specs.Why as defined;
 ghost use Rattle.qa_why_trace.specs.Why.{Tells, Writes, written};
 
 use crate::causes::{Why, why_of};
+use crate::form::Form;
 use qa_causes::Explains;
 use qa_check::{AuditFault, Checker, Outcome, Sink, Source, Stop, write_whole};
 use qa_split::{SplitFault, Splitter};
@@ -21,13 +22,14 @@ use std::alloc::Global;
 const PIECE: usize = 4096;
 
 /// Reads a trace and writes why it is refused or cannot be read, or that it is accepted: of every
-/// sequence of bytes that a reader returns, one text. Where it is to be quiet, it writes nothing of an
+/// sequence of bytes that a reader returns, one text in each form. Where it is to be quiet, it writes nothing of an
 /// accepted trace.
 ///
 /// It reads what `audit` reads, and fails where that fails. Beside what `audit` holds it takes memory
 /// for the text alone, once the verdict is fixed.
 pub fn why<L: Explains + Drop, R: Source, W: Sink>(
     alloc: Global,
+    form: Form,
     name: &str,
     quiet: bool,
     reader: &mut R,
@@ -35,12 +37,12 @@ pub fn why<L: Explains + Drop, R: Source, W: Sink>(
 ) -> Result<Outcome, AuditFault>
     // For a reader that tells its bytes: the text for them was written, and the kind of their verdict is returned.
     ensures told { (bytes : List ℕ) → R.left reader.old ≡ Some bytes
-        → IfOk result (λ outcome. Writes (W.held writer.old) (W.held writer.new) quiet name.now outcome bytes) }
+        → IfOk result (λ outcome. Writes (W.held writer.old) (W.held writer.new) form quiet name.now outcome bytes) }
 
     // For every reader: what was read decides, since it is all there is, or nothing behind it counts.
     ensures ok { IfOk result (λ outcome. (bytes : List ℕ)
         × ReadsEnough (R.left reader.old) (R.left reader.new) (R.last_read reader.new) bytes
-        × Writes (W.held writer.old) (W.held writer.new) quiet name.now outcome bytes) }
+        × Writes (W.held writer.old) (W.held writer.new) form quiet name.now outcome bytes) }
 
     // The bytes before the last read did not fix the verdict, whatever the result.
     ensures reads { Reads (R.left reader.old) (R.left reader.new) (R.last_read reader.new) }
@@ -48,7 +50,7 @@ pub fn why<L: Explains + Drop, R: Source, W: Sink>(
     // After a failed write the beginning of the text was written, and else nothing.
     ensures beginning { result ≡ Err AuditFault.Write → (bytes : List ℕ) × (n : ℕ)
         × ReadsEnough (R.left reader.old) (R.left reader.new) (R.last_read reader.new) bytes
-        × Appends (W.held writer.old) (W.held writer.new) (take n (written quiet name.now bytes)) }
+        × Appends (W.held writer.old) (W.held writer.new) (take n (written form quiet name.now bytes)) }
     ensures unwritten { result ≢ Err AuditFault.Write
         → OnErr result (W.held writer.new ≡ W.held writer.old) }
 
@@ -58,7 +60,7 @@ pub fn why<L: Explains + Drop, R: Source, W: Sink>(
     ensures write_failures { W.write_failures writer.new
         ≡ failures_after (is_write_fault result) (W.write_failures writer.old) }
 {
-    let why = find::<L, R>(alloc, name, reader)?;
+    let why = find::<L, R>(alloc, form, name, reader)?;
     write_whole(writer, unless_accepted(quiet, why.outcome, &why.text))?;
     Ok(why.outcome)
 }
@@ -76,12 +78,13 @@ fn unless_accepted(quiet: bool, outcome: Outcome, text: &[u8]) -> &[u8]
 /// What is told of what is read.
 fn find<L: Explains + Drop, R: Source>(
     alloc: Global,
+    form: Form,
     name: &str,
     reader: &mut R,
 ) -> Result<Why, AuditFault>
     ensures told { IfOk result (λ why. (bytes : List ℕ)
         × ReadsEnough (R.left reader.old) (R.left reader.new) (R.last_read reader.new) bytes
-        × Tells name.now why.outcome why.text.items bytes) }
+        × Tells form name.now why.outcome why.text.items bytes) }
     ensures reads { Reads (R.left reader.old) (R.left reader.new) (R.last_read reader.new) }
     ensures read_failures { R.read_failures reader.new
         ≡ failures_after (is_read_fault result) (R.read_failures reader.old) }
@@ -89,12 +92,13 @@ fn find<L: Explains + Drop, R: Source>(
 {
     let mut splitter = Splitter::new(alloc);
     let mut checker = Checker::<L>::new(alloc);
-    take_pieces(alloc, name, reader, &mut splitter, &mut checker)
+    take_pieces(alloc, form, name, reader, &mut splitter, &mut checker)
 }
 
 /// Takes piece after piece, from the first on, and tells why.
 fn take_pieces<L: Explains + Drop, R: Source>(
     alloc: Global,
+    form: Form,
     name: &str,
     reader: &mut R,
     splitter: &mut Splitter,
@@ -104,7 +108,7 @@ fn take_pieces<L: Explains + Drop, R: Source>(
     requires first { Follows L.stands splitter.old.bytes checker.old [] }
     ensures told { IfOk result (λ why. (bytes : List ℕ)
         × ReadsEnough (R.left reader.old) (R.left reader.new) (R.last_read reader.new) bytes
-        × Tells name.now why.outcome why.text.items bytes) }
+        × Tells form name.now why.outcome why.text.items bytes) }
     ensures reads { Reads (R.left reader.old) (R.left reader.new) (R.last_read reader.new) }
     ensures read_failures { R.read_failures reader.new
         ≡ failures_after (is_read_fault result) (R.read_failures reader.old) }
@@ -116,9 +120,9 @@ fn take_pieces<L: Explains + Drop, R: Source>(
             return Err(AuditFault::Read);
         };
         if n == 0 {
-            return conclude(alloc, name, splitter, checker);
+            return conclude(alloc, form, name, splitter, checker);
         }
-        match take_piece(alloc, name, splitter, checker, &piece[..n]) {
+        match take_piece(alloc, form, name, splitter, checker, &piece[..n]) {
             Ok(None) => {}
             Ok(Some(why)) => return Ok(why),
             Err(fault) => return Err(fault),
@@ -131,6 +135,7 @@ fn take_pieces<L: Explains + Drop, R: Source>(
 /// Takes the next piece, and tells why, where it fixes the verdict.
 fn take_piece<L: Explains + Drop>(
     alloc: Global,
+    form: Form,
     name: &str,
     splitter: &mut Splitter,
     checker: &mut Checker<L>,
@@ -145,18 +150,19 @@ fn take_piece<L: Explains + Drop>(
     ensures bad { IfOk result (λ found. IfSome found (λ why. (bytes : List ℕ)
         → Follows L.stands splitter.old.bytes checker.old bytes
         → IsFixed reading (bytes ++ piece.now)
-        × Tells name.now why.outcome why.text.items (bytes ++ piece.now))) }
+        × Tells form name.now why.outcome why.text.items (bytes ++ piece.now))) }
     ensures memory { IfErr result (λ fault. fault ≡ AuditFault.OutOfMemory) }
 {
     let Ok(()) = splitter.feed(piece) else {
         return Err(AuditFault::OutOfMemory);
     };
-    take_lines(alloc, name, splitter, checker)
+    take_lines(alloc, form, name, splitter, checker)
 }
 
 /// Takes each line that stands ready, and tells why of the first that is not good.
 fn take_lines<L: Explains + Drop>(
     alloc: Global,
+    form: Form,
     name: &str,
     splitter: &mut Splitter,
     checker: &mut Checker<L>,
@@ -169,19 +175,19 @@ fn take_lines<L: Explains + Drop>(
         → Follows L.stands splitter.new.bytes checker.new bytes)) }
     ensures bad { IfOk result (λ found. IfSome found (λ why. (bytes : List ℕ)
         → Follows L.stands splitter.old.bytes checker.old bytes
-        → IsFixed reading bytes × Tells name.now why.outcome why.text.items bytes)) }
+        → IsFixed reading bytes × Tells form name.now why.outcome why.text.items bytes)) }
     ensures memory { IfErr result (λ fault. fault ≡ AuditFault.OutOfMemory) }
 {
     'lines: loop {
         match splitter.next_line() {
             Ok(Some(line)) => match checker.push_line(line) {
                 Ok(()) => {}
-                Err(Stop::Decided) => return found(why_of(alloc, name, checker, Some(line))),
+                Err(Stop::Decided) => return found(why_of(alloc, form, name, checker, Some(line))),
                 Err(Stop::OutOfMemory) => return Err(AuditFault::OutOfMemory),
             },
             Ok(None) => return Ok(None),
             Err(SplitFault::TooLong) => match checker.too_long() {
-                Stop::Decided => return found(why_of(alloc, name, checker, None)),
+                Stop::Decided => return found(why_of(alloc, form, name, checker, None)),
                 Stop::OutOfMemory => return Err(AuditFault::OutOfMemory),
             },
             Err(SplitFault::OutOfMemory) => return Err(AuditFault::OutOfMemory),
@@ -204,6 +210,7 @@ fn found(told: Result<Why, AuditFault>) -> Result<Option<Why>, AuditFault>
 /// Tells why, where nothing more comes.
 fn conclude<L: Explains + Drop>(
     alloc: Global,
+    form: Form,
     name: &str,
     splitter: &mut Splitter,
     checker: &mut Checker<L>,
@@ -213,17 +220,17 @@ fn conclude<L: Explains + Drop>(
     requires whole { checker.old.failed ≡ false }
     ensures told { IfOk result (λ why. (bytes : List ℕ)
         → Follows L.stands splitter.old.bytes checker.old bytes
-        → Tells name.now why.outcome why.text.items bytes) }
+        → Tells form name.now why.outcome why.text.items bytes) }
     ensures memory { IfErr result (λ fault. fault ≡ AuditFault.OutOfMemory) }
 {
     splitter.close();
     match splitter.next_line() {
         Ok(Some(line)) => match checker.push_line(line) {
-            Ok(()) => why_of(alloc, name, checker, None),
-            Err(Stop::Decided) => why_of(alloc, name, checker, Some(line)),
+            Ok(()) => why_of(alloc, form, name, checker, None),
+            Err(Stop::Decided) => why_of(alloc, form, name, checker, Some(line)),
             Err(Stop::OutOfMemory) => Err(AuditFault::OutOfMemory),
         },
-        Ok(None) => why_of(alloc, name, checker, None),
+        Ok(None) => why_of(alloc, form, name, checker, None),
         Err(_) => Err(AuditFault::OutOfMemory),
     }
 }

@@ -12,7 +12,7 @@ pub returns-clause-told : goal.returns-clause-told
 returns-clause-told g c = λ bytes tells.
     let found = c.in_ok-why.ensures.told in
     let outcome : c.in_ok-why.why.outcome ≡ outcome_of (verdict reading bytes) = found.2.1 ∙ ap outcome_of (sym (told_verdict _ _ found.0 bytes tells found.1)) in
-    let words = told_why c.args.name.now _ _ found.0 bytes tells found.1 in
-    let all : c.unless_accepted.result.now ≡ written c.args.quiet c.args.name.now bytes =
+    let words = told_why c.args.form c.args.name.now _ _ found.0 bytes tells found.1 in
+    let all : c.unless_accepted.result.now ≡ written c.args.form c.args.quiet c.args.name.now bytes =
     c.unless_accepted.ensures ∙ ap₂ (unless_accepted c.args.quiet) outcome (c.deref.ensures.value ∙ (found.2.0 ∙ sym words)) in
     (subst (λ (text : List ℕ). Appends (g.W.Sink.held c.args.writer.now) (g.W.Sink.held c.write_whole.new.writer) text) all c.in_ok-write_whole.ensures.ok, outcome)

@@ -1,0 +1,7 @@
+pub mod Object
+pub mod Subjects
+pub mod Losses
+pub mod Sending
+pub mod Deadlines
+pub mod Reports
+pub mod Facts
