@@ -20,18 +20,22 @@ program_by_one_byte := crates/one_byte/out/one_byte
 program_of_lines := crates/lines/out/lines
 # Each call over a trace, to be run with each allocation refused.
 program_without_memory := crates/without_memory/out/without_memory
+# The library for C: what `rt lib` makes of its crate, with the heap of the kit, which stands over malloc.
+library := bin/libqaudit.a
+library_shared := bin/libqaudit.so
 example := examples/ten-packets.trace
 # The tests of the programs of conformance/, which mostly wait for one another's processes.
 runner_tests := test_run test_trials test_mutations test_simulate test_links test_made_up
 
 # All programs in Python, by the places where their names are unlike each other.
-python := $(addprefix conformance/,allocations cuts failing large links made_up malicious memory mutations reasons \
+python := $(addprefix conformance/,allocations cuts failing large library links made_up malicious memory mutations reasons \
 	refusals run simulate) \
 	conformance/fuzz/instrument conformance/lines/make.py $(wildcard conformance/*.py)
 python_of_fuzz := conformance/fuzz/run
 python_of_qlog := qlog/qlog-to-trace qlog/test_qlog.py $(wildcard qlog/qlog_to_trace/*.py)
 # captures/transfer.py runs where aioquic is, and is checked for style alone.
 python_of_captures := captures/audit.py captures/run captures/table examples/delay.py examples/logger.py
+python_of_bindings := $(wildcard bindings/python/*.py)
 python_of_bench := $(addprefix bench/,instructions peers run trace) $(wildcard bench/*.py) bench/programs/read.py
 
 # The programs of conformance/ over what the gate built, the longest first. None waits for another.
@@ -39,12 +43,16 @@ conformance := conformance-cuts conformance-failing conformance-refusals conform
 	conformance-malicious conformance-large conformance-run conformance-reasons conformance-allocations \
 	conformance-memory
 
-.PHONY: help build run one_byte lines test gate conformance $(conformance) links made_up $(runner_tests) test_qlog lint \
+# What is handed to the library for C, in each language.
+bindings := conformance-library bindings-rust bindings-go bindings-python
+
+.PHONY: help build run lib one_byte lines test gate conformance $(bindings) $(conformance) links made_up $(runner_tests) test_qlog lint \
 	bench install dist clean
 
 help:
 	@echo 'make build     proves the programs and builds $(built) and $(built_why)'
 	@echo 'make run       builds it and audits $(example)'
+	@echo 'make lib       proves and builds the library for C, $(library)'
 	@echo 'make test      runs the merge gate, and then the program over conformance/'
 	@echo 'make gate      runs the merge gate alone'
 	@echo 'make conformance runs the programs over conformance/ alone, once the gate has built them'
@@ -69,6 +77,14 @@ $(built_why): crates.txt HANDLES $(crates_of_qaudit) $(shell find crates/qaudit_
 run: $(built)
 	@$(built) check < $(example)
 
+lib: $(library_shared)
+
+$(library): crates.txt HANDLES $(crates_of_qaudit) $(shell find crates/qaudit_c/src crates/qaudit_c/specs crates/qaudit_c/proofs)
+	release/library $(library)
+
+$(library_shared): $(library)
+	$(CC) -shared -o $@ -Wl,--whole-archive $(library) -Wl,--no-whole-archive
+
 one_byte:
 	@cd crates/one_byte && rt run < stdin > /dev/null
 
@@ -80,6 +96,7 @@ lines:
 test:
 	$(MAKE) --no-print-directory -j 2 gate links made_up $(runner_tests) test_qlog
 	$(MAKE) --no-print-directory -j 4 --output-sync=target $(conformance)
+	$(MAKE) --no-print-directory $(bindings)
 
 # `rt ci` proves all crates from nothing, and leaves each program built of what it proved.
 gate:
@@ -130,6 +147,22 @@ conformance-allocations:
 conformance-memory:
 	conformance/memory $(program_without_memory)
 
+conformance-library: $(library)
+	conformance/library $(library)
+
+# The bindings, each where its compiler is there.
+bindings-rust: $(library)
+	if command -v cargo > /dev/null; then cd bindings/rust && cargo test --offline --quiet; else \
+		echo 'there is no cargo, so bindings/rust is not tried'; fi
+
+bindings-go: $(library)
+	if command -v go > /dev/null; then cd bindings/go && go test ./...; else \
+		echo 'there is no go, so bindings/go is not tried'; fi
+
+bindings-python: $(library_shared)
+	python3 bindings/python/test_qaudit.py
+	python3 bindings/python/example.py
+
 # What the pages name has to be there.
 links:
 	conformance/links
@@ -152,6 +185,7 @@ lint:
 	mypy $(python_of_fuzz)
 	mypy $(python_of_bench)
 	mypy $(python_of_qlog)
+	mypy $(python_of_bindings)
 	mypy $(python_of_captures)
 	if command -v ruff > /dev/null; then ruff check; else \
 		flake8 --max-line-length 100 --extend-ignore E203,W503 \
@@ -166,12 +200,12 @@ bench: build
 	bench/instructions $(built)
 
 # A release is a folder that installs itself, so that there is one way to install.
-install: build
-	release/pack $(built) $(built_why) bin/$(release)
+install: build lib
+	release/pack $(built) $(built_why) $(library) $(library_shared) bin/$(release)
 	bin/$(release)/install '$(DESTDIR)$(PREFIX)'
 
-dist: build
-	release/pack $(built) $(built_why) bin/$(release)
+dist: build lib
+	release/pack $(built) $(built_why) $(library) $(library_shared) bin/$(release)
 	mkdir -p dist
 	tar --sort=name --owner=0 --group=0 --numeric-owner -C bin -czf dist/$(release).tar.gz $(release)
 	@echo dist/$(release).tar.gz

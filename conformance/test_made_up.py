@@ -27,6 +27,11 @@ pub enum Fault {
     Broken,
 }
 
+pub struct Held {
+    pub is_open: bool,
+    ghost agrees: { is_open ≡ (fault == Fault.OutOfMemory) } by { Bool-set _ _ },
+}
+
 impl From<AllocError> for Fault {
     ghost from_gives = { λ _ fault. fault ≡ faults.OutOfMemory };
 

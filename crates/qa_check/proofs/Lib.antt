@@ -6,3 +6,4 @@ pub mod Reading
 pub mod Writing
 pub mod LinesTaken
 pub mod Fed
+pub mod Pushed

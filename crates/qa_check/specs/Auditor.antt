@@ -1,5 +1,5 @@
 -- What an auditor holds, and which bytes were fed to it.
-use Rattle.std.specs.Prelude.{◌≡◌, ℕ, false, List, Option, None, Result, Ok, Err}
+use Rattle.std.specs.Prelude.{◌≡◌, ◌==◌, ℕ, Bool, false, List, length, Option, None, Result, Ok, Err}
 use Rattle.std.specs.Io.KnownBytes.{Appends}
 use Rattle.qa_format.specs.declared.verdict.Verdict.{Verdict}
 use Rattle.qa_format.specs.format.Lines.{IsShortLine}
@@ -19,6 +19,10 @@ pub record Audit (L : Type 0) : Type 0 where
   pub stream : Stream
   pub held : Held L
   pub progress : Result Progress AuditFault
+
+-- the next byte begins a line
+abbrev pub is_between : {L : Type 0} → Audit L → Bool
+is_between audit = length audit.stream.bytes == 0
 
 -- more bytes can be taken
 pub record TakesMore {L : Type 0} (stream : Stream) (held : Held L) : Type 0 where

@@ -4,6 +4,7 @@ use Rattle.qa_base.specs.declared.event.Event.{Event}
 use Rattle.qa_format.specs.declared.line.Line.{Line}
 use Rattle.qa_format.specs.declared.line.Line.TheVariants as line
 use Rattle.qa_format.specs.declared.verdict.Verdict.{Verdict}
+use Rattle.qa_format.specs.format.Lines.{IsShortLine}
 use Rattle.qa_format.specs.format.Reading.{reading}
 use Rattle.qa_base.specs.machine.Packets.{history_of}
 use Rattle.qa_base.specs.values.Settings.{Settings}
@@ -64,6 +65,10 @@ AddsBad stands old new l =
     × ((ls : List (List ℕ)) → StandsFor stands old ls → StandsFor stands new (ls ++ l ∷ []) × AreDecided reading (ls ++ l ∷ []))
 
 -- ---- what a line says
+
+-- the bytes are a line that says this
+abbrev pub IsLineOf : Line → List ℕ → Type 0
+IsLineOf x l = IsShortLine l × (reading l ≡ Ok x)
 
 abbrev pub header_after : Option Settings → Line → Option Settings
 header_after old (line.Header c) = Some c

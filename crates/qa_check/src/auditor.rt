@@ -1,20 +1,23 @@
 //! An audit of bytes that are handed in, piece by piece.
-ghost use Rattle.std.specs.Prelude.{◌≡◌, ◌++◌, ℕ, List, Option, false, Ok, OnErr, IfOk, IfErr};
+ghost use Rattle.std.specs.Prelude.{◌≡◌, ◌++◌, [], ℕ, List, Option, None, true, false, Ok, OnErr, IfOk, IfErr};
 ghost use Rattle.std.specs.Io.KnownBytes.{Appends};
+ghost use Rattle.qa_format.specs.format.Lines.{with_lf};
 ghost use Rattle.qa_format.specs.format.Reading.{reading};
+ghost use Rattle.qa_format.specs.format.Written.{line_fits};
 ghost use Rattle.qa_format.specs.verdicts.Explain as explanation;
 ghost use Rattle.qa_format.specs.verdicts.Verdict.{verdict};
-ghost use Rattle.qa_split.specs.Stream.{HasNoLine};
+ghost use Rattle.qa_split.specs.Stream.{Stream, HasNoLine};
 ghost use Rattle.qa_check.specs.Audit.{CountsFailure};
 ghost use Rattle.qa_check.specs.Auditor.{BringsTo, TakesMore};
 ghost use Rattle.qa_check.specs.Following.{Answers, IsReady};
+ghost use Rattle.qa_check.specs.Standing.{IsLineOf};
 ghost use Rattle.qa_check.specs.Writing.{Begins, Shown};
 
 use crate::auditing::AuditFault;
-use crate::checker::Checker;
+use crate::checker::{Checker, Stop};
 use crate::observer::{Observer, Unobserved};
 use crate::taking::{Lines, take_last, take_lines};
-use qa_format::Verdict;
+use qa_format::{Line, Verdict};
 use qa_ledger::Ledger;
 use qa_split::Splitter;
 use std::alloc::Global;
@@ -55,8 +58,8 @@ impl<L: Ledger> Model for Auditor<L> {
 }
 
 impl<L: Ledger + Drop> Auditor<L> {
-    ghost use Rattle.std.specs.Prelude.{◌≢◌, [], IfErr};
-    ghost use Rattle.qa_check.specs.Auditor.{Audits, Observes, progress_of};
+    ghost use Rattle.std.specs.Prelude.{◌≢◌};
+    ghost use Rattle.qa_check.specs.Auditor.{Audits, Observes, is_between, progress_of};
 
     /// An auditor that was fed no bytes. Takes no memory.
     pub fn new(alloc: Global) -> Auditor<L>
@@ -116,6 +119,49 @@ impl<L: Ledger + Drop> Auditor<L> {
                 progress
             }
             Ok(Progress::Fixed(verdict)) => Ok(Progress::Fixed(verdict)),
+            Err(fault) => Err(fault),
+        }
+    }
+
+    /// How far the audit is, or why it failed.
+    pub fn progress(&self) -> Result<Progress, AuditFault>
+        ensures { result ≡ self.now.progress }
+    {
+        self.progress
+    }
+
+    /// Whether the next byte begins a line: an LF ended the last one, or none was begun.
+    pub fn is_between_lines(&self) -> bool
+        ensures { result ≡ is_between self.now }
+    {
+        self.splitter.is_empty()
+    }
+
+    /// Takes the next line by what it says, without its text, and returns how far the audit is then.
+    ///
+    /// It is judged as each line that says this would be, with its LF. Asks for an auditor whose next
+    /// byte begins a line (`is_between_lines`), and for an event that fits (`Event::fits`). No observer
+    /// is shown the line. Once the verdict is fixed, and after `finish`, it changes nothing and returns
+    /// the verdict.
+    /// `AuditFault::OutOfMemory` comes where it is out of memory, and from then on.
+    pub fn push_said(&mut self, line: &Line) -> Result<Progress, AuditFault>
+        requires fitting { line_fits line.now ≡ true }
+        requires between { is_between self.old ≡ true }
+        ensures progress { result ≡ self.new.progress }
+        ensures fed { (bytes : List ℕ) (l : List ℕ) → IsLineOf line.now l
+            → Audits L.stands self.old bytes → Audits L.stands self.new (bytes ++ with_lf l) }
+        ensures between { is_between self.new ≡ true }
+        ensures kept { self.old.progress ≢ Ok Progress.Open → self.new ≡ self.old }
+        ensures memory { self.old.progress ≡ Ok Progress.Open
+            → IfErr result (λ fault. fault ≡ AuditFault.OutOfMemory) }
+    {
+        match self.progress {
+            Ok(Progress::Open) => {
+                let progress = take_said(&mut self.checker, line);
+                self.progress = progress;
+                progress
+            }
+            Ok(Progress::Fixed(known)) => Ok(Progress::Fixed(known)),
             Err(fault) => Err(fault),
         }
     }
@@ -191,6 +237,28 @@ fn take_piece<L: Ledger + Drop, O: Observer>(
             Err(fault) => Err(fault),
         },
         Err(fault) => Err(fault),
+    }
+}
+
+/// Takes the line that says this, and returns how far the audit is then, whose next byte begins a line.
+fn take_said<L: Ledger + Drop>(
+    checker: &mut Checker<L>,
+    line: &Line,
+) -> Result<Progress, AuditFault>
+    requires fitting { line_fits line.now ≡ true }
+    ensures whole { result ≡ Ok Progress.Open → checker.new.failed ≡ false }
+    ensures fed { (stream : Stream) (bytes : List ℕ) (l : List ℕ) → stream.bytes ≡ []
+        → IsLineOf line.now l → Shown L.stands [] checker.old None None bytes
+        → BringsTo L.stands result stream checker.new None None (bytes ++ with_lf l) }
+    ensures memory { IfErr result (λ fault. fault ≡ AuditFault.OutOfMemory) }
+{
+    match checker.push_said(line) {
+        Ok(()) => Ok(Progress::Open),
+        Err(Stop::Decided) => match verdict_of(checker) {
+            Ok(verdict) => Ok(Progress::Fixed(verdict)),
+            Err(fault) => Err(fault),
+        },
+        Err(Stop::OutOfMemory) => Err(AuditFault::OutOfMemory),
     }
 }
 

@@ -12,7 +12,7 @@ ghost use Rattle.qa_base.specs.machine.State as state;
 ghost use Rattle.qa_format.specs.verdicts.Explain.{kind_said};
 ghost use Rattle.qa_format.specs.verdicts.Verdict as verdicts;
 ghost use Rattle.qa_read.specs.Gives.{Gives};
-ghost use Rattle.qa_check.specs.Standing.{StandsFor, HoldsRun, AddsGood, AddsBad, TakesIn, StopsAt};
+ghost use Rattle.qa_check.specs.Standing.{StandsFor, HoldsRun, AddsGood, AddsBad, IsLineOf, TakesIn, StopsAt};
 
 use qa_base::limits::{MAX_LINE_LENGTH, MAX_LINES};
 use qa_base::{Event, Header, LineKind, Rule, Totals};
@@ -113,6 +113,25 @@ impl<L: Ledger + Drop> Checker<L> {
         }
         let read = read_line(self.alloc, bytes);
         self.take_read(&read)
+    }
+
+    /// Takes the next line by what it says, as `push_line` takes each line that is read as this.
+    ///
+    /// Asks for an event that fits (`Event::fits`): no line says another.
+    pub fn push_said(&mut self, line: &Line) -> Result<(), Stop>
+        requires fitting { line_fits line.now ≡ true }
+        ensures failed { self.old.failed ≡ true → result ≡ Err Stop.OutOfMemory }
+        ensures fails { (result ≡ Err Stop.OutOfMemory) → self.new.failed ≡ true }
+        ensures good { OnOk result ((self.new.failed ≡ false)
+            × ((l : List ℕ) → IsLineOf line.now l → AddsGood L.stands self.old self.new l)) }
+        ensures decided { (result ≡ Err Stop.Decided) → (self.new.failed ≡ false)
+            × ((l : List ℕ) → IsLineOf line.now l → AddsBad L.stands self.old self.new l) }
+        ensures kept { (result ≡ Err Stop.Decided) → self.new.ledger ≡ self.old.ledger }
+    {
+        if let Err(stop) = self.expect_line() {
+            return Err(stop);
+        }
+        self.take(line)
     }
 
     /// Takes the next line, which has more bytes than a line may have, whatever they are.

@@ -18,4 +18,4 @@ pub use observer::{Observer, Unobserved};
 pub use qa_base::{LineKind, Totals};
 pub use qa_format::{Fault, Line, Verdict};
 pub use streams::{Metered, Sink, Source};
-pub use text::report;
+pub use text::{report, verdict_line};

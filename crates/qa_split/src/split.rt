@@ -55,7 +55,7 @@ impl Model for Splitter {
 
 impl Splitter {
     ghost use Rattle.std.specs.Borrow.{sem};
-    ghost use Rattle.std.specs.Prelude.{[], ◌++◌, true, Some, None, OnOk, OnErr, IsErrOf};
+    ghost use Rattle.std.specs.Prelude.{[], ◌++◌, ◌==◌, true, Some, None, OnOk, OnErr, IsErrOf};
     ghost use Rattle.qa_split.specs.Lending.{EndsAs};
     ghost use Rattle.qa_split.specs.Stream.{BeginsTooLong};
 
@@ -89,6 +89,13 @@ impl Splitter {
             self.refused = Some(SplitFault::OutOfMemory);
         }
         fed
+    }
+
+    /// Whether it holds no bytes: all that it was fed was returned.
+    pub fn is_empty(&self) -> bool
+        ensures { result ≡ (length self.now.bytes == 0) }
+    {
+        self.bytes[self.start..].is_empty()
     }
 
     /// Moves what was not returned yet to the front of the buffer.

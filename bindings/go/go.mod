@@ -1,0 +1,3 @@
+module qaudit
+
+go 1.19

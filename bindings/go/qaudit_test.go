@@ -1,0 +1,96 @@
+package qaudit
+
+import (
+	"os"
+	"path/filepath"
+	"strings"
+	"testing"
+)
+
+func TestEachReportIsThatOfTheCorpus(t *testing.T) {
+	traces, _ := filepath.Glob("../../conformance/traces/*.trace")
+	if len(traces) == 0 {
+		t.Fatal("there are no traces")
+	}
+	for _, trace := range traces {
+		bytes, _ := os.ReadFile(trace)
+		report, _ := os.ReadFile(strings.TrimSuffix(trace, "trace") + "report")
+		for _, piece := range []int{1, 7, 4096} {
+			a, err := New(nil)
+			if err != nil {
+				t.Fatal(err)
+			}
+			progress := Open
+			for rest := bytes; len(rest) > 0 && progress == Open; {
+				n := piece
+				if n > len(rest) {
+					n = len(rest)
+				}
+				progress, err = a.Feed(rest[:n])
+				if err != nil {
+					t.Fatal(err)
+				}
+				rest = rest[n:]
+			}
+			if _, err := a.Finish(); err != nil || a.Report() != string(report) {
+				t.Errorf("%s by %d: %q", trace, piece, a.Report())
+			}
+			a.Close()
+		}
+	}
+}
+
+func TestAFullWindow(t *testing.T) {
+	a, err := New(&Header{Role: Server, MaxDatagramSize: 1200})
+	if err != nil {
+		t.Fatal(err)
+	}
+	for number := uint64(0); number < 11; number++ {
+		packet := Packet{Time: number, Number: number, Size: 1200, Space: App, Eliciting: true, InFlight: true}
+		if _, err := a.Sent(&packet); err != nil {
+			t.Fatal(err)
+		}
+	}
+	verdict, known := a.Verdict()
+	if !known || verdict.Kind != Refused || verdict.Line != 12 || verdict.Name != "past-window" {
+		t.Errorf("%v", verdict)
+	}
+}
+
+func TestEventsOfEachKind(t *testing.T) {
+	a, err := New(&Header{Role: Client, MaxDatagramSize: 1200})
+	if err != nil {
+		t.Fatal(err)
+	}
+	rtt := uint64(100000)
+	a.Sent(&Packet{Size: 1200, Eliciting: true, InFlight: true})
+	a.Ack(100000, Initial, []Range{{0, 0}}, 0, false)
+	a.Keys(100000)
+	a.Discard(100001, Initial)
+	a.Confirmed(100002)
+	a.Discard(100003, Handshake)
+	if progress, err := a.Metrics(100004, &Metrics{LatestRTT: &rtt}); progress != Open || err != nil {
+		t.Errorf("%v %v", progress, err)
+	}
+	if verdict, err := a.Finish(); err != nil || verdict.Kind != Accepted || verdict.Events != 7 {
+		t.Errorf("%v %v", verdict, err)
+	}
+}
+
+func TestWhatIsNotTaken(t *testing.T) {
+	a, err := New(&Header{Role: Server, MaxDatagramSize: 1200})
+	if err != nil {
+		t.Fatal(err)
+	}
+	if _, err := a.Lost(0, App, nil); err != ErrRange {
+		t.Error(err)
+	}
+	a.Feed([]byte("{"))
+	if _, err := a.Keys(0); err != ErrInsideLine {
+		t.Error(err)
+	}
+	a.Close()
+	if _, err := a.Keys(0); err != ErrClosed {
+		t.Error(err)
+	}
+}

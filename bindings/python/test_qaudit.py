@@ -1,0 +1,77 @@
+#!/usr/bin/env python3
+"""Tests qaudit.py over the conformance corpus, and by hand."""
+
+import unittest
+from pathlib import Path
+
+from qaudit import Auditor, Header, Progress, QauditError
+
+TRACES = Path(__file__).resolve().parent.parent.parent / "conformance" / "traces"
+
+
+class Corpus(unittest.TestCase):
+    def test_each_report_is_that_of_the_corpus(self) -> None:
+        traces = sorted(TRACES.glob("*.trace"))
+        self.assertTrue(traces)
+        for trace in traces:
+            data, report = trace.read_bytes(), trace.with_suffix(".report").read_text()
+            for piece in (1, 7, 4096):
+                if len(data) > 65536 and piece < 4096:
+                    continue
+                with self.subTest(trace=trace.stem, piece=piece), Auditor() as auditor:
+                    for at in range(0, len(data), piece):
+                        if auditor.feed(data[at : at + piece]) is not Progress.OPEN:
+                            break
+                    auditor.finish()
+                    self.assertEqual(auditor.report(), report)
+
+
+class Events(unittest.TestCase):
+    def test_a_full_window(self) -> None:
+        auditor = Auditor(Header(role="server", max_datagram_size=1200))
+        for number in range(10):
+            self.assertIs(auditor.sent(number, "app", number, 1200), Progress.OPEN)
+        self.assertIs(auditor.sent(10, "app", 10, 1200), Progress.FIXED)
+        self.assertEqual(auditor.first_line(), "refused line 12 V7 past-window")
+        verdict = auditor.verdict()
+        assert verdict is not None
+        self.assertEqual((verdict.kind, verdict.line, verdict.code), ("refused", 12, 7))
+        self.assertEqual(verdict.name, "past-window")
+
+    def test_events_of_each_kind(self) -> None:
+        auditor = Auditor(Header(role="client", max_datagram_size=1200))
+        auditor.sent(0, "initial", 0, 1200)
+        auditor.ack(100_000, "initial", [(0, 0)])
+        auditor.keys(100_000)
+        auditor.discard(100_001, "initial")
+        auditor.confirmed(100_002)
+        auditor.discard(100_003, "handshake")
+        self.assertIs(auditor.metrics(100_004, latest_rtt=100_000), Progress.OPEN)
+        verdict = auditor.finish()
+        assert verdict.totals is not None
+        self.assertEqual((verdict.kind, verdict.totals["events"]), ("accepted", 7))
+
+    def test_a_reported_value_is_named(self) -> None:
+        auditor = Auditor(Header(role="server", max_datagram_size=1200))
+        self.assertIs(auditor.metrics(0, min_rtt=7), Progress.FIXED)
+        verdict = auditor.verdict()
+        assert verdict is not None
+        self.assertEqual((verdict.name, verdict.subject), ("metric", "min_rtt"))
+
+    def test_what_is_not_taken(self) -> None:
+        auditor = Auditor(Header(role="server", max_datagram_size=1200))
+        for wrong in (
+            lambda: auditor.lost(0, "app", []),
+            lambda: auditor.discard(0, "app"),
+            lambda: auditor.sent(2**64, "app", 0, 1200),
+            lambda: auditor.ack(0, "app", [(1, 0)]),
+        ):
+            self.assertRaises(QauditError, wrong)
+        auditor.feed(b"{")
+        self.assertRaises(QauditError, lambda: auditor.keys(0))
+        auditor.close()
+        self.assertRaises(QauditError, lambda: auditor.keys(0))
+
+
+if __name__ == "__main__":
+    unittest.main()

@@ -1,0 +1,65 @@
+//! The traces of the conformance corpus: each report is that of the program.
+use qaudit::{Auditor, Error, Header, Metrics, Packet, Progress, Role, Space, TimerKind, Verdict};
+use std::fs;
+use std::path::PathBuf;
+
+fn traces() -> Vec<PathBuf> {
+    let folder = PathBuf::from(env!("CARGO_MANIFEST_DIR")).join("../../conformance/traces");
+    let files = fs::read_dir(folder).unwrap().map(|file| file.unwrap().path());
+    files.filter(|path| path.extension().is_some_and(|end| end == "trace")).collect()
+}
+
+#[test]
+fn each_report_is_that_of_the_corpus() {
+    assert!(!traces().is_empty());
+    for path in traces() {
+        let bytes = fs::read(&path).unwrap();
+        let wanted = fs::read_to_string(path.with_extension("report")).unwrap();
+        for piece in [1, 7, 4096] {
+            let mut auditor = Auditor::without_header().unwrap();
+            for part in bytes.chunks(piece) {
+                if auditor.feed(part).unwrap() != Progress::Open {
+                    break;
+                }
+            }
+            auditor.finish().unwrap();
+            assert_eq!(auditor.report(), wanted, "{} by {piece}", path.display());
+        }
+    }
+}
+
+#[test]
+fn events_of_each_kind_are_taken() {
+    let mut auditor = Auditor::new(&Header::new(Role::Client, 1200)).unwrap();
+    auditor.sent(&Packet::new(0, Space::Initial, 0, 1200)).unwrap();
+    auditor.ack(100_000, Space::Initial, &[0..=0], 0, false).unwrap();
+    auditor.keys(100_000).unwrap();
+    auditor.discard(100_001, Space::Initial).unwrap();
+    auditor.confirmed(100_002).unwrap();
+    auditor.discard(100_003, Space::Handshake).unwrap();
+    let metrics = Metrics {
+        latest_rtt: Some(100_000),
+        ..Metrics::default()
+    };
+    assert_eq!(auditor.metrics(100_004, &metrics), Ok(Progress::Open));
+    assert!(matches!(auditor.finish(), Ok(Verdict::Accepted { totals }) if totals.events == 7));
+}
+
+#[test]
+fn the_first_departure_is_told() {
+    let mut auditor = Auditor::new(&Header::new(Role::Server, 1200)).unwrap();
+    assert_eq!(auditor.timer(0, TimerKind::Pto, Space::App), Ok(Progress::Fixed));
+    match auditor.verdict() {
+        Some(Verdict::Refused { line: 2, rule, .. }) => assert_eq!((rule.number, rule.name.as_str()), (11, "timer-not-set")),
+        other => panic!("{other:?}"),
+    }
+}
+
+#[test]
+fn what_is_out_of_range_is_not_taken() {
+    let mut auditor = Auditor::new(&Header::new(Role::Server, 1200)).unwrap();
+    assert_eq!(auditor.lost(0, Space::App, &[]), Err(Error::OutOfRange));
+    assert_eq!(auditor.discard(0, Space::App), Err(Error::OutOfRange));
+    assert!(Auditor::new(&Header::new(Role::Server, 1199)).is_err());
+    assert_eq!(auditor.verdict(), None);
+}

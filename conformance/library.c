@@ -1,0 +1,423 @@
+/* What conformance/library has a C and a C++ compiler make of this, over include/qaudit.h and libqaudit.a:
+ *
+ *     library pieces N       feeds standard input in pieces of N bytes
+ *     library events         hands in what the commands of standard input say, which are below
+ *     library refused N      feeds standard input in pieces of N bytes with each allocation refused in turn
+ *     library orders         calls each function where it has nothing to do
+ *
+ * The first two write the report. A command is a line, and its numbers are the fields of a struct:
+ *
+ *     feed COUNT             the COUNT bytes behind the line are fed
+ *     header, sent, ack, lost, timer, discard, confirmed, keys, metrics
+ *     ack and lost end with the number of ranges, and two numbers for each
+ *
+ * The exit status is 0, 1 where an answer was not as wanted, and 2 where the input was none.
+ */
+#include "qaudit.h"
+
+#include <inttypes.h>
+#include <stdio.h>
+#include <stdlib.h>
+#include <string.h>
+
+#define ROOM 1024
+
+/* ---- allocations, which the linker's --wrap leads here */
+
+#ifdef __cplusplus
+extern "C" {
+#endif
+void *__real_malloc(size_t size);
+void *__real_realloc(void *block, size_t size);
+void __real_free(void *block);
+void *__wrap_malloc(size_t size);
+void *__wrap_realloc(void *block, size_t size);
+void __wrap_free(void *block);
+#ifdef __cplusplus
+}
+#endif
+
+static int is_counting = 0;
+static long left = -1;     /* allocations before the one that is refused; none is where it is negative */
+static long calls = 0;     /* allocations so far */
+static long blocks = 0;    /* blocks that were not given back */
+
+static int is_refused(void) {
+    calls++;
+    return left-- == 0;
+}
+
+void *__wrap_malloc(size_t size) {
+    void *block;
+    if (!is_counting) return __real_malloc(size);
+    if (is_refused()) return NULL;
+    block = __real_malloc(size);
+    blocks += block != NULL;
+    return block;
+}
+
+void *__wrap_realloc(void *old, size_t size) {
+    void *block;
+    if (!is_counting) return __real_realloc(old, size);
+    if (is_refused()) return NULL;
+    block = __real_realloc(old, size);
+    blocks += block != NULL && old == NULL;
+    return block;
+}
+
+void __wrap_free(void *block) {
+    if (is_counting) blocks -= block != NULL;
+    __real_free(block);
+}
+
+/* ---- input */
+
+typedef struct input {
+    uint8_t *bytes;
+    size_t count;
+} input;
+
+static input read_all(void) {
+    input all = {NULL, 0};
+    size_t room = 0, n;
+    do {
+        if (all.count == room) {
+            room = room ? 2 * room : 65536;
+            all.bytes = (uint8_t *)__real_realloc(all.bytes, room);
+            if (!all.bytes) exit(2);
+        }
+        n = fread(all.bytes + all.count, 1, room - all.count, stdin);
+        all.count += n;
+    } while (n > 0);
+    return all;
+}
+
+static int fail(const char *what) {
+    fprintf(stderr, "%s\n", what);
+    return 1;
+}
+
+/* ---- the report */
+
+static int tell(qaudit *q) {
+    static uint8_t text[ROOM], line[ROOM];
+    static const char *const words[] = {"accepted\n", "refused ", "unreadable "};
+    qaudit_told told;
+    size_t count, first;
+    if (!qaudit_verdict(q, &told)) return fail("there is no verdict");
+    count = qaudit_report(q, text, ROOM);
+    first = qaudit_first_line(q, line, ROOM);
+    if (count == 0 || count > ROOM || first == 0 || first > count) return fail("there is no report");
+    if (memcmp(text, line, first) != 0) return fail("the first line is another");
+    if (told.kind < 1 || told.kind > 3) return fail("the verdict has no kind");
+    if (strncmp((const char *)text, words[told.kind - 1], strlen(words[told.kind - 1])) != 0) return fail("the verdict is another");
+    if (told.kind != QAUDIT_ACCEPTED) {
+        /* "refused line 7 V7 past-window", from the numbers and the names. */
+        char wanted[ROOM];
+        uint8_t name[64], key[64];
+        size_t name_count = told.kind == QAUDIT_REFUSED ? qaudit_rule_name(told.code, name, sizeof name)
+                                                        : qaudit_fault_name(told.code, name, sizeof name);
+        size_t key_count = qaudit_key_name(told.subject, key, sizeof key);
+        sprintf(wanted, "%sline %" PRIu64 " %c%" PRIu32 " %.*s%s%.*s\n", words[told.kind - 1], told.line,
+                told.kind == QAUDIT_REFUSED ? 'V' : 'F', told.code, (int)name_count, (const char *)name,
+                key_count ? " " : "", (int)key_count, (const char *)key);
+        if (strlen(wanted) != first || memcmp(wanted, line, first) != 0) return fail("the names are others");
+    }
+    if (told.has_totals) {
+        char wanted[ROOM];
+        sprintf(wanted, "events %" PRIu64 "\nwindow %" PRIu64 "\n", told.totals.events, told.totals.window);
+        if (first + strlen(wanted) > count || memcmp(text + first, wanted, strlen(wanted)) != 0) return fail("the totals are others");
+    } else if (count != first) {
+        return fail("there are totals");
+    }
+    if (qaudit_report(q, line, count - 1) != count || memcmp(line, text, first) != 0) return fail("a short buffer was written to");
+    fwrite(text, 1, count, stdout);
+    return 0;
+}
+
+/* ---- pieces */
+
+static qaudit_status_t feed_pieces(qaudit *q, const input *all, size_t piece) {
+    qaudit_status_t status = qaudit_status(q);
+    size_t at;
+    for (at = 0; at < all->count && status == QAUDIT_OPEN; at += piece) {
+        size_t rest = all->count - at;
+        status = qaudit_feed(q, all->bytes + at, rest < piece ? rest : piece);
+    }
+    return status == QAUDIT_OPEN ? qaudit_finish(q) : status;
+}
+
+static int run_pieces(size_t piece) {
+    qaudit q = {NULL, false};
+    input all = read_all();
+    int failed;
+    qaudit_status_t status;
+    if (qaudit_open(&q) != QAUDIT_OPEN) return fail("it is not open");
+    status = feed_pieces(&q, &all, piece);
+    if (status != QAUDIT_FIXED && status != QAUDIT_FINISHED) return fail("it came to no verdict");
+    failed = tell(&q);
+    qaudit_close(&q);
+    __real_free(all.bytes);
+    return failed;
+}
+
+/* ---- commands */
+
+static const char *place;
+
+static uint64_t number(void) {
+    char *end;
+    uint64_t value = strtoull(place, &end, 10);
+    if (end == place) exit(2);
+    place = end;
+    return value;
+}
+
+static uint32_t small(void) { return (uint32_t)number(); }
+
+static bool flag(void) { return number() != 0; }
+
+static qaudit_range *ranges(size_t *count) {
+    qaudit_range *all;
+    size_t i;
+    *count = (size_t)number();
+    all = (qaudit_range *)__real_malloc((*count + 1) * sizeof *all);
+    if (!all) exit(2);
+    for (i = 0; i < *count; i++) {
+        all[i].least = number();
+        all[i].greatest = number();
+    }
+    return all;
+}
+
+static qaudit_status_t hand_header(qaudit *q) {
+    qaudit_trace_header h;
+    h.max_datagram_size = number();
+    h.max_ack_delay = number();
+    h.initial_rtt = number();
+    h.initial_window = number();
+    h.timer_late_us = number();
+    h.timer_early_us = number();
+    h.report_slack_us = number();
+    h.report_slack_bytes = number();
+    h.packet_threshold = number();
+    h.role = small();
+    h.unit = small();
+    h.window = small();
+    h.loss_by_number = small();
+    h.has_max_ack_delay = flag();
+    h.has_initial_rtt = flag();
+    h.has_initial_window = flag();
+    h.has_timer_late_us = flag();
+    h.has_packet_threshold = flag();
+    h.refresh_min_rtt = flag();
+    h.window_overshoot = flag();
+    h.sample_eliciting_only = flag();
+    return qaudit_header(q, &h);
+}
+
+static qaudit_status_t hand_sent(qaudit *q) {
+    qaudit_packet p;
+    p.time = number();
+    p.number = number();
+    p.size = number();
+    p.space = small();
+    p.leave = small();
+    p.eliciting = flag();
+    p.in_flight = flag();
+    return qaudit_sent(q, &p);
+}
+
+static qaudit_status_t hand_ack(qaudit *q) {
+    qaudit_acknowledgment a;
+    qaudit_range *all;
+    size_t count;
+    qaudit_status_t status;
+    a.time = number();
+    a.delay = number();
+    a.space = small();
+    a.app_limited = flag();
+    all = ranges(&count);
+    status = qaudit_ack(q, &a, all, count);
+    __real_free(all);
+    return status;
+}
+
+static qaudit_status_t hand_lost(qaudit *q) {
+    uint64_t time = number();
+    uint32_t space = small();
+    size_t count;
+    qaudit_range *all = ranges(&count);
+    qaudit_status_t status = qaudit_lost(q, time, space, all, count);
+    __real_free(all);
+    return status;
+}
+
+static qaudit_status_t hand_timer(qaudit *q) {
+    qaudit_fired_timer t;
+    t.time = number();
+    t.kind = small();
+    t.space = small();
+    return qaudit_timer(q, &t);
+}
+
+static qaudit_status_t hand_metrics(qaudit *q) {
+    qaudit_metrics_report m;
+    m.time = number();
+    m.window = number();
+    m.ssthresh = number();
+    m.bytes_in_flight = number();
+    m.latest_rtt = number();
+    m.min_rtt = number();
+    m.smoothed_rtt = number();
+    m.rttvar = number();
+    m.has_window = flag();
+    m.has_ssthresh = flag();
+    m.has_bytes_in_flight = flag();
+    m.has_latest_rtt = flag();
+    m.has_min_rtt = flag();
+    m.has_smoothed_rtt = flag();
+    m.has_rttvar = flag();
+    return qaudit_metrics(q, &m);
+}
+
+static int is_word(const char *word) {
+    size_t length = strlen(word);
+    if (strncmp(place, word, length) != 0 || place[length] != ' ') return 0;
+    place += length;
+    return 1;
+}
+
+/* Hands in the next command, and moves behind it. */
+static qaudit_status_t hand_next(qaudit *q) {
+    qaudit_status_t status;
+    if (is_word("feed")) {
+        size_t count = (size_t)number();
+        place++;
+        status = qaudit_feed(q, (const uint8_t *)place, count);
+        place += count;
+        return status;
+    }
+    if (is_word("header")) status = hand_header(q);
+    else if (is_word("sent")) status = hand_sent(q);
+    else if (is_word("ack")) status = hand_ack(q);
+    else if (is_word("lost")) status = hand_lost(q);
+    else if (is_word("timer")) status = hand_timer(q);
+    else if (is_word("metrics")) status = hand_metrics(q);
+    else if (is_word("confirmed")) status = qaudit_confirmed(q, number());
+    else if (is_word("keys")) status = qaudit_keys(q, number());
+    else if (is_word("discard")) {
+        uint64_t time = number();
+        status = qaudit_discard(q, time, small());
+    } else exit(2);
+    place++;
+    return status;
+}
+
+static int run_events(void) {
+    qaudit q = {NULL, false};
+    input all = read_all();
+    qaudit_status_t status = qaudit_open(&q);
+    int failed;
+    place = (const char *)all.bytes;
+    while (place < (const char *)all.bytes + all.count && status == QAUDIT_OPEN) status = hand_next(&q);
+    if (status == QAUDIT_OPEN) status = qaudit_finish(&q);
+    if (status != QAUDIT_FIXED && status != QAUDIT_FINISHED) {
+        fprintf(stderr, "status %" PRIu32 "\n", status);
+        return 1;
+    }
+    failed = tell(&q);
+    qaudit_close(&q);
+    __real_free(all.bytes);
+    return failed;
+}
+
+/* ---- refused allocations */
+
+/* Runs over the input with this allocation refused. Returns whether something was not as wanted. */
+static int run_refused(const input *all, size_t piece, long refused, uint8_t *text, size_t *count) {
+    qaudit q = {NULL, false};
+    qaudit_told told;
+    qaudit_status_t status, again;
+    left = refused;
+    calls = blocks = 0;
+    is_counting = 1;
+    status = qaudit_open(&q);
+    if (status == QAUDIT_OPEN) status = feed_pieces(&q, all, piece);
+    *count = qaudit_report(&q, text, ROOM);
+    again = qaudit_feed(&q, all->bytes, all->count ? 1 : 0);
+    if (again != status) return fail("its status changed");
+    if ((status == QAUDIT_OUT_OF_MEMORY || status == QAUDIT_CLOSED) && (*count || qaudit_verdict(&q, &told)))
+        return fail("it came to a verdict without memory");
+    qaudit_close(&q);
+    qaudit_close(&q);
+    is_counting = 0;
+    if (blocks) return fail("a block was lost");
+    if (refused < 0 && status != QAUDIT_FIXED && status != QAUDIT_FINISHED) return fail("it came to no verdict");
+    return 0;
+}
+
+static int run_all_refused(size_t piece) {
+    static uint8_t whole[ROOM], text[ROOM];
+    input all = read_all();
+    size_t whole_count, count;
+    long refused, total;
+    if (run_refused(&all, piece, -1, whole, &whole_count)) return 1;
+    total = calls;
+    for (refused = 0; refused < total; refused++) {
+        if (run_refused(&all, piece, refused, text, &count)) return 1;
+        if (count && (count != whole_count || memcmp(text, whole, count) != 0)) return fail("the report is another");
+    }
+    printf("%ld\n", total);
+    return 0;
+}
+
+/* ---- orders of calls */
+
+static int run_orders(void) {
+    static uint8_t out[ROOM];
+    static const uint8_t half[] = "{\"event\"";
+    qaudit q = {NULL, false};
+    qaudit_told told;
+    qaudit_packet packet;
+    qaudit_range range;
+    memset(&packet, 0, sizeof packet);
+    packet.size = 1200;
+    range.least = range.greatest = 0;
+    if (qaudit_feed(&q, half, 1) != QAUDIT_CLOSED || qaudit_sent(&q, &packet) != QAUDIT_CLOSED) return fail("closed: it took something");
+    if (qaudit_finish(&q) != QAUDIT_CLOSED || qaudit_status(&q) != QAUDIT_CLOSED) return fail("closed: it is open");
+    if (qaudit_verdict(&q, &told) || qaudit_report(&q, out, ROOM) != 0) return fail("closed: it has a verdict");
+    qaudit_close(&q);
+    if (qaudit_open(&q) != QAUDIT_OPEN || qaudit_open(&q) != QAUDIT_OPEN) return fail("it was not opened again");
+    if (qaudit_verdict(&q, &told) || qaudit_first_line(&q, out, ROOM) != 0) return fail("open: it has a verdict");
+    packet.space = 3;
+    if (qaudit_sent(&q, &packet) != QAUDIT_OUT_OF_RANGE) return fail("it took a space that is none");
+    packet.space = QAUDIT_APP;
+    packet.size = 0;
+    if (qaudit_sent(&q, &packet) != QAUDIT_OUT_OF_RANGE) return fail("it took a packet of no bytes");
+    packet.size = 1200;
+    if (qaudit_lost(&q, 0, QAUDIT_APP, &range, 0) != QAUDIT_OUT_OF_RANGE) return fail("it took no ranges");
+    if (qaudit_discard(&q, 0, QAUDIT_APP) != QAUDIT_OUT_OF_RANGE) return fail("it discarded a space that stays");
+    if (qaudit_feed(&q, half, sizeof half - 1) != QAUDIT_OPEN) return fail("it took no half of a line");
+    if (qaudit_sent(&q, &packet) != QAUDIT_INSIDE_LINE) return fail("it took an event inside a line");
+    if (qaudit_finish(&q) != QAUDIT_FINISHED || qaudit_finish(&q) != QAUDIT_FINISHED) return fail("it was not finished");
+    if (qaudit_sent(&q, &packet) != QAUDIT_FINISHED || qaudit_feed(&q, half, 1) != QAUDIT_FINISHED) return fail("finished: it took something");
+    if (!qaudit_verdict(&q, &told) || told.kind != QAUDIT_UNREADABLE || told.line != 1 || told.code != 1) return fail("the verdict is another");
+    if (qaudit_open(&q) != QAUDIT_OPEN || qaudit_sent(&q, &packet) != QAUDIT_FIXED) return fail("an event before a header was good");
+    if (!qaudit_verdict(&q, &told) || told.kind != QAUDIT_UNREADABLE || told.code != 7 || told.has_totals) return fail("its fault is another");
+    qaudit_close(&q);
+    if (q.at != NULL || q.is_open) return fail("it is not all zero");
+    if (qaudit_rule_name(0, out, ROOM) || qaudit_rule_name(20, out, ROOM) || qaudit_fault_name(12, out, ROOM) || qaudit_key_name(37, out, ROOM))
+        return fail("what is none has a name");
+    if (qaudit_rule_name(7, out, ROOM) != 11 || memcmp(out, "past-window", 11) != 0) return fail("V7 has another name");
+    return 0;
+}
+
+int main(int argc, char **argv) {
+    size_t piece = argc > 2 ? (size_t)strtoull(argv[2], NULL, 10) : 0;
+    if (argc == 3 && piece > 0 && strcmp(argv[1], "pieces") == 0) return run_pieces(piece);
+    if (argc == 3 && piece > 0 && strcmp(argv[1], "refused") == 0) return run_all_refused(piece);
+    if (argc == 2 && strcmp(argv[1], "events") == 0) return run_events();
+    if (argc == 2 && strcmp(argv[1], "orders") == 0) return run_orders();
+    return 2;
+}

@@ -1,0 +1,86 @@
+-- What each call of C leaves of what is kept, and returns.
+use Rattle.std.specs.Prelude.{◌≡◌, ◌≢◌, ◌⊎◌, ◌≤◌, ◌<◌, ◌++◌, ℕ, true, false, List, length, drop, Option, Some, None}
+use Rattle.qa_check.specs.Auditor.{is_between}
+use Rattle.qa_check.specs.Standing.{IsLineOf}
+use Rattle.qa_format.specs.declared.line.Line.{Line}
+use Rattle.qa_format.specs.declared.verdict.Verdict.{Verdict}
+use Rattle.qa_format.specs.format.Lines.{with_lf}
+use Rattle.qa_session.specs.Session.{Run, IsFed, phase_of, verdict_in}
+use Rattle.qa_session.specs.declared.Phase.{Phase}
+use Rattle.qa_session.specs.declared.Phase.TheVariants.{Open, Fixed, Finished, OutOfMemory}
+
+-- ---- statuses
+
+-- 0 what follows can change the verdict, 1 the verdict is fixed, 2 it is finished, 3 out of memory
+abbrev pub phase_number : Phase → ℕ
+phase_number Open = 0
+phase_number (Fixed v) = 1
+phase_number (Finished v) = 2
+phase_number OutOfMemory = 3
+
+-- the same of what a handle holds; 4 where it holds nothing
+abbrev pub status : Option Run → ℕ
+status None = 4
+status (Some run) = phase_number (phase_of run)
+
+-- the verdict that is known of what a handle holds
+abbrev pub verdict_known : Option Run → Option Verdict
+verdict_known None = None
+verdict_known (Some run) = verdict_in (phase_of run)
+
+-- these bytes were handed to what a handle holds
+abbrev pub HoldsFed : Option Run → List ℕ → Type 0
+HoldsFed None bytes = ⊥
+HoldsFed (Some run) bytes = IsFed run bytes
+
+-- ---- bytes
+
+-- a session stays as it is once it is finished, and is fed the piece before
+pub record FeedsRun (piece : List ℕ) (result : ℕ) (old new : Run) : Type 0 where
+  pub status : result ≡ phase_number (phase_of new)
+  pub fed : old.finished ≡ false → (bytes : List ℕ) → IsFed old bytes → IsFed new (bytes ++ piece)
+  pub finished : old.finished ≡ true → new ≡ old
+
+abbrev pub Feeds : List ℕ → ℕ → Option Run → Option Run → Type 0
+Feeds piece result None new = (result ≡ 4) × (new ≡ None)
+Feeds piece result (Some old) new = (run : Run) × (new ≡ Some run) × FeedsRun piece result old run
+
+-- ---- the end
+
+pub record FinishesRun (result : ℕ) (old new : Run) : Type 0 where
+  pub status : result ≡ phase_number (phase_of new)
+  pub over : new.finished ≡ true
+  pub known : result ≢ 0
+  pub fed : (bytes : List ℕ) → IsFed old bytes → IsFed new bytes
+
+abbrev pub Finishes : ℕ → Option Run → Option Run → Type 0
+Finishes result None new = (result ≡ 4) × (new ≡ None)
+Finishes result (Some old) new = (run : Run) × (new ≡ Some run) × FinishesRun result old run
+
+-- ---- a line by what it says
+
+-- a value is outside its range (5), or the line was taken
+abbrev pub TookLine : Option Line → ℕ → Run → Run → Type 0
+TookLine None result old new = (result ≡ 5) × (new ≡ old)
+TookLine (Some x) result old new =
+    (result ≡ phase_number (phase_of new)) × ((bytes : List ℕ) (l : List ℕ) → IsLineOf x l → IsFed old bytes → IsFed new (bytes ++ with_lf l))
+
+-- or there was no memory for what the event says (6)
+abbrev pub Took : Option Line → ℕ → Run → Run → Type 0
+Took x result old new = ((result ≡ 6) × (new ≡ old)) ⊎ TookLine x result old new
+
+-- nothing is taken once the verdict is fixed, or inside a line (7)
+pub record HandsRun (x : Option Line) (result : ℕ) (old new : Run) : Type 0 where
+  pub over : phase_of old ≢ Open → (result ≡ phase_number (phase_of old)) × (new ≡ old)
+  pub inside : phase_of old ≡ Open → is_between old.audit ≡ false → (result ≡ 7) × (new ≡ old)
+  pub between : phase_of old ≡ Open → is_between old.audit ≡ true → Took x result old new
+
+abbrev pub Hands : Option Line → ℕ → Option Run → Option Run → Type 0
+Hands x result None new = (result ≡ 4) × (new ≡ None)
+Hands x result (Some old) new = (run : Run) × (new ≡ Some run) × HandsRun x result old run
+
+-- ---- texts
+
+-- the text has n bytes; where they fit they stand at the front, and all behind them is as it was; else all is
+abbrev pub Tells : ℕ → List ℕ → List ℕ → List ℕ → Type 0
+Tells n old new text = (n ≡ length text) × (n ≤ length old → new ≡ text ++ drop n old) × (length old < n → new ≡ old)

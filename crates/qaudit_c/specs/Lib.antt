@@ -1,0 +1,5 @@
+pub mod Held
+pub mod Numbers
+pub mod Events
+pub mod Telling
+pub mod Calls

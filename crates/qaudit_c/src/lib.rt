@@ -1,0 +1,299 @@
+//! The auditor for C: what `include/qaudit.h` declares.
+//!
+//! No call asks for more than its types say: each wrong order of calls has an answer.
+#![tactic(auto)]
+
+ghost use Rattle.std.specs.Prelude.{◌≡◌, ◌≢◌, ◌⊎◌, [], List, ℕ, None, IfSome, is_some, length};
+ghost use Rattle.qa_format.specs.format.Reading.{reading};
+ghost use Rattle.qa_format.specs.verdicts.Report as text;
+ghost use Rattle.qa_format.specs.verdicts.Verdict.{verdict};
+ghost use Rattle.qaudit_c.specs.Calls.{Feeds, Finishes, Hands, HoldsFed, Tells, status, verdict_known};
+ghost use Rattle.qaudit_c.specs.Events as said;
+ghost use Rattle.qaudit_c.specs.Numbers as numbers;
+ghost use Rattle.qaudit_c.specs.Telling as telling;
+
+mod calls;
+mod events;
+mod handle;
+mod header;
+mod kept;
+mod numbers;
+mod parts;
+mod structs;
+mod telling;
+mod texts;
+
+use calls::{CLOSED, event_line, hand, header_line, number};
+use events::{
+    ack_event, confirmed_event, discard_event, keys_event, lost_event, metrics_event, sent_event,
+    timer_event,
+};
+pub use handle::Handle;
+use header::header_of;
+pub use kept::Qaudit;
+use kept::{close, put, take, try_open};
+use qa_check::Verdict;
+use std::alloc::Global;
+pub use structs::{Acknowledgment, FiredTimer, Metrics, PacketRange, SentPacket, TraceHeader};
+use telling::for_c;
+pub use telling::{Told, ToldTotals};
+use texts::{put_fault_name, put_key_name, put_line, put_report, put_rule_name};
+
+// ---- opening and closing
+
+/// Opens a session that was handed nothing; what was open before is closed. It is closed where it is
+/// out of memory.
+#[unsafe(no_mangle)]
+pub extern "C" fn qaudit_open(alloc: Global, qaudit: &mut Qaudit) -> u32
+    ensures status { result ≡ status qaudit.new.handle.held }
+    ensures answer { (result ≡ 0) ⊎ (result ≡ 4) }
+    ensures fed { result ≡ 0 → HoldsFed qaudit.new.handle.held [] }
+{
+    close(alloc, qaudit);
+    match try_open(alloc) {
+        Some(session) => {
+            put(qaudit, session);
+            0
+        }
+        None => CLOSED,
+    }
+}
+
+/// Closes it, and gives its memory back.
+#[unsafe(no_mangle)]
+pub extern "C" fn qaudit_close(alloc: Global, qaudit: &mut Qaudit)
+    ensures { qaudit.new.handle.held ≡ None }
+{
+    close(alloc, qaudit);
+}
+
+// ---- what is handed in
+
+/// Takes the next bytes. After `qaudit_finish` it changes nothing.
+#[unsafe(no_mangle)]
+pub extern "C" fn qaudit_feed(alloc: Global, qaudit: &mut Qaudit, piece: &[u8]) -> u32
+    ensures { Feeds piece.now result qaudit.old.handle.held qaudit.new.handle.held }
+{
+    let Some(mut session) = take(alloc, qaudit) else {
+        return CLOSED;
+    };
+    let phase = session.feed(piece);
+    put(qaudit, session);
+    number(phase)
+}
+
+/// Takes a header by its fields.
+#[unsafe(no_mangle)]
+pub extern "C" fn qaudit_header(alloc: Global, qaudit: &mut Qaudit, header: &TraceHeader) -> u32
+    ensures handed { Hands (said.line_of_header (said.header_said header.now)) result qaudit.old.handle.held qaudit.new.handle.held }
+    ensures memory { result ≢ 6 }
+{
+    hand(alloc, qaudit, Ok(header_line(header_of(header))))
+}
+
+/// Takes a packet that was sent.
+#[unsafe(no_mangle)]
+pub extern "C" fn qaudit_sent(alloc: Global, qaudit: &mut Qaudit, packet: &SentPacket) -> u32
+    ensures handed { Hands (said.line_of_event (said.sent_said packet.now)) result qaudit.old.handle.held qaudit.new.handle.held }
+    ensures memory { result ≢ 6 }
+{
+    hand(alloc, qaudit, Ok(event_line(sent_event(packet))))
+}
+
+/// Takes an acknowledgment.
+#[unsafe(no_mangle)]
+pub extern "C" fn qaudit_ack(
+    alloc: Global,
+    qaudit: &mut Qaudit,
+    ack: &Acknowledgment,
+    ranges: &[PacketRange],
+) -> u32
+    ensures { Hands (said.line_of_event (said.ack_said ack.now ranges.now)) result qaudit.old.handle.held qaudit.new.handle.held }
+{
+    match ack_event(alloc, ack, ranges) {
+        Ok(event) => hand(alloc, qaudit, Ok(event_line(event))),
+        Err(fault) => hand(alloc, qaudit, Err(fault)),
+    }
+}
+
+/// Takes packets that were declared lost.
+#[unsafe(no_mangle)]
+pub extern "C" fn qaudit_lost(
+    alloc: Global,
+    qaudit: &mut Qaudit,
+    time: u64,
+    space: u32,
+    ranges: &[PacketRange],
+) -> u32
+    ensures { Hands (said.line_of_event (said.lost_said time space ranges.now)) result qaudit.old.handle.held qaudit.new.handle.held }
+{
+    match lost_event(alloc, time, space, ranges) {
+        Ok(event) => hand(alloc, qaudit, Ok(event_line(event))),
+        Err(fault) => hand(alloc, qaudit, Err(fault)),
+    }
+}
+
+/// Takes a timer that fired.
+#[unsafe(no_mangle)]
+pub extern "C" fn qaudit_timer(alloc: Global, qaudit: &mut Qaudit, timer: &FiredTimer) -> u32
+    ensures handed { Hands (said.line_of_event (said.timer_said timer.now)) result qaudit.old.handle.held qaudit.new.handle.held }
+    ensures memory { result ≢ 6 }
+{
+    hand(alloc, qaudit, Ok(event_line(timer_event(timer))))
+}
+
+/// Takes keys that were discarded.
+#[unsafe(no_mangle)]
+pub extern "C" fn qaudit_discard(alloc: Global, qaudit: &mut Qaudit, time: u64, space: u32) -> u32
+    ensures handed { Hands (said.line_of_event (said.discard_said time space)) result qaudit.old.handle.held qaudit.new.handle.held }
+    ensures memory { result ≢ 6 }
+{
+    hand(alloc, qaudit, Ok(event_line(discard_event(time, space))))
+}
+
+/// Takes a handshake that was confirmed.
+#[unsafe(no_mangle)]
+pub extern "C" fn qaudit_confirmed(alloc: Global, qaudit: &mut Qaudit, time: u64) -> u32
+    ensures handed { Hands (said.line_of_event (said.confirmed_said time)) result qaudit.old.handle.held qaudit.new.handle.held }
+    ensures memory { result ≢ 6 }
+{
+    hand(alloc, qaudit, Ok(event_line(confirmed_event(time))))
+}
+
+/// Takes Handshake keys that are there.
+#[unsafe(no_mangle)]
+pub extern "C" fn qaudit_keys(alloc: Global, qaudit: &mut Qaudit, time: u64) -> u32
+    ensures handed { Hands (said.line_of_event (said.keys_said time)) result qaudit.old.handle.held qaudit.new.handle.held }
+    ensures memory { result ≢ 6 }
+{
+    hand(alloc, qaudit, Ok(event_line(keys_event(time))))
+}
+
+/// Takes what a sender reports of itself.
+#[unsafe(no_mangle)]
+pub extern "C" fn qaudit_metrics(alloc: Global, qaudit: &mut Qaudit, metrics: &Metrics) -> u32
+    ensures handed { Hands (said.line_of_event (said.metrics_said metrics.now)) result qaudit.old.handle.held qaudit.new.handle.held }
+    ensures memory { result ≢ 6 }
+{
+    hand(alloc, qaudit, Ok(event_line(metrics_event(metrics))))
+}
+
+/// Says that nothing follows.
+#[unsafe(no_mangle)]
+pub extern "C" fn qaudit_finish(alloc: Global, qaudit: &mut Qaudit) -> u32
+    ensures { Finishes result qaudit.old.handle.held qaudit.new.handle.held }
+{
+    let Some(mut session) = take(alloc, qaudit) else {
+        return CLOSED;
+    };
+    let phase = session.finish();
+    put(qaudit, session);
+    number(phase)
+}
+
+// ---- what is told
+
+/// How far it is; it stays as it is.
+#[unsafe(no_mangle)]
+pub extern "C" fn qaudit_status(alloc: Global, qaudit: &mut Qaudit) -> u32
+    ensures status { result ≡ status qaudit.old.handle.held }
+    ensures kept { qaudit.new.handle.held ≡ qaudit.old.handle.held }
+{
+    let Some(session) = take(alloc, qaudit) else {
+        return CLOSED;
+    };
+    let phase = session.phase();
+    put(qaudit, session);
+    number(phase)
+}
+
+/// The verdict that is known of what C keeps, which stays as it is.
+fn known(alloc: Global, qaudit: &mut Qaudit) -> Option<Verdict>
+    ensures kept { qaudit.new.handle.held ≡ qaudit.old.handle.held }
+    ensures known { result ≡ verdict_known qaudit.old.handle.held }
+    ensures verdict { IfSome result (λ v. (bytes : List ℕ) → HoldsFed qaudit.old.handle.held bytes
+        → v ≡ verdict reading bytes) }
+{
+    let session = take(alloc, qaudit)?;
+    let verdict = session.verdict();
+    put(qaudit, session);
+    verdict
+}
+
+/// Tells the verdict, where it is fixed or finished: returns whether it is. It is that of what was
+/// handed in.
+#[unsafe(no_mangle)]
+pub extern "C" fn qaudit_verdict(alloc: Global, qaudit: &mut Qaudit, out: &mut Told) -> bool
+    ensures known { result ≡ is_some (verdict_known qaudit.old.handle.held) }
+    ensures kept { qaudit.new.handle.held ≡ qaudit.old.handle.held }
+    ensures told { IfSome (verdict_known qaudit.old.handle.held) (λ v. (out.new ≡ telling.told v)
+        × ((bytes : List ℕ) → HoldsFed qaudit.old.handle.held bytes → v ≡ verdict reading bytes)) }
+    ensures untold { verdict_known qaudit.old.handle.held ≡ None → out.new ≡ out.old }
+{
+    match known(alloc, qaudit) {
+        Some(verdict) => {
+            *out = for_c(&verdict);
+            true
+        }
+        None => false,
+    }
+}
+
+/// Puts the report's text at the front of `out`, and returns how long it is: 0 where no verdict is
+/// known or it is out of memory. Where `out` is shorter, nothing is put there.
+#[unsafe(no_mangle)]
+pub extern "C" fn qaudit_report(alloc: Global, qaudit: &mut Qaudit, out: &mut [u8]) -> usize
+    ensures kept { qaudit.new.handle.held ≡ qaudit.old.handle.held }
+    ensures length { length out.new ≡ length out.old }
+    ensures none { result ≡ 0 → out.new ≡ out.old }
+    ensures told { result ≢ 0 → (bytes : List ℕ) → HoldsFed qaudit.old.handle.held bytes
+        → Tells result out.old out.new (text.report (verdict reading bytes)) }
+{
+    match known(alloc, qaudit) {
+        Some(verdict) => put_report(alloc, &verdict, out),
+        None => 0,
+    }
+}
+
+/// Puts the first line of the report at the front of `out`, as `qaudit_report` puts all of it.
+#[unsafe(no_mangle)]
+pub extern "C" fn qaudit_first_line(alloc: Global, qaudit: &mut Qaudit, out: &mut [u8]) -> usize
+    ensures kept { qaudit.new.handle.held ≡ qaudit.old.handle.held }
+    ensures length { length out.new ≡ length out.old }
+    ensures none { result ≡ 0 → out.new ≡ out.old }
+    ensures told { result ≢ 0 → (bytes : List ℕ) → HoldsFed qaudit.old.handle.held bytes
+        → Tells result out.old out.new (text.verdict_text (verdict reading bytes)) }
+{
+    match known(alloc, qaudit) {
+        Some(verdict) => put_line(alloc, &verdict, out),
+        None => 0,
+    }
+}
+
+/// Puts the name of the rule of this number, 1 for V1, at the front of `out`, where it fits, and returns
+/// how long it is; 0 where there is none.
+#[unsafe(no_mangle)]
+pub extern "C" fn qaudit_rule_name(rule: u32, out: &mut [u8]) -> usize
+    ensures length { length out.new ≡ length out.old }
+    ensures told { Tells result out.old out.new (numbers.rule_named (numbers.rule_numbered rule)) }
+{
+    put_rule_name(rule, out)
+}
+
+/// Puts the name of the fault of this number, 1 for F1, as `qaudit_rule_name` puts that of a rule.
+#[unsafe(no_mangle)]
+pub extern "C" fn qaudit_fault_name(fault: u32, out: &mut [u8]) -> usize
+    ensures length { length out.new ≡ length out.old }
+    ensures told { Tells result out.old out.new (numbers.fault_named (numbers.fault_numbered fault)) }
+{
+    put_fault_name(fault, out)
+}
+
+/// Puts the name of the key of this number, as `qaudit_rule_name` puts that of a rule.
+#[unsafe(no_mangle)]
+pub extern "C" fn qaudit_key_name(key: u32, out: &mut [u8]) -> usize
+    ensures length { length out.new ≡ length out.old }
+    ensures told { Tells result out.old out.new (numbers.key_named (numbers.key_numbered key)) }
+{
+    put_key_name(key, out)
+}

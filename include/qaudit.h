@@ -1,0 +1,264 @@
+/* qaudit.h: an auditor of QUIC loss recovery (RFC 9002), for C and C++.
+ *
+ * A test of a sender hands in what the sender did, while it runs, and is told at the first departure from
+ * the standard. What is handed in is either the text of a trace, in any pieces (qaudit_feed), or one event
+ * after another as structs (qaudit_header, qaudit_sent, qaudit_ack, ..), which need no text. Both may be
+ * mixed: an event is judged as the line of a trace that says it. docs/format.md of the repository says what
+ * each line means, and docs/machine.md by which rules it is judged.
+ *
+ *     qaudit q = {0};
+ *     qaudit_trace_header header = {.max_datagram_size = 1200, .role = QAUDIT_SERVER};
+ *     if (qaudit_open(&q) != QAUDIT_OPEN) return out_of_memory();
+ *     qaudit_header(&q, &header);
+ *     qaudit_packet packet = {.time = 0, .number = 0, .size = 1200, .space = QAUDIT_APP,
+ *                             .leave = QAUDIT_WINDOW, .eliciting = true, .in_flight = true};
+ *     if (qaudit_sent(&q, &packet) != QAUDIT_OPEN) return departure(&q);
+ *     qaudit_finish(&q);
+ *     qaudit_verdict(&q, &verdict);
+ *     qaudit_close(&q);
+ *
+ * Link libqaudit.a. It needs malloc, realloc, free, memcpy, memmove and memset of the C library, and nothing
+ * else. No function here prints, exits, blocks, starts a thread or keeps a global variable.
+ *
+ * What a caller must keep to, and nothing checks:
+ *   - A `qaudit` is all zero (`qaudit q = {0};`), or what these functions last left in it.
+ *   - One that is open is not copied, and is given to one call at a time. It may go from thread to thread
+ *     where something orders that: a lock, a join, a queue.
+ *   - Pointers are not NULL, also where no byte stands there, and lead to as much as the function says.
+ *     What is written does not overlap what is read. A `bool` is 0 or 1.
+ * Each order of calls has an answer, which the functions below say.
+ */
+#ifndef QAUDIT_H
+#define QAUDIT_H
+
+#include <stdbool.h>
+#include <stddef.h>
+#include <stdint.h>
+
+#ifdef __cplusplus
+extern "C" {
+#endif
+
+/* An audit, or none: all zero is none. Its fields are not for callers. */
+typedef struct qaudit {
+    void *at;
+    bool is_open;
+} qaudit;
+
+/* ---- statuses */
+
+/* What most functions return: how far the audit is after the call, or why the call took nothing. */
+typedef uint32_t qaudit_status_t;
+
+enum {
+    QAUDIT_OPEN = 0,          /* what follows can change the verdict */
+    QAUDIT_FIXED = 1,         /* the verdict is known, whatever follows: something was not good */
+    QAUDIT_FINISHED = 2,      /* the verdict is known: nothing follows */
+    QAUDIT_OUT_OF_MEMORY = 3, /* there is no verdict, and never will be; qaudit_close it */
+    QAUDIT_CLOSED = 4,        /* it is not open */
+    QAUDIT_OUT_OF_RANGE = 5,  /* a value of the struct is outside its range: nothing was taken */
+    QAUDIT_NOT_TAKEN = 6,     /* no memory for the ranges: nothing was taken, and the call may be tried again */
+    QAUDIT_INSIDE_LINE = 7    /* the bytes that were fed end inside a line: nothing was taken */
+};
+
+/* Opens `q` for a new audit. What was open before is closed.
+ * Returns QAUDIT_OPEN, or QAUDIT_CLOSED where there is no memory. */
+qaudit_status_t qaudit_open(qaudit *q);
+
+/* Closes `q` and gives its memory back. A closed one stays closed. */
+void qaudit_close(qaudit *q);
+
+/* ---- text */
+
+/* Takes the next `count` bytes of a trace. They may be any part of it: pieces need not end where lines do.
+ * Returns how far the audit is then, 0 to 3, or QAUDIT_CLOSED. Once the verdict is fixed, and after
+ * qaudit_finish, it changes nothing. */
+qaudit_status_t qaudit_feed(qaudit *q, const uint8_t *bytes, size_t count);
+
+/* ---- events
+ *
+ * Each of these takes one line of a trace by what it says, and is judged as that line is. Each returns how
+ * far the audit is then, 0 to 3, QAUDIT_CLOSED, QAUDIT_OUT_OF_RANGE or QAUDIT_INSIDE_LINE, and qaudit_ack
+ * and qaudit_lost also QAUDIT_NOT_TAKEN. Once the verdict is fixed, and after qaudit_finish, they change
+ * nothing. The header comes first: an event before it fixes the verdict, as it does in a trace.
+ *
+ * A line of a trace has 65,536 bytes at most. An event with more ranges than a line can say is judged by
+ * the same rules.
+ *
+ * Times are in the unit of the header, from 0 to 10^15, and packet numbers from 0 to 2^62 - 1. */
+
+enum { QAUDIT_INITIAL = 0, QAUDIT_HANDSHAKE = 1, QAUDIT_APP = 2 };  /* packet number spaces */
+enum { QAUDIT_CLIENT = 0, QAUDIT_SERVER = 1 };                      /* roles */
+enum { QAUDIT_MICROSECONDS = 0, QAUDIT_NANOSECONDS = 1 };           /* units of times */
+enum { QAUDIT_NEWRENO = 0, QAUDIT_REPORTED = 1 };                   /* whose congestion window counts */
+enum { QAUDIT_MUST = 0, QAUDIT_MAY = 1 };                           /* packets that lie behind are lost, or may be */
+
+/* A header (docs/format.md, "Header"), which is one of version 3. A value with a `has_` flag counts where the
+ * flag is set, and is the default elsewhere. So all zero, but for max_datagram_size, asks what a header of
+ * version 1 asks of a client. */
+typedef struct qaudit_trace_header {
+    uint64_t max_datagram_size;  /* in bytes, 1200 to 65527 */
+    uint64_t max_ack_delay;      /* of the peer, 0 to 16383000 microseconds in the unit; else 25000 */
+    uint64_t initial_rtt;        /* 1 to 1000000000 microseconds in the unit; else 333000 */
+    uint64_t initial_window;     /* in bytes, twice max_datagram_size to 4294967295; else as RFC 9002, 7.2 */
+    uint64_t timer_late_us;      /* by how many microseconds a timer may be late, 0 to 10^15; else by any */
+    uint64_t timer_early_us;     /* by how many microseconds a timer may be early, 0 to 1000000000 */
+    uint64_t report_slack_us;    /* by how many microseconds a reported time may differ, 0 to 1000000000 */
+    uint64_t report_slack_bytes; /* by how many bytes reported bytes may differ, 0 to 4294967295 */
+    uint64_t packet_threshold;   /* kPacketThreshold, 3 to 65535; else 3 */
+    uint32_t role;               /* QAUDIT_CLIENT or QAUDIT_SERVER */
+    uint32_t unit;               /* QAUDIT_MICROSECONDS or QAUDIT_NANOSECONDS */
+    uint32_t window;             /* QAUDIT_NEWRENO or QAUDIT_REPORTED */
+    uint32_t loss_by_number;     /* QAUDIT_MUST, or QAUDIT_MAY where the window is a reported one */
+    bool has_max_ack_delay;
+    bool has_initial_rtt;
+    bool has_initial_window;
+    bool has_timer_late_us;
+    bool has_packet_threshold;
+    bool refresh_min_rtt;        /* persistent congestion sets min_rtt to the latest sample */
+    bool window_overshoot;       /* a packet may go out wherever the bytes in flight are below the window */
+    bool sample_eliciting_only;  /* a sample of the RTT needs an ack-eliciting largest packet */
+} qaudit_trace_header;
+
+/* Takes the header. */
+qaudit_status_t qaudit_header(qaudit *q, const qaudit_trace_header *header);
+
+/* By whose leave an in-flight packet goes out. */
+enum { QAUDIT_WINDOW = 0, QAUDIT_PROBE = 1, QAUDIT_RECOVERY = 2 };
+
+typedef struct qaudit_packet {
+    uint64_t time;
+    uint64_t number;  /* its packet number */
+    uint64_t size;    /* in bytes, 1 to 65527 */
+    uint32_t space;   /* QAUDIT_INITIAL, QAUDIT_HANDSHAKE or QAUDIT_APP */
+    uint32_t leave;   /* QAUDIT_WINDOW, QAUDIT_PROBE or QAUDIT_RECOVERY */
+    bool eliciting;   /* it is ack-eliciting, and then in flight too */
+    bool in_flight;
+} qaudit_packet;
+
+/* Takes a packet that was sent. */
+qaudit_status_t qaudit_sent(qaudit *q, const qaudit_packet *packet);
+
+/* The packet numbers from `least` to `greatest`, both among them. */
+typedef struct qaudit_range {
+    uint64_t least;
+    uint64_t greatest; /* not below least */
+} qaudit_range;
+
+typedef struct qaudit_acknowledgment {
+    uint64_t time;
+    uint64_t delay;   /* the ACK delay as the sender used it, before it limited it, in the unit */
+    uint32_t space;
+    bool app_limited; /* the sender did not use the window that it had (RFC 9002, section 7.8) */
+} qaudit_acknowledgment;
+
+/* Takes an acknowledgment that came, of `count` ranges in any order, at least one. */
+qaudit_status_t qaudit_ack(qaudit *q, const qaudit_acknowledgment *ack, const qaudit_range *ranges, size_t count);
+
+/* Takes packets that the sender declared lost, by `count` ranges in any order, at least one. */
+qaudit_status_t qaudit_lost(qaudit *q, uint64_t time, uint32_t space, const qaudit_range *ranges, size_t count);
+
+/* What the loss detection timer fired for: a packet old enough to be lost, or a probe timeout. */
+enum { QAUDIT_TIMER_LOSS = 0, QAUDIT_TIMER_PTO = 1 };
+
+typedef struct qaudit_fired_timer {
+    uint64_t time;
+    uint32_t kind;  /* QAUDIT_TIMER_LOSS or QAUDIT_TIMER_PTO */
+    uint32_t space;
+} qaudit_fired_timer;
+
+/* Takes a timer that fired. */
+qaudit_status_t qaudit_timer(qaudit *q, const qaudit_fired_timer *timer);
+
+/* Takes that the keys of a space were discarded: QAUDIT_INITIAL or QAUDIT_HANDSHAKE. */
+qaudit_status_t qaudit_discard(qaudit *q, uint64_t time, uint32_t space);
+
+/* Takes that the handshake was confirmed. */
+qaudit_status_t qaudit_confirmed(qaudit *q, uint64_t time);
+
+/* Takes that the keys of the Handshake space are there. */
+qaudit_status_t qaudit_keys(qaudit *q, uint64_t time);
+
+/* What a sender reports of itself, to be compared. A value counts where its flag is set. */
+typedef struct qaudit_metrics_report {
+    uint64_t time;
+    uint64_t window;          /* in bytes, as the two below */
+    uint64_t ssthresh;
+    uint64_t bytes_in_flight;
+    uint64_t latest_rtt;      /* in the unit, as the three below */
+    uint64_t min_rtt;
+    uint64_t smoothed_rtt;
+    uint64_t rttvar;
+    bool has_window;
+    bool has_ssthresh;
+    bool has_bytes_in_flight;
+    bool has_latest_rtt;
+    bool has_min_rtt;
+    bool has_smoothed_rtt;
+    bool has_rttvar;
+} qaudit_metrics_report;
+
+/* Takes a report of the sender. */
+qaudit_status_t qaudit_metrics(qaudit *q, const qaudit_metrics_report *metrics);
+
+/* ---- the verdict */
+
+/* Says that nothing follows: the verdict is that of all that was handed in.
+ * Returns QAUDIT_FINISHED, QAUDIT_OUT_OF_MEMORY or QAUDIT_CLOSED. */
+qaudit_status_t qaudit_finish(qaudit *q);
+
+/* Returns how far the audit is, 0 to 4, and changes nothing. */
+qaudit_status_t qaudit_status(qaudit *q);
+
+enum { QAUDIT_ACCEPTED = 1, QAUDIT_REFUSED = 2, QAUDIT_UNREADABLE = 3 };
+
+/* The state of the machine after the good lines (docs/machine.md); bytes, and times in the unit. */
+typedef struct qaudit_totals {
+    uint64_t events;
+    uint64_t window;
+    uint64_t ssthresh; /* 0 where there is none */
+    uint64_t bytes_in_flight;
+    uint64_t latest_rtt;
+    uint64_t min_rtt;
+    uint64_t smoothed_rtt;
+    uint64_t rttvar;
+    uint64_t pto_count;
+    uint64_t owed;     /* packets that are detected as lost and not declared */
+    bool has_ssthresh;
+} qaudit_totals;
+
+typedef struct qaudit_told {
+    uint32_t kind;        /* QAUDIT_ACCEPTED, QAUDIT_REFUSED or QAUDIT_UNREADABLE */
+    uint32_t code;        /* the rule of what was refused, 7 for V7; the fault of what is unreadable, 3 for F3 */
+    uint64_t line;        /* the first line that is not good, counted from 1, each event a line; or 0 */
+    uint32_t subject;     /* the key or the reported value that it is about, for qaudit_key_name; or 0 */
+    qaudit_totals totals; /* those before that line */
+    bool has_totals;      /* not where no header was read; all totals are 0 then */
+} qaudit_told;
+
+/* Writes the verdict to `out` where it is known: at QAUDIT_FIXED and QAUDIT_FINISHED.
+ * Returns whether it is; `out` is left as it was where not. */
+bool qaudit_verdict(qaudit *q, qaudit_told *out);
+
+/* ---- texts
+ *
+ * Each of these returns how many bytes its text has, and writes it to the front of `out` where `room` is at
+ * least that; else it leaves `out` as it was. No NUL is written. 0 means that there is no text. */
+
+/* The report, as `qaudit check` writes it: at most 400 bytes. 0 where no verdict is known, or no memory is
+ * there for the text. */
+size_t qaudit_report(qaudit *q, uint8_t *out, size_t room);
+
+/* The first line of the report, with its LF: at most 100 bytes. */
+size_t qaudit_first_line(qaudit *q, uint8_t *out, size_t room);
+
+/* The name of a rule, 1 for V1 to 19; of a fault, 1 for F1 to 11; and of a key, 1 to 36. At most 21 bytes. */
+size_t qaudit_rule_name(uint32_t rule, uint8_t *out, size_t room);
+size_t qaudit_fault_name(uint32_t fault, uint8_t *out, size_t room);
+size_t qaudit_key_name(uint32_t key, uint8_t *out, size_t room);
+
+#ifdef __cplusplus
+}
+#endif
+
+#endif
