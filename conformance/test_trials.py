@@ -502,7 +502,8 @@ class ReasonsTest(TrialCase):
     def compile_reasoner(self, **other: str) -> None:
         """The right program that says why, but for these macros."""
         refused = 'return fault("qaudit-why: out of memory: -", "")'
-        self.compile_program(REASONER, **{"REFUSED": refused, **other})
+        other.setdefault("REFUSED", refused)
+        self.compile_program(REASONER, (), **other)
 
     def test_refusals(self) -> None:
         self.runner = "refusals"

@@ -312,11 +312,11 @@ def parser_of(text: str | None, *, may_be_silent: bool = False, names: str = "")
     return parser
 
 
-def auditor_of(given: argparse.Namespace) -> Callable[[str, Path], Auditor]:
-    """What kind of program the arguments say that it is."""
+def auditor_of(given: argparse.Namespace, library: Path) -> Auditor:
+    """The program, of the kind that the arguments say that it is."""
     if given.reasons:
-        return that_says_why
-    return silent if given.traces else Auditor
+        return that_says_why(given.program, library)
+    return silent(given.program, library) if given.traces else Auditor(given.program, library)
 
 
 def try_all(given: argparse.Namespace, tries: Callable[[Setup], Results]) -> int:
@@ -325,7 +325,7 @@ def try_all(given: argparse.Namespace, tries: Callable[[Setup], Results]) -> int
     def results() -> Results:
         with tempfile.TemporaryDirectory() as name:
             folder = Path(name)
-            auditor = auditor_of(given)(given.program, compiled(folder))
+            auditor = auditor_of(given, compiled(folder))
             yield from held_tries(
                 Setup(auditor, given.corpus / "traces", folder, given.names), tries
             )
