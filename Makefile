@@ -46,7 +46,7 @@ conformance := conformance-cuts conformance-failing conformance-refusals conform
 # What is handed to the library for C, in each language.
 bindings := conformance-library bindings-rust bindings-go bindings-python
 
-.PHONY: help build run lib one_byte lines test gate conformance $(bindings) $(conformance) links made_up $(runner_tests) test_qlog lint \
+.PHONY: help build run lib one_byte lines test test_library gate conformance $(bindings) $(conformance) links made_up $(runner_tests) test_qlog lint \
 	bench install dist clean
 
 help:
@@ -54,6 +54,7 @@ help:
 	@echo 'make run       builds it and audits $(example)'
 	@echo 'make lib       proves and builds the library for C, $(library)'
 	@echo 'make test      runs the merge gate, and then the program over conformance/'
+	@echo 'make test_library  builds the library for C and runs it over conformance/, in each language that is there'
 	@echo 'make gate      runs the merge gate alone'
 	@echo 'make conformance runs the programs over conformance/ alone, once the gate has built them'
 	@echo 'make lint      checks the types and the style of the programs in Python'
@@ -96,7 +97,12 @@ lines:
 test:
 	$(MAKE) --no-print-directory -j 2 gate links made_up $(runner_tests) test_qlog
 	$(MAKE) --no-print-directory -j 4 --output-sync=target $(conformance)
-	$(MAKE) --no-print-directory $(bindings)
+	if [ -f $(library) ]; then $(MAKE) --no-print-directory test_library; else \
+		echo '$(library) is not built, so what C is handed is not tried: `make test_library` builds it first'; fi
+
+# The gate proves the library for C and leaves none, and to build it proves the crates below it once more: so `make test` tries
+# it only where it was built before.
+test_library: $(bindings)
 
 # `rt ci` proves all crates from nothing, and leaves each program built of what it proved.
 gate:
