@@ -78,11 +78,12 @@ fn a_loss(rt: HostRuntime) -> Result<(), Fail> {
 }
 
 /// Whether it is told that packet 0 is owed, in the application space and alone of the two, that a
-/// Lost line does not name it, and that the line names packet 3, which is not owed.
+/// Lost line does not name it, that the line names packet 3, which is not owed, and of nothing free.
 fn is_told(cause: &Cause, first: PacketNumber, last: PacketNumber) -> bool {
     match cause {
         Cause::LossSet {
             owed,
+            free: None,
             unnamed,
             unowed,
         } => {
