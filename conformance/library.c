@@ -389,7 +389,7 @@ static int run_orders(void) {
     if (qaudit_verdict(&q, &told) || qaudit_report(&q, out, ROOM) != 0) return fail("closed: it has a verdict");
     qaudit_close(&q);
     if (qaudit_open(&q) != QAUDIT_OPEN || qaudit_open(&q) != QAUDIT_OPEN) return fail("it was not opened again");
-    if (qaudit_verdict(&q, &told) || qaudit_first_line(&q, out, ROOM) != 0) return fail("open: it has a verdict");
+    if (qaudit_verdict(&q, &told) || qaudit_first_line(&q, out, ROOM) != 0 || qaudit_report(&q, out, ROOM) != 0) return fail("open: it has a verdict");
     packet.space = 3;
     if (qaudit_sent(&q, &packet) != QAUDIT_OUT_OF_RANGE) return fail("it took a space that is none");
     packet.space = QAUDIT_APP;
