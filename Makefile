@@ -36,7 +36,7 @@ python_of_qlog := qlog/qlog-to-trace qlog/test_qlog.py $(wildcard qlog/qlog_to_t
 # captures/transfer.py runs where aioquic is, and is checked for style alone.
 python_of_captures := captures/audit.py captures/run captures/table examples/delay.py examples/logger.py
 python_of_bindings := $(wildcard bindings/python/*.py)
-python_of_bench := $(addprefix bench/,instructions peers run trace) $(wildcard bench/*.py) bench/programs/read.py
+python_of_bench := $(addprefix bench/,instructions library peers run trace) $(wildcard bench/*.py) bench/programs/read.py
 
 # The programs of conformance/ over what the gate built, the longest first. None waits for another.
 conformance := conformance-cuts conformance-failing conformance-refusals conformance-simulate conformance-mutations \
@@ -58,7 +58,8 @@ help:
 	@echo 'make gate      runs the merge gate alone'
 	@echo 'make conformance runs the programs over conformance/ alone, once the gate has built them'
 	@echo 'make lint      checks the types and the style of the programs in Python'
-	@echo 'make bench     builds it, measures it on long traces and compares it with others, in about five minutes'
+	@echo 'make bench     builds it, measures it on long traces and compares it with others, in about five minutes;'
+	@echo '               the library for C too, where `make lib` built it before'
 	@echo 'make install   builds it and installs it in $$(DESTDIR)$$(PREFIX), with its man page, completions and docs;'
 	@echo '               PREFIX is $(PREFIX)'
 	@echo 'make dist      builds it and packs dist/$(release).tar.gz, which needs no kit'
@@ -204,6 +205,7 @@ bench: build
 	bench/run $(built)
 	bench/peers $(built)
 	bench/instructions $(built)
+	if [ -f $(library) ]; then bench/library $(built) $(library); fi
 
 # A release is a folder that installs itself, so that there is one way to install.
 install: build lib

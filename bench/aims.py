@@ -17,6 +17,8 @@ INSTRUCTIONS = {
     "receiver-32-bare": 4_500,
     "unacknowledged": 1_100,
 }
+# Of an event that is handed to the library for C as a struct.
+NANOSECONDS_OF_AN_EVENT = 100
 QUICK_FORMS = ("sorted", "format")
 OTHER_FORMS = ("spaces", "unknown")
 
