@@ -1,13 +1,14 @@
 -- What more bytes make of an audit that fixed its verdict, or failed.
-use Rattle.std.proofs.Common.{◌≡◌, ◌∙◌, ◌<◌, ◌⊎◌, inl, inr, ℕ, List, [], ◌∷◌, ◌++◌, length, Option, Some, Result, Ok, Err, append_assoc, length-append, refl, sym, ap, arith}
+use Rattle.std.proofs.Common.{◌≡◌, ◌∙◌, ◌<◌, ◌⊎◌, inl, inr, ℕ, List, [], ◌∷◌, ◌++◌, length, Option, Some, None, Result, Ok, Err, append_assoc, length-append, refl, sym, ap, arith}
 use Rattle.std.proofs.lemmas.List.{append-nil}
+use Rattle.std.specs.Io.KnownBytes.{Consumes, IsAtEnd}
 use Rattle.qa_format.specs.format.Lines.{line_limit, cut, ended_lines, unended, last_line, IsShortLine}
 use Rattle.qa_format.specs.format.Reading.{reading}
-use Rattle.qa_format.specs.verdicts.Explain.{rows_of, rows}
+use Rattle.qa_format.specs.verdicts.Explain.{Telling, told_of, told}
 use Rattle.qa_format.specs.verdicts.Verdict.{first_stop, AreGood, AreDecided, IsFixed}
 use Rattle.qa_format.proofs.verdicts.Cuts.{Cut, prepend, cut_append}
 use Rattle.qa_format.proofs.verdicts.Fixed.{fixed_stays, long_stops}
-use Rattle.qa_format.proofs.verdicts.Rows.{rows_stay, rows_at_stop, rows_of_fixed}
+use Rattle.qa_format.proofs.verdicts.Rows.{told_stay, told_at_stop, told_of_fixed}
 use Rattle.qa_format.proofs.verdicts.Stops.{first_stop-snoc, no_stop_or_stop, decided_stays}
 use Rattle.qa_format.specs.declared.verdict.Verdict.{Verdict}
 use Rattle.qa_split.specs.Stream.{Stream}
@@ -16,9 +17,9 @@ use Rattle.qa_check.specs.declared.auditor.Progress.{Progress}
 use Rattle.qa_check.specs.declared.auditor.Progress.TheVariants.{Open, Fixed}
 use Rattle.qa_check.specs.Auditor.{BringsTo}
 use Rattle.qa_check.specs.Standing.{Held, Stands}
-use Rattle.qa_check.specs.Writing.{Begins, Shown, Shows, ended_rows}
+use Rattle.qa_check.specs.Writing.{Begins, Shown, Shows, told_ended}
 use Rattle.qa_check.proofs.Following.{follow_open}
-use Rattle.qa_check.proofs.Writing.{rows_begin_at}
+use Rattle.qa_check.proofs.Writing.{told_begin_at}
 
 -- ---- bytes behind bytes
 
@@ -42,12 +43,12 @@ fixed_behind : (ls : List (List ℕ)) (front : List ℕ) (p : Cut) → AreGood r
 fixed_behind ls front ([], rest) good long = inr (simp length-append (omega arith))
 fixed_behind ls front (m ∷ ms, rest) good long = inl (long_decides ls ms (front ++ m) good (simp length-append (omega arith)))
 
-rows_behind : (ls : List (List ℕ)) (front : List ℕ) (p : Cut) → AreGood reading ls → line_limit < length front
-    → rows_of reading (ls ++ (prepend front p).0) ≡ rows_of reading ls
-rows_behind ls front ([], rest) good long = ap (rows_of reading) (append-nil ls)
-rows_behind ls front (m ∷ ms, rest) good long =
+told_behind : (tell : Telling) (ls : List (List ℕ)) (front : List ℕ) (p : Cut) → AreGood reading ls → line_limit < length front
+    → told_of tell reading (ls ++ (prepend front p).0) ≡ told_of tell reading ls
+told_behind tell ls front ([], rest) good long = ap (told_of tell reading) (append-nil ls)
+told_behind tell ls front (m ∷ ms, rest) good long =
     let longer : line_limit < length (front ++ m) = simp length-append (omega arith) in
-    rows_at_stop reading ls ms (front ++ m) good (rw (long_stops reading ls (front ++ m) longer).1 refl)
+    told_at_stop tell reading ls ms (front ++ m) good (rw (long_stops reading ls (front ++ m) longer).1 refl)
 
 -- ---- bytes behind those that fix the verdict
 
@@ -60,59 +61,74 @@ fixed_on f g fixed = rw (ended_append f g, unended_append f g) (elim fixed [
   ]
 ])
 
-ended_rows_on : (f g : List ℕ) → IsFixed reading f → ended_rows (f ++ g) ≡ ended_rows f
-ended_rows_on f g fixed = ap (rows_of reading) (ended_append f g) ∙ (elim fixed [
-  | inl bad ↦ rows_stay reading (ended_lines f) _ bad
+told_ended_on : (tell : Telling) (f g : List ℕ) → IsFixed reading f → told_ended tell (f ++ g) ≡ told_ended tell f
+told_ended_on tell f g fixed = ap (told_of tell reading) (ended_append f g) ∙ (elim fixed [
+  | inl bad ↦ told_stay tell reading (ended_lines f) _ bad
   | inr long ↦ elim (no_stop_or_stop (first_stop reading [] (ended_lines f))) [
-    | inl good ↦ rows_behind (ended_lines f) (unended f) (cut g) good long
-    | inr bad ↦ rows_stay reading (ended_lines f) _ bad
+    | inl good ↦ told_behind tell (ended_lines f) (unended f) (cut g) good long
+    | inr bad ↦ told_stay tell reading (ended_lines f) _ bad
   ]
 ])
 
-rows_on : (f g : List ℕ) → IsFixed reading f → rows reading (f ++ g) ≡ rows reading f
-rows_on f g fixed = rows_of_fixed reading (f ++ g) (fixed_on f g fixed) ∙ (ended_rows_on f g fixed ∙ sym (rows_of_fixed reading f fixed))
+told_on : (tell : Telling) (f g : List ℕ) → IsFixed reading f → told tell reading (f ++ g) ≡ told tell reading f
+told_on tell f g fixed =
+    told_of_fixed tell reading (f ++ g) (fixed_on f g fixed) ∙ (told_ended_on tell f g fixed ∙ sym (told_of_fixed tell reading f fixed))
+
+-- ---- what was read
+
+-- of all the bytes that a reader tells that is told which is told of those that were read and are all that counts
+pub told_all : (tell : Telling) (old new : Option (List ℕ)) (read bytes : List ℕ) → old ≡ Some bytes → Consumes old new read → IsAtEnd new ⊎ IsFixed reading read
+    → told tell reading bytes ≡ told tell reading read
+told_all tell (Some xs) (Some ys) read bytes tells consumes enough =
+    let all : bytes ≡ read ++ ys = cc in
+    elim enough [
+      | inl end ↦ ap (told tell reading) (all ∙ (ap (λ k. read ++ k) end ∙ append-nil read))
+      | inr fixed ↦ ap (told tell reading) all ∙ told_on tell read ys fixed
+    ]
+told_all tell (Some xs) None read bytes tells consumes enough = elim consumes [ ]
+told_all tell None new read bytes tells consumes enough = cc
 
 -- ---- what was fed
 
--- the beginning of the rows so far is one of those of more bytes
-pub begins_on : (start now : Option (List ℕ)) (f g : List ℕ) → Begins start now (ended_rows f) → Begins start now (ended_rows (f ++ g))
-begins_on start now f g begun = rows_begin_at start now (ended_lines f) _ _ (ended_append f g) begun
+-- the beginning of what is told so far is one of what is told of more bytes
+pub begins_on : (tell : Telling) (start now : Option (List ℕ)) (f g : List ℕ) → Begins start now (told_ended tell f) → Begins start now (told_ended tell (f ++ g))
+begins_on tell start now f g begun = told_begin_at tell start now (ended_lines f) _ _ (ended_append f g) begun
 
--- and of all rows
-pub begins_rows : (start now : Option (List ℕ)) (bytes : List ℕ) → Begins start now (ended_rows bytes) → Begins start now (rows reading bytes)
-begins_rows start now bytes begun = rows_begin_at start now (ended_lines bytes) (last_line (unended bytes)) _ refl begun
+-- and of all that is told
+pub begins_told : (tell : Telling) (start now : Option (List ℕ)) (bytes : List ℕ) → Begins start now (told_ended tell bytes) → Begins start now (told tell reading bytes)
+begins_told tell start now bytes begun = told_begin_at tell start now (ended_lines bytes) (last_line (unended bytes)) _ refl begun
 
 -- an audit that is over stays as it is
-pub brings_on : {L : Type 0} (stands : Stands L) (progress : Result Progress AuditFault) (stream : Stream) (held : Held L) (start now : Option (List ℕ)) (f g : List ℕ)
-    → (progress ≡ Ok Open → ⊥) → BringsTo stands progress stream held start now f → BringsTo stands progress stream held start now (f ++ g)
-brings_on stands (Ok Open) stream held start now f g over brings = absurd (over refl)
-brings_on stands (Ok (Fixed v)) stream held start now f g over brings =
-    (fixed_on f g brings.0, brings.1 ∙ sym (fixed_stays reading f g brings.0), rw (rows_on f g brings.0) brings.2)
-brings_on stands (Err fault) stream held start now f g over brings = begins_on start now f g brings
+pub brings_on : {L : Type 0} (stands : Stands L) (tell : Telling) (progress : Result Progress AuditFault) (stream : Stream) (held : Held L) (start now : Option (List ℕ)) (f g : List ℕ)
+    → (progress ≡ Ok Open → ⊥) → BringsTo stands tell progress stream held start now f → BringsTo stands tell progress stream held start now (f ++ g)
+brings_on stands tell (Ok Open) stream held start now f g over brings = absurd (over refl)
+brings_on stands tell (Ok (Fixed v)) stream held start now f g over brings =
+    (fixed_on f g brings.0, brings.1 ∙ sym (fixed_stays reading f g brings.0), rw (told_on tell f g brings.0) brings.2)
+brings_on stands tell (Err fault) stream held start now f g over brings = begins_on tell start now f g brings
 
 -- ---- an audit by its progress
 
-pub brings_open : {L : Type 0} (stands : Stands L) (progress : Result Progress AuditFault) (stream : Stream) (held : Held L) (start now : Option (List ℕ)) (bytes : List ℕ)
-    → progress ≡ Ok Open → BringsTo stands progress stream held start now bytes → BringsTo stands (Ok Open) stream held start now bytes
-brings_open stands (Ok Open) stream held start now bytes is brings = brings
-brings_open stands (Ok (Fixed v)) stream held start now bytes is brings = cc
-brings_open stands (Err fault) stream held start now bytes is brings = cc
+pub brings_open : {L : Type 0} (stands : Stands L) (tell : Telling) (progress : Result Progress AuditFault) (stream : Stream) (held : Held L) (start now : Option (List ℕ)) (bytes : List ℕ)
+    → progress ≡ Ok Open → BringsTo stands tell progress stream held start now bytes → BringsTo stands tell (Ok Open) stream held start now bytes
+brings_open stands tell (Ok Open) stream held start now bytes is brings = brings
+brings_open stands tell (Ok (Fixed v)) stream held start now bytes is brings = cc
+brings_open stands tell (Err fault) stream held start now bytes is brings = cc
 
-pub brings_fixed : {L : Type 0} (stands : Stands L) (progress : Result Progress AuditFault) (stream : Stream) (held : Held L) (start now : Option (List ℕ)) (bytes : List ℕ) (v : Verdict)
-    → progress ≡ Ok (Fixed v) → BringsTo stands progress stream held start now bytes → BringsTo stands (Ok (Fixed v)) stream held start now bytes
-brings_fixed stands (Ok Open) stream held start now bytes v is brings = cc
-brings_fixed stands (Ok (Fixed w)) stream held start now bytes v is brings = let same : w ≡ v = cc in rw same at brings
-brings_fixed stands (Err fault) stream held start now bytes v is brings = cc
+pub brings_fixed : {L : Type 0} (stands : Stands L) (tell : Telling) (progress : Result Progress AuditFault) (stream : Stream) (held : Held L) (start now : Option (List ℕ)) (bytes : List ℕ) (v : Verdict)
+    → progress ≡ Ok (Fixed v) → BringsTo stands tell progress stream held start now bytes → BringsTo stands tell (Ok (Fixed v)) stream held start now bytes
+brings_fixed stands tell (Ok Open) stream held start now bytes v is brings = cc
+brings_fixed stands tell (Ok (Fixed w)) stream held start now bytes v is brings = let same : w ≡ v = cc in rw same at brings
+brings_fixed stands tell (Err fault) stream held start now bytes v is brings = cc
 
 -- all that stood ready was taken
-pub open_from : {L : Type 0} (stands : Stands L) (stream : Stream) (held : Held L) (start now : Option (List ℕ)) (bytes : List ℕ)
-    → IsShortLine stream.bytes → Shown stands stream.bytes held start now bytes → BringsTo stands (Ok Open) stream held start now bytes
-open_from stands stream held start now bytes short shown = (follow_open (Shows stands held start now) stream.bytes bytes shown short, short, shown)
+pub open_from : {L : Type 0} (stands : Stands L) (tell : Telling) (stream : Stream) (held : Held L) (start now : Option (List ℕ)) (bytes : List ℕ)
+    → IsShortLine stream.bytes → Shown stands tell stream.bytes held start now bytes → BringsTo stands tell (Ok Open) stream held start now bytes
+open_from stands tell stream held start now bytes short shown = (follow_open (Shows stands tell held start now) stream.bytes bytes shown short, short, shown)
 
-pub brings_failed : {L : Type 0} (stands : Stands L) (progress : Result Progress AuditFault) (stream : Stream) (held : Held L) (start now : Option (List ℕ)) (bytes : List ℕ) (fault : AuditFault)
-    → progress ≡ Err fault → BringsTo stands progress stream held start now bytes → Begins start now (ended_rows bytes)
-brings_failed stands (Ok p) stream held start now bytes fault is brings = cc
-brings_failed stands (Err f) stream held start now bytes fault is brings = brings
+pub brings_failed : {L : Type 0} (stands : Stands L) (tell : Telling) (progress : Result Progress AuditFault) (stream : Stream) (held : Held L) (start now : Option (List ℕ)) (bytes : List ℕ) (fault : AuditFault)
+    → progress ≡ Err fault → BringsTo stands tell progress stream held start now bytes → Begins start now (told_ended tell bytes)
+brings_failed stands tell (Ok p) stream held start now bytes fault is brings = cc
+brings_failed stands tell (Err f) stream held start now bytes fault is brings = brings
 
 pub fixed_is_over : (progress : Result Progress AuditFault) (v : Verdict) → progress ≡ Ok (Fixed v) → progress ≡ Ok Open → ⊥
 fixed_is_over progress v fixed is = cc

@@ -8,9 +8,9 @@ use Rattle.qa_format.specs.format.Reading.{reading}
 use Rattle.qa_format.specs.verdicts.Verdict.{first_stop, verdict_of, AreGood, AreDecided, IsFixed}
 use Rattle.qa_format.proofs.verdicts.Cuts.{Cut, cut_without_lf, cut_ended, first_line, first_line_is_long, short_snoc, ended_snoc, lines_at_end, lines_at_lf, lf_inside, length-ended}
 use Rattle.qa_format.proofs.verdicts.Fixed.{fixed_by_line, fixed_by_length}
-use Rattle.qa_format.proofs.verdicts.Rows.{rows_by}
+use Rattle.qa_format.proofs.verdicts.Rows.{told_by}
 use Rattle.qa_format.proofs.verdicts.Stops.{good_are_few}
-use Rattle.qa_format.specs.verdicts.Explain.{rows_of}
+use Rattle.qa_format.specs.verdicts.Explain.{told_of}
 use Rattle.qa_split.specs.Stream.{Stream, IsFirstLine, IsLastLine, BeginsTooLong}
 use Rattle.qa_check.specs.Following.{FollowsBy, AnswersBy}
 
@@ -48,7 +48,7 @@ decide_line P Q rest rest' l closed is_line t h adds bytes f =
     let taken = taken_open rest l rest' closed t h in
     let q = adds f.0 f.1 in
     let fixed = fixed_by_line reading (f.0 ++ l ∷ []) rest' bytes (short_snoc f.0 l f.3 is_line) q.1 (ended_snoc f.0 l rest' bytes (f.4 ∙ ap (λ k. ended f.0 ++ k) taken)) in
-    (fixed.0, (f.0 ++ l ∷ [], q.0, fixed.1, rows_by reading (f.0 ++ l ∷ []) bytes q.1 fixed))
+    (fixed.0, (f.0 ++ l ∷ [], q.0, fixed.1, λ tell. told_by tell reading (f.0 ++ l ∷ []) bytes q.1 fixed))
 
 -- a line that is too long
 pub decide_long : (P Q : List (List ℕ) → Type 0) (rest : List ℕ) → BeginsTooLong rest
@@ -58,7 +58,7 @@ decide_long P Q rest b adds bytes f =
     let l = first_line b.0 (cut b.1) in
     let q = adds l (first_line_is_long b.0 (cut b.1) b.3) f.0 f.1 in
     let fixed = fixed_by_length reading f.0 b.0 b.1 rest bytes f.3 f.4 b.4 b.2 b.3 q.1 in
-    (fixed.0, (f.0 ++ l ∷ [], q.0, fixed.1, rows_by reading (f.0 ++ l ∷ []) bytes q.1 fixed))
+    (fixed.0, (f.0 ++ l ∷ [], q.0, fixed.1, λ tell. told_by tell reading (f.0 ++ l ∷ []) bytes q.1 fixed))
 
 -- what is short enough for a line does not begin with more than a line may have
 pub short_not_long : (bytes : List ℕ) → IsShortLine bytes → BeginsTooLong bytes → ⊥
@@ -79,13 +79,13 @@ answer_line P Q rest rest' l closed is_line t h adds bytes f =
     let last = taken_last rest l rest' closed t h in
     let q = adds f.0 f.1 in
     let all : lines bytes ≡ f.0 ++ l ∷ [] = lines_at_end f.0 l bytes f.3 (f.4 ∙ ap (λ k. ended f.0 ++ k) last.1) is_line.0 last.0 in
-    (f.0 ++ l ∷ [], q, ap (verdict_of reading) (sym all), ap (rows_of reading) (sym all))
+    (f.0 ++ l ∷ [], q, ap (verdict_of reading) (sym all), λ tell. ap (told_of tell reading) (sym all))
 
 -- nothing stands behind the last LF
 pub answer_none : (P : List (List ℕ) → Type 0) (rest : List ℕ) → rest ≡ [] → (bytes : List ℕ) → FollowsBy P rest bytes → AnswersBy P bytes
 answer_none P rest h bytes f =
     let all : lines bytes ≡ f.0 = lines_at_lf f.0 rest bytes f.3 f.4 h in
-    (f.0, f.1, ap (verdict_of reading) (sym all), ap (rows_of reading) (sym all))
+    (f.0, f.1, ap (verdict_of reading) (sym all), λ tell. ap (told_of tell reading) (sym all))
 
 -- ---- a piece
 

@@ -3,7 +3,7 @@ use Rattle.std.specs.Prelude.{◌≡◌, ◌⊎◌, ◌++◌, ℕ, List, Option}
 use Rattle.std.specs.Io.KnownBytes.{Appends, Consumes, IsAtEnd}
 use Rattle.qa_format.specs.format.Lines.{ended_lines}
 use Rattle.qa_format.specs.format.Reading.{reading}
-use Rattle.qa_format.specs.verdicts.Explain.{rows_of, rows, explain}
+use Rattle.qa_format.specs.verdicts.Explain.{Telling, told_of, told, row_said, explain}
 use Rattle.qa_format.specs.verdicts.Verdict.{verdict, IsFixed}
 use Rattle.qa_format.specs.declared.verdict.Verdict.{Verdict}
 use Rattle.qa_check.specs.declared.auditing.Outcome.{Outcome}
@@ -21,34 +21,42 @@ Begins held held' text = (front : List ℕ) × (rest : List ℕ) × (text ≡ fr
 abbrev pub Explains : Option (List ℕ) → Option (List ℕ) → Outcome → List ℕ → Type 0
 Explains held held' outcome bytes = Appends held held' (explain reading bytes) × (outcome ≡ outcome_of (verdict reading bytes))
 
--- the rows of the lines that an LF ends in the bytes
-abbrev pub ended_rows : List ℕ → List ℕ
-ended_rows bytes = rows_of reading (ended_lines bytes)
+-- what is told of the lines that an LF ends in the bytes
+abbrev pub told_ended : Telling → List ℕ → List ℕ
+told_ended tell bytes = told_of tell reading (ended_lines bytes)
 
 -- ---- what was read, and written of it
 
--- these bytes were read, which do not fix the verdict, and all rows of the lines that an LF ends in them were written
+-- these bytes were read, which do not fix the verdict, and all was written that is told of the lines that an LF ends in them
+abbrev pub ShowsToldRead : Telling → Option (List ℕ) → Option (List ℕ) → Option (List ℕ) → Option (List ℕ) → Type 0
+ShowsToldRead tell old new held held' =
+    (bytes : List ℕ) × Consumes old new bytes × (IsFixed reading bytes → ⊥) × Appends held held' (told_ended tell bytes)
+
+-- the same of their rows
 abbrev pub ShowsRead : Option (List ℕ) → Option (List ℕ) → Option (List ℕ) → Option (List ℕ) → Type 0
-ShowsRead old new held held' =
-    (bytes : List ℕ) × Consumes old new bytes × (IsFixed reading bytes → ⊥) × Appends held held' (ended_rows bytes)
+ShowsRead old new held held' = ShowsToldRead row_said old new held held'
 
--- of the bytes that were read the rows of the lines that an LF ends were begun; or this text, where those bytes are all that counts
-abbrev pub BeginsRead : Option (List ℕ) → Option (List ℕ) → ℕ → Option (List ℕ) → Option (List ℕ) → (List ℕ → List ℕ) → Type 0
-BeginsRead old new last held held' text =
+-- of the bytes that were read what is told of the lines that an LF ends was begun; or this text, where those bytes are all that counts
+abbrev pub BeginsToldRead : Telling → Option (List ℕ) → Option (List ℕ) → ℕ → Option (List ℕ) → Option (List ℕ) → (List ℕ → List ℕ) → Type 0
+BeginsToldRead tell old new last held held' text =
     (bytes : List ℕ) × Consumes old new bytes × IsReadNoFurther last bytes
-    × (Begins held held' (ended_rows bytes) ⊎ ((IsAtEnd new ⊎ IsFixed reading bytes) × Begins held held' (text bytes)))
+    × (Begins held held' (told_ended tell bytes) ⊎ ((IsAtEnd new ⊎ IsFixed reading bytes) × Begins held held' (text bytes)))
 
--- these bytes were read, which are all that counts, this is their verdict, and all their rows were written
-abbrev pub JudgesShown : Option (List ℕ) → Option (List ℕ) → ℕ → Option (List ℕ) → Option (List ℕ) → Verdict → Type 0
-JudgesShown old new last held held' v =
-    (bytes : List ℕ) × ReadsEnough old new last bytes × (v ≡ verdict reading bytes) × Appends held held' (rows reading bytes)
+-- the same of their rows
+abbrev pub BeginsRead : Option (List ℕ) → Option (List ℕ) → ℕ → Option (List ℕ) → Option (List ℕ) → (List ℕ → List ℕ) → Type 0
+BeginsRead old new last held held' text = BeginsToldRead row_said old new last held held' text
 
--- ---- what a checker stands for whose rows were written
+-- these bytes were read, which are all that counts, this is their verdict, and all was written that is told of them
+abbrev pub JudgesShown : Telling → Option (List ℕ) → Option (List ℕ) → ℕ → Option (List ℕ) → Option (List ℕ) → Verdict → Type 0
+JudgesShown tell old new last held held' v =
+    (bytes : List ℕ) × ReadsEnough old new last bytes × (v ≡ verdict reading bytes) × Appends held held' (told tell reading bytes)
 
--- the checker stands for the lines, and since the start their rows were written
-abbrev pub Shows : {L : Type 0} → Stands L → Held L → Option (List ℕ) → Option (List ℕ) → List (List ℕ) → Type 0
-Shows stands held start now ls = StandsFor stands held ls × Appends start now (rows_of reading ls)
+-- ---- what a checker stands for of which all was written that is told
+
+-- the checker stands for the lines, and since the start all was written that is told of them
+abbrev pub Shows : {L : Type 0} → Stands L → Telling → Held L → Option (List ℕ) → Option (List ℕ) → List (List ℕ) → Type 0
+Shows stands tell held start now ls = StandsFor stands held ls × Appends start now (told_of tell reading ls)
 
 -- the lines are those that an LF ends in the bytes, all good, and this rest is behind them
-abbrev pub Shown : {L : Type 0} → Stands L → List ℕ → Held L → Option (List ℕ) → Option (List ℕ) → List ℕ → Type 0
-Shown stands rest held start now bytes = FollowsBy (Shows stands held start now) rest bytes
+abbrev pub Shown : {L : Type 0} → Stands L → Telling → List ℕ → Held L → Option (List ℕ) → Option (List ℕ) → List ℕ → Type 0
+Shown stands tell rest held start now bytes = FollowsBy (Shows stands tell held start now) rest bytes

@@ -7,10 +7,10 @@ ghost use Rattle.qa_format.specs.verdicts.Explain as explanation;
 ghost use Rattle.qa_format.specs.verdicts.Verdict.{verdict};
 ghost use Rattle.qa_check.specs.Audit.{outcome_of, Reads, ReadsEnough, Reports, BeginsReport, is_read_fault, is_write_fault};
 ghost use Rattle.qa_check.specs.Failures.{failures_after};
-ghost use Rattle.qa_check.specs.Writing.{BeginsRead, JudgesShown, ShowsRead};
+ghost use Rattle.qa_check.specs.Writing.{BeginsToldRead, JudgesShown, ShowsToldRead};
 
 use crate::auditor::{Auditor, Progress};
-use crate::observer::{Observer, Unobserved};
+use crate::observer::{LineText, NoText, Observer, Unobserved};
 use crate::streams::{Sink, Source};
 use crate::text::report;
 use qa_format::Verdict;
@@ -99,23 +99,23 @@ pub fn audit<L: Ledger + Drop, R: Source, W: Sink>(
     ensures write_failures { W.write_failures writer.new
         ≡ failures_after (is_write_fault result) (W.write_failures writer.old) }
 {
-    let verdict = judge::<L, R, Unobserved>(alloc, reader, &mut Unobserved)?;
+    let verdict = judge::<L, NoText, R, Unobserved>(alloc, reader, &mut Unobserved)?;
     write_report(alloc, writer, &verdict)
 }
 
 /// The verdict of what is read, once the observer was shown its lines: those of each piece before the
 /// next is asked for.
-pub fn judge<L: Ledger + Drop, R: Source, O: Observer>(
+pub fn judge<L: Ledger + Drop, T: LineText<L>, R: Source, O: Observer>(
     alloc: Global,
     reader: &mut R,
     observer: &mut O,
 ) -> Result<Verdict, AuditFault>
-    ensures verdict { IfOk result (JudgesShown (R.left reader.old) (R.left reader.new) (R.last_read reader.new) (O.shown observer.old) (O.shown observer.new)) }
+    ensures verdict { IfOk result (JudgesShown T.text (R.left reader.old) (R.left reader.new) (R.last_read reader.new) (O.shown observer.old) (O.shown observer.new)) }
     ensures reads { Reads (R.left reader.old) (R.left reader.new) (R.last_read reader.new) }
     ensures rows { result ≡ Err AuditFault.Read
-        → ShowsRead (R.left reader.old) (R.left reader.new) (O.shown observer.old) (O.shown observer.new) }
+        → ShowsToldRead T.text (R.left reader.old) (R.left reader.new) (O.shown observer.old) (O.shown observer.new) }
     ensures begun { is_read_fault result ≡ false → OnErr result
-        (BeginsRead (R.left reader.old) (R.left reader.new) (R.last_read reader.new) (O.shown observer.old) (O.shown observer.new) (explanation.rows reading)) }
+        (BeginsToldRead T.text (R.left reader.old) (R.left reader.new) (R.last_read reader.new) (O.shown observer.old) (O.shown observer.new) (explanation.told T.text reading)) }
     ensures read_failures { R.read_failures reader.new
         ≡ failures_after (is_read_fault result) (R.read_failures reader.old) }
     ensures failures { O.failures observer.new
@@ -128,9 +128,9 @@ pub fn judge<L: Ledger + Drop, R: Source, O: Observer>(
             return Err(AuditFault::Read);
         };
         if n == 0 {
-            return auditor.finish_to(observer);
+            return auditor.finish_to::<T, O>(observer);
         }
-        match auditor.feed_to(&piece[..n], observer) {
+        match auditor.feed_to::<T, O>(&piece[..n], observer) {
             Ok(Progress::Open) => {}
             Ok(Progress::Fixed(verdict)) => return Ok(verdict),
             Err(fault) => return Err(fault),

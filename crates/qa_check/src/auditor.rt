@@ -5,6 +5,7 @@ ghost use Rattle.qa_format.specs.format.Lines.{with_lf};
 ghost use Rattle.qa_format.specs.format.Reading.{reading};
 ghost use Rattle.qa_format.specs.format.Written.{line_fits};
 ghost use Rattle.qa_format.specs.verdicts.Explain as explanation;
+ghost use Rattle.qa_format.specs.verdicts.Explain.{Telling, told_nothing};
 ghost use Rattle.qa_format.specs.verdicts.Verdict.{verdict};
 ghost use Rattle.qa_split.specs.Stream.{Stream, HasNoLine};
 ghost use Rattle.qa_check.specs.Audit.{CountsFailure};
@@ -15,7 +16,7 @@ ghost use Rattle.qa_check.specs.Writing.{Begins, Shown};
 
 use crate::auditing::AuditFault;
 use crate::checker::{Checker, Stop};
-use crate::observer::{Observer, Unobserved};
+use crate::observer::{LineText, NoText, Observer, Unobserved};
 use crate::taking::{Lines, take_last, take_lines};
 use qa_format::{Line, Verdict};
 use qa_ledger::Ledger;
@@ -64,7 +65,8 @@ impl<L: Ledger + Drop> Auditor<L> {
     /// An auditor that was fed no bytes. Takes no memory.
     pub fn new(alloc: Global) -> Auditor<L>
         ensures open { result.progress ≡ Ok Progress.Open }
-        ensures fed { (text : Option (List ℕ)) → Observes L.stands result text text [] }
+        ensures fed { (tell : Telling) (text : Option (List ℕ))
+            → Observes L.stands tell result text text [] }
     {
         Auditor {
             alloc,
@@ -86,21 +88,21 @@ impl<L: Ledger + Drop> Auditor<L> {
         ensures memory { self.old.progress ≡ Ok Progress.Open
             → IfErr result (λ fault. fault ≡ AuditFault.OutOfMemory) }
     {
-        self.feed_to(piece, &mut Unobserved)
+        self.feed_to::<NoText, Unobserved>(piece, &mut Unobserved)
     }
 
     /// Takes the next bytes as `feed` does, and shows the observer each line that they end.
     ///
     /// A fault of the observer comes where it failed, and from then on.
-    pub fn feed_to<O: Observer>(
+    pub fn feed_to<T: LineText<L>, O: Observer>(
         &mut self,
         piece: &[u8],
         observer: &mut O,
     ) -> Result<Progress, AuditFault>
         ensures progress { result ≡ self.new.progress }
         ensures fed { (start : Option (List ℕ)) (bytes : List ℕ)
-            → Observes L.stands self.old start (O.shown observer.old) bytes
-            → Observes L.stands self.new start (O.shown observer.new) (bytes ++ piece.now) }
+            → Observes L.stands T.text self.old start (O.shown observer.old) bytes
+            → Observes L.stands T.text self.new start (O.shown observer.new) (bytes ++ piece.now) }
         ensures kept { self.old.progress ≢ Ok Progress.Open
             → (self.new ≡ self.old) × (observer.new ≡ observer.old) }
         ensures failures { self.old.progress ≡ Ok Progress.Open
@@ -108,7 +110,7 @@ impl<L: Ledger + Drop> Auditor<L> {
     {
         match self.progress {
             Ok(Progress::Open) => {
-                let progress = take_piece(
+                let progress = take_piece::<L, T, O>(
                     self.alloc,
                     &mut self.splitter,
                     &mut self.checker,
@@ -177,22 +179,25 @@ impl<L: Ledger + Drop> Auditor<L> {
         ensures memory { self.old.progress ≡ Ok Progress.Open
             → IfErr result (λ fault. fault ≡ AuditFault.OutOfMemory) }
     {
-        self.finish_to(&mut Unobserved)
+        self.finish_to::<NoText, Unobserved>(&mut Unobserved)
     }
 
     /// The verdict of all bytes that were fed, as `finish` returns it, once the observer was shown the
     /// line that no LF ends.
     ///
     /// A fault of the observer comes where it failed, here or before.
-    pub fn finish_to<O: Observer>(&mut self, observer: &mut O) -> Result<Verdict, AuditFault>
+    pub fn finish_to<T: LineText<L>, O: Observer>(
+        &mut self,
+        observer: &mut O,
+    ) -> Result<Verdict, AuditFault>
         ensures finished { self.new.progress ≡ progress_of result }
         ensures verdict { IfOk result (λ v. (start : Option (List ℕ)) (bytes : List ℕ)
-            → Observes L.stands self.old start (O.shown observer.old) bytes
+            → Observes L.stands T.text self.old start (O.shown observer.old) bytes
             → (v ≡ verdict reading bytes)
-            × Appends start (O.shown observer.new) (explanation.rows reading bytes)) }
+            × Appends start (O.shown observer.new) (explanation.told T.text reading bytes)) }
         ensures begun { OnErr result ((start : Option (List ℕ)) (bytes : List ℕ)
-            → Observes L.stands self.old start (O.shown observer.old) bytes
-            → Begins start (O.shown observer.new) (explanation.rows reading bytes)) }
+            → Observes L.stands T.text self.old start (O.shown observer.old) bytes
+            → Begins start (O.shown observer.new) (explanation.told T.text reading bytes)) }
         ensures kept { self.old.progress ≢ Ok Progress.Open
             → (self.new ≡ self.old) × (observer.new ≡ observer.old) }
         ensures failures { self.old.progress ≡ Ok Progress.Open
@@ -200,7 +205,12 @@ impl<L: Ledger + Drop> Auditor<L> {
     {
         match self.progress {
             Ok(Progress::Open) => {
-                let ended = conclude(self.alloc, &mut self.splitter, &mut self.checker, observer);
+                let ended = conclude::<L, T, O>(
+                    self.alloc,
+                    &mut self.splitter,
+                    &mut self.checker,
+                    observer,
+                );
                 self.progress = ended.map(Progress::Fixed);
                 ended
             }
@@ -211,7 +221,7 @@ impl<L: Ledger + Drop> Auditor<L> {
 }
 
 /// Takes the next piece, and returns how far the audit is then.
-fn take_piece<L: Ledger + Drop, O: Observer>(
+fn take_piece<L: Ledger + Drop, T: LineText<L>, O: Observer>(
     alloc: Global,
     splitter: &mut Splitter,
     checker: &mut Checker<L>,
@@ -222,15 +232,15 @@ fn take_piece<L: Ledger + Drop, O: Observer>(
     requires whole { checker.old.failed ≡ false }
     ensures more { result ≡ Ok Progress.Open → TakesMore splitter.new checker.new }
     ensures fed { (start : Option (List ℕ)) (bytes : List ℕ)
-        → Shown L.stands splitter.old.bytes checker.old start (O.shown observer.old) bytes
-        → BringsTo L.stands result splitter.new checker.new start (O.shown observer.new) (bytes
+        → Shown L.stands T.text splitter.old.bytes checker.old start (O.shown observer.old) bytes
+        → BringsTo L.stands T.text result splitter.new checker.new start (O.shown observer.new) (bytes
         ++ piece.now) }
     ensures failures { CountsFailure (O.failures observer.old) (O.failures observer.new) result }
 {
     let Ok(()) = splitter.feed(piece) else {
         return Err(AuditFault::OutOfMemory);
     };
-    match take_lines(alloc, splitter, checker, observer) {
+    match take_lines::<L, T, O>(alloc, splitter, checker, observer) {
         Ok(Lines::Good) => Ok(Progress::Open),
         Ok(Lines::Bad) => match verdict_of(checker) {
             Ok(verdict) => Ok(Progress::Fixed(verdict)),
@@ -248,8 +258,8 @@ fn take_said<L: Ledger + Drop>(
     requires fitting { line_fits line.now ≡ true }
     ensures whole { result ≡ Ok Progress.Open → checker.new.failed ≡ false }
     ensures fed { (stream : Stream) (bytes : List ℕ) (l : List ℕ) → stream.bytes ≡ []
-        → IsLineOf line.now l → Shown L.stands [] checker.old None None bytes
-        → BringsTo L.stands result stream checker.new None None (bytes ++ with_lf l) }
+        → IsLineOf line.now l → Shown L.stands told_nothing [] checker.old None None bytes
+        → BringsTo L.stands told_nothing result stream checker.new None None (bytes ++ with_lf l) }
     ensures memory { IfErr result (λ fault. fault ≡ AuditFault.OutOfMemory) }
 {
     match checker.push_said(line) {
@@ -263,7 +273,7 @@ fn take_said<L: Ledger + Drop>(
 }
 
 /// The verdict where nothing more comes.
-fn conclude<L: Ledger + Drop, O: Observer>(
+fn conclude<L: Ledger + Drop, T: LineText<L>, O: Observer>(
     alloc: Global,
     splitter: &mut Splitter,
     checker: &mut Checker<L>,
@@ -273,15 +283,15 @@ fn conclude<L: Ledger + Drop, O: Observer>(
     requires empty { HasNoLine splitter.old }
     requires whole { checker.old.failed ≡ false }
     ensures ok { IfOk result (λ v. (start : Option (List ℕ)) (bytes : List ℕ)
-        → Shown L.stands splitter.old.bytes checker.old start (O.shown observer.old) bytes
+        → Shown L.stands T.text splitter.old.bytes checker.old start (O.shown observer.old) bytes
         → (v ≡ verdict reading bytes)
-        × Appends start (O.shown observer.new) (explanation.rows reading bytes)) }
+        × Appends start (O.shown observer.new) (explanation.told T.text reading bytes)) }
     ensures begun { OnErr result ((start : Option (List ℕ)) (bytes : List ℕ)
-        → Shown L.stands splitter.old.bytes checker.old start (O.shown observer.old) bytes
-        → Begins start (O.shown observer.new) (explanation.rows reading bytes)) }
+        → Shown L.stands T.text splitter.old.bytes checker.old start (O.shown observer.old) bytes
+        → Begins start (O.shown observer.new) (explanation.told T.text reading bytes)) }
     ensures failures { CountsFailure (O.failures observer.old) (O.failures observer.new) result }
 {
-    match take_last(alloc, splitter, checker, observer) {
+    match take_last::<L, T, O>(alloc, splitter, checker, observer) {
         Ok(_) => verdict_of(checker),
         Err(fault) => Err(fault),
     }

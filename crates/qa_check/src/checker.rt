@@ -9,13 +9,12 @@ ghost use Rattle.qa_base.specs.values.Events.{fits};
 ghost use Rattle.qa_base.specs.values.Limits.{max_lines};
 ghost use Rattle.qa_base.specs.values.Settings.{Settings};
 ghost use Rattle.qa_base.specs.machine.State as state;
-ghost use Rattle.qa_format.specs.verdicts.Explain.{kind_said};
 ghost use Rattle.qa_format.specs.verdicts.Verdict as verdicts;
 ghost use Rattle.qa_read.specs.Gives.{Gives};
 ghost use Rattle.qa_check.specs.Standing.{StandsFor, HoldsRun, AddsGood, AddsBad, IsLineOf, TakesIn, StopsAt};
 
 use qa_base::limits::{MAX_LINE_LENGTH, MAX_LINES};
-use qa_base::{Event, Header, LineKind, Rule, Totals};
+use qa_base::{Event, Header, Rule, Totals};
 use qa_format::{Fault, Line, Verdict};
 use qa_ledger::{Ledger, LedgerFault};
 use qa_read::{LineFault, read_line};
@@ -91,13 +90,13 @@ impl<L: Ledger + Drop> Checker<L> {
             → AddsBad L.stands self.old self.new bytes.now }
         ensures kept { (result ≡ Err Stop.Decided) → self.new.ledger ≡ self.old.ledger }
     {
-        self.push_line_kind(bytes)?;
+        self.push_line_said(bytes)?;
         Ok(())
     }
 
-    /// Takes the next line as `push_line` does, and returns its kind: None for a blank one.
-    pub fn push_line_kind(&mut self, bytes: &[u8]) -> Result<Option<LineKind>, Stop>
-        ensures kind { IfOk result (λ kind. kind ≡ kind_said (reading bytes.now)) }
+    /// Takes the next line as `push_line` does, and returns what it says.
+    pub fn push_line_said(&mut self, bytes: &[u8]) -> Result<Line, Stop>
+        ensures said { IfOk result (λ said. (reading bytes.now ≡ Ok said) × (line_fits said ≡ true)) }
         ensures failed { self.old.failed ≡ true → result ≡ Err Stop.OutOfMemory }
         ensures fails { (result ≡ Err Stop.OutOfMemory) → self.new.failed ≡ true }
         ensures good { OnOk result (AddsGood L.stands self.old self.new bytes.now) }
@@ -111,8 +110,7 @@ impl<L: Ledger + Drop> Checker<L> {
         if bytes.len() > MAX_LINE_LENGTH {
             return Err(self.stop(Fault::LineTooLong));
         }
-        let read = read_line(self.alloc, bytes);
-        self.take_read(&read)
+        self.take_read(read_line(self.alloc, bytes))
     }
 
     /// Takes the next line by what it says, as `push_line` takes each line that is read as this.
@@ -226,29 +224,29 @@ impl<L: Ledger + Drop> Checker<L> {
         Ok(())
     }
 
-    /// Takes in what was read of the next line, and returns its kind.
-    fn take_read(&mut self, read: &Result<Line, LineFault>) -> Result<Option<LineKind>, Stop>
+    /// Takes in what was read of the next line, and returns what it says.
+    fn take_read(&mut self, read: Result<Line, LineFault>) -> Result<Line, Stop>
         requires whole { self.old.failed ≡ false }
         requires undecided { self.old.verdict ≡ None }
         requires few { self.old.lines < max_lines }
-        requires fitting { IfOk read.now (λ line. line_fits line ≡ true) }
-        ensures kind { IfOk result (λ kind. (l : List ℕ) → Gives (λ line. line) read.now (reading l)
-            → kind ≡ kind_said (reading l)) }
+        requires fitting { IfOk read (λ line. line_fits line ≡ true) }
+        ensures said { IfOk result (λ said. (line_fits said ≡ true)
+            × ((l : List ℕ) → Gives (λ line. line) read (reading l) → reading l ≡ Ok said)) }
         ensures fails { (result ≡ Err Stop.OutOfMemory) → self.new.failed ≡ true }
         ensures good { OnOk result ((l : List ℕ) → length l ≤ line_limit
-            → Gives (λ line. line) read.now (reading l)
+            → Gives (λ line. line) read (reading l)
             → AddsGood L.stands self.old self.new l) }
         ensures decided { (result ≡ Err Stop.Decided) → (l : List ℕ) → length l ≤ line_limit
-            → Gives (λ line. line) read.now (reading l)
+            → Gives (λ line. line) read (reading l)
             → AddsBad L.stands self.old self.new l }
         ensures kept { (result ≡ Err Stop.Decided) → self.new.ledger ≡ self.old.ledger }
     {
         match read {
-            Ok(line) => match self.take(line) {
-                Ok(()) => Ok(line.kind()),
+            Ok(line) => match self.take(&line) {
+                Ok(()) => Ok(line),
                 Err(stop) => Err(stop),
             },
-            Err(LineFault::Fault(fault)) => Err(self.stop(*fault)),
+            Err(LineFault::Fault(fault)) => Err(self.stop(fault)),
             Err(LineFault::OutOfMemory) => {
                 self.failed = true;
                 Err(Stop::OutOfMemory)

@@ -7,6 +7,7 @@ ghost use Rattle.qa_check.specs.Failures.{failures_after};
 ghost use Rattle.qa_check.specs.Writing.{Begins, BeginsRead, Explains, ShowsRead};
 
 use crate::auditing::{AuditFault, Outcome, judge, write_report};
+use crate::observer::Row;
 use crate::streams::{Sink, Source};
 use qa_ledger::Ledger;
 use std::alloc::Global;
@@ -54,6 +55,6 @@ pub fn explain<L: Ledger + Drop, R: Source, W: Sink>(
     ensures write_failures { W.write_failures writer.new
         ≡ failures_after (is_write_fault result) (W.write_failures writer.old) }
 {
-    let verdict = judge::<L, R, W>(alloc, reader, writer)?;
+    let verdict = judge::<L, Row, R, W>(alloc, reader, writer)?;
     write_report(alloc, writer, &verdict)
 }

@@ -10,11 +10,11 @@ mod streams;
 mod taking;
 mod text;
 
-pub use auditing::{AuditFault, Outcome, audit, write_whole};
+pub use auditing::{AuditFault, Outcome, audit, judge, write_whole};
 pub use auditor::{Auditor, Progress};
 pub use checker::{Checker, Stop};
 pub use explaining::explain;
-pub use observer::{Observer, Unobserved};
+pub use observer::{LineText, NoText, Observer, Row, Unobserved};
 pub use qa_base::{LineKind, Totals};
 pub use qa_format::{Fault, Line, Verdict};
 pub use streams::{Metered, Sink, Source};

@@ -1,6 +1,10 @@
-//! Who looks at the lines of a trace while it is audited.
-ghost use Rattle.std.specs.Prelude.{◌≡◌, ℕ, List, Option, false, None, OnOk, OnErr};
+//! Who looks at the lines of a trace while it is audited, and what is told of a line.
+ghost use Rattle.std.specs.Prelude.{◌≡◌, ℕ, List, Option, false, true, None, IfOk, OnOk, OnErr};
 ghost use Rattle.std.specs.Io.KnownBytes.{Appends};
+ghost use Rattle.qa_base.specs.declared.event.Event.{Event as AnEvent};
+ghost use Rattle.qa_base.specs.values.Settings.{Settings};
+ghost use Rattle.qa_format.specs.declared.line.Line.{Line as ALine};
+ghost use Rattle.qa_format.specs.format.Written.{line_fits};
 ghost use Rattle.qa_format.specs.verdicts.Explain as explanation;
 ghost use Rattle.qa_check.specs.Audit.{CountsFailure};
 ghost use Rattle.qa_check.specs.Writing.{Begins};
@@ -8,13 +12,65 @@ ghost use Rattle.qa_check.specs.Writing.{Begins};
 use crate::auditing::{AuditFault, write_whole};
 use crate::streams::Sink;
 use crate::text::row;
-use qa_base::{LineKind, Totals};
-use std::alloc::Global;
+use qa_format::Line;
+use qa_ledger::Ledger;
+use std::alloc::{AllocError, Global};
+
+/// What is told of a line of a header or an event that the machine admits.
+pub trait LineText<L: Ledger> {
+    // The text of a line: by its number, what it says, and the header and the history with it.
+    ghost text: { ℕ → ALine → Settings → List AnEvent → List ℕ };
+
+    /// The text of the line of this number, counted from 1, that says this, with the ledger after it.
+    ///
+    /// Asks for an event that fits and a ledger that works, as those of a line that was admitted are.
+    /// `AllocError` comes where it is out of memory.
+    fn of_line(alloc: Global, line: u64, said: &Line, ledger: &L) -> Result<Vec<u8>, AllocError>
+        requires fitting { line_fits said.now ≡ true }
+        requires works { L.has_failed ledger.now ≡ false }
+        ensures { IfOk result (λ bytes. (c : Settings) (h : List AnEvent) → L.stands ledger.now c h
+            → bytes.items ≡ text line said.now c h) };
+}
+
+/// Nothing is told of a line.
+pub struct NoText;
+
+impl<L: Ledger> LineText<L> for NoText {
+    ghost use Rattle.qa_format.specs.verdicts.Explain.{told_nothing};
+
+    ghost text = { told_nothing };
+
+    fn of_line(
+        alloc: Global,
+        _line: u64,
+        _said: &Line,
+        _ledger: &L,
+    ) -> Result<Vec<u8>, AllocError> {
+        Ok(Vec::new(alloc))
+    }
+}
+
+/// A row: the number and the kind of the line, and the state after it.
+pub struct Row;
+
+impl<L: Ledger> LineText<L> for Row {
+    ghost use Rattle.qa_format.specs.verdicts.Explain.{row_said};
+
+    ghost text = { row_said };
+
+    fn of_line(alloc: Global, line: u64, said: &Line, ledger: &L) -> Result<Vec<u8>, AllocError> {
+        let Some(kind) = said.kind() else {
+            return Ok(Vec::new(alloc));
+        };
+        let text = row(alloc, line, kind, &ledger.totals())?;
+        Ok(text.into_bytes())
+    }
+}
 
 /// Who is shown each line of a header or an event that the machine admits.
 ///
-/// It makes a text of rows of them, one for each line, and counts its failures. Each `Sink` is one:
-/// it takes the rows. `Unobserved` is nobody.
+/// It makes a text of them, one behind another, and counts its failures. Each `Sink` is one: it takes
+/// the text. `Unobserved` is nobody.
 pub trait Observer {
     // The bytes that were made of the lines so far, after all that stood there before, where it tells them.
     ghost shown: { Self → Option (List ℕ) };
@@ -26,19 +82,23 @@ pub trait Observer {
     fn looks(&self) -> bool
         ensures { result ≡ false → shown self.now ≡ None };
 
-    /// Is shown the line of this number, counted from 1, and kind, and the state of the machine after it.
+    /// Is shown the line of this number, counted from 1, that says this, with the ledger after it.
     ///
-    /// `AuditFault::Write` is a failure, which is counted, after a part of the row.
+    /// Asks for what `LineText::of_line` asks for. `AuditFault::Write` is a failure, which is counted, after a part of the text.
     /// `AuditFault::OutOfMemory` is none.
-    fn see(
+    fn see<L: Ledger, T: LineText<L>>(
         &mut self,
         alloc: Global,
         line: u64,
-        kind: LineKind,
-        totals: &Totals,
+        said: &Line,
+        ledger: &L,
     ) -> Result<(), AuditFault>
-        ensures ok { OnOk result (Appends (shown self.old) (shown self.new) (explanation.row line kind totals.now)) }
-        ensures begun { OnErr result (Begins (shown self.old) (shown self.new) (explanation.row line kind totals.now)) }
+        requires fitting { line_fits said.now ≡ true }
+        requires works { L.has_failed ledger.now ≡ false }
+        ensures ok { OnOk result ((c : Settings) (h : List AnEvent) → L.stands ledger.now c h
+            → Appends (shown self.old) (shown self.new) (T.text line said.now c h)) }
+        ensures begun { OnErr result ((c : Settings) (h : List AnEvent) → L.stands ledger.now c h
+            → Begins (shown self.old) (shown self.new) (T.text line said.now c h)) }
         ensures failures { CountsFailure (failures self.old) (failures self.new) result };
 }
 
@@ -57,18 +117,18 @@ impl Observer for Unobserved {
         false
     }
 
-    fn see(
+    fn see<L: Ledger, T: LineText<L>>(
         &mut self,
         _alloc: Global,
         _line: u64,
-        _kind: LineKind,
-        _totals: &Totals,
+        _said: &Line,
+        _ledger: &L,
     ) -> Result<(), AuditFault> {
         Ok(())
     }
 }
 
-/// A writer is shown a line by its row.
+/// A writer is shown a line by its text.
 impl<W: Sink> Observer for W {
     ghost shown = { λ w. W.held w };
 
@@ -78,16 +138,16 @@ impl<W: Sink> Observer for W {
         true
     }
 
-    fn see(
+    fn see<L: Ledger, T: LineText<L>>(
         &mut self,
         alloc: Global,
         line: u64,
-        kind: LineKind,
-        totals: &Totals,
+        said: &Line,
+        ledger: &L,
     ) -> Result<(), AuditFault> {
-        let Ok(text) = row(alloc, line, kind, totals) else {
+        let Ok(text) = T::of_line(alloc, line, said, ledger) else {
             return Err(AuditFault::OutOfMemory);
         };
-        write_whole(self, text.as_bytes())
+        write_whole(self, &text)
     }
 }

@@ -1,9 +1,10 @@
 //! How the lines of pieces are taken: each goes to the checker, and a good one to the observer.
-ghost use Rattle.std.specs.Prelude.{◌≡◌, ◌++◌, ℕ, List, [], ◌∷◌, Option, false, Ok, OnOk, OnErr};
+ghost use Rattle.std.specs.Prelude.{◌≡◌, ◌++◌, ℕ, List, [], ◌∷◌, Option, false, true, Ok, OnOk, OnErr};
 ghost use Rattle.std.specs.Io.KnownBytes.{Appends};
 ghost use Rattle.qa_base.specs.declared.event.Event.{Event as AnEvent};
 ghost use Rattle.qa_base.specs.values.Settings.{Settings};
 ghost use Rattle.qa_format.specs.format.Reading.{reading};
+ghost use Rattle.qa_format.specs.format.Written.{line_fits};
 ghost use Rattle.qa_format.specs.verdicts.Explain as explanation;
 ghost use Rattle.qa_format.specs.verdicts.Verdict.{IsFixed, AreGood, AreDecided};
 ghost use Rattle.qa_split.specs.Stream.{HasNoLine};
@@ -11,12 +12,12 @@ ghost use Rattle.qa_check.specs.Audit.{CountsFailure};
 ghost use Rattle.qa_check.specs.Auditor.{TakesMore};
 ghost use Rattle.qa_check.specs.Following.{AnswersBy, IsReady};
 ghost use Rattle.qa_check.specs.Standing.{HoldsRun};
-ghost use Rattle.qa_check.specs.Writing.{Begins, Shows, Shown, ended_rows};
+ghost use Rattle.qa_check.specs.Writing.{Begins, Shows, Shown, told_ended};
 
 use crate::auditing::AuditFault;
 use crate::checker::{Checker, Stop};
-use crate::observer::Observer;
-use qa_base::LineKind;
+use crate::observer::{LineText, Observer};
+use qa_format::Line;
 use qa_ledger::Ledger;
 use qa_split::{SplitFault, Splitter};
 use std::alloc::Global;
@@ -31,7 +32,7 @@ pub enum Lines {
 }
 
 /// Takes each line that stands ready.
-pub fn take_lines<L: Ledger + Drop, O: Observer>(
+pub fn take_lines<L: Ledger + Drop, T: LineText<L>, O: Observer>(
     alloc: Global,
     splitter: &mut Splitter,
     checker: &mut Checker<L>,
@@ -41,21 +42,21 @@ pub fn take_lines<L: Ledger + Drop, O: Observer>(
     requires whole { checker.old.failed ≡ false }
     ensures more { result ≡ Ok Lines.Good → TakesMore splitter.new checker.new }
     ensures good { result ≡ Ok Lines.Good → (start : Option (List ℕ)) (bytes : List ℕ)
-        → Shown L.stands splitter.old.bytes checker.old start (O.shown observer.old) bytes
-        → Shown L.stands splitter.new.bytes checker.new start (O.shown observer.new) bytes }
+        → Shown L.stands T.text splitter.old.bytes checker.old start (O.shown observer.old) bytes
+        → Shown L.stands T.text splitter.new.bytes checker.new start (O.shown observer.new) bytes }
     ensures bad { result ≡ Ok Lines.Bad
         → (checker.new.failed ≡ false) × ((start : Option (List ℕ)) (bytes : List ℕ)
-        → Shown L.stands splitter.old.bytes checker.old start (O.shown observer.old) bytes
+        → Shown L.stands T.text splitter.old.bytes checker.old start (O.shown observer.old) bytes
         → IsFixed reading bytes
-        × AnswersBy (Shows L.stands checker.new start (O.shown observer.new)) bytes) }
+        × AnswersBy (Shows L.stands T.text checker.new start (O.shown observer.new)) bytes) }
     ensures begun { OnErr result ((start : Option (List ℕ)) (bytes : List ℕ)
-        → Shown L.stands splitter.old.bytes checker.old start (O.shown observer.old) bytes
-        → Begins start (O.shown observer.new) (ended_rows bytes)) }
+        → Shown L.stands T.text splitter.old.bytes checker.old start (O.shown observer.old) bytes
+        → Begins start (O.shown observer.new) (told_ended T.text bytes)) }
     ensures failures { CountsFailure (O.failures observer.old) (O.failures observer.new) result }
 {
     'lines: loop {
         match splitter.next_line() {
-            Ok(Some(line)) => match take_line(alloc, checker, observer, line) {
+            Ok(Some(line)) => match take_line::<L, T, O>(alloc, checker, observer, line) {
                 Ok(Lines::Good) => {}
                 Ok(Lines::Bad) => return Ok(Lines::Bad),
                 Err(fault) => return Err(fault),
@@ -68,7 +69,7 @@ pub fn take_lines<L: Ledger + Drop, O: Observer>(
 }
 
 /// Takes what stands after the last LF, where nothing more comes.
-pub fn take_last<L: Ledger + Drop, O: Observer>(
+pub fn take_last<L: Ledger + Drop, T: LineText<L>, O: Observer>(
     alloc: Global,
     splitter: &mut Splitter,
     checker: &mut Checker<L>,
@@ -79,16 +80,16 @@ pub fn take_last<L: Ledger + Drop, O: Observer>(
     requires whole { checker.old.failed ≡ false }
     ensures ok { OnOk result ((checker.new.failed ≡ false)
         × ((start : Option (List ℕ)) (bytes : List ℕ)
-        → Shown L.stands splitter.old.bytes checker.old start (O.shown observer.old) bytes
-        → AnswersBy (Shows L.stands checker.new start (O.shown observer.new)) bytes)) }
+        → Shown L.stands T.text splitter.old.bytes checker.old start (O.shown observer.old) bytes
+        → AnswersBy (Shows L.stands T.text checker.new start (O.shown observer.new)) bytes)) }
     ensures begun { OnErr result ((start : Option (List ℕ)) (bytes : List ℕ)
-        → Shown L.stands splitter.old.bytes checker.old start (O.shown observer.old) bytes
-        → Begins start (O.shown observer.new) (explanation.rows reading bytes)) }
+        → Shown L.stands T.text splitter.old.bytes checker.old start (O.shown observer.old) bytes
+        → Begins start (O.shown observer.new) (explanation.told T.text reading bytes)) }
     ensures failures { CountsFailure (O.failures observer.old) (O.failures observer.new) result }
 {
     splitter.close();
     match splitter.next_line() {
-        Ok(Some(line)) => take_line(alloc, checker, observer, line),
+        Ok(Some(line)) => take_line::<L, T, O>(alloc, checker, observer, line),
         Ok(None) => Ok(Lines::Good),
         Err(SplitFault::TooLong) => stopped(checker.too_long()),
         Err(SplitFault::OutOfMemory) => Err(AuditFault::OutOfMemory),
@@ -96,7 +97,7 @@ pub fn take_last<L: Ledger + Drop, O: Observer>(
 }
 
 /// Hands the checker the next line, and shows it where it is good.
-fn take_line<L: Ledger + Drop, O: Observer>(
+fn take_line<L: Ledger + Drop, T: LineText<L>, O: Observer>(
     alloc: Global,
     checker: &mut Checker<L>,
     observer: &mut O,
@@ -104,53 +105,55 @@ fn take_line<L: Ledger + Drop, O: Observer>(
 ) -> Result<Lines, AuditFault>
     ensures whole { OnOk result (checker.new.failed ≡ false) }
     ensures good { result ≡ Ok Lines.Good → (start : Option (List ℕ)) (ls : List (List ℕ))
-        → Shows L.stands checker.old start (O.shown observer.old) ls
-        → Shows L.stands checker.new start (O.shown observer.new) (ls ++ line.now ∷ [])
+        → Shows L.stands T.text checker.old start (O.shown observer.old) ls
+        → Shows L.stands T.text checker.new start (O.shown observer.new) (ls ++ line.now ∷ [])
         × AreGood reading (ls ++ line.now ∷ []) }
     ensures bad { result ≡ Ok Lines.Bad → (start : Option (List ℕ)) (ls : List (List ℕ))
-        → Shows L.stands checker.old start (O.shown observer.old) ls
-        → Shows L.stands checker.new start (O.shown observer.new) (ls ++ line.now ∷ [])
+        → Shows L.stands T.text checker.old start (O.shown observer.old) ls
+        → Shows L.stands T.text checker.new start (O.shown observer.new) (ls ++ line.now ∷ [])
         × AreDecided reading (ls ++ line.now ∷ []) }
     ensures begun { OnErr result ((start : Option (List ℕ)) (ls : List (List ℕ))
-        → Shows L.stands checker.old start (O.shown observer.old) ls
-        → Begins start (O.shown observer.new) (explanation.rows_of reading (ls ++ line.now ∷ []))) }
+        → Shows L.stands T.text checker.old start (O.shown observer.old) ls
+        → Begins start (O.shown observer.new) (explanation.told_of T.text reading (ls ++ line.now ∷ []))) }
     ensures failures { CountsFailure (O.failures observer.old) (O.failures observer.new) result }
 {
-    let kind = match checker.push_line_kind(line) {
-        Ok(kind) => kind,
+    let said = match checker.push_line_said(line) {
+        Ok(said) => said,
         Err(stop) => return stopped(stop),
     };
-    match show_line(alloc, checker, observer, kind) {
+    match show_line::<L, T, O>(alloc, checker, observer, &said) {
         Ok(()) => Ok(Lines::Good),
         Err(fault) => Err(fault),
     }
 }
 
-/// Shows the line of this kind that the checker took last, where it looks and a header was read.
-fn show_line<L: Ledger + Drop, O: Observer>(
+/// Shows the line that says this and that the checker took last, where it looks and a header was read.
+fn show_line<L: Ledger + Drop, T: LineText<L>, O: Observer>(
     alloc: Global,
     checker: &Checker<L>,
     observer: &mut O,
-    kind: Option<LineKind>,
+    said: &Line,
 ) -> Result<(), AuditFault>
+    requires fitting { line_fits said.now ≡ true }
+    requires whole { checker.now.failed ≡ false }
     ensures ok { OnOk result ((header : Option Settings) (h : List AnEvent)
         → HoldsRun L.stands checker.now.ledger header h
-        → Appends (O.shown observer.old) (O.shown observer.new) (explanation.row_of checker.now.lines kind header h)) }
+        → Appends (O.shown observer.old) (O.shown observer.new) (explanation.told_said T.text checker.now.lines (Ok said.now) header h)) }
     ensures begun { OnErr result ((header : Option Settings) (h : List AnEvent)
         → HoldsRun L.stands checker.now.ledger header h
-        → Begins (O.shown observer.old) (O.shown observer.new) (explanation.row_of checker.now.lines kind header h)) }
+        → Begins (O.shown observer.old) (O.shown observer.new) (explanation.told_said T.text checker.now.lines (Ok said.now) header h)) }
     ensures failures { CountsFailure (O.failures observer.old) (O.failures observer.new) result }
 {
     if !observer.looks() {
         return Ok(());
     }
-    let Some(kind) = kind else {
+    if said.kind().is_none() {
+        return Ok(());
+    }
+    let Some(ledger) = checker.ledger() else {
         return Ok(());
     };
-    let Some(totals) = checker.totals() else {
-        return Ok(());
-    };
-    observer.see(alloc, checker.line_count(), kind, &totals)
+    observer.see::<L, T>(alloc, checker.line_count(), said, ledger)
 }
 
 /// What a checker's stop says of the lines.

@@ -33,34 +33,53 @@ state_text t =
 unfoldable pub row : ℕ → LineKind → Totals → List ℕ
 row n kind t = codes "line " ++ decimal n ++ codes " " ++ line_kind_name kind ++ state_text t ++ codes "\n"
 
+-- ---- what is told of lines
+
+-- how a line is told that is not blank: by its number, what it says, and the header and the history that are there with it
+abbrev pub Telling : Type 0
+Telling = ℕ → Line → Settings → List Event → List ℕ
+
+-- a line that says this; of a blank one nothing is told
+abbrev pub told_said : Telling → ℕ → Result Line Fault → Option Settings → List Event → List ℕ
+told_said tell n (Ok l) (Some c) h = if is_some (line_kind l) then tell n l c h else []
+told_said tell n _ _ h = []
+
+-- a good line with these before it
+abbrev pub told_line : Telling → Reading → List (List ℕ) → List ℕ → List ℕ
+told_line tell reading before l =
+    told_said tell (length before + 1) (reading l) (header_in reading (before ++ l ∷ [])) (history_of (events_in reading (before ++ l ∷ [])))
+
+-- the lines before the first that is not good, where those before them are
+abbrev pub told_after : Telling → Reading → List (List ℕ) → List (List ℕ) → List ℕ
+told_after tell reading before [] = []
+told_after tell reading before (l ∷ ls) =
+    if is_some (stop_after reading before l) then [] else told_line tell reading before l ++ told_after tell reading (before ++ l ∷ []) ls
+
+unfoldable pub told_of : Telling → Reading → List (List ℕ) → List ℕ
+told_of tell reading ls = told_after tell reading [] ls
+
+-- the lines of bytes
+abbrev pub told : Telling → Reading → List ℕ → List ℕ
+told tell reading bytes = told_of tell reading (lines bytes)
+
+-- nothing is told of any line
+abbrev pub told_nothing : Telling
+told_nothing n l c h = []
+
 -- ---- the rows of lines
 
--- the row of line n, after which the trace has this header and this history; a blank line has none
-abbrev pub row_of : ℕ → Option LineKind → Option Settings → List Event → List ℕ
-row_of n (Some kind) (Some c) h = row n kind (totals c h)
-row_of n _ _ h = []
+-- the row of line n, which is of this kind, and after which the trace has this header and this history; a blank line has none
+abbrev pub row_of : ℕ → Option LineKind → Settings → List Event → List ℕ
+row_of n (Some kind) c h = row n kind (totals c h)
+row_of n None c h = []
 
-abbrev pub kind_said : Result Line Fault → Option LineKind
-kind_said (Ok l) = line_kind l
-kind_said (Err f) = None
-
--- the row of a good line with these before it: the state is that of all of them
-abbrev pub row_after : Reading → List (List ℕ) → List ℕ → List ℕ
-row_after reading before l =
-    row_of (length before + 1) (kind_said (reading l)) (header_in reading (before ++ l ∷ [])) (history_of (events_in reading (before ++ l ∷ [])))
-
--- the rows of the lines before the first that is not good, where those before them are
-abbrev pub rows_after : Reading → List (List ℕ) → List (List ℕ) → List ℕ
-rows_after reading before [] = []
-rows_after reading before (l ∷ ls) = if is_some (stop_after reading before l) then [] else row_after reading before l ++ rows_after reading (before ++ l ∷ []) ls
-
-unfoldable pub rows_of : Reading → List (List ℕ) → List ℕ
-rows_of reading ls = rows_after reading [] ls
+abbrev pub row_said : Telling
+row_said n l c h = row_of n (line_kind l) c h
 
 -- ---- of bytes
 
 abbrev pub rows : Reading → List ℕ → List ℕ
-rows reading bytes = rows_of reading (lines bytes)
+rows reading bytes = told row_said reading bytes
 
 abbrev pub explain : Reading → List ℕ → List ℕ
 explain reading bytes = rows reading bytes ++ report (verdict reading bytes)

@@ -1,4 +1,4 @@
-use Rattle.std.proofs.Common.{◌∙◌, ◌≤◌, [], inl, inr, Err, length, take, refl, sym, arith}
+use Rattle.std.proofs.Common.{◌∙◌, [], inl, inr, Err, refl, sym, arith}
 use Rattle.std.proofs.lemmas.Bool.{false≢true}
 use Rattle.std.proofs.lemmas.Result.{IfOk-weaker, on_err_weaker}
 use Rattle.std.proofs.KnownBytes.{Consumes-nil, Consumes-kept, Consumes-trans}
@@ -20,7 +20,7 @@ pieces-init g c =
       is_open = c.new-auditor.ensures.open;
       unfailed_read = refl;
       unfailed = refl;
-      read = ([], Consumes-nil (g.R.Source.left c.args.reader.now), c.new-auditor.ensures.fed start, omega arith);
+      read = ([], Consumes-nil (g.R.Source.left c.args.reader.now), c.new-auditor.ensures.fed g.T.LineText.text start, omega arith);
     }
 
 pub returns-in_default : goal.returns-in_default
@@ -28,11 +28,11 @@ returns-in_default g c =
     let i = c.pieces.invariant in
     let r = i.read in
     let before = c.pieces.auditor in
-    let b = brings_open g.L.Ledger.stands before.progress before.stream before.held _ _ r.0 i.is_open r.2 in
+    let b = brings_open g.L.Ledger.stands g.T.LineText.text before.progress before.stream before.held _ _ r.0 i.is_open r.2 in
     record {
       verdict = tt;
       reads = reads_failed _ _ _ _ r.0 r.1 c.in_default.ensures.bytes c.in_default.ensures.last b.0;
-      rows = λ is. (r.0, Consumes-kept _ _ _ r.0 r.1 c.in_default.ensures.bytes, b.0, show_follows g.L.Ledger.stands before.held _ _ _ r.0 b.1 b.2);
+      rows = λ is. (r.0, Consumes-kept _ _ _ r.0 r.1 c.in_default.ensures.bytes, b.0, show_follows g.L.Ledger.stands g.T.LineText.text before.held _ _ _ r.0 b.1 b.2);
       begun = λ other. absurd (false≢true (sym other));
       read_failures = rw i.unfailed_read at c.in_default.ensures.failures;
       failures = i.unfailed;
@@ -44,7 +44,7 @@ returns-then-n-eq0 g c =
     let r = i.read in
     let start = g.O.Observer.shown c.args.observer.now in
     let before = c.pieces.auditor in
-    let b = brings_open g.L.Ledger.stands before.progress before.stream before.held _ _ r.0 i.is_open r.2 in
+    let b = brings_open g.L.Ledger.stands g.T.LineText.text before.progress before.stream before.held _ _ r.0 i.is_open r.2 in
     let ended = c.finish_to.ensures in
     let counts = ended.failures i.is_open in
     let end = c.in-Ok.ensures.bytes.1 c.if-n-eq0.true (omega arith) in
@@ -66,11 +66,11 @@ returns-in-Ok-Fixed g c =
     let r = i.read in
     let start = g.O.Observer.shown c.args.observer.now in
     let before = c.pieces.auditor in
-    let b = brings_open g.L.Ledger.stands before.progress before.stream before.held _ _ r.0 i.is_open r.2 in
+    let b = brings_open g.L.Ledger.stands g.T.LineText.text before.progress before.stream before.held _ _ r.0 i.is_open r.2 in
     let short = read_piece _ c.in-Ok.n c.read_piece.new.piece c.in-Ok.ensures.last c.in-Ok.ensures.bound (omega arith) in
     let after = c.feed_to.new.self in
     let is = sym c.feed_to.ensures.progress ∙ (rw c.in-Ok-Fixed.field-0-is at c.in-Ok-Fixed.is) in
-    let d = brings_fixed g.L.Ledger.stands after.progress after.stream after.held start _ _ _ is (c.feed_to.ensures.fed start r.0 r.2) in
+    let d = brings_fixed g.L.Ledger.stands g.T.LineText.text after.progress after.stream after.held start _ _ _ is (c.feed_to.ensures.fed start r.0 r.2) in
     let counts = c.in-Ok-Fixed.ensures.failures i.is_open in
     record {
       verdict = (_, (Consumes-trans _ _ _ r.0 _ r.1 c.in-Ok.ensures.bytes.0, inr d.0, (r.0, _, refl, short.0, short.1, b.0)), d.1, d.2);
@@ -87,11 +87,11 @@ returns-in-Err g c =
     let r = i.read in
     let start = g.O.Observer.shown c.args.observer.now in
     let before = c.pieces.auditor in
-    let b = brings_open g.L.Ledger.stands before.progress before.stream before.held _ _ r.0 i.is_open r.2 in
+    let b = brings_open g.L.Ledger.stands g.T.LineText.text before.progress before.stream before.held _ _ r.0 i.is_open r.2 in
     let short = read_piece _ c.in-Ok.n c.read_piece.new.piece c.in-Ok.ensures.last c.in-Ok.ensures.bound (omega arith) in
     let fault = c.in-Err.fault in
     let after = c.feed_to.new.self in
-    let failed = brings_failed g.L.Ledger.stands after.progress after.stream after.held start _ _ fault (sym c.feed_to.ensures.progress ∙ c.in-Err.is) (c.feed_to.ensures.fed start r.0 r.2) in
+    let failed = brings_failed g.L.Ledger.stands g.T.LineText.text after.progress after.stream after.held start _ _ fault (sym c.feed_to.ensures.progress ∙ c.in-Err.is) (c.feed_to.ensures.fed start r.0 r.2) in
     let counts = counts_same Progress Verdict _ _ fault (c.in-Err.ensures.failures i.is_open) in
     record {
       verdict = tt;
@@ -126,6 +126,6 @@ unreachable-requires g c =
     let before = c.pieces.auditor in
     let start = g.O.Observer.shown c.args.observer.now in
     let now = g.O.Observer.shown c.pieces.observer in
-    let b = brings_open g.L.Ledger.stands before.progress before.stream before.held start now r.0 c.pieces.invariant.is_open r.2 in
-    let few = follow_few (Shows g.L.Ledger.stands before.held start now) _ r.0 b.2 b.1.1 in
+    let b = brings_open g.L.Ledger.stands g.T.LineText.text before.progress before.stream before.held start now r.0 c.pieces.invariant.is_open r.2 in
+    let few = follow_few (Shows g.L.Ledger.stands g.T.LineText.text before.held start now) _ r.0 b.2 b.1.1 in
     omega (arith, few, r.3)

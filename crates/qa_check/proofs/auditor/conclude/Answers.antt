@@ -2,7 +2,7 @@ use Rattle.std.proofs.lemmas.Result.{IfOk-weaker}
 use Rattle.qa_format.specs.declared.verdict.Verdict.{Verdict}
 use Rattle.qa_check.specs.declared.taking.Lines.{Lines}
 use Rattle.qa_check.proofs.LinesTaken.{counts_same, counts_memory_after}
-use Rattle.qa_check.proofs.Writing.{on_err_of, begins_all, answer_rows, answer_verdict}
+use Rattle.qa_check.proofs.Writing.{on_err_of, begins_all, answer_told, answer_verdict}
 use Rattle.qa_check.proofs.auditor.conclude.Goals as goal
 
 pub returns-in-Ok : goal.returns-in-Ok
@@ -12,9 +12,9 @@ returns-in-Ok g c =
       ok = IfOk-weaker c.verdict_of.result _ _
           (λ v k start bytes f.
           let all = last.1 start bytes f in
-          (k bytes (answer_verdict g.L.Ledger.stands c.take_last.new.checker start _ bytes last.0 all), answer_rows g.L.Ledger.stands c.take_last.new.checker start _ bytes all))
+          (k bytes (answer_verdict g.L.Ledger.stands g.T.LineText.text c.take_last.new.checker start _ bytes last.0 all), answer_told g.L.Ledger.stands g.T.LineText.text c.take_last.new.checker start _ bytes all))
           c.verdict_of.ensures.ok;
-      begun = on_err_of c.verdict_of.result (λ start bytes f. begins_all start _ _ (answer_rows g.L.Ledger.stands c.take_last.new.checker start _ bytes (last.1 start bytes f)));
+      begun = on_err_of c.verdict_of.result (λ start bytes f. begins_all start _ _ (answer_told g.L.Ledger.stands g.T.LineText.text c.take_last.new.checker start _ bytes (last.1 start bytes f)));
       failures = counts_memory_after _ _ c.verdict_of.result c.in-Ok.ensures.failures.1 c.verdict_of.ensures.err;
     }
 

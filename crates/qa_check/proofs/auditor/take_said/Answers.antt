@@ -1,8 +1,9 @@
 use Rattle.std.proofs.Common.{◌++◌, None, refl}
 use Rattle.qa_format.specs.format.Lines.{with_lf}
+use Rattle.qa_format.specs.verdicts.Explain.{told_nothing}
 use Rattle.qa_check.specs.declared.auditing.AuditFault.TheVariants as faults
 use Rattle.qa_check.proofs.Pushed.{pushed_good, pushed_bad, pushed_failed}
-use Rattle.qa_check.proofs.Writing.{answer_rows, answer_verdict}
+use Rattle.qa_check.proofs.Writing.{answer_told, answer_verdict}
 use Rattle.qa_check.proofs.auditor.take_said.Goals as goal
 
 pub returns-in-Ok : goal.returns-in-Ok
@@ -22,8 +23,8 @@ returns-in-Ok-verdict_of g c =
       fed = λ stream bytes l empty line f.
           let all = bytes ++ with_lf l in
           let d = pushed_bad g.L.Ledger.stands c.args.checker.now c.push_said.new.self bytes l line.0 (bad.1 l line) f in
-          let verdict = c.in-Ok-verdict_of.ensures.ok all (answer_verdict g.L.Ledger.stands c.push_said.new.self None None all bad.0 d.1) in
-          (d.0, verdict, answer_rows g.L.Ledger.stands c.push_said.new.self None None all d.1);
+          let verdict = c.in-Ok-verdict_of.ensures.ok all (answer_verdict g.L.Ledger.stands told_nothing c.push_said.new.self None None all bad.0 d.1) in
+          (d.0, verdict, answer_told g.L.Ledger.stands told_nothing c.push_said.new.self None None all d.1);
       memory = tt;
     }
 

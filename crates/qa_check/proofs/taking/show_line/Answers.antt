@@ -1,44 +1,43 @@
-use Rattle.std.proofs.Common.{◌≡◌, ◌∙◌, ℕ, List, Option, Some, None, sym, ap, subst}
+use Rattle.std.proofs.Common.{◌≡◌, ◌∙◌, ℕ, List, Bool, true, false, not, Option, Some, None, Ok, is_some, sym, ap}
 use Rattle.std.proofs.lemmas.Result.{on_ok_weaker, on_err_weaker}
 use Rattle.std.specs.Io.KnownBytes.{Appends}
-use Rattle.std.specs.Prelude.{option_map}
 use Rattle.qa_base.specs.declared.event.Event.{Event}
-use Rattle.qa_base.specs.declared.line_kind.LineKind.{LineKind}
-use Rattle.qa_base.specs.declared.totals.Totals.{Totals}
-use Rattle.qa_base.specs.machine.State.{totals}
 use Rattle.qa_base.specs.values.Settings.{Settings}
-use Rattle.qa_format.specs.verdicts.Explain.{row, row_of}
+use Rattle.qa_format.specs.declared.line.Line.{Line}
+use Rattle.qa_format.specs.format.LineKinds.{line_kind}
+use Rattle.qa_format.specs.verdicts.Explain.{Telling, told_said}
+use Rattle.qa_check.specs.Standing.{HoldsRun, Stands}
 use Rattle.qa_check.specs.Writing.{Begins}
 use Rattle.qa_check.proofs.taking.show_line.Goals as goal
 
-of_some : {A : Type 0} (a b : A) → Some a ≡ Some b → a ≡ b
-of_some a b same = cc
+there : (some none : Bool) → some ≡ not none → none ≡ false → some ≡ true
+there some none is not_none = is ∙ ap not not_none
 
--- the row of a line of a kind, with a state
-row_shown : (n : ℕ) (kind : LineKind) (t : Totals) (kinds : Option LineKind) (header : Option Settings) (h : List Event)
-    → kinds ≡ Some kind → option_map (λ c. totals c h) header ≡ Some t → row_of n kinds header h ≡ row n kind t
-row_shown n kind t kinds None h is has = cc
-row_shown n kind t kinds (Some c) h is has = ap (λ (ks : Option LineKind). row_of n ks (Some c) h) is ∙ ap (row n kind) (of_some _ _ has)
+of_header : {L : Type 0} (stands : Stands L) (tell : Telling) (n : ℕ) (said : Line) (held : Option L) (ledger : L) (header : Option Settings) (h : List Event) (T : List ℕ → Type 0)
+    → is_some (line_kind said) ≡ true → held ≡ Some ledger → ((c : Settings) (h : List Event) → stands ledger c h → T (tell n said c h))
+    → HoldsRun stands held header h → T (told_said tell n (Ok said) header h)
+of_header stands tell n said None ledger header h T some is shown holds = cc
+of_header stands tell n said (Some l) ledger header h T some is shown (c, headed, after) =
+    let same : l ≡ ledger = cc in
+    let told : T (tell n said c h) = shown c h (rw same at after) in
+    rw headed (rw some told)
 
--- Written out, so that a wrong body is refused at these lines.
-pub returns-clause-ok : goal.returns-clause-ok
-returns-clause-ok g c =
-    let n = c.args.checker.now.lines in
-    let kind = c.in-Some.kind in
-    let t = c.in-Some-totals.totals in
-    on_ok_weaker c.see.result
-    (λ shown header h holds.
-    let same = ap (λ (m : ℕ). row m kind t) c.line_count.ensures ∙ sym (row_shown n kind t c.args.kind header h c.in-Some.is (sym (c.totals.ensures header h holds) ∙ c.in-Some-totals.is)) in
-    subst (λ (text : List ℕ). Appends (g.O.Observer.shown c.args.observer.now) (g.O.Observer.shown c.see.new.self) text) same shown)
-    c.see.ensures.ok
-
-pub returns-clause-begun : goal.returns-clause-begun
-returns-clause-begun g c =
-    let n = c.args.checker.now.lines in
-    let kind = c.in-Some.kind in
-    let t = c.in-Some-totals.totals in
-    on_err_weaker c.see.result
-    (λ begun header h holds.
-    let same = ap (λ (m : ℕ). row m kind t) c.line_count.ensures ∙ sym (row_shown n kind t c.args.kind header h c.in-Some.is (sym (c.totals.ensures header h holds) ∙ c.in-Some-totals.is)) in
-    subst (λ (text : List ℕ). Begins (g.O.Observer.shown c.args.observer.now) (g.O.Observer.shown c.see.new.self) text) same begun)
-    c.see.ensures.begun
+pub returns : goal.returns
+returns g c =
+    let some : is_some (line_kind c.args.said.now) ≡ true = rw c.kind.ensures at (there _ _ c.is_none.ensures c.if-is_none.false) in
+    let is : c.args.checker.now.ledger ≡ Some c.in-Some.ledger.now = sym c.in-Some.ensures.ledger in
+    let before = g.O.Observer.shown c.args.observer.now in
+    let after = g.O.Observer.shown c.see.new.self in
+    record {
+      ok = on_ok_weaker c.see.result
+          (λ shown header h holds.
+          of_header g.L.Ledger.stands g.T.LineText.text _ c.args.said.now c.args.checker.now.ledger c.in-Some.ledger.now header h (Appends before after) some is
+          (rw c.line_count.ensures at shown) holds)
+          c.see.ensures.ok;
+      begun = on_err_weaker c.see.result
+          (λ begun header h holds.
+          of_header g.L.Ledger.stands g.T.LineText.text _ c.args.said.now c.args.checker.now.ledger c.in-Some.ledger.now header h (Begins before after) some is
+          (rw c.line_count.ensures at begun) holds)
+          c.see.ensures.begun;
+      failures = c.see.ensures.failures;
+    }

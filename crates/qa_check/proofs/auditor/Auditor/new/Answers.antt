@@ -4,6 +4,6 @@ use Rattle.qa_check.proofs.Writing.{nothing_shown}
 use Rattle.qa_check.proofs.auditor.Auditor.new.Goals as goal
 
 pub returns-clause-fed : goal.returns-clause-fed
-returns-clause-fed g c = λ text.
-    open_from g.L.Ledger.stands c.new.result c.new-2.result text text _ (rw c.new.ensures (refl, omega arith))
-    (rw c.new.ensures (nothing_shown g.L.Ledger.stands c.new-2.result text c.new-2.ensures.lines))
+returns-clause-fed g c = λ tell text.
+    open_from g.L.Ledger.stands tell c.new.result c.new-2.result text text _ (rw c.new.ensures (refl, omega arith))
+    (rw c.new.ensures (nothing_shown g.L.Ledger.stands tell c.new-2.result text c.new-2.ensures.lines))

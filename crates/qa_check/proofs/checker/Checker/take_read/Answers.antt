@@ -11,7 +11,7 @@ take-requires g c = record { whole = c.requires.whole; undecided = c.requires.un
 
 pub returns-in-Ok-take : goal.returns-in-Ok-take
 returns-in-Ok-take g c = record {
-  kind = λ l gives. rw (rw c.in-Ok.is at gives) c.kind.ensures;
+  said = (rw c.in-Ok.is at c.requires.fitting, λ l gives. rw c.in-Ok.is at gives);
   fails = λ is. absurd (ok_is_no_err is);
   good = λ l short gives.
       let taken = c.in-Ok-take.ensures.ok in
@@ -23,7 +23,7 @@ returns-in-Ok-take g c = record {
 
 pub returns-in-Err : goal.returns-in-Err
 returns-in-Err g c = record {
-  kind = tt;
+  said = tt;
   fails = λ is. c.take.ensures.failed (c.in-Err.is ∙ ap Err (error_of is));
   good = tt;
   decided = λ is l short gives.
@@ -41,15 +41,15 @@ pub returns-in-Err-Fault : goal.returns-in-Err-Fault
 returns-in-Err-Fault g c =
     let stop = c.stop.ensures in
     record {
-      kind = tt;
+      said = tt;
       fails = λ is. absurd (stops_differ (sym stop.result ∙ error_of is));
       good = tt;
       decided = λ is l short gives.
-          let is_fault : c.args.read.now ≡ Err (Fault c.in-Err-Fault.fault) = search rules in
+          let is_fault : c.args.read ≡ Err (Fault c.in-Err-Fault.fault) = search rules in
           let says = read_as_said reading _ l c.requires.few short ∙ (rw is_fault at gives) in
           unread_adds _ c.args.self.now c.stop.new.self l _ stop.whole stop.decided stop.verdict c.requires.undecided says;
       kept = λ is. stop.kept;
     }
 
 pub returns-in-Err-OutOfMemory : goal.returns-in-Err-OutOfMemory
-returns-in-Err-OutOfMemory g c = record { kind = tt; fails = λ is. refl; good = tt; decided = λ is. absurd (memory_is_not_decided is); kept = λ is. absurd (memory_is_not_decided is) }
+returns-in-Err-OutOfMemory g c = record { said = tt; fails = λ is. refl; good = tt; decided = λ is. absurd (memory_is_not_decided is); kept = λ is. absurd (memory_is_not_decided is) }

@@ -4,13 +4,13 @@ use Rattle.std.proofs.lemmas.Result.{IfOk-weaker, on_ok_weaker}
 use Rattle.qa_format.specs.format.Lines.{line_limit}
 use Rattle.qa_check.proofs.Faults.{error_of, stops_differ}
 use Rattle.qa_check.proofs.Growing.{whole_of, unread_adds, too_long}
-use Rattle.qa_check.proofs.checker.Checker.push_line_kind.Goals as goal
+use Rattle.qa_check.proofs.checker.Checker.push_line_said.Goals as goal
 
 pub returns-in-Err : goal.returns-in-Err
 returns-in-Err g c =
     let expected = c.expect_line.ensures in
     record {
-      kind = tt;
+      said = tt;
       failed = λ is. ap Err (error_of (sym c.in-Err.is ∙ expected.failed is));
       fails = λ is. (expected.fails (c.in-Err.is ∙ ap Err (error_of is))).1;
       good = tt;
@@ -23,7 +23,7 @@ returns-then-bytes-gt-MAX_LINE_LENGTH g c =
     let open_yet = c.in_default.ensures.ok in
     let stop = c.stop.ensures in
     record {
-      kind = tt;
+      said = tt;
       failed = λ is. absurd (false≢true (sym (whole_of _ _ open_yet.0 false open_yet.1) ∙ is));
       fails = λ is. absurd (stops_differ (sym stop.result ∙ error_of is));
       good = tt;
@@ -36,14 +36,14 @@ returns-then-bytes-gt-MAX_LINE_LENGTH g c =
 pub returns : goal.returns
 returns g c =
     let open_yet = c.in_default.ensures.ok in
-    let gives = c.read_line-read.ensures.read in
+    let gives = c.read_line.ensures.read in
     let short : length c.args.bytes.now ≤ line_limit = omega (arith, c.if-bytes-gt-MAX_LINE_LENGTH.false) in
-    let taken = c.take_read.ensures in
+    let taken = c.take_read-2.ensures in
     record {
-      kind = IfOk-weaker c.take_read.result _ _ (λ kind is. is c.args.bytes.now gives) taken.kind;
+      said = IfOk-weaker c.take_read-2.result _ _ (λ said is. (is.1 c.args.bytes.now gives, is.0)) taken.said;
       failed = λ is. absurd (false≢true (sym (whole_of _ _ open_yet.0 false open_yet.1) ∙ is));
       fails = taken.fails;
-      good = rw open_yet.0 at (on_ok_weaker c.take_read.result (λ adds. adds c.args.bytes.now short gives) taken.good);
+      good = rw open_yet.0 at (on_ok_weaker c.take_read-2.result (λ adds. adds c.args.bytes.now short gives) taken.good);
       decided = λ is. rw open_yet.0 at (taken.decided is c.args.bytes.now short gives);
       kept = λ is. taken.kept is ∙ ap (λ k. k.ledger) open_yet.0;
     }
