@@ -1,11 +1,12 @@
-//! A ledger that says why it refuses an event.
+//! A ledger that says why it refuses an event, and what it holds beside its totals.
 ghost use Rattle.std.specs.Prelude.{◌≡◌, false, List, IfOk};
 ghost use Rattle.qa_base.specs.declared.event.Event.{Event as AnEvent};
+ghost use Rattle.qa_base.specs.machine.Timer as timers;
 ghost use Rattle.qa_base.specs.values.Settings.{Settings};
 ghost use Rattle.qa_causes.specs.Causes as causes;
 
 use crate::cause::{Cause, Owed};
-use qa_base::{Event, Rule, TimeUnit};
+use qa_base::{Due, Event, Rule, TimeUnit};
 use qa_ledger::Ledger;
 use std::alloc::AllocError;
 
@@ -29,4 +30,10 @@ pub trait Explains: Ledger {
     fn unit(&self) -> TimeUnit
         ensures { Self.has_failed self.now ≡ false → (c : Settings) (h : List AnEvent)
             → Self.stands self.now c h → result ≡ c.unit };
+
+    /// What the loss detection timer is set for after the events that were admitted; None where it is
+    /// not (RFC 9002, A.8).
+    fn deadline(&self) -> Option<Due>
+        ensures { Self.has_failed self.now ≡ false → (c : Settings) (h : List AnEvent)
+            → Self.stands self.now c h → result ≡ timers.deadline c h };
 }

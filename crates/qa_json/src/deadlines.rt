@@ -28,8 +28,8 @@ fn push_no_due(out: &mut Object, unit: TimeUnit) -> Result<(), AllocError>
     out.some_amount("deadline", unit.name(), None)
 }
 
-/// V12: what the timer is set for.
-pub(crate) fn push_due(out: &mut Object, unit: TimeUnit, due: Option<Due>) -> Result<(), AllocError>
+/// Writes what the timer is set for, its time in the unit (V12; RFC 9002, A.8).
+pub fn push_due(out: &mut Object, unit: TimeUnit, due: Option<Due>) -> Result<(), AllocError>
     ensures { OnOk result (out.new ≡ out.old ++ text.due_facts unit due) }
 {
     match due {

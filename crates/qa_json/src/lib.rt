@@ -12,7 +12,9 @@ mod reports;
 mod sending;
 mod subjects;
 
+pub use deadlines::push_due;
 pub use facts::push_facts;
 pub use losses::push_owed;
 pub use object::Object;
+pub use sending::push_bytes;
 pub use subjects::push_subject;

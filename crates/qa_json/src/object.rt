@@ -219,11 +219,25 @@ impl Object {
         self.into_line()
     }
 
+    /// The object's text alone, where no list is open.
+    pub fn into_text(mut self) -> Result<Vec<u8>, AllocError>
+        ensures { IfOk result (λ bytes. bytes.items ≡ text.text_of self) }
+    {
+        self.end_object()?;
+        Ok(self.into_bytes())
+    }
+
     fn into_line(self) -> Result<Vec<u8>, AllocError>
         ensures { IfOk result (λ line. line.items ≡ text.line_of_all self) }
     {
-        let mut line = self.writer.into_inner();
+        let mut line = self.into_bytes();
         line.push(b'\n')?;
         Ok(line)
+    }
+
+    fn into_bytes(self) -> Vec<u8>
+        ensures { result.items ≡ text.text_of_all self }
+    {
+        self.writer.into_inner()
     }
 }

@@ -31,7 +31,7 @@ pub(crate) fn push_packet_number(
 }
 
 /// Writes an amount of bytes that may be absent.
-pub(crate) fn push_bytes(out: &mut Object, key: &str, bytes: Option<u64>) -> Result<(), AllocError>
+pub fn push_bytes(out: &mut Object, key: &str, bytes: Option<u64>) -> Result<(), AllocError>
     ensures { OnOk result (out.new ≡ out.old ++ text.bytes_at key.now bytes) }
 {
     out.some_amount(key, "bytes", widened(bytes))

@@ -89,4 +89,8 @@ impl Explains for Running {
     fn unit(&self) -> TimeUnit {
         self.header().unit()
     }
+
+    fn deadline(&self) -> Option<Due> {
+        State::deadline(self)
+    }
 }

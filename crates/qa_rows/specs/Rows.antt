@@ -1,0 +1,35 @@
+-- The row of a line: its number, what it says, and the state of the machine behind it.
+use Rattle.std.specs.Prelude.{ℕ, codes, decimal, List, [], ◌++◌}
+use Rattle.qa_base.specs.declared.event.Event.{Event}
+use Rattle.qa_base.specs.values.Settings.{Settings}
+use Rattle.qa_format.specs.declared.line.Line.{Line}
+use Rattle.qa_format.specs.declared.line.Line.TheVariants as line
+use Rattle.qa_format.specs.format.Written.{written}
+use Rattle.qa_rows.specs.State.{state_text}
+
+-- ---- the pieces of the text
+
+unfoldable pub numbered : ℕ → List ℕ
+numbered n = codes "{\"line\":" ++ decimal n
+
+unfoldable pub saying : List ℕ → List ℕ
+saying said = codes ",\"event\":" ++ said
+
+unfoldable pub leaving : List ℕ → List ℕ
+leaving state = codes ",\"state\":" ++ state ++ codes "}\n"
+
+-- the row of line n, of what it says and of the state behind it
+unfoldable pub row_text : ℕ → List ℕ → List ℕ → List ℕ
+row_text n said state = numbered n ++ saying said ++ leaving state
+
+-- ---- the row
+
+-- the row of line n, behind which the trace has this header and this history
+abbrev pub row : ℕ → Line → Settings → List Event → List ℕ
+row n l c h = row_text n (written l) (state_text c h)
+
+-- the same; a blank line has none
+abbrev pub row_of : ℕ → Line → Settings → List Event → List ℕ
+row_of n line.Blank c h = []
+row_of n (line.Header s) c h = row n (line.Header s) c h
+row_of n (line.Event e) c h = row n (line.Event e) c h

@@ -1,0 +1,101 @@
+//! The row of a line.
+ghost use Rattle.std.specs.Prelude.{◌≡◌, ◌++◌, true, false, List, IfOk, OnOk};
+ghost use Rattle.qa_base.specs.declared.event.Event.{Event as AnEvent};
+ghost use Rattle.qa_base.specs.values.Settings.{Settings};
+ghost use Rattle.qa_format.specs.format.Written.{line_fits};
+ghost use Rattle.qa_rows.specs.Rows as text;
+
+use crate::state::state_text;
+use itoa::Buffer;
+use qa_causes::Explains;
+use qa_format::Line;
+use qa_write::write_line;
+use std::alloc::{AllocError, Global};
+
+/// Appends bytes.
+fn extend(row: &mut Vec<u8>, bytes: &[u8]) -> Result<(), AllocError>
+    ensures { OnOk result (row.new.items ≡ row.old.items ++ bytes.now) }
+{
+    row.extend_from_slice(bytes)
+}
+
+// ---- the pieces of the text
+
+#[tactic(auto, unfolding(crate::specs::Rows::numbered))]
+fn push_number(row: &mut Vec<u8>, n: u64) -> Result<(), AllocError>
+    ensures { OnOk result (row.new.items ≡ row.old.items ++ text.numbered n) }
+{
+    let mut buffer = Buffer::new();
+    extend(row, b"{\"line\":")?;
+    extend(row, buffer.format(n).as_bytes())
+}
+
+#[tactic(auto, unfolding(crate::specs::Rows::saying))]
+fn push_said(row: &mut Vec<u8>, said: &str) -> Result<(), AllocError>
+    ensures { OnOk result (row.new.items ≡ row.old.items ++ text.saying said.now) }
+{
+    extend(row, b",\"event\":")?;
+    extend(row, said.as_bytes())
+}
+
+#[tactic(auto, unfolding(crate::specs::Rows::leaving))]
+fn push_state(row: &mut Vec<u8>, state: &[u8]) -> Result<(), AllocError>
+    ensures { OnOk result (row.new.items ≡ row.old.items ++ text.leaving state.now) }
+{
+    extend(row, b",\"state\":")?;
+    extend(row, state)?;
+    extend(row, b"}\n")
+}
+
+/// The row of line n, of what it says and of the state behind it.
+#[tactic(auto, unfolding(crate::specs::Rows::row_text))]
+fn row_text(alloc: Global, n: u64, said: &str, state: &[u8]) -> Result<Vec<u8>, AllocError>
+    ensures { IfOk result (λ row. row.items ≡ text.row_text n said.now state.now) }
+{
+    let mut row = Vec::new(alloc);
+    push_number(&mut row, n)?;
+    push_said(&mut row, said)?;
+    push_state(&mut row, state)?;
+    Ok(row)
+}
+
+// ---- the row
+
+/// The row of a line, blank or not.
+fn row_of_line<L: Explains>(
+    alloc: Global,
+    n: u64,
+    line: &Line,
+    ledger: &L,
+) -> Result<Vec<u8>, AllocError>
+    requires fitting { line_fits line.now ≡ true }
+    ensures { L.has_failed ledger.now ≡ false → IfOk result (λ row. (c : Settings)
+        (h : List AnEvent) → L.stands ledger.now c h → row.items ≡ text.row n line.now c h) }
+{
+    let said = write_line(alloc, line)?;
+    let state = state_text(alloc, ledger)?;
+    row_text(alloc, n, said.as_str(), &state)
+}
+
+/// The row of line n of a trace, which the ledger admitted last: one JSON object with the line's number,
+/// what it says as `write_line` has it, and the state of the machine behind it, and then LF. A blank
+/// line has no row, and the answer is empty.
+///
+/// Sizes and windows are in bytes, times in the unit of the trace. Asks for an event that fits
+/// (`Event::fits`), as every line does that was read. `AllocError` comes where it is out of memory.
+/// Of a ledger that has failed nothing is promised.
+pub fn row<L: Explains>(
+    alloc: Global,
+    n: u64,
+    line: &Line,
+    ledger: &L,
+) -> Result<Vec<u8>, AllocError>
+    requires fitting { line_fits line.now ≡ true }
+    ensures { L.has_failed ledger.now ≡ false → IfOk result (λ row. (c : Settings)
+        (h : List AnEvent) → L.stands ledger.now c h → row.items ≡ text.row_of n line.now c h) }
+{
+    match line {
+        Line::Blank => Ok(Vec::new(alloc)),
+        Line::Header(_) | Line::Event(_) => row_of_line(alloc, n, line, ledger),
+    }
+}
