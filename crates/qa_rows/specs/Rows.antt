@@ -1,10 +1,16 @@
 -- The row of a line: its number, what it says, and the state of the machine behind it.
-use Rattle.std.specs.Prelude.{ℕ, codes, decimal, List, [], ◌++◌}
+use Rattle.std.specs.Prelude.{◌≡◌, ℕ, codes, decimal, List, [], ◌++◌, Option}
+use Rattle.std.specs.Io.KnownBytes.{Appends}
 use Rattle.qa_base.specs.declared.event.Event.{Event}
 use Rattle.qa_base.specs.values.Settings.{Settings}
 use Rattle.qa_format.specs.declared.line.Line.{Line}
 use Rattle.qa_format.specs.declared.line.Line.TheVariants as line
+use Rattle.qa_check.specs.Audit.{outcome_of}
+use Rattle.qa_check.specs.declared.auditing.Outcome.{Outcome}
+use Rattle.qa_format.specs.format.Reading.{reading}
 use Rattle.qa_format.specs.format.Written.{written}
+use Rattle.qa_format.specs.verdicts.Explain.{told}
+use Rattle.qa_format.specs.verdicts.Verdict.{verdict}
 use Rattle.qa_rows.specs.State.{state_text}
 
 -- ---- the pieces of the text
@@ -33,3 +39,9 @@ abbrev pub row_of : ℕ → Line → Settings → List Event → List ℕ
 row_of n line.Blank c h = []
 row_of n (line.Header s) c h = row n (line.Header s) c h
 row_of n (line.Event e) c h = row n (line.Event e) c h
+
+-- ---- of bytes
+
+-- the rows of the bytes were written, and the kind of their verdict is returned
+abbrev pub WritesRows : Option (List ℕ) → Option (List ℕ) → Outcome → List ℕ → Type 0
+WritesRows held held' outcome bytes = Appends held held' (told row_of reading bytes) × (outcome ≡ outcome_of (verdict reading bytes))

@@ -1,10 +1,12 @@
 //! The rows of a trace for programs: of each line that the machine admits a JSON object with its number,
 //! what it says, and the state of the machine behind it.
 //!
-//! The row of one line is here; the walk over the lines is its caller's.
+//! The walk over the lines is that of `qa_check`, to which a row is what is told of a line.
 #![tactic(auto)]
 
-mod rows;
+mod line;
 mod state;
+mod trace;
 
-pub use rows::row;
+pub use line::row;
+pub use trace::{JsonRow, rows};
