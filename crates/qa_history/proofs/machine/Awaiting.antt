@@ -1,5 +1,5 @@
 -- When a loss timer is set for: the packets of its space that are in flight and unsettled, where nothing is owed.
-use Rattle.std.proofs.Common.{◌≡◌, ◌∙◌, ◌+◌, ◌*◌, ℕ, min, List, [], ◌∷◌, Bool, true, false, ◌&&◌, not, Option, Some, None, option_map, map, mul-zero, refl, sym, ap, arith, subst, inl, inr}
+use Rattle.std.proofs.Common.{◌≡◌, ◌∙◌, ◌+◌, ◌*◌, ℕ, min, List, ◌∷◌, Bool, true, false, ◌&&◌, not, Option, Some, None, option_map, map, mul-zero, refl, sym, ap, arith, subst, inl, inr}
 use Rattle.std.specs.List.{AllByRecursion, filter}
 use Rattle.qa_base.specs.declared.event.Event.{Event}
 use Rattle.qa_base.specs.declared.event.Event.TheVariants.{Timer}
@@ -20,7 +20,7 @@ use Rattle.qa_base.proofs.machine.RunLaws.{form_holds}
 use Rattle.qa_history.proofs.machine.Changes.{not_owed_now}
 use Rattle.qa_history.proofs.machine.Courses.{is_space_is}
 use Rattle.qa_history.proofs.machine.Detection.{earlier_is, timer_there}
-use Rattle.qa_history.proofs.machine.Pairs.{at_one, of_each, part_is, same_part}
+use Rattle.qa_history.proofs.machine.Pairs.{of_each, part_is, same_part}
 
 twice : (flies unsettled below : Bool) → (flies && (unsettled && true && true) && below) ≡ (flies && unsettled && below)
 twice true true below = refl
