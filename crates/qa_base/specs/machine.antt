@@ -15,6 +15,7 @@ pub mod State
 pub mod Metrics
 pub mod Breaches
 pub mod Rules
+pub mod Departures
 pub mod FirstVersion
 pub mod Slack
 pub mod Order

@@ -2,7 +2,7 @@
 use Rattle.std.proofs.Common.{◌≡◌, ◌∙◌, ◌+◌, ◌*◌, ◌^◌, ℕ, List, Bool, true, false, Option, Some, None, option_map, refl, sym, ap, inl, inr, subst, is_some}
 use Rattle.std.specs.List.{list_any}
 use Rattle.std.specs.Option.{option_or}
-use Rattle.std.specs.Prelude.{find, reverse, if◌then◌else◌}
+use Rattle.std.specs.Prelude.{if◌then◌else◌}
 use Rattle.qa_base.specs.declared.event.Event.{Event}
 use Rattle.qa_base.specs.declared.space.Space.{Space}
 use Rattle.qa_base.specs.declared.space.Space.TheVariants.{Initial, Handshake, App}
@@ -14,11 +14,12 @@ use Rattle.qa_base.specs.machine.Rtt.{loss_delay, pto_base}
 use Rattle.qa_base.specs.machine.Rules.{IsRun}
 use Rattle.qa_base.specs.machine.Timer.{Due, anti_deadlock, awaits_acknowledgment, deadline, earliest_loss, earliest_pto, last_eliciting, last_set, loss_due, packet_deadline, pto_count, pto_due}
 use Rattle.qa_base.specs.values.Settings.{Settings, granularity}
+use Rattle.qa_base.proofs.machine.RunLaws.{course_of}
 use Rattle.qa_causes.specs.Causes.{basis_by, oldest_open, peer_delay}
 use Rattle.qa_causes.specs.declared.cause.Basis.TheVariants as basis
 use Rattle.qa_causes.specs.declared.cause.Oldest.{Oldest}
 use Rattle.qa_cause_laws.specs.Terms.{HasTerms}
-use Rattle.qa_history.proofs.machine.Deadline.{first_sent_is, loss_due_is, oldest_flying}
+use Rattle.qa_history.proofs.machine.Deadline.{first_sent_is, loss_due_is}
 use Rattle.qa_history.proofs.machine.Detection.{earlier_is}
 use Rattle.qa_history.specs.machine.Oldest.{due_of, is_flying}
 
@@ -49,7 +50,7 @@ of_oldest c h s (Some p) due at is = of_first c h s p due (is_below_largest p.nu
 loss_terms : (c : Settings) (h : List Event) → IsRun c h → (s : Space) (due : Due) → loss_due c h s ≡ Some due → HasTerms c h due
 loss_terms c h run s due is =
     of_oldest c h s (oldest_open c h s) due refl
-    (ap (due_of c h s) (sym (first_sent_is (is_flying c h) (packets_of h s))) ∙ (sym (loss_due_is c h run s) ∙ is))
+    (ap (due_of c h s) (sym (first_sent_is (is_flying c h) (packets_of h s))) ∙ (sym (loss_due_is c h (course_of c h run) s) ∙ is))
 
 -- ---- probe timeouts
 

@@ -19,7 +19,7 @@ use Rattle.qa_base.proofs.machine.PtoCount.{small_pto_count}
 use Rattle.qa_connection.specs.Deadlines.{AreOpen, IsOpenIn, loss_due, pto_at, pto_due}
 use Rattle.qa_connection.specs.Deadlines as deadlines
 use Rattle.qa_connection.specs.Handshaking.{is_validated}
-use Rattle.qa_connection.specs.Known.{IsOf, IsProperRun}
+use Rattle.qa_connection.specs.Known.{IsOf, IsProperCourse}
 use Rattle.qa_connection.specs.declared.connection.Connection.{Connection}
 use Rattle.qa_connection.specs.declared.deadline.OpenInSpace.{OpenInSpace}
 use Rattle.qa_connection.specs.declared.handshake.HandshakeState.{HandshakeState}
@@ -101,7 +101,7 @@ anti_is k c h of few =
     (ap (λ (x : HandshakeState). x.has_keys) p.handshake) (ap (λ (t : TimerState). t.last_set) p.timer) p.rtt (ap (λ (t : TimerState). t.pto_count) p.timer) few
 
 -- what the timer is set for by packets
-pub packet_deadline_is : (k : Connection) (told : PerSpace OpenInSpace) (c : Settings) (h : List Event) → IsOf k c h → IsProperRun c h → AreOpen told c h
+pub packet_deadline_is : (k : Connection) (told : PerSpace OpenInSpace) (c : Settings) (h : List Event) → IsOf k c h → IsProperCourse c h → AreOpen told c h
     → deadlines.packet_deadline k told ≡ timers.packet_deadline c h
 packet_deadline_is k told c h of run open_packets =
     let few = small_pto_count c h run.run run.timely in
@@ -112,7 +112,7 @@ or_turned None b d = refl
 or_turned (Some due) b d = refl
 
 -- what the timer is set for
-pub deadline_is : (k : Connection) (told : PerSpace OpenInSpace) (c : Settings) (h : List Event) → IsOf k c h → IsProperRun c h → AreOpen told c h → deadlines.deadline k told ≡ timers.deadline c h
+pub deadline_is : (k : Connection) (told : PerSpace OpenInSpace) (c : Settings) (h : List Event) → IsOf k c h → IsProperCourse c h → AreOpen told c h → deadlines.deadline k told ≡ timers.deadline c h
 deadline_is k told c h of run open_packets =
     let few = small_pto_count c h run.run run.timely in
     rw (packet_deadline_is k told c h of run open_packets, anti_is k c h of few) (or_turned (earliest_loss c h) (earliest_pto c h) (anti_deadlock c h))

@@ -24,7 +24,7 @@ use Rattle.qa_base.proofs.machine.Quiet.{is_pto-quiet, newly-quiet, none_passes,
 use Rattle.qa_base.proofs.machine.Steps.{reno_after}
 use Rattle.qa_connection.specs.Changes.{acknowledged, completed, counted, discarded, grown, probing, reported, restarted, sent, with_collapse, with_hit, with_sample}
 use Rattle.qa_connection.specs.Handshaking.{acknowledged_in, discarded_in, handshake_after, sent_in}
-use Rattle.qa_connection.specs.Known.{HasParts, IsMeasured, IsOf, IsProperRun, acknowledged_by}
+use Rattle.qa_connection.specs.Known.{HasParts, IsMeasured, IsOf, IsProperCourse, acknowledged_by}
 use Rattle.qa_connection.specs.Detecting.{detection_after}
 use Rattle.qa_connection.specs.Reporting.{acknowledging, collapsed_with, reported_after, reporting}
 use Rattle.qa_connection.specs.Spaces.{space_after}
@@ -55,7 +55,7 @@ one_more : (n long : ℕ) → n ≡ long → long ≤ 4294967294 → capped (n +
 one_more n long is few = omega (arith, is, few)
 
 -- once the event is counted, it is kept of the history with the event
-pub counted_is : (c : Settings) (e : Event) (h : List Event) (k : Connection) (d : Option Detection) → d ≡ detection_after c (e ∷ h) → k.events ≡ length h → IsProperRun c (e ∷ h)
+pub counted_is : (c : Settings) (e : Event) (h : List Event) (k : Connection) (d : Option Detection) → d ≡ detection_after c (e ∷ h) → k.events ≡ length h → IsProperCourse c (e ∷ h)
     → HasParts k c (e ∷ h) → IsOf (counted (time_of e) d k) c (e ∷ h)
 counted_is c e h k d is events run parts =
     let long = run.few in
@@ -115,7 +115,7 @@ acked_measured c h time space ranges delay app_limited old covers samples of lar
 
 -- an acknowledgment of something new, as its steps are made one after the other
 pub acked_is : (c : Settings) (h : List Event) (time : ℕ) (space : Space) (ranges : List (ℕ × ℕ)) (delay : ℕ) (app_limited : Bool) (old covers samples loses grows new : Connection)
-    → HasParts old c h → IsProperRun c (Ack time space ranges delay app_limited ∷ h) → AreInRange c
+    → HasParts old c h → IsProperCourse c (Ack time space ranges delay app_limited ∷ h) → AreInRange c
     → (largest : ℕ) → largest ≡ greatest ranges → covers ≡ acknowledged space largest old
     → (ps : List SentPacket) → ps ≡ acknowledged_by c (Ack time space ranges delay app_limited) h → acknowledges_new (Ack time space ranges delay app_limited ∷ h) ≡ true
     → samples ≡ with_sample time delay largest ps covers
@@ -163,7 +163,7 @@ acked_old c h time space ranges delay app_limited old covers of largest is_large
 -- ---- a packet
 
 -- a packet is sent
-pub sent_is : (c : Settings) (h : List Event) (p : SentPacket) (leave : Leave) (k : Connection) → HasParts k c h → IsProperRun c (Sent p.time p.space p.number p.size p.eliciting p.in_flight leave ∷ h)
+pub sent_is : (c : Settings) (h : List Event) (p : SentPacket) (leave : Leave) (k : Connection) → HasParts k c h → IsProperCourse c (Sent p.time p.space p.number p.size p.eliciting p.in_flight leave ∷ h)
     → HasParts (sent p leave k) c (Sent p.time p.space p.number p.size p.eliciting p.in_flight leave ∷ h)
 sent_is c h p leave k of run =
     let e = Sent p.time p.space p.number p.size p.eliciting p.in_flight leave in
@@ -187,7 +187,7 @@ sent_is c h p leave k of run =
 -- ---- timers
 
 -- a probe timeout
-pub probing_is : (c : Settings) (h : List Event) (time : ℕ) (space : Space) (k : Connection) → HasParts k c h → IsProperRun c (Timer time Pto space ∷ h)
+pub probing_is : (c : Settings) (h : List Event) (time : ℕ) (space : Space) (k : Connection) → HasParts k c h → IsProperCourse c (Timer time Pto space ∷ h)
     → HasParts (probing space time k) c (Timer time Pto space ∷ h)
 probing_is c h time space k of run =
     let e = Timer time Pto space in
@@ -208,7 +208,7 @@ pub timed_measured : (c : Settings) (h : List Event) (time : ℕ) (space : Space
 timed_measured c h time space k of = record { header = of.header; rtt = of.rtt; spaces = of.spaces }
 
 -- a loss timer
-pub timed_is : (c : Settings) (h : List Event) (time : ℕ) (space : Space) (k : Connection) → HasParts k c h → IsProperRun c (Timer time Loss space ∷ h) → AreInRange c
+pub timed_is : (c : Settings) (h : List Event) (time : ℕ) (space : Space) (k : Connection) → HasParts k c h → IsProperCourse c (Timer time Loss space ∷ h) → AreInRange c
     → HasParts (with_collapse (is_persistent c (Timer time Loss space ∷ h)) (with_hit time (last_sent (owed c (Timer time Loss space ∷ h))) (record k { timer = record k.timer { last_set = Some time } }))) c (Timer time Loss space ∷ h)
 timed_is c h time space k of run range =
     let e = Timer time Loss space in
@@ -270,7 +270,7 @@ lost_is c h time space ranges k free of =
     quiet_is c e h refl refl (λ s. refl) refl refl free k of k.handshake of.handshake k.reported (of.reported ∙ sym (reported_stays c e h refl (none_passes (packets h)) (not_persistent c (e ∷ h) free))) of.spaces
 
 -- a Lost line that completes the detection in front of it
-pub completed_is : (c : Settings) (h : List Event) (time : ℕ) (space : Space) (ranges : List (ℕ × ℕ)) (k : Connection) (d : Detection) → HasParts k c h → IsProperRun c (Lost time space ranges ∷ h) → AreInRange c
+pub completed_is : (c : Settings) (h : List Event) (time : ℕ) (space : Space) (ranges : List (ℕ × ℕ)) (k : Connection) (d : Detection) → HasParts k c h → IsProperCourse c (Lost time space ranges ∷ h) → AreInRange c
     → d.time ≡ last_time h → d.before ≡ reno c (before_last h) → d.acknowledged ≡ acknowledged_bytes h
     → HasParts (completed d (last_sent (declared c (Lost time space ranges ∷ h))) (is_persistent c (Lost time space ranges ∷ h)) k) c (Lost time space ranges ∷ h)
 completed_is c h time space ranges k d of run range is_time is_before is_acknowledged =

@@ -11,7 +11,7 @@ use Rattle.qa_base.specs.machine.Handshake.{is_validated}
 use Rattle.qa_base.specs.machine.Leave.{answers_pto, timer_space}
 use Rattle.qa_base.specs.machine.Packets.{is_some_packet, newly_acknowledged, packets}
 use Rattle.qa_base.specs.machine.Probes.{probe_due, unanswered_by}
-use Rattle.qa_base.specs.machine.Rules.{IsRun}
+use Rattle.qa_base.specs.machine.Departures.{IsCourse}
 use Rattle.qa_base.specs.machine.Timer.{pto_count, is_pto, last_set, resets_count, sets_timer}
 use Rattle.qa_base.specs.machine.Widths.{IsTimely}
 use Rattle.qa_base.specs.values.Events.{is_space, time_of}
@@ -75,7 +75,7 @@ timer_fired c h time space =
     (last_set_after e h) (due_is e h refl ∙ unanswered e h (probe_due h) (λ s. ap is_some_packet none)))
 
 -- a probe timeout
-pub timer_probing : (c : Settings) (h : List Event) (time : ℕ) (space : Space) → IsRun c h → AllByRecursion IsTimely h
+pub timer_probing : (c : Settings) (h : List Event) (time : ℕ) (space : Space) → IsCourse c h → AllByRecursion IsTimely h
     → probing space time (timer_after c h) ≡ timer_after c (Timer time Pto space ∷ h)
 timer_probing c h time space run timely =
     let e = Timer time Pto space in

@@ -7,7 +7,7 @@ use Rattle.qa_base.specs.machine.Estimates.{rtt, sampled}
 use Rattle.qa_base.specs.machine.Loss as loss
 use Rattle.qa_base.specs.machine.Packets.{newly_acknowledged}
 use Rattle.qa_base.specs.machine.Reno as moves
-use Rattle.qa_base.specs.machine.Rules.{IsRun}
+use Rattle.qa_base.specs.machine.Departures.{IsCourse}
 use Rattle.qa_base.specs.machine.Timer as timers
 use Rattle.qa_base.specs.machine.Widths.{Fits, IsTimely}
 use Rattle.qa_base.specs.values.Settings.{Settings}
@@ -64,9 +64,9 @@ pub record AreLosses (o : Losses) (c : Settings) (h : List Event) : Type 0 where
 
 -- ---- the histories of which it is kept
 
--- a run of events that lines can say, with times in their range, few enough to be counted
-pub record IsProperRun (c : Settings) (h : List Event) : Type 0 where
-  pub run : IsRun c h
+-- a course of events that lines can say, with times in their range, few enough to be counted
+pub record IsProperCourse (c : Settings) (h : List Event) : Type 0 where
+  pub run : IsCourse c h
   pub timely : AllByRecursion IsTimely h
   pub fit : AllByRecursion Fits h
   pub few : length h ≤ max_lines

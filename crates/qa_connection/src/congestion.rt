@@ -9,7 +9,7 @@ use qa_base::{Header, Ticks};
 use qa_recovery::Reno;
 use qa_sent::SentPacket;
 
-/// The greatest window that grows, 2^62 bytes. No run reaches it: its window is below 2^49.
+/// The greatest window that grows, 2^62 bytes. No course reaches it: its window is below 2^49.
 const MAX_WINDOW: u64 = 4_611_686_018_427_387_904;
 
 /// What is lost by an event (RFC 9002, A.10).
@@ -38,7 +38,7 @@ pub(crate) fn collapse(reno: &mut Reno, is_persistent: bool, max_datagram_size: 
     }
 }
 
-/// Whether the window and the packet's size are in the ranges in which it grows; those of a run are.
+/// Whether the window and the packet's size are in the ranges in which it grows; those of a course are.
 fn can_grow(window: u64, size: u64) -> bool
     ensures { result ≡ steps.can_grow window size }
 {

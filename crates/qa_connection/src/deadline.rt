@@ -7,7 +7,7 @@ ghost use Rattle.qa_base.specs.machine.Timer as timers;
 ghost use Rattle.qa_base.specs.values.Settings.{Settings, granularity};
 ghost use Rattle.qa_connection.specs.Deadlines as deadlines;
 ghost use Rattle.qa_connection.specs.Deadlines.{AreOpen};
-ghost use Rattle.qa_connection.specs.Known.{IsOf, IsProperRun};
+ghost use Rattle.qa_connection.specs.Known.{IsOf, IsProperCourse};
 ghost use Rattle.qa_base.specs.values.PerSpace.{of_space};
 
 use crate::connection::Connection;
@@ -201,7 +201,7 @@ impl Connection {
     /// of the packets.
     pub fn packet_deadline(&self, packets: &PerSpace<OpenInSpace>) -> Option<Due>
         ensures value { result ≡ deadlines.packet_deadline self.now packets.now }
-        ensures meaning { (c : Settings) (h : List Event) → IsOf self.now c h → IsProperRun c h
+        ensures meaning { (c : Settings) (h : List Event) → IsOf self.now c h → IsProperCourse c h
             → AreOpen packets.now c h → result ≡ timers.packet_deadline c h }
     {
         self.earliest_loss(packets).or(self.earliest_pto(packets))
@@ -211,7 +211,7 @@ impl Connection {
     /// is what it asks of the packets that are open.
     #[tactic(auto, using(crate::proofs::Due::deadline_is))]
     pub fn deadline(&self, packets: &PerSpace<OpenInSpace>) -> Option<Due>
-        ensures { (c : Settings) (h : List Event) → IsOf self.now c h → IsProperRun c h
+        ensures { (c : Settings) (h : List Event) → IsOf self.now c h → IsProperCourse c h
             → AreOpen packets.now c h → result ≡ timers.deadline c h }
     {
         self.packet_deadline(packets).or(self.anti_deadlock())

@@ -1,4 +1,4 @@
--- Lemmas about runs: their packets in order, what one more event makes of them, and what a sender does.
+-- Lemmas about courses: their packets in order, what one more event makes of them, and what a sender does.
 pub mod Pairs
 pub mod Courses
 pub mod Thresholds

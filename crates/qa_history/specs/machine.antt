@@ -1,4 +1,4 @@
--- Words for laws of the machine: what a sender does in a run, and what one more event makes of its packets.
+-- Words for laws of the machine: what a sender does in a course, and what one more event makes of its packets.
 pub mod Sequence
 pub mod Parts
 pub mod Latest

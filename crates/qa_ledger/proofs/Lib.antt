@@ -1,2 +1,3 @@
 pub mod Totals
 pub mod Firsts
+pub mod Parts

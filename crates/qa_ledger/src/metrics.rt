@@ -22,38 +22,36 @@ fn differs(slack: u128, reported: Option<u64>, own: Option<u64>) -> bool
     }
 }
 
-/// The first of the reported values that differs from the machine's by more than the header's slack,
-/// of bytes or of times, as a rule that is broken. The window and `ssthresh` are compared where they
-/// are NewReno's.
-fn metric_rule(header: Header, values: &MetricValues, totals: &Totals) -> Option<Rule>
-    ensures { result ≡ rules.first_of (metrics.tests header values.now totals.now) }
+/// Whether each of the reported values differs from the machine's by more than the header's slack, of
+/// bytes or of times, beside the rule that it breaks then. The window and `ssthresh` are compared
+/// where they are NewReno's.
+pub(crate) fn differences(
+    header: Header,
+    values: &MetricValues,
+    totals: &Totals,
+) -> [(bool, Rule); 7]
+    ensures { result ≡ metrics.tests header values.now totals.now }
 {
     let options = header.options();
     let bytes = u128::from(options.report_slack_bytes);
     let times = header.unit().of_microseconds(options.report_slack_us);
     let chosen = options.controller.is_reported();
-    if !chosen && differs(bytes, values.window, Some(totals.window)) {
-        return Some(Rule::Metric(Field::Window));
-    }
-    if !chosen && differs(bytes, values.ssthresh, totals.ssthresh) {
-        return Some(Rule::Metric(Field::Ssthresh));
-    }
-    if differs(bytes, values.bytes_in_flight, Some(totals.bytes_in_flight)) {
-        return Some(Rule::Metric(Field::BytesInFlight));
-    }
-    if differs(times, values.latest_rtt, Some(totals.latest_rtt)) {
-        return Some(Rule::Metric(Field::LatestRtt));
-    }
-    if differs(times, values.min_rtt, Some(totals.min_rtt)) {
-        return Some(Rule::Metric(Field::MinRtt));
-    }
-    if differs(times, values.smoothed_rtt, Some(totals.smoothed_rtt)) {
-        return Some(Rule::Metric(Field::SmoothedRtt));
-    }
-    if differs(times, values.rttvar, Some(totals.rttvar)) {
-        return Some(Rule::Metric(Field::Rttvar));
-    }
-    None
+    let window = !chosen && differs(bytes, values.window, Some(totals.window));
+    let ssthresh = !chosen && differs(bytes, values.ssthresh, totals.ssthresh);
+    let in_flight = differs(bytes, values.bytes_in_flight, Some(totals.bytes_in_flight));
+    let latest_rtt = differs(times, values.latest_rtt, Some(totals.latest_rtt));
+    let min_rtt = differs(times, values.min_rtt, Some(totals.min_rtt));
+    let smoothed_rtt = differs(times, values.smoothed_rtt, Some(totals.smoothed_rtt));
+    let rttvar = differs(times, values.rttvar, Some(totals.rttvar));
+    [
+        (window, Rule::Metric(Field::Window)),
+        (ssthresh, Rule::Metric(Field::Ssthresh)),
+        (in_flight, Rule::Metric(Field::BytesInFlight)),
+        (latest_rtt, Rule::Metric(Field::LatestRtt)),
+        (min_rtt, Rule::Metric(Field::MinRtt)),
+        (smoothed_rtt, Rule::Metric(Field::SmoothedRtt)),
+        (rttvar, Rule::Metric(Field::Rttvar)),
+    ]
 }
 
 /// The totals by their parts: how many events there were, the window and `ssthresh`, the RTT, the bytes
@@ -83,13 +81,27 @@ pub fn totals_by(
     }
 }
 
+/// The rule of the first test that is so.
+fn first_so(tests: &[(bool, Rule)]) -> Option<Rule>
+    ensures { result ≡ rules.first_of tests.now }
+{
+    for (is_so, rule) in tests {
+        if *is_so {
+            return Some(*rule);
+        }
+    }
+    None
+}
+
 /// V16: the first reported value that is not the machine's, by more than the header's slack.
 pub fn metrics_rule<S: State>(state: &S, event: &Event) -> Option<Rule>
     ensures { (c : Settings) (h : List AnEvent) → S.tells state.now c h
         → result ≡ rules.first_of (metrics.metric_tests c h event.now) }
 {
     match event {
-        Event::Metrics { values, .. } => metric_rule(state.header(), values, &state.totals()),
+        Event::Metrics { values, .. } => {
+            first_so(&differences(state.header(), values, &state.totals()))
+        }
         _ => None,
     }
 }

@@ -14,7 +14,7 @@ use qa_base::constants::{PROBE_DATAGRAMS, minimum_window};
 use qa_base::{Due, Event, Leave, Rule, Space, TimerKind};
 
 /// V1: the event is earlier than the one before it.
-fn is_time_back<S: State>(state: &S, event: &Event) -> bool
+pub(crate) fn is_time_back<S: State>(state: &S, event: &Event) -> bool
     ensures { (c : Settings) (h : List AnEvent) → S.tells state.now c h
         → result ≡ breaches.is_time_back h event.now }
 {
@@ -25,7 +25,7 @@ fn is_time_back<S: State>(state: &S, event: &Event) -> bool
 }
 
 /// V2: a loss is owed, and the event is no Lost line.
-fn is_loss_owed<S: State>(state: &S, event: &Event) -> bool
+pub(crate) fn is_loss_owed<S: State>(state: &S, event: &Event) -> bool
     ensures { (c : Settings) (h : List AnEvent) → S.tells state.now c h
         → result ≡ breaches.is_loss_owed c h event.now }
 {
@@ -36,7 +36,7 @@ fn is_loss_owed<S: State>(state: &S, event: &Event) -> bool
 }
 
 /// V3: a Lost line, and nothing is owed in its space or may be declared there.
-fn is_loss_not_owed<S: State>(state: &S, event: &Event) -> bool
+pub(crate) fn is_loss_not_owed<S: State>(state: &S, event: &Event) -> bool
     ensures { (c : Settings) (h : List AnEvent) → S.tells state.now c h
         → result ≡ breaches.is_loss_not_owed c h event.now }
 {
@@ -48,7 +48,7 @@ fn is_loss_not_owed<S: State>(state: &S, event: &Event) -> bool
 
 /// V4: a Lost line that does not name all packets owed, or names one that is not owed and may not be
 /// declared.
-fn is_other_loss_set<S: State>(state: &S, event: &Event) -> bool
+pub(crate) fn is_other_loss_set<S: State>(state: &S, event: &Event) -> bool
     ensures { (c : Settings) (h : List AnEvent) → S.tells state.now c h
         → result ≡ breaches.is_other_loss_set c h event.now }
 {
@@ -59,7 +59,7 @@ fn is_other_loss_set<S: State>(state: &S, event: &Event) -> bool
 }
 
 /// V5: the space was discarded.
-fn is_space_gone<S: State>(state: &S, event: &Event) -> bool
+pub(crate) fn is_space_gone<S: State>(state: &S, event: &Event) -> bool
     ensures { (c : Settings) (h : List AnEvent) → S.tells state.now c h
         → result ≡ breaches.is_space_gone h event.now }
 {
@@ -72,7 +72,7 @@ fn is_space_gone<S: State>(state: &S, event: &Event) -> bool
 }
 
 /// V6: a packet was sent in the space with this number or a higher one.
-fn is_number_not_higher<S: State>(state: &S, event: &Event) -> bool
+pub(crate) fn is_number_not_higher<S: State>(state: &S, event: &Event) -> bool
     ensures { (c : Settings) (h : List AnEvent) → S.tells state.now c h
         → result ≡ breaches.is_number_not_higher h event.now }
 {
@@ -114,7 +114,7 @@ fn is_past(overshoot: bool, window: u64, bytes: u64, size: u64) -> bool
 }
 
 /// V7: a packet takes the bytes in flight past the congestion window.
-fn is_past_window<S: State>(state: &S, event: &Event) -> bool
+pub(crate) fn is_past_window<S: State>(state: &S, event: &Event) -> bool
     ensures { (c : Settings) (h : List AnEvent) → S.tells state.now c h
         → result ≡ breaches.is_past_window c h event.now }
 {
@@ -135,7 +135,7 @@ fn is_past_window<S: State>(state: &S, event: &Event) -> bool
 }
 
 /// V8: a probe before any probe timeout, or past the datagrams that one allows.
-fn is_past_probe<S: State>(state: &S, event: &Event) -> bool
+pub(crate) fn is_past_probe<S: State>(state: &S, event: &Event) -> bool
     ensures { (c : Settings) (h : List AnEvent) → S.tells state.now c h
         → result ≡ breaches.is_past_probe c h event.now }
 {
@@ -155,7 +155,7 @@ fn is_past_probe<S: State>(state: &S, event: &Event) -> bool
 }
 
 /// V9: the packet of an entry into recovery, which was not or had its packet.
-fn is_past_recovery<S: State>(state: &S, event: &Event) -> bool
+pub(crate) fn is_past_recovery<S: State>(state: &S, event: &Event) -> bool
     ensures { (c : Settings) (h : List AnEvent) → S.tells state.now c h
         → result ≡ breaches.is_past_recovery c h event.now }
 {
@@ -170,7 +170,7 @@ fn is_past_recovery<S: State>(state: &S, event: &Event) -> bool
 }
 
 /// V10: an acknowledgment of a number that was never sent in its space.
-fn is_ack_unsent<S: State>(state: &S, event: &Event) -> bool
+pub(crate) fn is_ack_unsent<S: State>(state: &S, event: &Event) -> bool
     ensures { (c : Settings) (h : List AnEvent) → S.tells state.now c h
         → result ≡ breaches.is_ack_unsent h event.now }
 {
@@ -181,7 +181,7 @@ fn is_ack_unsent<S: State>(state: &S, event: &Event) -> bool
 }
 
 /// What the timer is set for, where the event is a timer: it is asked once for V11 to V13.
-fn deadline_at<S: State>(state: &S, event: &Event) -> Option<Due>
+pub(crate) fn deadline_at<S: State>(state: &S, event: &Event) -> Option<Due>
     ensures { (c : Settings) (h : List AnEvent) → S.tells state.now c h
         → result ≡ deadline_at_of c h event.now }
 {
@@ -192,7 +192,7 @@ fn deadline_at<S: State>(state: &S, event: &Event) -> Option<Due>
 }
 
 /// V11: a timer fires, and none is set.
-fn is_timer_not_set(event: &Event, due: &Option<Due>) -> bool
+pub(crate) fn is_timer_not_set(event: &Event, due: &Option<Due>) -> bool
     ensures { (c : Settings) (h : List AnEvent) → due.now ≡ deadline_at_of c h event.now
         → result ≡ breaches.is_timer_not_set c h event.now }
 {
@@ -213,7 +213,7 @@ fn is_other(kind: TimerKind, space: Space, due: &Option<Due>) -> bool
 }
 
 /// V12: a timer fires that is set for another cause or space.
-fn is_timer_other(event: &Event, due: &Option<Due>) -> bool
+pub(crate) fn is_timer_other(event: &Event, due: &Option<Due>) -> bool
     ensures { (c : Settings) (h : List AnEvent) → due.now ≡ deadline_at_of c h event.now
         → result ≡ breaches.is_timer_other c h event.now }
 {
@@ -234,7 +234,7 @@ fn is_before(time: u128, due: &Option<Due>) -> bool
 }
 
 /// V13: a timer fires that is set for later, by more than it may be early.
-fn is_timer_early<S: State>(state: &S, event: &Event, due: &Option<Due>) -> bool
+pub(crate) fn is_timer_early<S: State>(state: &S, event: &Event, due: &Option<Due>) -> bool
     ensures { (c : Settings) (h : List AnEvent) → S.tells state.now c h
         → due.now ≡ deadline_at_of c h event.now
         → result ≡ breaches.is_timer_early c h event.now }
@@ -249,7 +249,7 @@ fn is_timer_early<S: State>(state: &S, event: &Event, due: &Option<Due>) -> bool
 }
 
 /// V14: a probe timeout, and the probe of the last one is due.
-fn is_probe_owed<S: State>(state: &S, event: &Event) -> bool
+pub(crate) fn is_probe_owed<S: State>(state: &S, event: &Event) -> bool
     ensures { (c : Settings) (h : List AnEvent) → S.tells state.now c h
         → result ≡ breaches.is_probe_owed h event.now }
 {
@@ -263,7 +263,7 @@ fn is_probe_owed<S: State>(state: &S, event: &Event) -> bool
 }
 
 /// V15: the Handshake space is discarded before the handshake is confirmed.
-fn is_not_confirmed<S: State>(state: &S, event: &Event) -> bool
+pub(crate) fn is_not_confirmed<S: State>(state: &S, event: &Event) -> bool
     ensures { (c : Settings) (h : List AnEvent) → S.tells state.now c h
         → result ≡ breaches.is_not_confirmed h event.now }
 {
@@ -277,7 +277,7 @@ fn is_not_confirmed<S: State>(state: &S, event: &Event) -> bool
 }
 
 /// V18: a timer that is set for packets should have fired before the event, by the header's limit.
-fn is_timer_late<S: State>(state: &S, event: &Event) -> bool
+pub(crate) fn is_timer_late<S: State>(state: &S, event: &Event) -> bool
     ensures { (c : Settings) (h : List AnEvent) → S.tells state.now c h
         → result ≡ breaches.is_timer_late c h event.now }
 {
@@ -317,7 +317,7 @@ fn is_above_collapse(least: u64, window: Option<u64>, acknowledged: Option<u64>)
 
 /// V19: persistent congestion was established, and the first other window that is reported since is
 /// too great, by more than the header's slack.
-fn is_collapse_missing<S: State>(state: &S, event: &Event) -> bool
+pub(crate) fn is_collapse_missing<S: State>(state: &S, event: &Event) -> bool
     ensures { (c : Settings) (h : List AnEvent) → S.tells state.now c h
         → result ≡ breaches.is_collapse_missing c h event.now }
 {

@@ -25,6 +25,7 @@ use Rattle.qa_base.specs.values.Settings.{Settings, granularity, is_reported}
 use Rattle.qa_base.proofs.machine.Declared.{none_free_by}
 use Rattle.qa_base.proofs.machine.Quiet.{newly-quiet, pto_count-quiet, rtt-quiet, same_sum}
 use Rattle.qa_base.proofs.machine.Steps.{last_set_after}
+use Rattle.qa_base.proofs.machine.RunLaws.{course_of}
 use Rattle.qa_laws.specs.machine.Alike.{where_they_must}
 use Rattle.qa_history.proofs.machine.Changes.{lost_after, names_taken}
 use Rattle.qa_history.proofs.machine.Pairs.{of_each, part_is, same_part}
@@ -176,7 +177,7 @@ lost_leaves_open c time space ranges h run p has =
     let m = where_they_must c in
     let e = Lost time space ranges in
     let named : declares_lost p.space p.number e ≡ is_owed m h p =
-    names_taken m h time space ranges run p has ∙ (ap (λ b. is_owed m h p || (b && declares_lost p.space p.number e)) (none_free_by m (sampled m h) h p refl)
+    names_taken m h time space ranges (course_of m (Lost time space ranges ∷ h) run) p has ∙ (ap (λ b. is_owed m h p || (b && declares_lost p.space p.number e)) (none_free_by m (sampled m h) h p refl)
     ∙ or_none (is_owed m h p) (declares_lost p.space p.number e)) in
     let lost : is_declared_lost (e ∷ h) p ≡ (is_owed m h p || is_declared_lost h p) = lost_after e h p has ∙ ap (λ b. b || is_declared_lost h p) named in
     ap (λ b. not (is_acknowledged h p) && not b && not false && not (is_discarded h p.space)) lost

@@ -21,7 +21,7 @@ use Rattle.qa_base.specs.machine.Rules.{IsRun, broken, first_broken}
 use Rattle.qa_base.specs.machine.Timer.{Due, anti_deadlock, awaits_loss, deadline, earlier, earliest_loss, earliest_pto, is_kind, is_same_due, loss_due, packet_deadline, set_since}
 use Rattle.qa_base.specs.values.Events.{time_of}
 use Rattle.qa_base.specs.values.Settings.{Settings, granularity, in_unit, is_may}
-use Rattle.qa_base.proofs.machine.RunLaws.{rules_hold}
+use Rattle.qa_base.proofs.machine.RunLaws.{rules_hold, course_of}
 use Rattle.qa_history.proofs.machine.Changes.{free_is_flying, free_is_left}
 use Rattle.qa_history.proofs.machine.Courses.{is_space_same}
 use Rattle.qa_history.proofs.machine.Detection.{loss_of, probes}
@@ -94,7 +94,7 @@ free_awaits : (c : Settings) (h : List Event) → IsRun c h → (some : SomeFree
 free_awaits c h run some =
     let p = some.packet in
     let left = free_is_left c h p some.is in
-    and_from (p.in_flight && is_open c h p) (is_below_largest p.number (largest_acknowledged h p.space)) (free_is_flying c h run p some.is)
+    and_from (p.in_flight && is_open c h p) (is_below_largest p.number (largest_acknowledged h p.space)) (free_is_flying c h (course_of c h run) p some.is)
     (below_of c (sampled c h) left.now (largest_acknowledged h p.space) p left.spared)
 
 loss_there : (c : Settings) (h : List Event) → IsRun c h → (some : SomeFree c h) → is_some (earliest_loss c h) ≡ true

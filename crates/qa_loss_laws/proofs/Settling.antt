@@ -11,7 +11,7 @@ use Rattle.qa_base.specs.values.Events.{declares_lost}
 use Rattle.qa_base.specs.values.Settings.{Settings}
 use Rattle.qa_base.proofs.machine.Declared.{same_filter}
 use Rattle.qa_base.proofs.machine.Declared as parts
-use Rattle.qa_base.proofs.machine.RunLaws.{all_hold}
+use Rattle.qa_base.proofs.machine.RunLaws.{all_hold, course_of}
 use Rattle.qa_laws.specs.machine.Alike.{where_they_must}
 use Rattle.qa_history.proofs.machine.Pairs.{at_one, of_each}
 use Rattle.qa_history.proofs.machine.Settled.{has_some, owed_has, owed_is_named}
@@ -79,7 +79,7 @@ opens c h formed none p has = ap (λ b. is_unsettled h p && not b && not (is_dis
 -- ---- runs are such histories
 
 named_next : (c : Settings) (e : Event) (h : List Event) → IsRun c (e ∷ h) → (p : Packet) → Contains (packets h) p → is_owed c h p ≡ true → declares_lost p.space p.number e ≡ true
-named_next c (Lost time space ranges) h run p has is = owed_is_named c h time space ranges run p has is
+named_next c (Lost time space ranges) h run p has is = owed_is_named c h time space ranges (course_of c (Lost time space ranges ∷ h) run) p has is
 named_next c e h run p has is = absurd (both_ways (is_some_packet (owed c h)) (all_hold c h e run.1).loss_owed (has_some (owed c h) p (owed_has c h p has is)))
 
 -- one in which losses by number must be declared

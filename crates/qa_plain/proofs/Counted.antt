@@ -1,16 +1,16 @@
--- The PTO count after each event of a run.
+-- The PTO count after each event of a course.
 use Rattle.std.proofs.Common.{◌≡◌, ◌∙◌, ◌≤◌, ℕ, List, [], ◌∷◌, ◌++◌, refl, sym, ap, subst, take, drop, append_assoc}
 use Rattle.std.proofs.lemmas.List.{take-append-drop}
 use Rattle.std.proofs.lemmas.List.Sums.{fold-append}
 use Rattle.std.specs.List.{AllByRecursion, fold}
 use Rattle.qa_base.specs.declared.event.Event.{Event}
 use Rattle.qa_base.specs.machine.Packets.{history_of}
-use Rattle.qa_base.specs.machine.Rules.{IsRun}
+use Rattle.qa_base.specs.machine.Departures.{IsCourse}
 use Rattle.qa_base.specs.machine.Timer.{pto_count}
 use Rattle.qa_base.specs.machine.Widths.{IsTimely}
 use Rattle.qa_base.specs.values.Settings.{Settings}
 use Rattle.qa_base.proofs.machine.PtoCount.{small_pto_count}
-use Rattle.qa_base.proofs.machine.RunLaws.{prefix_of_run}
+use Rattle.qa_base.proofs.machine.RunLaws.{prefix_of_course}
 
 -- events put in front of a history
 onto_is : (h events : List Event) → fold (λ (h : List Event) e. e ∷ h) h events ≡ history_of events ++ h
@@ -28,10 +28,10 @@ timely_before : (more h : List Event) → AllByRecursion IsTimely (more ++ h) �
 timely_before [] h timely = timely
 timely_before (e ∷ more) h timely = timely_before more h timely.1
 
-pub each_count : (c : Settings) (events : List Event) → IsRun c (history_of events) → AllByRecursion IsTimely (history_of events) → (n : ℕ) → pto_count c (history_of (take n events)) ≤ 40
+pub each_count : (c : Settings) (events : List Event) → IsCourse c (history_of events) → AllByRecursion IsTimely (history_of events) → (n : ℕ) → pto_count c (history_of (take n events)) ≤ 40
 each_count c events run timely n =
     let before = history_of (take n events) in
     let more = history_of (drop n events) in
     small_pto_count c before
-    (prefix_of_run c more before (subst (λ (h : List Event). IsRun c h) (behind n events) run))
+    (prefix_of_course c more before (subst (λ (h : List Event). IsCourse c h) (behind n events) run))
     (timely_before more before (subst (λ (h : List Event). AllByRecursion IsTimely h) (behind n events) timely))

@@ -4,7 +4,7 @@ use Rattle.std.specs.List.{All, AllByRecursion}
 use Rattle.qa_base.specs.declared.event.Event.{Event}
 use Rattle.qa_base.specs.values.Limits.{max_lines}
 use Rattle.qa_base.specs.machine.Packets.{history_of}
-use Rattle.qa_base.specs.machine.Rules.{IsRun}
+use Rattle.qa_base.specs.machine.Departures.{IsCourse}
 use Rattle.qa_base.specs.machine.Widths.{Fits, IsTimely}
 use Rattle.qa_base.specs.values.Settings.{Settings}
 use Rattle.qa_ranges.specs.Sent.{BySpace, AreSent}
@@ -15,9 +15,9 @@ pub record Held : Type 0 where
   pub events : List Event
   pub failed : Bool
 
--- its events are a run, each in its ranges, and no more than lines may say, and its sets have the numbers that they sent
+-- its events are a course, each in its ranges, and no more than lines may say, and its sets have the numbers that they sent
 pub record IsSound (c : Settings) (events : List Event) (sets : BySpace) : Type 0 where
-  pub run : IsRun c (history_of events)
+  pub run : IsCourse c (history_of events)
   pub timely : AllByRecursion IsTimely (history_of events)
   pub fit : All Fits events
   pub few : length events ≤ max_lines

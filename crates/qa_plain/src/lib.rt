@@ -11,6 +11,7 @@
 //! Times are in the unit of the trace, sizes and windows in bytes.
 #![tactic(auto)]
 
+mod bearing;
 mod congestion;
 mod deadlines;
 mod declared;

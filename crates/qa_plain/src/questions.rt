@@ -73,7 +73,7 @@ pub fn bytes_in_flight(header: &Header, events: &[Event]) -> u128
 
 /// What the loss detection timer is set for; None where it is not set (RFC 9002, A.8).
 ///
-/// Asks for a PTO count of at most 40. The count of a run is, where its times are in their range.
+/// Asks for a PTO count of at most 40. The count of a course is, where its times are in their range.
 pub fn deadline(header: &Header, events: &[Event]) -> Option<Due>
     requires counted { timers.pto_count header.now (history_of events.now) ≤ 40 }
     ensures { result ≡ timers.deadline header.now (history_of events.now) }

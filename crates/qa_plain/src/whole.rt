@@ -4,7 +4,7 @@ ghost use Rattle.qa_base.specs.declared.event.Event.{Event as AnEvent};
 ghost use Rattle.qa_base.specs.values.Limits.{max_lines};
 ghost use Rattle.qa_base.specs.machine.Loss.{owed};
 ghost use Rattle.qa_base.specs.machine.Packets.{history_of};
-ghost use Rattle.qa_base.specs.machine.Rules as rules;
+ghost use Rattle.qa_base.specs.machine.Departures as conduct;
 ghost use Rattle.qa_base.specs.machine.Widths.{Fits};
 ghost use Rattle.qa_plain.specs.Holding.{StandsFor};
 ghost use Rattle.qa_ranges.specs.Sent.{AreSent};
@@ -32,7 +32,7 @@ pub struct Whole {
     header: Header,
     events: Vec<Event>,
     sent: SentNumbers,
-    failed: bool,
+    pub(crate) failed: bool,
 }
 
 impl Model for Whole {
@@ -67,11 +67,12 @@ fn keep(
 }
 
 impl Whole {
-    /// Puts an event behind the others that breaks no rule after them.
-    fn push(&mut self, event: &Event) -> Result<(), AllocError>
+    /// Puts an event behind the others that breaks no rule after them but those past which the machine
+    /// goes on.
+    pub(crate) fn push(&mut self, event: &Event) -> Result<(), AllocError>
         requires fit { Fits event.now }
         requires few { length self.old.events < max_lines }
-        requires allowed { rules.first_broken self.old.header (history_of self.old.events) event.now
+        requires allowed { conduct.first_unborne self.old.header (history_of self.old.events) event.now
             ≡ None }
         ensures ok { OnOk result (self.new
             ≡ record {

@@ -14,7 +14,7 @@ use Rattle.qa_base.specs.machine.Kept.{numbers_of, runs_of, runs}
 use Rattle.qa_base.specs.machine.Numbers.{Names, is_in, has_range}
 use Rattle.qa_base.specs.machine.Order.{IsLower, NumbersFall}
 use Rattle.qa_base.specs.machine.Packets.{Packet, is_of, packets, packets_of}
-use Rattle.qa_base.specs.machine.Rules.{IsRun}
+use Rattle.qa_base.specs.machine.Departures.{IsCourse}
 use Rattle.qa_base.specs.values.Events.{is_named, is_sent, is_space}
 use Rattle.qa_base.specs.values.Settings.{Settings}
 use Rattle.qa_base.proofs.machine.Ranges.{has_all_names, names_has_all}
@@ -143,12 +143,12 @@ distinct_of s (p ∷ ps) falls =
       | inr other ↦ rw other (distinct_of s ps falls.1)
     ]
 
--- in a run no number of a space was sent twice
-pub numbers_distinct : (c : Settings) (h : List Event) (s : Space) → IsRun c h → AreDistinct (numbers_of h s)
+-- in a course no number of a space was sent twice
+pub numbers_distinct : (c : Settings) (h : List Event) (s : Space) → IsCourse c h → AreDistinct (numbers_of h s)
 numbers_distinct c h s run = distinct_of s (packets h) (numbers_fall c h run)
 
 -- a set has as many runs as were sent in the space
-pub runs_are : (c : Settings) (h : List Event) (s : Space) (sets : BySpace) → IsRun c h → AreSent sets h → AreApart (runs_in sets s) → length (runs_in sets s) ≡ runs_of h s
+pub runs_are : (c : Settings) (h : List Event) (s : Space) (sets : BySpace) → IsCourse c h → AreSent sets h → AreApart (runs_in sets s) → length (runs_in sets s) ≡ runs_of h s
 runs_are c h s sets run sent apart = counted (runs_in sets s) (numbers_of h s) apart (sent.each s) (numbers_distinct c h s run)
 
 -- each event sends one packet at most

@@ -6,7 +6,7 @@ ghost use Rattle.qa_base.specs.machine.Breaches as breaches;
 ghost use Rattle.qa_base.specs.machine.Kept as kept;
 ghost use Rattle.qa_base.specs.machine.Numbers as numbers;
 ghost use Rattle.qa_base.specs.machine.Packets.{greatest_of};
-ghost use Rattle.qa_base.specs.machine.Rules.{IsRun};
+ghost use Rattle.qa_base.specs.machine.Departures.{IsCourse};
 ghost use Rattle.qa_base.specs.values.Events.{is_sent};
 ghost use Rattle.qa_base.specs.values.Settings.{Settings};
 ghost use Rattle.qa_ranges.specs.Missing.{first_outside};
@@ -117,14 +117,14 @@ impl SentNumbers {
     }
 
     /// How many runs of consecutive numbers were sent, in all spaces: the spans that it keeps. Of a
-    /// run there are no more than events.
+    /// course there are no more than events.
     pub fn runs(&self) -> u128
         ensures kept { result ≡ length (runs_in self.now Initial)
             + length (runs_in self.now Handshake) + length (runs_in self.now App) }
-        ensures sent { (c : Settings) (h : List AnEvent) → IsRun c h → AreSent self.now h
+        ensures sent { (c : Settings) (h : List AnEvent) → IsCourse c h → AreSent self.now h
             → result ≡ kept.runs h }
         ensures small { result < 2 ^ 66 }
-        ensures bound { (c : Settings) (h : List AnEvent) → IsRun c h → AreSent self.now h
+        ensures bound { (c : Settings) (h : List AnEvent) → IsCourse c h → AreSent self.now h
             → result ≤ length h }
     {
         u128::from(self.sets.initial.runs())

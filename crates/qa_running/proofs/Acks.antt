@@ -8,7 +8,7 @@ use Rattle.qa_base.specs.machine.Loss.{is_persistent}
 use Rattle.qa_base.specs.machine.Numbers.{Names}
 use Rattle.qa_base.specs.machine.Packets.{Packet, is_of, packet_of, packets}
 use Rattle.qa_base.specs.machine.Rtt.{Estimate, persistent_after}
-use Rattle.qa_base.specs.machine.Rules.{IsRun}
+use Rattle.qa_base.specs.machine.Departures.{IsCourse}
 use Rattle.qa_base.specs.values.Settings.{Settings, granularity}
 use Rattle.qa_ranges.specs.Runs as runs
 use Rattle.qa_ranges.specs.Sent.{AreSent, BySpace, runs_in}
@@ -38,10 +38,10 @@ one_is_apart (r ∷ (q ∷ later)) one = absurd (omega (arith, one))
 
 -- ---- persistent congestion
 
-pub unsampled : (c : Settings) (h : List Event) → IsRun c h → (r : Estimate) → r ≡ sampled c h → r.first_rtt_sample ≡ None → false ≡ is_persistent c h
+pub unsampled : (c : Settings) (h : List Event) → IsCourse c h → (r : Estimate) → r ≡ sampled c h → r.first_rtt_sample ≡ None → false ≡ is_persistent c h
 unsampled c h run r is none = sym (not_persistent_unsampled c h run (ap (λ (x : Estimate). x.first_rtt_sample) (sym is) ∙ none))
 
-pub persists : (c : Settings) (h : List Event) → IsRun c h → (r : Estimate) → r ≡ sampled c h → (first : ℕ) → r.first_rtt_sample ≡ Some first
+pub persists : (c : Settings) (h : List Event) → IsCourse c h → (r : Estimate) → r ≡ sampled c h → (first : ℕ) → r.first_rtt_sample ≡ Some first
     → (held : Held) → HoldsLosses held c h → (limit delay : ℕ) → limit ≡ persistent_after (granularity c) r delay → delay ≡ c.max_ack_delay
     → (result : Bool) → result ≡ are_apart limit first None held.packets → result ≡ is_persistent c h
 persists c h run r is first taken held holds limit delay limit_is delay_is result found =

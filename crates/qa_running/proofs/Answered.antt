@@ -6,7 +6,7 @@ use Rattle.qa_base.specs.declared.space.Space.{Space}
 use Rattle.qa_base.specs.declared.space.Space.TheVariants.{Initial, Handshake, App}
 use Rattle.qa_base.specs.machine.Estimates.{rtt}
 use Rattle.qa_base.specs.machine.Packets.{largest_acknowledged}
-use Rattle.qa_base.specs.machine.Rules.{IsRun}
+use Rattle.qa_base.specs.machine.Departures.{IsCourse}
 use Rattle.qa_base.specs.machine.State.{totals}
 use Rattle.qa_base.specs.machine.Window.{ssthresh, ssthresh_by, window, window_by}
 use Rattle.qa_base.specs.values.Settings.{Settings, granularity}
@@ -28,9 +28,9 @@ use Rattle.qa_sent.specs.Held.{Held}
 
 -- ---- what the timer asks
 
--- in a run the packets held tell it of a space
+-- in a course the packets held tell it of a space
 pub open_in_is : (told : OpenInSpace) (c : Settings) (h : List Event) (s : Space) (held : Held) → told.awaits ≡ list_any (is_awaiting s) held.packets → told.oldest ≡ find (is_flying s) held.packets
-    → IsRun c h → StandsFor held c h → IsOpenIn told c h s
+    → IsCourse c h → StandsFor held c h → IsOpenIn told c h s
 open_in_is told c h s held awaits oldest run stands = record {
   awaits = awaits ∙ sym (awaiting_are_held c h s held stands);
   oldest = ap (loss_due (granularity c) (rtt c h) (largest_acknowledged h s) s) oldest ∙ sym (loss_due_is_held c h run s held stands);

@@ -7,7 +7,7 @@ use Rattle.qa_base.specs.declared.event.Event.{Event}
 use Rattle.qa_base.specs.machine.Kept.{is_kept}
 use Rattle.qa_base.specs.machine.Loss.{is_open as opens, is_owed as owes, owed}
 use Rattle.qa_base.specs.machine.Packets.{Packet, packets, is_some_packet}
-use Rattle.qa_base.specs.machine.Rules.{IsRun}
+use Rattle.qa_base.specs.machine.Departures.{IsCourse}
 use Rattle.qa_base.specs.values.Settings.{Settings}
 use Rattle.qa_history.proofs.machine.Changes.{owed_was_flying}
 use Rattle.qa_history.proofs.machine.Pairs.{at_one, of_each, each_weaker}
@@ -49,23 +49,23 @@ pub dropped_free : (c : Settings) (h : List Event) (gone : List Packet) → AreD
 dropped_free c h gone forgotten =
     each_weaker (λ p. is_kept c h p ≡ false) (λ p. owes c h p ≡ false) (λ p none. (or_parts (opens c h p) (owes c h p) none).1) gone forgotten
 
--- in a run a packet that is neither open nor owed is neither after one more event
-pub still_dropped : (c : Settings) (e : Event) (h : List Event) → IsRun c (e ∷ h) → (p : Packet) → Contains (packets h) p → is_kept c h p ≡ false → is_kept c (e ∷ h) p ≡ false
+-- in a course a packet that is neither open nor owed is neither after one more event
+pub still_dropped : (c : Settings) (e : Event) (h : List Event) → IsCourse c (e ∷ h) → (p : Packet) → Contains (packets h) p → is_kept c h p ≡ false → is_kept c (e ∷ h) p ≡ false
 still_dropped c e h run p has none =
     let shut : opens c h p ≡ false = (or_parts (opens c h p) (owes c h p) none).0 in
     or_from (opens c (e ∷ h) p) (owes c (e ∷ h) p) (closed_stays c e h run p has shut)
     (false_from_ne_true (owes c (e ∷ h) p) (λ found. both_ways (opens c h p) shut (and_parts p.in_flight (opens c h p) (owed_was_flying c e h run p has found)).1))
 
 -- so those that were dropped are never asked for again
-pub dropped_stay : (c : Settings) (e : Event) (h : List Event) → IsRun c (e ∷ h) → (held : Held) (stands : StandsFor held c h) → AreDropped c (e ∷ h) stands.gone
+pub dropped_stay : (c : Settings) (e : Event) (h : List Event) → IsCourse c (e ∷ h) → (held : Held) (stands : StandsFor held c h) → AreDropped c (e ∷ h) stands.gone
 dropped_stay c e h run held stands = of_each (λ p. is_kept c (e ∷ h) p ≡ false) stands.gone (λ p has.
     still_dropped c e h run p (gone_has held c h stands p has) (at_one (λ q. is_kept c h q ≡ false) stands.gone p stands.forgotten has))
 
 -- ---- one more event
 
--- in a run, after an event that sends no packet, the packets held stand for the history, where each that stands for a packet of it
+-- in a course, after an event that sends no packet, the packets held stand for the history, where each that stands for a packet of it
 -- was replaced by the one that does so after the event
-pub stands_after : (c : Settings) (e : Event) (h : List Event) → IsRun c (e ∷ h) → packets (e ∷ h) ≡ packets h → (step : SentPacket → SentPacket)
+pub stands_after : (c : Settings) (e : Event) (h : List Event) → IsCourse c (e ∷ h) → packets (e ∷ h) ≡ packets h → (step : SentPacket → SentPacket)
     → ((p : Packet) → Contains (packets h) p → step (sent_of c h p) ≡ sent_of c (e ∷ h) p)
     → (old new : Held) → StandsFor old c h → new.dropped ≡ old.dropped → new.packets ≡ map step old.packets → StandsFor new c (e ∷ h)
 stands_after c e h run same step steps old new stands dropped_is packets_is = record {
@@ -84,8 +84,8 @@ stands_after c e h run same step steps old new stands dropped_is packets_is = re
 pub none_owes : (c : Settings) (h : List Event) → is_some_packet (owed c h) ≡ false → (p : Packet) → Contains (packets h) p → owes c h p ≡ false
 none_owes c h none p has = false_from_ne_true (owes c h p) (λ is. both_ways (is_some_packet (owed c h)) none (has_some (owed c h) p (owed_has c h p has is)))
 
--- in a run, where nothing is owed, no packet is held as owed
-pub none_held_owed : (c : Settings) (h : List Event) → IsRun c h → (held : Held) → StandsFor held c h → is_some_packet (owed c h) ≡ false
+-- in a course, where nothing is owed, no packet is held as owed
+pub none_held_owed : (c : Settings) (h : List Event) → IsCourse c h → (held : Held) → StandsFor held c h → is_some_packet (owed c h) ≡ false
     → AllByRecursion (λ p. is_owed p.fate ≡ false) held.packets
 none_held_owed c h run held stands none =
     subst (λ (ps : List SentPacket). AllByRecursion (λ p. is_owed p.fate ≡ false) ps) (sym stands.packets_are)

@@ -7,7 +7,7 @@ use Rattle.qa_base.specs.declared.event.Event.{Event}
 use Rattle.qa_base.specs.declared.space.Space.{Space}
 use Rattle.qa_base.specs.machine.Loss.{is_open as opens, owed}
 use Rattle.qa_base.specs.machine.Packets.{Packet, packets, packets_of, is_of}
-use Rattle.qa_base.specs.machine.Rules.{IsRun}
+use Rattle.qa_base.specs.machine.Departures.{IsCourse}
 use Rattle.qa_base.specs.values.Settings.{Settings}
 use Rattle.qa_causes.specs.Causes.{first_space, oldest, owed_space}
 use Rattle.qa_causes.specs.declared.cause.Oldest.{Oldest}
@@ -36,8 +36,8 @@ first_told : (c : Settings) (h : List Event) (ps : List Packet) → first_kept_s
 first_told c h [] = refl
 first_told c h (p ∷ ps) = refl
 
--- in a run the space of the packets held that are owed is that of those which the last event found lost
-pub owed_space_is_held : (c : Settings) (h : List Event) → IsRun c h → (held : Held) → StandsFor held c h → first_kept_space (owed_of held.packets) ≡ owed_space c h
+-- in a course the space of the packets held that are owed is that of those which the last event found lost
+pub owed_space_is_held : (c : Settings) (h : List Event) → IsCourse c h → (held : Held) → StandsFor held c h → first_kept_space (owed_of held.packets) ≡ owed_space c h
 owed_space_is_held c h run held stands = ap first_kept_space (owed_stand c h run held stands) ∙ first_told c h (reverse (owed c h))
 
 -- ---- the oldest open packet

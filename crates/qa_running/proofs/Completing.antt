@@ -10,7 +10,7 @@ use Rattle.qa_base.specs.values.Settings.{AreInRange, Settings}
 use Rattle.qa_connection.proofs.OneMore.{completed_is, lost_is}
 use Rattle.qa_connection.specs.Changes.{completed}
 use Rattle.qa_connection.specs.Detecting.{detected_in}
-use Rattle.qa_connection.specs.Known.{HasParts, IsMeasured, IsOf, IsProperRun}
+use Rattle.qa_connection.specs.Known.{HasParts, IsMeasured, IsOf, IsProperCourse}
 use Rattle.qa_connection.specs.Steps.{last_sent}
 use Rattle.qa_connection.specs.declared.connection.Connection.{Connection}
 use Rattle.qa_connection.specs.declared.detection.Detection.{Detection}
@@ -22,7 +22,7 @@ pub lost_measured : (c : Settings) (h : List Event) (time : ℕ) (space : Space)
 lost_measured c h time space ranges k of = record { header = of.header; rtt = of.rtt; spaces = of.spaces }
 
 -- each part is that of the history with the Lost line
-pub parts_completed : (c : Settings) (h : List Event) (time : ℕ) (space : Space) (ranges : List (ℕ × ℕ)) (k new : Connection) (completes : Bool) → IsOf k c h → IsProperRun c (Lost time space ranges ∷ h)
+pub parts_completed : (c : Settings) (h : List Event) (time : ℕ) (space : Space) (ranges : List (ℕ × ℕ)) (k new : Connection) (completes : Bool) → IsOf k c h → IsProperCourse c (Lost time space ranges ∷ h)
     → completes ≡ list_any (is_named_free c (Lost time space ranges) h) (packets h)
     → (completes ≡ false → new ≡ k)
     → ((d : Detection) → completes ≡ true → k.detection ≡ Some d → new ≡ completed d (last_sent (declared c (Lost time space ranges ∷ h))) (is_persistent c (Lost time space ranges ∷ h)) k)

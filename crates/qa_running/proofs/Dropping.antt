@@ -8,7 +8,7 @@ use Rattle.qa_base.specs.declared.event.Event.{Event}
 use Rattle.qa_base.specs.machine.Kept.{is_kept, kept_count}
 use Rattle.qa_base.specs.machine.Loss.{is_open as opens, is_owed as owes}
 use Rattle.qa_base.specs.machine.Packets.{Packet, packets}
-use Rattle.qa_base.specs.machine.Rules.{IsRun}
+use Rattle.qa_base.specs.machine.Departures.{IsCourse}
 use Rattle.qa_base.specs.values.Settings.{Settings}
 use Rattle.qa_base.proofs.machine.WindowBound.{each_append}
 use Rattle.qa_connection.proofs.Grown.{packets_few}
@@ -31,14 +31,14 @@ closed_by : (opened due is_opened is_due : Bool) → opened ≡ is_opened → du
 closed_by true due is_opened is_due open_is due_is = rw (← open_is) refl
 closed_by false due is_opened is_due open_is due_is = rw (← open_is, ← due_is) refl
 
--- in a run a packet is held as closed where it is neither open nor owed
-pub is_closed_told : (c : Settings) (h : List Event) → IsRun c h → (p : Packet) → is_closed (sent_of c h p) ≡ not (is_kept c h p)
+-- in a course a packet is held as closed where it is neither open nor owed
+pub is_closed_told : (c : Settings) (h : List Event) → IsCourse c h → (p : Packet) → is_closed (sent_of c h p) ≡ not (is_kept c h p)
 is_closed_told c h run p =
     closed_by (is_open (sent_of c h p).fate) (is_owed (sent_of c h p).fate) (opens c h p) (owes c h p) (is_open_told c h p) (is_owed_told c h run p)
 
 -- ---- dropping
 
-closed_front : (c : Settings) (h : List Event) → IsRun c h → (held : Held) (stands : StandsFor held c h)
+closed_front : (c : Settings) (h : List Event) → IsCourse c h → (held : Held) (stands : StandsFor held c h)
     → closed_count held.packets ≡ prefix_len (λ p. not (is_kept c h p)) stands.kept
 closed_front c h run held stands =
     length-prefix_len is_closed held.packets
@@ -46,8 +46,8 @@ closed_front c h run held stands =
     ∙ front_of_map is_closed (sent_of c h) (λ p. not (is_kept c h p)) stands.kept
     (each_value (λ p. is_closed (sent_of c h p) ≡ not (is_kept c h p)) (is_closed_told c h run) stands.kept))
 
--- in a run the packets held stand for the history also where the closed ones before all others were dropped
-pub stands_trimmed : (c : Settings) (h : List Event) → IsRun c h → (old new : Held) → StandsFor old c h → new ≡ trimmed old → StandsFor new c h
+-- in a course the packets held stand for the history also where the closed ones before all others were dropped
+pub stands_trimmed : (c : Settings) (h : List Event) → IsCourse c h → (old new : Held) → StandsFor old c h → new ≡ trimmed old → StandsFor new c h
 stands_trimmed c h run old new stands is =
     let test : Packet → Bool = λ p. not (is_kept c h p) in
     let n = prefix_len test stands.kept in
@@ -84,12 +84,12 @@ front_dropped ps = subst (λ n. IsTrimmed (drop n ps)) (sym (length-prefix_len i
 
 -- ---- how many are held
 
-begins_of : (c : Settings) (h : List Event) → IsRun c h → (kept : List Packet) → IsTrimmed (map (sent_of c h) kept) → BeginsKept c h kept
+begins_of : (c : Settings) (h : List Event) → IsCourse c h → (kept : List Packet) → IsTrimmed (map (sent_of c h) kept) → BeginsKept c h kept
 begins_of c h run [] first = tt
 begins_of c h run (p ∷ ps) first = not-false (is_kept c h p) (sym (is_closed_told c h run p) ∙ first)
 
--- in a run, where the first that is held is open or owed, as many are held as packets of the history are of use
-pub kept_is_held : (c : Settings) (h : List Event) → IsRun c h → (held : Held) → StandsFor held c h → IsTrimmed held.packets → kept_count c h ≡ length held.packets
+-- in a course, where the first that is held is open or owed, as many are held as packets of the history are of use
+pub kept_is_held : (c : Settings) (h : List Event) → IsCourse c h → (held : Held) → StandsFor held c h → IsTrimmed held.packets → kept_count c h ≡ length held.packets
 kept_is_held c h run held stands first =
     let begins = begins_of c h run stands.kept (subst (λ (ps : List SentPacket). IsTrimmed ps) stands.packets_are first) in
     kept_count_is c h stands.gone stands.kept stands.parts stands.forgotten begins

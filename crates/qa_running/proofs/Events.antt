@@ -14,11 +14,11 @@ use Rattle.qa_base.specs.machine.Detection.{found_at, is_found_at, looks_at, old
 use Rattle.qa_base.specs.machine.Estimates.{sampled, rtt}
 use Rattle.qa_base.specs.machine.Loss.{is_free, is_owed as owes, owed, detection}
 use Rattle.qa_base.specs.machine.Packets.{Packet, packets, acknowledges_new, is_acknowledged as covers, is_discarded, is_declared_lost, is_newly_acknowledged, is_some_packet, newly_acknowledged}
-use Rattle.qa_base.specs.machine.Rules.{IsRun}
+use Rattle.qa_base.specs.machine.Departures.{IsCourse}
 use Rattle.qa_base.specs.values.Events.{acknowledges, declares_lost, discards}
 use Rattle.qa_base.specs.values.Settings.{Settings, early}
 use Rattle.qa_base.proofs.machine.Quiet.{not_followed}
-use Rattle.qa_base.proofs.machine.RunLaws.{all_hold}
+use Rattle.qa_base.proofs.machine.RunLaws.{form_holds}
 use Rattle.qa_history.proofs.machine.Courses.{in_order}
 use Rattle.qa_history.proofs.machine.Pairs.{at_one}
 use Rattle.qa_history.proofs.machine.Sending.{newly_of_kept_in_order, parts_after}
@@ -40,11 +40,11 @@ use Rattle.qa_sent.specs.declared.packet.SentPacket.{SentPacket}
 
 -- ---- nothing is owed before an event that is no Lost line
 
--- in a run no packet is held as owed before an event of which the rule on owed losses asks; it asks of each that is no Lost line, where
+-- in a course no packet is held as owed before an event of which the rule on owed losses asks; it asks of each that is no Lost line, where
 -- the second premise is `refl`
-pub settled_before : (c : Settings) (e : Event) (h : List Event) → IsRun c (e ∷ h) → is_loss_owed c h e ≡ is_some_packet (owed c h)
+pub settled_before : (c : Settings) (e : Event) (h : List Event) → IsCourse c (e ∷ h) → is_loss_owed c h e ≡ is_some_packet (owed c h)
     → (held : Held) → StandsFor held c h → AllByRecursion (λ p. is_owed p.fate ≡ false) held.packets
-settled_before c e h run asks held stands = none_held_owed c h run.0 held stands (sym asks ∙ (all_hold c h e run.1).loss_owed)
+settled_before c e h run asks held stands = none_held_owed c h run.0 held stands (sym asks ∙ (form_holds c h e run.1).loss_owed)
 
 covered_or_not : (p : SentPacket) (b : Bool) → is_owed p.fate ≡ false → is_owed (if b then with_fate Acknowledged p else p).fate ≡ false
 covered_or_not p true free = refl
@@ -74,14 +74,14 @@ packet_after h p leave = record {
 fresh_by : (cov los own gone : Bool) → cov ≡ false → los ≡ false → own ≡ false → gone ≡ false → fate_by cov los own gone ≡ Open
 fresh_by cov los own gone not_covered not_lost not_owed there = rw (not_covered, not_lost, not_owed, there) refl
 
--- in a run the packet that is sent stands behind all that are held
+-- in a course the packet that is sent stands behind all that are held
 pub stands_sent : (c : Settings) (h : List Event) (packet : SentPacket) (leave : Leave) → packet.fate ≡ Open
-    → IsRun c (Sent packet.time packet.space packet.number packet.size packet.eliciting packet.in_flight leave ∷ h)
+    → IsCourse c (Sent packet.time packet.space packet.number packet.size packet.eliciting packet.in_flight leave ∷ h)
     → (old new : Held) → StandsFor old c h → new ≡ record { dropped = old.dropped; packets = old.packets ++ packet ∷ [] }
     → StandsFor new c (Sent packet.time packet.space packet.number packet.size packet.eliciting packet.in_flight leave ∷ h)
 stands_sent c h packet leave opened run old new stands is =
     let e = Sent packet.time packet.space packet.number packet.size packet.eliciting packet.in_flight leave in
-    let holds = all_hold c h e run.1 in
+    let holds = form_holds c h e run.1 in
     let p = packet_after h packet leave in
     let not_covered : covers (e ∷ h) p ≡ false = not_followed (acknowledges packet.space packet.number) h p (omega arith) in
     let not_lost : is_declared_lost (e ∷ h) p ≡ false = not_followed (declares_lost packet.space packet.number) h p (omega arith) in
@@ -102,9 +102,9 @@ stands_sent c h packet leave opened run old new stands is =
       forgotten = dropped_stay c e h run old stands;
     }
 
--- in a run it was sent after all that are held, and its number is higher than theirs of its space
+-- in a course it was sent after all that are held, and its number is higher than theirs of its space
 pub sent_last : (c : Settings) (h : List Event) (packet : SentPacket) (leave : Leave)
-    → IsRun c (Sent packet.time packet.space packet.number packet.size packet.eliciting packet.in_flight leave ∷ h)
+    → IsCourse c (Sent packet.time packet.space packet.number packet.size packet.eliciting packet.in_flight leave ∷ h)
     → (held : Held) → StandsFor held c h → AllByRecursion (λ q. IsBefore packet q) held.packets
 sent_last c h packet leave run held stands =
     let e = Sent packet.time packet.space packet.number packet.size packet.eliciting packet.in_flight leave in
@@ -117,13 +117,13 @@ sent_last c h packet leave run held stands =
 
 -- ---- an acknowledgment
 
--- in a run the packets held that an acknowledgment names and that are open are those that it newly acknowledges, in the order of sending
+-- in a course the packets held that an acknowledgment names and that are open are those that it newly acknowledges, in the order of sending
 pub newly_stand : (c : Settings) (h : List Event) (time : ℕ) (space : Space) (ranges : List (ℕ × ℕ)) (delay : ℕ) (app_limited : Bool)
-    → IsRun c (Ack time space ranges delay app_limited ∷ h) → (held : Held) → StandsFor held c h
+    → IsCourse c (Ack time space ranges delay app_limited ∷ h) → (held : Held) → StandsFor held c h
     → filter (is_new space ranges) held.packets ≡ map (sent_of c h) (reverse (newly_acknowledged (Ack time space ranges delay app_limited ∷ h)))
 newly_stand c h time space ranges delay app_limited run held stands =
     let e = Ack time space ranges delay app_limited in
-    let holds = all_hold c h e run.1 in
+    let holds = form_holds c h e run.1 in
     ap (filter (is_new space ranges)) stands.packets_are
     ∙ (filter_of_map (is_new space ranges) (sent_of c h) (is_newly_acknowledged e h) stands.kept
     (each_kept (λ p. is_new space ranges (sent_of c h p) ≡ is_newly_acknowledged e h p) held c h stands
@@ -148,14 +148,14 @@ pub nothing_owed : (c : Settings) (h : List Event) (time : ℕ) (space : Space) 
 nothing_owed c h time space ranges delay app_limited none =
     ap (λ b. found_at c (sampled c (Ack time space ranges delay app_limited ∷ h)) (Ack time space ranges delay app_limited ∷ h) (if◌then◌else◌ {A = Option (Space × ℕ)} b (Some (space, time)) None)) none
 
--- in a run, after an acknowledgment of nothing new, the packets that it names are covered, and the packets held stand for the history
+-- in a course, after an acknowledgment of nothing new, the packets that it names are covered, and the packets held stand for the history
 pub stands_covered : (c : Settings) (h : List Event) (time : ℕ) (space : Space) (ranges : List (ℕ × ℕ)) (delay : ℕ) (app_limited : Bool)
-    → IsRun c (Ack time space ranges delay app_limited ∷ h) → acknowledges_new (Ack time space ranges delay app_limited ∷ h) ≡ false
+    → IsCourse c (Ack time space ranges delay app_limited ∷ h) → acknowledges_new (Ack time space ranges delay app_limited ∷ h) ≡ false
     → (old new : Held) → StandsFor old c h → new ≡ replaced (covered_by space ranges) old
     → StandsFor new c (Ack time space ranges delay app_limited ∷ h)
 stands_covered c h time space ranges delay app_limited run none old new stands is =
     let e = Ack time space ranges delay app_limited in
-    let holds = all_hold c h e run.1 in
+    let holds = form_holds c h e run.1 in
     stands_after c e h run refl (covered_by space ranges) (λ p has.
     let not_was = none_owes c h holds.loss_owed p has in
     covered_told c h time space ranges delay app_limited holds.space_gone p not_was
@@ -163,15 +163,15 @@ stands_covered c h time space ranges delay app_limited run none old new stands i
     not_was (nothing_found c h time space ranges delay app_limited none p)
     ∙ sym (fate_after c e h run p has refl))) old new stands (ap (λ (k : Held). k.dropped) is) (ap (λ (k : Held). k.packets) is)
 
--- in a run, after an acknowledgment of something new, the packets that it names are covered and those that are late are owed
+-- in a course, after an acknowledgment of something new, the packets that it names are covered and those that are late are owed
 pub stands_acknowledged : (c : Settings) (h : List Event) (time : ℕ) (space : Space) (ranges : List (ℕ × ℕ)) (delay : ℕ) (app_limited : Bool)
-    → IsRun c (Ack time space ranges delay app_limited ∷ h) → acknowledges_new (Ack time space ranges delay app_limited ∷ h) ≡ true
+    → IsCourse c (Ack time space ranges delay app_limited ∷ h) → acknowledges_new (Ack time space ranges delay app_limited ∷ h) ≡ true
     → (l : Thresholds) → AreThresholdsAt c (Ack time space ranges delay app_limited ∷ h) space time l
     → (old middle new : Held) → StandsFor old c h → middle ≡ replaced (covered_by space ranges) old → new ≡ replaced (found_by space l) middle
     → StandsFor new c (Ack time space ranges delay app_limited ∷ h)
 stands_acknowledged c h time space ranges delay app_limited run some l thresholds old middle new stands covering finding =
     let e = Ack time space ranges delay app_limited in
-    let holds = all_hold c h e run.1 in
+    let holds = form_holds c h e run.1 in
     let step : SentPacket → SentPacket = λ q. found_by space l (covered_by space ranges q) in
     let at : detection c (e ∷ h) ≡ Some (space, time) = ap (λ b. if◌then◌else◌ {A = Option (Space × ℕ)} b (Some (space, time)) None) some in
     stands_after c e h run refl step (λ p has.
@@ -184,13 +184,13 @@ stands_acknowledged c h time space ranges delay app_limited run some l threshold
 
 -- ---- a timer
 
--- in a run, after a loss timer, the packets of its space that are late are owed
-pub stands_loss_timer : (c : Settings) (h : List Event) (time : ℕ) (space : Space) → IsRun c (Timer time Loss space ∷ h)
+-- in a course, after a loss timer, the packets of its space that are late are owed
+pub stands_loss_timer : (c : Settings) (h : List Event) (time : ℕ) (space : Space) → IsCourse c (Timer time Loss space ∷ h)
     → (l : Thresholds) → AreThresholdsAt c (Timer time Loss space ∷ h) space (looks_at (early c) time (old_at c (rtt c h) h space)) l
     → (old new : Held) → StandsFor old c h → new ≡ replaced (found_by space l) old → StandsFor new c (Timer time Loss space ∷ h)
 stands_loss_timer c h time space run l thresholds old new stands is =
     let e = Timer time Loss space in
-    let holds = all_hold c h e run.1 in
+    let holds = form_holds c h e run.1 in
     stands_after c e h run refl (found_by space l) (λ p has.
     let not_was = none_owes c h holds.loss_owed p has in
     ap (λ b. found_by space l (told (fate_by (covers h p) (is_declared_lost h p) b (is_discarded h p.space)) p)) not_was
@@ -198,8 +198,8 @@ stands_loss_timer c h time space run l thresholds old new stands is =
 
 -- ---- a Lost line, and a discard
 
--- in a run, after a Lost line, what was owed is declared lost, and what was free and is named
-pub stands_lost : (c : Settings) (h : List Event) (time : ℕ) (space : Space) (ranges : List (ℕ × ℕ)) → IsRun c (Lost time space ranges ∷ h)
+-- in a course, after a Lost line, what was owed is declared lost, and what was free and is named
+pub stands_lost : (c : Settings) (h : List Event) (time : ℕ) (space : Space) (ranges : List (ℕ × ℕ)) → IsCourse c (Lost time space ranges ∷ h)
     → (free : FreePackets) → ((q : Packet) → is_free_by free (sent_of c h q) ≡ is_free c h q)
     → (old middle new : Held) → StandsFor old c h → middle ≡ replaced (taken_by free ranges) old → new ≡ replaced declared middle → StandsFor new c (Lost time space ranges ∷ h)
 stands_lost c h time space ranges run free are old middle new stands taking declaring =
@@ -209,23 +209,23 @@ stands_lost c h time space ranges run free are old middle new stands taking decl
     (ap (λ (k : Held). k.packets) declaring ∙ (ap (λ (k : Held). map declared k.packets) taking
     ∙ map_fused declared (taken_by free ranges) step old.packets (each_value (λ q. declared (taken_by free ranges q) ≡ step q) (λ q. refl) old.packets)))
 
--- in a run, after a discard, the uncovered packets of its space are discarded
-pub stands_discarded : (c : Settings) (h : List Event) (time : ℕ) (space : Space) → IsRun c (Discard time space ∷ h)
+-- in a course, after a discard, the uncovered packets of its space are discarded
+pub stands_discarded : (c : Settings) (h : List Event) (time : ℕ) (space : Space) → IsCourse c (Discard time space ∷ h)
     → (old new : Held) → StandsFor old c h → new ≡ replaced (discarded_in space) old → StandsFor new c (Discard time space ∷ h)
 stands_discarded c h time space run old new stands is =
-    let holds = all_hold c h (Discard time space) run.1 in
+    let holds = form_holds c h (Discard time space) run.1 in
     stands_after c (Discard time space) h run refl (discarded_in space)
     (λ p has. discarded_told c h time space run p has (none_owes c h holds.loss_owed p has)) old new stands
     (ap (λ (k : Held). k.dropped) is) (ap (λ (k : Held). k.packets) is)
 
 -- ---- events that change no packet
 
--- in a run the packets held stand for the history also after an event that asks for nothing owed, and neither sends, acknowledges,
+-- in a course the packets held stand for the history also after an event that asks for nothing owed, and neither sends, acknowledges,
 -- discards nor finds lost
-pub stands_still : (c : Settings) (e : Event) (h : List Event) → IsRun c (e ∷ h) → packets (e ∷ h) ≡ packets h → is_loss_owed c h e ≡ is_some_packet (owed c h)
+pub stands_still : (c : Settings) (e : Event) (h : List Event) → IsCourse c (e ∷ h) → packets (e ∷ h) ≡ packets h → is_loss_owed c h e ≡ is_some_packet (owed c h)
     → ((p : Packet) → acknowledges p.space p.number e ≡ false) → ((p : Packet) → owes c (e ∷ h) p ≡ false) → ((p : Packet) → discards p.space e ≡ false) → ((p : Packet) → declares_lost p.space p.number e ≡ false)
     → (held : Held) → StandsFor held c h → StandsFor held c (e ∷ h)
 stands_still c e h run same asks no_ack not_own no_disc unnamed held stands =
-    let none = sym asks ∙ (all_hold c h e run.1).loss_owed in
+    let none = sym asks ∙ (form_holds c h e run.1).loss_owed in
     stands_after c e h run same (λ q. q) (λ p has. same_told c e h run p has (no_ack p) (none_owes c h none p has) (not_own p) (no_disc p) (unnamed p))
     held held stands refl (sym (map-id held.packets))

@@ -11,7 +11,7 @@ use Rattle.qa_base.specs.machine.Estimates.{sampled}
 use Rattle.qa_base.specs.machine.Loss.{is_free, is_open as opens, is_owed as owes, detection}
 use Rattle.qa_base.specs.machine.Packets.{Packet, packets, is_acknowledged as covers, is_discarded, is_declared_lost, is_newly_acknowledged, is_of, largest_acknowledged}
 use Rattle.qa_base.specs.machine.Rtt.{Estimate}
-use Rattle.qa_base.specs.machine.Rules.{IsRun}
+use Rattle.qa_base.specs.machine.Departures.{IsCourse}
 use Rattle.qa_base.specs.values.Events.{is_space, is_named, acknowledges, declares_lost, discards}
 use Rattle.qa_base.specs.values.Settings.{Settings}
 use Rattle.qa_history.proofs.machine.Changes.{covered_after, lost_is_taken, found_unsettled, free_is_flying}
@@ -27,7 +27,6 @@ use Rattle.qa_sent.specs.Told.{fate, fate_by, sent_of}
 use Rattle.qa_sent.specs.declared.fate.Fate.{Fate}
 use Rattle.qa_sent.specs.declared.fate.Fate.TheVariants.{Open, Owed, Acknowledged, Discarded}
 use Rattle.qa_sent.specs.declared.free.FreePackets.{FreePackets}
-use Rattle.qa_sent.specs.declared.packet.SentPacket.{SentPacket}
 
 pub space_turned : (a b : Space) → is_space a b ≡ is_space b a
 space_turned Initial Initial = refl
@@ -76,7 +75,7 @@ owed_by false los false true free there = refl
 owed_by false true false false free there = refl
 owed_by false false false false free there = refl
 
-found_there : (c : Settings) (e : Event) (h : List Event) → IsRun c (e ∷ h) → (p : Packet) (d : Option (Space × ℕ)) → detection c (e ∷ h) ≡ d → is_found_at c (sampled c (e ∷ h)) (e ∷ h) p d ≡ true
+found_there : (c : Settings) (e : Event) (h : List Event) → IsCourse c (e ∷ h) → (p : Packet) (d : Option (Space × ℕ)) → detection c (e ∷ h) ≡ d → is_found_at c (sampled c (e ∷ h)) (e ∷ h) p d ≡ true
     → is_discarded h p.space ≡ false
 found_there c e h run p None at is = cc
 found_there c e h run p (Some (s, now)) at is =
@@ -87,13 +86,13 @@ not_discarded : (c : Settings) (e : Event) (h : List Event) (p : Packet) → owe
 not_discarded c (Discard time space) h p is = cc
 not_discarded c _ h p is = refl
 
--- in a run the space of a packet that is owed was not discarded
-pub owed_there : (c : Settings) (h : List Event) → IsRun c h → (p : Packet) → owes c h p ≡ true → is_discarded h p.space ≡ false
+-- in a course the space of a packet that is owed was not discarded
+pub owed_there : (c : Settings) (h : List Event) → IsCourse c h → (p : Packet) → owes c h p ≡ true → is_discarded h p.space ≡ false
 owed_there c [] run p is = cc
 owed_there c (e ∷ h) run p is = or_from (discards p.space e) (is_discarded h p.space) (not_discarded c e h p is) (found_there c e h run p (detection c (e ∷ h)) refl is)
 
--- in a run it is kept as owed where it is owed
-pub is_owed_told : (c : Settings) (h : List Event) → IsRun c h → (p : Packet) → is_owed (fate c h p) ≡ owes c h p
+-- in a course it is kept as owed where it is owed
+pub is_owed_told : (c : Settings) (h : List Event) → IsCourse c h → (p : Packet) → is_owed (fate c h p) ≡ owes c h p
 is_owed_told c h run p = owed_by (covers h p) (is_declared_lost h p) (owes c h p) (is_discarded h p.space) (found_unsettled c h p (detection c h)) (owed_there c h run p)
 
 -- ---- what one more event makes of it
@@ -106,16 +105,16 @@ without : (a b d : Bool) → b ≡ false → (a || b || d) ≡ (a || d)
 without true b d none = refl
 without false b d none = rw none refl
 
--- in a run an event that does not name it as lost declares it lost where it was owed
-lost_unnamed : (c : Settings) (e : Event) (h : List Event) → IsRun c (e ∷ h) → (p : Packet) → Contains (packets h) p → declares_lost p.space p.number e ≡ false
+-- in a course an event that does not name it as lost declares it lost where it was owed
+lost_unnamed : (c : Settings) (e : Event) (h : List Event) → IsCourse c (e ∷ h) → (p : Packet) → Contains (packets h) p → declares_lost p.space p.number e ≡ false
     → is_declared_lost (e ∷ h) p ≡ (owes c h p || is_declared_lost h p)
 lost_unnamed c e h run p has unnamed =
     lost_is_taken c e h run p has
     ∙ without (owes c h p) (is_free c h p && declares_lost p.space p.number e) (is_declared_lost h p) (ap (λ b. is_free c h p && b) unnamed ∙ and_none (is_free c h p))
 
--- in a run it is covered by an acknowledgment that names it, declared lost where it was owed, and gone where its space is discarded, by
+-- in a course it is covered by an acknowledgment that names it, declared lost where it was owed, and gone where its space is discarded, by
 -- an event that does not name it as lost
-pub fate_after : (c : Settings) (e : Event) (h : List Event) → IsRun c (e ∷ h) → (p : Packet) → Contains (packets h) p → declares_lost p.space p.number e ≡ false
+pub fate_after : (c : Settings) (e : Event) (h : List Event) → IsCourse c (e ∷ h) → (p : Packet) → Contains (packets h) p → declares_lost p.space p.number e ≡ false
     → fate c (e ∷ h) p
     ≡ fate_by (acknowledges p.space p.number e || covers h p) (owes c h p || is_declared_lost h p) (owes c (e ∷ h) p) (discards p.space e || is_discarded h p.space)
 fate_after c e h run p has unnamed =
@@ -127,7 +126,7 @@ stays_by : (ack cov los was own disc gone : Bool) → ack ≡ false → was ≡ 
 stays_by ack cov los was own disc gone no_ack not_was not_own no_disc = rw (no_ack, not_was, not_own, no_disc) refl
 
 -- nothing, where nothing was owed, and the event does not acknowledge it, does not find it lost and does not discard its space
-pub same_told : (c : Settings) (e : Event) (h : List Event) → IsRun c (e ∷ h) → (p : Packet) → Contains (packets h) p
+pub same_told : (c : Settings) (e : Event) (h : List Event) → IsCourse c (e ∷ h) → (p : Packet) → Contains (packets h) p
     → acknowledges p.space p.number e ≡ false → owes c h p ≡ false → owes c (e ∷ h) p ≡ false → discards p.space e ≡ false → declares_lost p.space p.number e ≡ false
     → sent_of c h p ≡ sent_of c (e ∷ h) p
 same_told c e h run p has no_ack not_was not_own no_disc unnamed =
@@ -169,14 +168,14 @@ opened_by false false true false is = cc
 opened_by false false false true is = cc
 opened_by false false false false is = refl
 
--- in a run one that is free is kept as open
-pub free_opened : (c : Settings) (h : List Event) → IsRun c h → (p : Packet) → is_free c h p ≡ true → fate c h p ≡ Open
+-- in a course one that is free is kept as open
+pub free_opened : (c : Settings) (h : List Event) → IsCourse c h → (p : Packet) → is_free c h p ≡ true → fate c h p ≡ Open
 free_opened c h run p is =
     opened_by (covers h p) (is_declared_lost h p) (owes c h p) (is_discarded h p.space)
     (is_open_told c h p ∙ (and_parts p.in_flight (opens c h p) (free_is_flying c h run p is)).1)
 
 -- a Lost line declares it where it was owed, or was free and is named
-pub declared_told : (c : Settings) (h : List Event) (time : ℕ) (space : Space) (ranges : List (ℕ × ℕ)) → IsRun c (Lost time space ranges ∷ h)
+pub declared_told : (c : Settings) (h : List Event) (time : ℕ) (space : Space) (ranges : List (ℕ × ℕ)) → IsCourse c (Lost time space ranges ∷ h)
     → (free : FreePackets) → ((q : Packet) → is_free_by free (sent_of c h q) ≡ is_free c h q)
     → (p : Packet) → Contains (packets h) p → declared (taken_by free ranges (sent_of c h p)) ≡ sent_of c (Lost time space ranges ∷ h) p
 declared_told c h time space ranges run free are p has =
@@ -202,7 +201,7 @@ discarded_by : (of back cov los own gone : Bool) (p : Packet) → of ≡ back �
 discarded_by of back cov los own gone p same not_own = rw (same, not_own) (discarded_if back cov los gone p)
 
 -- a discard closes it, where it is of the space and uncovered
-pub discarded_told : (c : Settings) (h : List Event) (time : ℕ) (space : Space) → IsRun c (Discard time space ∷ h)
+pub discarded_told : (c : Settings) (h : List Event) (time : ℕ) (space : Space) → IsCourse c (Discard time space ∷ h)
     → (p : Packet) → Contains (packets h) p → owes c h p ≡ false → discarded_in space (sent_of c h p) ≡ sent_of c (Discard time space ∷ h) p
 discarded_told c h time space run p has not_was =
     discarded_by (is_space space p.space) (is_space p.space space) (covers h p) (is_declared_lost h p) (owes c h p) (is_discarded h p.space) p (space_turned space p.space) not_was
@@ -279,8 +278,8 @@ found_tests : (of flies cov los late gone cov_now los_now own_now : Bool) (p : P
 found_tests of flies cov los late gone cov_now los_now own_now p there covers_is loses_is owes_is =
     rw (owes_is, covers_is, loses_is) (found_if of flies cov los late gone p there)
 
--- in a run a detection finds it lost, where it is of the space, open, in flight and late
-pub found_told : (c : Settings) (e : Event) (h : List Event) → IsRun c (e ∷ h) → (s : Space) (now : ℕ) → detection c (e ∷ h) ≡ Some (s, now) → discards s e ≡ false
+-- in a course a detection finds it lost, where it is of the space, open, in flight and late
+pub found_told : (c : Settings) (e : Event) (h : List Event) → IsCourse c (e ∷ h) → (s : Space) (now : ℕ) → detection c (e ∷ h) ≡ Some (s, now) → discards s e ≡ false
     → (l : Thresholds) → AreThresholdsAt c (e ∷ h) s now l → (p : Packet) → Contains (packets h) p → owes c h p ≡ false → discards p.space e ≡ false → declares_lost p.space p.number e ≡ false
     → found_by s l (told (between c e h p) p) ≡ sent_of c (e ∷ h) p
 found_told c e h run s now at none l thresholds p has not_was no_disc unnamed =

@@ -1,5 +1,5 @@
 -- What is asked of the packets held that are owed is what the definitions ask of those that are lost by the last event.
-use Rattle.std.proofs.Common.{◌≡◌, ◌∙◌, ◌+◌, ◌≤◌, ℕ, List, [], ◌∷◌, ◌++◌, length, map, Bool, true, false, ◌&&◌, ◌||◌, Option, Some, None, refl, sym, ap, subst, arith, count_by, filter, reverse}
+use Rattle.std.proofs.Common.{◌≡◌, ◌∙◌, ◌≤◌, ℕ, List, [], ◌∷◌, ◌++◌, length, map, Bool, true, false, ◌&&◌, ◌||◌, Option, Some, None, refl, sym, ap, subst, arith, count_by, filter, reverse}
 use Rattle.std.proofs.lemmas.Bool.{and_left, and_parts, and_right, both_ways, or_parts, or_right}
 use Rattle.std.proofs.lemmas.List.{length-map, length-reverse, map_push}
 use Rattle.std.proofs.lemmas.List.Elements.{filter-append}
@@ -16,7 +16,7 @@ use Rattle.qa_base.specs.machine.Loss.{declared, detection, is_free, is_nameable
 use Rattle.qa_base.specs.machine.Packets.{Packet, packets, is_acknowledged as covers, is_of, is_some_packet}
 use Rattle.qa_base.specs.machine.Reno.{latest_sent}
 use Rattle.qa_base.specs.machine.Rtt.{persistent_after}
-use Rattle.qa_base.specs.machine.Rules.{IsRun}
+use Rattle.qa_base.specs.machine.Departures.{IsCourse}
 use Rattle.qa_base.specs.values.Events.{declares_lost, is_named, is_space}
 use Rattle.qa_base.specs.values.Settings.{Settings, granularity}
 use Rattle.qa_base.proofs.machine.Declared.{declared_is}
@@ -63,8 +63,8 @@ owed_of_kept held c h stands =
     ∙ (filter-append (owes c h) stands.gone stands.kept
     ∙ ap (λ ps. ps ++ filter (owes c h) stands.kept) (none_left (owes c h) stands.gone (dropped_free c h stands.gone stands.forgotten)))))
 
--- in a run the packets held that are owed are those that the last event found lost, in the order of sending
-pub owed_stand : (c : Settings) (h : List Event) → IsRun c h → (held : Held) → StandsFor held c h → owed_of held.packets ≡ map (sent_of c h) (reverse (owed c h))
+-- in a course the packets held that are owed are those that the last event found lost, in the order of sending
+pub owed_stand : (c : Settings) (h : List Event) → IsCourse c h → (held : Held) → StandsFor held c h → owed_of held.packets ≡ map (sent_of c h) (reverse (owed c h))
 owed_stand c h run held stands =
     ap owed_of stands.packets_are
     ∙ (filter_of_map (λ p. is_owed p.fate) (sent_of c h) (owes c h) stands.kept
@@ -72,21 +72,21 @@ owed_stand c h run held stands =
     ∙ ap (map (sent_of c h)) (sym (owed_of_kept held c h stands)))
 
 -- they are as many
-pub owed_are_counted : (c : Settings) (h : List Event) → IsRun c h → (held : Held) → StandsFor held c h → length (owed c h) ≡ count_by (λ p. is_owed p.fate) held.packets
+pub owed_are_counted : (c : Settings) (h : List Event) → IsCourse c h → (held : Held) → StandsFor held c h → length (owed c h) ≡ count_by (λ p. is_owed p.fate) held.packets
 owed_are_counted c h run held stands =
     sym (length-reverse (owed c h))
     ∙ (sym (length-map (reverse (owed c h)) (sent_of c h))
     ∙ (ap length (sym (owed_stand c h run held stands)) ∙ length-filter (λ p. is_owed p.fate) held.packets))
 
 -- something is owed exactly where there are such
-pub some_owed_is_counted : (c : Settings) (h : List Event) → IsRun c h → (held : Held) → StandsFor held c h
+pub some_owed_is_counted : (c : Settings) (h : List Event) → IsCourse c h → (held : Held) → StandsFor held c h
     → is_some_packet (owed c h) ≡ nat_lt 0 (count_by (λ p. is_owed p.fate) held.packets)
 some_owed_is_counted c h run held stands = some_by_length (owed c h) ∙ ap (nat_lt 0) (owed_are_counted c h run held stands)
 
 -- ---- the numbers that are owed
 
--- in a run the numbers of the packets held that are owed are those that the last event found lost, in the order of sending
-pub owed_numbers_stand : (c : Settings) (h : List Event) → IsRun c h → (held : Held) → StandsFor held c h → owed_numbers held.packets ≡ reverse (numbers (owed c h))
+-- in a course the numbers of the packets held that are owed are those that the last event found lost, in the order of sending
+pub owed_numbers_stand : (c : Settings) (h : List Event) → IsCourse c h → (held : Held) → StandsFor held c h → owed_numbers held.packets ≡ reverse (numbers (owed c h))
 owed_numbers_stand c h run held stands =
     ap (map (λ (p : SentPacket). p.number)) (owed_stand c h run held stands)
     ∙ (map_fused (λ (p : SentPacket). p.number) (sent_of c h) (λ (p : Packet). p.number) (reverse (owed c h))
@@ -141,15 +141,15 @@ latest_first : (ps : List Packet) → EachTwo IsNoLater ps → latest_sent ps �
 latest_first [] two = refl
 latest_first (p ∷ ps) two = let rest = sent_by p.time ps two.0 in omega (arith, rest)
 
--- in a run the last that is lost by the last event is the first of them
-latest_lost : (c : Settings) (h : List Event) → IsRun c h → latest_sent (declared c h) ≡ time_of_first (declared c h)
+-- in a course the last that is lost by the last event is the first of them
+latest_lost : (c : Settings) (h : List Event) → IsCourse c h → latest_sent (declared c h) ≡ time_of_first (declared c h)
 latest_lost c h run =
     let two : EachTwo IsNoLater (filter (is_lost_now c h) (packets h)) =
     two_of_part IsNoLater (is_lost_now c h) (packets h) (two_weaker WasSentBefore IsNoLater (λ p q before. before.time) (packets h) (in_order c h run)) in
     subst (λ ps. latest_sent ps ≡ time_of_first ps) (sym (lost_now_part c h)) (latest_first (filter (is_lost_now c h) (packets h)) two)
 
--- in a run the last packet that is lost by the last event was sent when the last was that is held as owed
-pub last_owed_is_held : (c : Settings) (h : List Event) → IsRun c h → (held : Held) → HoldsLosses held c h → last_owed None held.packets ≡ last_sent (declared c h)
+-- in a course the last packet that is lost by the last event was sent when the last was that is held as owed
+pub last_owed_is_held : (c : Settings) (h : List Event) → IsCourse c h → (held : Held) → HoldsLosses held c h → last_owed None held.packets ≡ last_sent (declared c h)
 last_owed_is_held c h run held holds =
     last_is None held.packets ∙ (ap (last_of None) (lost_stand c h held holds) ∙ last_turned holds.fates (declared c h) (latest_lost c h run))
 
@@ -192,8 +192,8 @@ apart_told c h held holds first taken limit began (p ∷ ps) =
     ∙ (ap (λ b. if covers h p then found None else (if counts_as_end c h p then far || b else rest began)) (apart_told c h held holds first taken limit nearest ps)
     ∙ ap (λ b. if covers h p then found None else (if counts_as_end c h p then far || found nearest else b)) (apart_told c h held holds first taken limit began ps))))
 
--- in a run the last event establishes persistent congestion exactly where a walk over the packets held finds it, where there is a sample
-pub persistent_is_held : (c : Settings) (h : List Event) → IsRun c h → (first : ℕ) → (sampled c h).first_rtt_sample ≡ Some first → (held : Held) → HoldsLosses held c h
+-- in a course the last event establishes persistent congestion exactly where a walk over the packets held finds it, where there is a sample
+pub persistent_is_held : (c : Settings) (h : List Event) → IsCourse c h → (first : ℕ) → (sampled c h).first_rtt_sample ≡ Some first → (held : Held) → HoldsLosses held c h
     → is_persistent c h ≡ are_apart (persistent_after (granularity c) (sampled c h) c.max_ack_delay) first None held.packets
 persistent_is_held c h run first taken held holds =
     let limit = persistent_after (granularity c) (sampled c h) c.max_ack_delay in
@@ -208,7 +208,7 @@ counts_not c h unsampled p =
     ap (λ o. is_lost_now c h p && (p.eliciting && is_after o p)) unsampled ∙ and_right (is_lost_now c h p) (p.eliciting && false) (and_right p.eliciting false refl)
 
 -- and does not where there is none
-pub not_persistent_unsampled : (c : Settings) (h : List Event) → IsRun c h → (sampled c h).first_rtt_sample ≡ None → is_persistent c h ≡ false
+pub not_persistent_unsampled : (c : Settings) (h : List Event) → IsCourse c h → (sampled c h).first_rtt_sample ≡ None → is_persistent c h ≡ false
 not_persistent_unsampled c h run unsampled =
     persistent_is_forward c h run
     ∙ none_found (covers h) (counts_as_end c h) (persistent_after (granularity c) (sampled c h) c.max_ack_delay) (reverse (packets h))
@@ -217,7 +217,7 @@ not_persistent_unsampled c h run unsampled =
 -- ---- the packets held behind a detection, and behind a Lost line
 
 -- a detection loses what is held as owed
-pub stands_losses : (c : Settings) (h : List Event) → IsRun c h → LosesWhatIsOwed c h → (held : Held) → StandsFor held c h → HoldsLosses held c h
+pub stands_losses : (c : Settings) (h : List Event) → IsCourse c h → LosesWhatIsOwed c h → (held : Held) → StandsFor held c h → HoldsLosses held c h
 stands_losses c h run loses held stands = record {
   gone = stands.gone;
   kept = stands.kept;
@@ -248,7 +248,7 @@ named_if true sp nm here = let same = here refl in rw same refl
 named_if false sp nm here = refl
 
 -- a free packet that is named is named by the Lost line, whose space it has
-pub named_told : (c : Settings) (h : List Event) (time : ℕ) (space : Space) (ranges : List (ℕ × ℕ)) → IsRun c (Lost time space ranges ∷ h)
+pub named_told : (c : Settings) (h : List Event) (time : ℕ) (space : Space) (ranges : List (ℕ × ℕ)) → IsCourse c (Lost time space ranges ∷ h)
     → (free : FreePackets) → ((q : Packet) → is_free_by free (sent_of c h q) ≡ is_free c h q) → (p : Packet)
     → (is_free_by free (sent_of c h p) && is_named ranges p.number) ≡ is_named_free c (Lost time space ranges) h p
 named_told c h time space ranges run free are p =
@@ -260,7 +260,7 @@ unnamed_of : (fr nm : Bool) → fr ≡ false → (fr && nm) ≡ false
 unnamed_of fr nm none = rw none refl
 
 -- none of those that were dropped is
-dropped_not_named : (c : Settings) (h : List Event) → IsRun c h → (held : Held) (stands : StandsFor held c h) → (e : Event) → AllByRecursion (λ p. is_named_free c e h p ≡ false) stands.gone
+dropped_not_named : (c : Settings) (h : List Event) → IsCourse c h → (held : Held) (stands : StandsFor held c h) → (e : Event) → AllByRecursion (λ p. is_named_free c e h p ≡ false) stands.gone
 dropped_not_named c h run held stands e =
     each_weaker (λ p. is_nameable c h p ≡ false) (λ p. is_named_free c e h p ≡ false)
     (λ p none. unnamed_of (is_free c h p) (declares_lost p.space p.number e) (or_parts (owes c h p) (is_free c h p) none).1) stands.gone (dropped_unnamed c h run held stands)
@@ -269,8 +269,8 @@ any_past : (test : Packet → Bool) (gone kept : List Packet) → AllByRecursion
 any_past test [] kept none = refl
 any_past test (p ∷ gone) kept none = ap (λ b. b || list_any test (gone ++ kept)) none.0 ∙ any_past test gone kept none.1
 
--- in a run a Lost line completes the detection in front of it where it names one that is held as free
-pub completed_is_held : (c : Settings) (h : List Event) (time : ℕ) (space : Space) (ranges : List (ℕ × ℕ)) → IsRun c (Lost time space ranges ∷ h)
+-- in a course a Lost line completes the detection in front of it where it names one that is held as free
+pub completed_is_held : (c : Settings) (h : List Event) (time : ℕ) (space : Space) (ranges : List (ℕ × ℕ)) → IsCourse c (Lost time space ranges ∷ h)
     → (free : FreePackets) → ((q : Packet) → is_free_by free (sent_of c h q) ≡ is_free c h q) → (held : Held) → StandsFor held c h
     → list_any (λ p. is_free_by free p && is_named ranges p.number) held.packets ≡ list_any (is_named_free c (Lost time space ranges) h) (packets h)
 completed_is_held c h time space ranges run free are held stands =
@@ -295,7 +295,7 @@ unlost_if : (all own nm : Bool) → own ≡ false → nm ≡ false → (all && (
 unlost_if all own nm none also = rw (none, also) (and_right all false refl)
 
 -- where it does, what is free and named is held as owed beside what is owed
-pub taken_losses : (c : Settings) (h : List Event) (time : ℕ) (space : Space) (ranges : List (ℕ × ℕ)) → IsRun c (Lost time space ranges ∷ h)
+pub taken_losses : (c : Settings) (h : List Event) (time : ℕ) (space : Space) (ranges : List (ℕ × ℕ)) → IsCourse c (Lost time space ranges ∷ h)
     → (free : FreePackets) → ((q : Packet) → is_free_by free (sent_of c h q) ≡ is_free c h q) → list_any (is_named_free c (Lost time space ranges) h) (packets h) ≡ true
     → (old new : Held) → StandsFor old c h → new ≡ replaced (taken_by free ranges) old → HoldsLosses new c (Lost time space ranges ∷ h)
 taken_losses c h time space ranges run free are some old new stands is =

@@ -1,5 +1,5 @@
 -- What is free by what is kept is what is free after the history, and so is what may be named.
-use Rattle.std.proofs.Common.{◌≡◌, ◌∙◌, ℕ, ◌+◌, ◌-◌, ◌≤◌, ◌<◌, List, [], ◌∷◌, ◌++◌, map, min, Bool, true, false, ◌&&◌, ◌||◌, not, Option, Some, None, option_map, refl, sym, ap, ap₂, subst, arith, filter, reverse}
+use Rattle.std.proofs.Common.{◌≡◌, ◌∙◌, ℕ, ◌+◌, ◌-◌, List, [], ◌∷◌, ◌++◌, map, min, Bool, true, false, ◌&&◌, ◌||◌, not, Option, Some, None, option_map, refl, sym, ap, ap₂, subst, arith, filter, reverse}
 use Rattle.std.proofs.lemmas.Bool.{and_parts, and_right, both_ways, false_from_ne_true, or_right}
 use Rattle.std.proofs.lemmas.Bool.Decides.{nat_tests}
 use Rattle.std.proofs.lemmas.List.Elements.{filter-append}
@@ -12,36 +12,34 @@ use Rattle.qa_base.specs.declared.space.Space.TheVariants.{Initial}
 use Rattle.qa_base.specs.machine.Breaches.{numbers}
 use Rattle.qa_base.specs.machine.Detection.{is_found, is_found_at, is_left, is_left_at, is_old, is_past_threshold, is_unsettled, may_be_spared}
 use Rattle.qa_base.specs.machine.Estimates.{sampled}
-use Rattle.qa_base.specs.machine.Loss.{detection, free, is_free, is_nameable, is_open as opens, is_owed as owes, nameable, owed}
+use Rattle.qa_base.specs.machine.Loss.{detection, is_free, is_nameable, is_open as opens, is_owed as owes, nameable, owed}
 use Rattle.qa_base.specs.machine.Numbers.{has_all, has_next, has_range, is_in, names_between}
 use Rattle.qa_base.specs.machine.Packets.{Packet, is_discarded, is_of, largest_acknowledged, packets}
 use Rattle.qa_base.specs.machine.Rtt.{Estimate}
-use Rattle.qa_base.specs.machine.Rules.{IsRun}
+use Rattle.qa_base.specs.machine.Departures.{IsCourse}
 use Rattle.qa_base.specs.values.Events.{discards, is_named, is_space}
 use Rattle.qa_base.specs.values.PerSpace.{of_space}
 use Rattle.qa_base.specs.values.Settings.{Settings, is_may}
 use Rattle.qa_base.proofs.machine.Declared.{any_of_part}
-use Rattle.qa_connection.proofs.Lists.{all_same, all_turned, any_of_map, any_same, any_turned, each_value, filter_of_map, map_fused, map_turned}
-use Rattle.qa_connection.specs.Detecting.{detected_in, detection_after}
+use Rattle.qa_connection.proofs.Lists.{all_same, all_turned, any_of_map, any_turned, each_value, filter_of_map, map_fused, map_turned}
+use Rattle.qa_connection.specs.Detecting.{detected_in}
 use Rattle.qa_connection.specs.Known.{IsOf}
-use Rattle.qa_connection.specs.Spaces.{space_after}
 use Rattle.qa_connection.specs.declared.connection.Connection.{Connection}
 use Rattle.qa_connection.specs.declared.detection.Detection.{Detection}
 use Rattle.qa_connection.specs.declared.spaces.SpaceState.{SpaceState}
 use Rattle.qa_history.proofs.machine.Changes.{free_is_flying}
 use Rattle.qa_history.proofs.machine.Courses.{is_space_is}
 use Rattle.qa_history.proofs.machine.Detection.{space_of_detection}
-use Rattle.qa_history.proofs.machine.Pairs.{each_weaker, none_left, part_turned}
+use Rattle.qa_history.proofs.machine.Pairs.{none_left, part_turned}
 use Rattle.qa_running.proofs.Carrying.{dropped_closed, dropped_free}
-use Rattle.qa_running.proofs.Fates.{is_open_told, is_owed_told, space_turned}
+use Rattle.qa_running.proofs.Fates.{is_open_told, is_owed_told}
 use Rattle.qa_running.specs.Freeing.{end_of, free_of, freed}
 use Rattle.qa_running.specs.Standing.{StandsFor}
-use Rattle.qa_sent.specs.Fates.{is_flying, is_open, is_owed, is_owed_in}
+use Rattle.qa_sent.specs.Fates.{is_flying, is_open, is_owed_in}
 use Rattle.qa_sent.specs.Free.{AreOwedIn, is_free_by, is_nameable_by, nameable_numbers}
 use Rattle.qa_sent.specs.Held.{Held}
 use Rattle.qa_sent.specs.Told.{fate, sent_of}
 use Rattle.qa_sent.specs.Walks.{owed_numbers}
-use Rattle.qa_sent.specs.declared.free.FreePackets.{FreePackets}
 use Rattle.qa_sent.specs.declared.packet.SentPacket.{SentPacket}
 
 -- ---- the end of the numbers
@@ -89,11 +87,11 @@ no_discard c _ h s now at = refl
 there_if : (was same : Bool) → was ≡ false → same ≡ false → (same || was) ≡ false
 there_if was same none other = rw (none, other) refl
 
-gone_of : (c : Settings) (h : List Event) → IsRun c h → (s : Space) (now : ℕ) → detection c h ≡ Some (s, now) → is_discarded h s ≡ false
+gone_of : (c : Settings) (h : List Event) → IsCourse c h → (s : Space) (now : ℕ) → detection c h ≡ Some (s, now) → is_discarded h s ≡ false
 gone_of c [] run s now at = cc
 gone_of c (e ∷ h) run s now at = there_if (is_discarded h s) (discards s e) (space_of_detection c e h run s now at) (no_discard c e h s now at)
 
-told_by : (k : Connection) (c : Settings) (h : List Event) (d : Option (Space × ℕ)) → IsRun c h → IsOf k c h → detection c h ≡ d → (p : Packet)
+told_by : (k : Connection) (c : Settings) (h : List Event) (d : Option (Space × ℕ)) → IsCourse c h → IsOf k c h → detection c h ≡ d → (p : Packet)
     → is_free_by (freed k (option_map (detected_in c h) d)) (sent_of c h p) ≡ is_left_at c (sampled c h) h p d
 told_by k c h None run of at p = let none : nat_lt p.number 0 ≡ false = grind (arith, nat_tests) in and_right (is_flying Initial (sent_of c h p)) (nat_lt p.number 0) none
 told_by k c h (Some (s, now)) run of at p =
@@ -110,8 +108,8 @@ told_by k c h (Some (s, now)) run of at p =
     (λ same. subst (λ (t : Space). is_discarded h t ≡ false) (is_space_is s p.space same) (gone_of c h run s now at))
     ∙ ap (λ b. is_of s p && (p.in_flight && is_unsettled h p && b)) (sym (spared_is c (sampled c h) now (largest_acknowledged h s) p))))
 
--- in a run a packet is free by what is kept where it is free after the history
-pub free_told : (k : Connection) (c : Settings) (h : List Event) → IsRun c h → IsOf k c h → (p : Packet) → is_free_by (free_of k) (sent_of c h p) ≡ is_free c h p
+-- in a course a packet is free by what is kept where it is free after the history
+pub free_told : (k : Connection) (c : Settings) (h : List Event) → IsCourse c h → IsOf k c h → (p : Packet) → is_free_by (free_of k) (sent_of c h p) ≡ is_free c h p
 free_told k c h run of p =
     ap (λ (d : Option Detection). is_free_by (freed k d) (sent_of c h p)) of.detection ∙ told_by k c h (detection c h) run of refl p
 
@@ -132,18 +130,18 @@ nameable_there k c h of p is =
 pub owed_there_by : (k : Connection) (c : Settings) (h : List Event) → IsOf k c h → (p : Packet) → owes c h p ≡ true → is_space (free_of k).space p.space ≡ true
 owed_there_by k c h of p is = nameable_there k c h of p (ap (λ b. b || is_free c h p) is)
 
-each_owed_in : (k : Connection) (c : Settings) (h : List Event) → IsRun c h → IsOf k c h → (ps : List Packet) → AreOwedIn (free_of k).space (map (sent_of c h) ps)
+each_owed_in : (k : Connection) (c : Settings) (h : List Event) → IsCourse c h → IsOf k c h → (ps : List Packet) → AreOwedIn (free_of k).space (map (sent_of c h) ps)
 each_owed_in k c h run of [] = tt
 each_owed_in k c h run of (p ∷ ps) = ((λ is. owed_there_by k c h of p (sym (is_owed_told c h run p) ∙ is)), each_owed_in k c h run of ps)
 
 -- so the packets that are held as owed are
-pub owed_in_free : (k : Connection) (c : Settings) (h : List Event) → IsRun c h → IsOf k c h → (held : Held) → StandsFor held c h → AreOwedIn (free_of k).space held.packets
+pub owed_in_free : (k : Connection) (c : Settings) (h : List Event) → IsCourse c h → IsOf k c h → (held : Held) → StandsFor held c h → AreOwedIn (free_of k).space held.packets
 owed_in_free k c h run of held stands =
     subst (AreOwedIn (free_of k).space) (sym stands.packets_are) (each_owed_in k c h run of stands.kept)
 
 -- ---- all that may be named
 
-pub nameable_told : (k : Connection) (c : Settings) (h : List Event) → IsRun c h → IsOf k c h → (p : Packet) → is_nameable_by (free_of k) (sent_of c h p) ≡ is_nameable c h p
+pub nameable_told : (k : Connection) (c : Settings) (h : List Event) → IsCourse c h → IsOf k c h → (p : Packet) → is_nameable_by (free_of k) (sent_of c h p) ≡ is_nameable c h p
 nameable_told k c h run of p = ap₂ (λ a b. a || b) (is_owed_told c h run p) (free_told k c h run of p)
 
 neither_of : (a b : Bool) → a ≡ false → b ≡ false → (a || b) ≡ false
@@ -154,7 +152,7 @@ both_weaker P Q R goes [] a b = tt
 both_weaker P Q R goes (p ∷ ps) a b = (goes p a.0 b.0, both_weaker P Q R goes ps a.1 b.1)
 
 -- none of those that were dropped may be named
-pub dropped_unnamed : (c : Settings) (h : List Event) → IsRun c h → (held : Held) (stands : StandsFor held c h) → AllByRecursion (λ p. is_nameable c h p ≡ false) stands.gone
+pub dropped_unnamed : (c : Settings) (h : List Event) → IsCourse c h → (held : Held) (stands : StandsFor held c h) → AllByRecursion (λ p. is_nameable c h p ≡ false) stands.gone
 dropped_unnamed c h run held stands =
     both_weaker (λ p. opens c h p ≡ false) (λ p. owes c h p ≡ false) (λ p. is_nameable c h p ≡ false)
     (λ p shut none. neither_of (owes c h p) (is_free c h p) none
@@ -169,7 +167,7 @@ part_of_kept test h gone kept parts none =
     ∙ (ap (filter test) parts ∙ (filter-append test gone kept ∙ ap (λ ps. ps ++ filter test kept) (none_left test gone none)))
 
 -- their numbers are those of the packets held
-pub nameable_numbers_stand : (k : Connection) (c : Settings) (h : List Event) → IsRun c h → IsOf k c h → (held : Held) → StandsFor held c h
+pub nameable_numbers_stand : (k : Connection) (c : Settings) (h : List Event) → IsCourse c h → IsOf k c h → (held : Held) → StandsFor held c h
     → nameable_numbers (free_of k) held.packets ≡ reverse (numbers (nameable c h))
 nameable_numbers_stand k c h run of held stands =
     ap (nameable_numbers (free_of k)) stands.packets_are
@@ -209,8 +207,8 @@ in_if false false true here same = let is = same refl in rw is refl
 in_if false false false true same = refl
 in_if false false false false same = refl
 
--- in a run the next Lost line may name a packet of the space where one is held as owed or free there
-pub nameable_in_is_held : (k : Connection) (c : Settings) (h : List Event) → IsRun c h → IsOf k c h → (s : Space) → (held : Held) → StandsFor held c h
+-- in a course the next Lost line may name a packet of the space where one is held as owed or free there
+pub nameable_in_is_held : (k : Connection) (c : Settings) (h : List Event) → IsCourse c h → IsOf k c h → (s : Space) → (held : Held) → StandsFor held c h
     → list_any (is_of s) (nameable c h) ≡ (list_any (is_owed_in s) held.packets || (is_space s (free_of k).space && list_any (is_free_by (free_of k)) held.packets))
 nameable_in_is_held k c h run of s held stands =
     let here = is_space s (free_of k).space in
@@ -244,7 +242,7 @@ pub names_turned : (ranges : List (ℕ × ℕ)) (least most : List ℕ) → name
 names_turned ranges least most = ap₂ (λ a b. a && b) (all_names_turned ranges most) (all_turned (is_named ranges) least)
 
 -- ranges name what they may where they name the numbers of the packets held
-pub losses_are_named : (k : Connection) (c : Settings) (h : List Event) → IsRun c h → IsOf k c h → (ranges : List (ℕ × ℕ)) → (held : Held) → StandsFor held c h
+pub losses_are_named : (k : Connection) (c : Settings) (h : List Event) → IsCourse c h → IsOf k c h → (ranges : List (ℕ × ℕ)) → (held : Held) → StandsFor held c h
     → owed_numbers held.packets ≡ reverse (numbers (owed c h))
     → names_between ranges (owed_numbers held.packets) (nameable_numbers (free_of k) held.packets) ≡ names_between ranges (numbers (owed c h)) (numbers (nameable c h))
 losses_are_named k c h run of ranges held stands owed_are =

@@ -9,7 +9,7 @@ use Rattle.qa_base.specs.declared.space.Space.{Space}
 use Rattle.qa_base.specs.machine.Estimates.{rtt}
 use Rattle.qa_base.specs.machine.Loss.{bytes_in_flight, is_open as opens}
 use Rattle.qa_base.specs.machine.Packets.{Packet, packets, packets_of, is_of, largest_acknowledged}
-use Rattle.qa_base.specs.machine.Rules.{IsRun}
+use Rattle.qa_base.specs.machine.Departures.{IsCourse}
 use Rattle.qa_base.specs.machine.Timer.{awaits_acknowledgment, loss_due}
 use Rattle.qa_base.specs.values.Settings.{Settings, granularity}
 use Rattle.qa_connection.specs.Deadlines as deadlines
@@ -78,8 +78,8 @@ due_by : (c : Settings) (h : List Event) (s : Space) (o : Option Packet) → due
 due_by c h s None = refl
 due_by c h s (Some p) = refl
 
--- in a run the first packet held that is of the space, open and in flight decides its loss time
-pub loss_due_is_held : (c : Settings) (h : List Event) → IsRun c h → (s : Space) (held : Held) → StandsFor held c h
+-- in a course the first packet held that is of the space, open and in flight decides its loss time
+pub loss_due_is_held : (c : Settings) (h : List Event) → IsCourse c h → (s : Space) (held : Held) → StandsFor held c h
     → loss_due c h s ≡ deadlines.loss_due (granularity c) (rtt c h) (largest_acknowledged h s) s (find (is_flying s) held.packets)
 loss_due_is_held c h run s held stands =
     let test : Packet → Bool = λ p. is_of s p && flies c h p in

@@ -1,4 +1,4 @@
--- What is known before an event of a run: what it sends is kept behind all other packets, and nothing is owed if it is no Lost line.
+-- What is known before an event of a course: what it sends is kept behind all other packets, and nothing is owed if it is no Lost line.
 use Rattle.std.proofs.Common.{◌≡◌, ◌<◌, ◌+◌, List, ◌∷◌, length, arith, subst}
 use Rattle.std.specs.List.{AllByRecursion}
 use Rattle.qa_base.specs.declared.event.Event.{Event}
@@ -7,7 +7,7 @@ use Rattle.qa_base.specs.declared.space.Leave.{Leave}
 use Rattle.qa_base.specs.machine.Breaches.{is_loss_owed}
 use Rattle.qa_base.specs.machine.Loss.{owed}
 use Rattle.qa_base.specs.machine.Packets.{is_some_packet}
-use Rattle.qa_base.specs.machine.Rules.{IsRun}
+use Rattle.qa_base.specs.machine.Departures.{IsCourse}
 use Rattle.qa_base.specs.values.Settings.{Settings}
 use Rattle.qa_running.proofs.Dropping.{held_are_few}
 use Rattle.qa_running.proofs.Events.{sent_last, settled_before}
@@ -19,7 +19,7 @@ use Rattle.qa_sent.specs.declared.packet.SentPacket.{SentPacket}
 pub next_is_last : (held : Held) (e : Event) → IsNext held e → (packet : SentPacket) (leave : Leave)
     → e ≡ Sent packet.time packet.space packet.number packet.size packet.eliciting packet.in_flight leave → AllByRecursion (λ q. IsBefore packet q) held.packets
 next_is_last held e next packet leave is =
-    sent_last next.header next.history packet leave (subst (λ (x : Event). IsRun next.header (x ∷ next.history)) is next.run.run) held next.stands
+    sent_last next.header next.history packet leave (subst (λ (x : Event). IsCourse next.header (x ∷ next.history)) is next.run.run) held next.stands
 
 pub next_has_room : (held : Held) (e : Event) → IsNext held e → held.dropped + length held.packets < 4294967295
 next_has_room held e next = omega (arith, held_are_few held next.header next.history next.stands, next.run.few)

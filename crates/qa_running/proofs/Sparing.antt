@@ -1,5 +1,5 @@
 -- The numbers that are free by what is kept are those that are free after the history.
-use Rattle.std.proofs.Common.{◌≡◌, ◌∙◌, ℕ, List, map, Bool, false, Option, Some, None, option_map, refl, sym, ap, filter, reverse}
+use Rattle.std.proofs.Common.{◌≡◌, ◌∙◌, ℕ, List, map, false, Option, Some, None, option_map, refl, sym, ap, filter, reverse}
 use Rattle.std.proofs.lemmas.Bool.{and_parts, both_ways, false_from_ne_true}
 use Rattle.std.specs.List.{AllByRecursion}
 use Rattle.qa_base.specs.declared.event.Event.{Event}
@@ -9,7 +9,7 @@ use Rattle.qa_base.specs.machine.Detection.{is_left, is_left_at, left_at}
 use Rattle.qa_base.specs.machine.Estimates.{sampled}
 use Rattle.qa_base.specs.machine.Loss.{detection, free, is_free, is_open as opens}
 use Rattle.qa_base.specs.machine.Packets.{Packet, is_of, packets}
-use Rattle.qa_base.specs.machine.Rules.{IsRun}
+use Rattle.qa_base.specs.machine.Departures.{IsCourse}
 use Rattle.qa_base.specs.values.Settings.{Settings}
 use Rattle.qa_causes.specs.Causes.{searched}
 use Rattle.qa_connection.proofs.Lists.{each_value, filter_of_map, map_fused, map_turned}
@@ -35,14 +35,14 @@ left_part c h None = none_left (λ p. false) (packets h) (of_each (λ p. false �
 left_part c h (Some (s, now)) = part_of_part (is_of s) (is_left c (sampled c h) h now s) (packets h)
 
 -- none of those that were dropped is free
-dropped_unfree : (c : Settings) (h : List Event) → IsRun c h → (held : Held) (stands : StandsFor held c h) → AllByRecursion (λ p. is_free c h p ≡ false) stands.gone
+dropped_unfree : (c : Settings) (h : List Event) → IsCourse c h → (held : Held) (stands : StandsFor held c h) → AllByRecursion (λ p. is_free c h p ≡ false) stands.gone
 dropped_unfree c h run held stands =
     each_weaker (λ p. opens c h p ≡ false) (λ p. is_free c h p ≡ false)
     (λ p shut. false_from_ne_true (is_free c h p) (λ left. both_ways (opens c h p) shut (and_parts p.in_flight (opens c h p) (free_is_flying c h run p left)).1))
     stands.gone (dropped_closed c h stands.gone stands.forgotten)
 
--- in a run they are those of the packets held that are free, in the order of sending
-pub free_numbers_stand : (k : Connection) (c : Settings) (h : List Event) → IsRun c h → IsOf k c h → (held : Held) → StandsFor held c h
+-- in a course they are those of the packets held that are free, in the order of sending
+pub free_numbers_stand : (k : Connection) (c : Settings) (h : List Event) → IsCourse c h → IsOf k c h → (held : Held) → StandsFor held c h
     → free_numbers (free_of k) held.packets ≡ reverse (numbers (free c h))
 free_numbers_stand k c h run of held stands =
     ap (free_numbers (free_of k)) stands.packets_are

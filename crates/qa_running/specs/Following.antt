@@ -4,15 +4,15 @@ use Rattle.qa_base.specs.declared.event.Event.{Event}
 use Rattle.qa_base.specs.declared.event.Event.TheVariants.{Ack}
 use Rattle.qa_base.specs.values.Events.{is_sent}
 use Rattle.qa_base.specs.values.Settings.{Settings}
-use Rattle.qa_connection.specs.Known.{IsProperRun}
+use Rattle.qa_connection.specs.Known.{IsProperCourse}
 use Rattle.qa_running.specs.Standing.{StandsFor}
 use Rattle.qa_sent.specs.Held.{Held}
 
--- the event comes next in some run, after whose events the packets are kept
+-- the event comes next in some course, after whose events the packets are kept
 pub record IsNext (held : Held) (e : Event) : Type 0 where
   pub header : Settings
   pub history : List Event
-  pub run : IsProperRun header (e ∷ history)
+  pub run : IsProperCourse header (e ∷ history)
   pub stands : StandsFor held header history
 
 abbrev pub is_ack : Event → Bool

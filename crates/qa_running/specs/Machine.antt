@@ -3,7 +3,7 @@ use Rattle.std.specs.Prelude.{◌≡◌, ℕ, List, ◌∷◌}
 use Rattle.qa_base.specs.declared.event.Event.{Event}
 use Rattle.qa_base.specs.declared.space.Space.{Space}
 use Rattle.qa_base.specs.values.Settings.{Settings}
-use Rattle.qa_connection.specs.Known.{IsOf, IsProperRun}
+use Rattle.qa_connection.specs.Known.{IsOf, IsProperCourse}
 use Rattle.qa_ranges.specs.Sent.{AreSent}
 use Rattle.qa_running.specs.Thresholds.{AreThresholdsAt}
 use Rattle.qa_running.specs.Standing.{replaced}
@@ -14,9 +14,9 @@ use Rattle.qa_running.specs.declared.machine.Machine.{Machine}
 use Rattle.qa_sent.specs.Held.{Held}
 use Rattle.qa_sent.specs.Steps.{Thresholds, found_by}
 
--- it is the state after this history under this header, which is a run, and its packets begin with one that is still of use
+-- it is the state after this history under this header, which is a course, and its packets begin with one that is still of use
 pub record StandsFor (m : Machine) (c : Settings) (h : List Event) : Type 0 where
-  pub run : IsProperRun c h
+  pub run : IsProperCourse c h
   pub connection : IsOf m.connection c h
   pub packets : packets.StandsFor m.packets c h
   pub numbers : AreSent m.numbers h
@@ -25,7 +25,7 @@ pub record StandsFor (m : Machine) (c : Settings) (h : List Event) : Type 0 wher
 
 -- what stood for a history stands for it with the event, where that breaks no rule
 abbrev pub Follows : Machine → Machine → Event → Type 0
-Follows old new e = (c : Settings) (h : List Event) → StandsFor old c h → IsProperRun c (e ∷ h) → StandsFor new c (e ∷ h)
+Follows old new e = (c : Settings) (h : List Event) → StandsFor old c h → IsProperCourse c (e ∷ h) → StandsFor new c (e ∷ h)
 
 -- the packets stand for the history once those of the space are owed that are past a threshold now
 abbrev pub StandsOnceFound : Held → Settings → List Event → Space → ℕ → Type 0

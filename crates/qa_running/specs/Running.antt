@@ -2,7 +2,7 @@
 use Rattle.std.specs.Prelude.{◌≡◌, Bool, false, List}
 use Rattle.qa_base.specs.declared.event.Event.{Event}
 use Rattle.qa_base.specs.values.Settings.{Settings}
-use Rattle.qa_connection.specs.Known.{IsOf, IsProperRun}
+use Rattle.qa_connection.specs.Known.{IsOf, IsProperCourse}
 use Rattle.qa_connection.specs.declared.connection.Connection.{Connection}
 use Rattle.qa_ranges.specs.Sent.{AreSent, BySpace}
 use Rattle.qa_running.specs.Standing.{StandsFor}
@@ -22,7 +22,7 @@ pub record State : Type 0 where
 -- it is the state after this history under this header; one that has failed may have taken the number of a packet that it did not
 -- admit
 pub record IsAfter (state : State) (c : Settings) (h : List Event) : Type 0 where
-  pub run : IsProperRun c h
+  pub run : IsProperCourse c h
   pub connection : IsOf state.connection c h
   pub packets : StandsFor state.packets c h
   pub numbers : state.failed ≡ false → AreSent state.numbers h

@@ -1,7 +1,7 @@
 //! What the rules ask of the events before an event, answered by what is kept.
 ghost use Rattle.std.specs.Prelude.{List};
 ghost use Rattle.qa_base.specs.declared.event.Event.{Event as AnEvent};
-ghost use Rattle.qa_base.specs.machine.Rules.{IsRun};
+ghost use Rattle.qa_base.specs.machine.Departures.{IsCourse};
 ghost use Rattle.qa_base.specs.values.Settings.{Settings};
 ghost use Rattle.qa_connection.specs.Deadlines.{AreOpen, IsOpenIn};
 ghost use Rattle.qa_running.specs.Standing.{StandsFor};
@@ -15,7 +15,7 @@ use qa_sent::SentPackets;
 
 /// What the timer asks of the open packets of a space.
 pub(crate) fn open_in(packets: &SentPackets, space: Space) -> OpenInSpace
-    ensures { (c : Settings) (h : List AnEvent) → IsRun c h → StandsFor packets.now c h
+    ensures { (c : Settings) (h : List AnEvent) → IsCourse c h → StandsFor packets.now c h
         → IsOpenIn result c h space }
 {
     OpenInSpace {
@@ -26,7 +26,7 @@ pub(crate) fn open_in(packets: &SentPackets, space: Space) -> OpenInSpace
 
 /// What the timer asks of the open packets.
 pub(crate) fn open_packets(packets: &SentPackets) -> PerSpace<OpenInSpace>
-    ensures { (c : Settings) (h : List AnEvent) → IsRun c h → StandsFor packets.now c h
+    ensures { (c : Settings) (h : List AnEvent) → IsCourse c h → StandsFor packets.now c h
         → AreOpen result c h }
 {
     PerSpace {

@@ -2,6 +2,7 @@
 #![tactic(auto)]
 
 mod answers;
+mod bearing;
 mod facts;
 mod freeing;
 mod machine;

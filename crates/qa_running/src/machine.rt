@@ -7,13 +7,13 @@ ghost use Rattle.qa_base.specs.declared.space.TimerKind.TheVariants.{Loss, Pto};
 ghost use Rattle.qa_base.specs.declared.space.Space.{Space as ASpace};
 ghost use Rattle.qa_base.specs.machine.Detection.{looks_at as looks_at_of};
 ghost use Rattle.qa_base.specs.machine.Loss as loss;
-ghost use Rattle.qa_base.specs.machine.Rules.{IsRun};
+ghost use Rattle.qa_base.specs.machine.Departures.{IsCourse};
 ghost use Rattle.qa_base.specs.values.Events.{fits, time_of};
 ghost use Rattle.qa_base.specs.values.Limits.{max_lines, max_packet_size};
 ghost use Rattle.qa_base.specs.values.Settings.{AreInRange, Settings};
 ghost use Rattle.qa_connection.specs.Changes.{completed, with_collapse, with_hit};
 ghost use Rattle.qa_connection.specs.Detecting.{detection_after};
-ghost use Rattle.qa_connection.specs.Known.{HasParts, IsMeasured, AreLosses, IsProperRun};
+ghost use Rattle.qa_connection.specs.Known.{HasParts, IsMeasured, AreLosses, IsProperCourse};
 ghost use Rattle.qa_connection.specs.Steps.{last_sent};
 ghost use Rattle.qa_connection.specs.declared.detection.Detection.{Detection as ADetection};
 ghost use Rattle.qa_ranges.specs.Sent.{AreSent};
@@ -162,7 +162,7 @@ impl Machine {
     /// that is taken in: all that is held as owed now.
     fn complete(&mut self, completes: bool)
         ensures connection { (c : Settings) (h : List AnEvent) (d : ADetection)
-            → completes ≡ true → self.old.connection.detection ≡ Some d → IsRun c h
+            → completes ≡ true → self.old.connection.detection ≡ Some d → IsCourse c h
             → IsMeasured self.old.connection c h → HoldsLosses self.old.packets c h
             → self.new.connection
             ≡ completed d (last_sent (loss.declared c h)) (loss.is_persistent c h) self.old.connection }
@@ -301,7 +301,7 @@ impl Machine {
         requires { NoneOwed self.old.packets.packets }
         ensures packets { (c : Settings) (h : List AnEvent) → IsMeasured self.old.connection c h
             → StandsOnceFound self.old.packets c h space looked → StandsFor self.new.packets c h }
-        ensures connection { (c : Settings) (h : List AnEvent) → IsRun c h → LosesWhatIsOwed c h
+        ensures connection { (c : Settings) (h : List AnEvent) → IsCourse c h → LosesWhatIsOwed c h
             → IsMeasured self.old.connection c h → StandsOnceFound self.old.packets c h space looked
             → self.new.connection
             ≡ with_collapse (loss.is_persistent c h) (with_hit now (last_sent (loss.declared c h)) self.old.connection) }
@@ -319,7 +319,7 @@ impl Machine {
     /// are of no more use are dropped, and the timer is set (A.8).
     fn finish(&mut self, now: Ticks, detection: Option<Detection>)
         ensures { (c : Settings) (e : AnEvent) (h : List AnEvent) → now ≡ time_of e
-            → detection ≡ detection_after c (e ∷ h) → IsProperRun c (e ∷ h) → self.old.connection.events ≡ length h
+            → detection ≡ detection_after c (e ∷ h) → IsProperCourse c (e ∷ h) → self.old.connection.events ≡ length h
             → HasParts self.old.connection c (e ∷ h) → StandsFor self.old.packets c (e ∷ h)
             → AreSent self.old.numbers (e ∷ h) → IsWatched self.old.watch c h
             → Stands self.new c (e ∷ h) }
@@ -333,7 +333,7 @@ impl Machine {
 /// Drops the packets that are of no more use. The first that is left is open or owed.
 #[tactic(auto, using(crate::proofs::Dropping::stands_trimmed, crate::proofs::Dropping::front_dropped))]
 fn trim(packets: &mut SentPackets)
-    ensures stands { (c : Settings) (h : List AnEvent) → IsRun c h → StandsFor packets.old c h
+    ensures stands { (c : Settings) (h : List AnEvent) → IsCourse c h → StandsFor packets.old c h
         → StandsFor packets.new c h }
     ensures trimmed { IsTrimmed packets.new.packets }
 {
@@ -385,7 +385,7 @@ fn thresholds(connection: &Connection, space: Space, now: u64) -> Thresholds
 
 /// What is lost by the last event: what is held as owed.
 fn losses(packets: &SentPackets, connection: &Connection) -> Losses
-    ensures { (c : Settings) (h : List AnEvent) → HoldsLosses packets.now c h → IsRun c h
+    ensures { (c : Settings) (h : List AnEvent) → HoldsLosses packets.now c h → IsCourse c h
         → IsMeasured connection.now c h → AreLosses result c h }
 {
     Losses {
@@ -396,7 +396,7 @@ fn losses(packets: &SentPackets, connection: &Connection) -> Losses
 
 /// Whether what is lost by the last event establishes persistent congestion (RFC 9002, section 7.6).
 fn is_persistent(packets: &SentPackets, connection: &Connection) -> bool
-    ensures { (c : Settings) (h : List AnEvent) → HoldsLosses packets.now c h → IsRun c h
+    ensures { (c : Settings) (h : List AnEvent) → HoldsLosses packets.now c h → IsCourse c h
         → IsMeasured connection.now c h → result ≡ loss.is_persistent c h }
 {
     match connection.rtt.first_rtt_sample {

@@ -3,6 +3,7 @@ ghost use Rattle.std.specs.Prelude.{◌≡◌, ◌≤◌, ◌<◌, ◌+◌, ◌*
 ghost use Rattle.qa_base.specs.declared.event.Event.{Event as AnEvent};
 ghost use Rattle.qa_base.specs.declared.rule.Rule.{Rule as ARule};
 ghost use Rattle.qa_base.specs.declared.space.Space.TheVariants.{Initial, Handshake, App};
+ghost use Rattle.qa_base.specs.machine.Departures as conduct;
 ghost use Rattle.qa_base.specs.machine.Kept as kept;
 ghost use Rattle.qa_base.specs.machine.Loss.{owed};
 ghost use Rattle.qa_base.specs.machine.Packets.{is_some_packet};
@@ -102,15 +103,15 @@ impl Running {
         0 < self.machine.packets.owed_count()
     }
 
-    /// Takes an event that breaks no rule. `AllocError` comes where it is out of memory, which only a
-    /// packet that is sent and an acknowledgment can be: it has failed then, and is the state before
-    /// the event.
-    fn follow(&mut self, event: &Event) -> Result<(), AllocError>
+    /// Takes an event that breaks no rule but those past which the machine goes on. `AllocError` comes
+    /// where it is out of memory, which only a packet that is sent and an acknowledgment can be: it has
+    /// failed then, and is the state before the event.
+    pub(crate) fn follow(&mut self, event: &Event) -> Result<(), AllocError>
         requires works { self.old.failed ≡ false }
         requires fitting { fits event.now ≡ true }
         requires few { self.old.connection.events < max_lines }
         requires allowed { (c : Settings) (h : List AnEvent) → IsAfter self.old c h
-            → rules.first_broken c h event.now ≡ None }
+            → conduct.first_unborne c h event.now ≡ None }
         ensures ok { OnOk result ((self.new.failed ≡ false)
             × (self.new.connection.events ≡ self.old.connection.events + 1)
             × ((c : Settings) (h : List AnEvent) → IsAfter self.old c h

@@ -5,7 +5,7 @@ ghost use Rattle.qa_base.specs.machine.Breaches as breaches;
 ghost use Rattle.qa_base.specs.machine.Timer as timers;
 ghost use Rattle.qa_base.specs.values.Events as events;
 ghost use Rattle.qa_base.specs.values.Settings.{Settings};
-ghost use Rattle.qa_connection.specs.Known.{IsOf, IsProperRun};
+ghost use Rattle.qa_connection.specs.Known.{IsOf, IsProperCourse};
 ghost use Rattle.qa_running.specs.Standing.{StandsFor};
 ghost use Rattle.qa_running.specs.Watch.{IsWatched};
 
@@ -66,7 +66,7 @@ impl TimerWatch {
     /// it. Nothing is asked of them, and nothing changes, where the header has no limit.
     pub(crate) fn follow(&mut self, connection: &Connection, packets: &SentPackets, now: Ticks)
         ensures { (c : Settings) (e : AnEvent) (h : List AnEvent) → IsOf connection.now c (e ∷ h)
-            → IsProperRun c (e ∷ h) → StandsFor packets.now c (e ∷ h)
+            → IsProperCourse c (e ∷ h) → StandsFor packets.now c (e ∷ h)
             → now ≡ events.time_of e → IsWatched self.old c h → IsWatched self.new c (e ∷ h) }
     {
         if connection.header.options().timer_late.is_some() {

@@ -1,4 +1,4 @@
--- The PTO count of a run is at most 40.
+-- The PTO count of a course is at most 40.
 use Rattle.std.proofs.Common.{◌≡◌, ◌+◌, ◌*◌, ◌^◌, ◌≤◌, ◌<◌, ℕ, min, List, [], ◌∷◌, Bool, true, false, Option, Some, None, option_map, is_none, refl, arith, inl, inr, ◌⊎◌}
 use Rattle.std.proofs.Math.Nat.{mul-le-mul_right}
 use Rattle.std.proofs.Math.Pow.{pow_mono}
@@ -19,10 +19,10 @@ use Rattle.qa_base.specs.machine.Handshake.{is_confirmed, is_validated}
 use Rattle.qa_base.specs.values.Limits.{max_time}
 use Rattle.qa_base.specs.machine.Estimates.{rtt}
 use Rattle.qa_base.specs.machine.Rtt.{Estimate, pto_base}
-use Rattle.qa_base.specs.machine.Rules.{IsRun, first_broken}
+use Rattle.qa_base.specs.machine.Departures.{IsCourse, first_unborne}
 use Rattle.qa_base.specs.values.Settings.{Settings, early, granularity, per_microsecond}
 use Rattle.qa_base.specs.machine.Timer.{Due, is_kind, earlier, loss_due, earliest_loss, pto_due, earliest_pto, anti_deadlock, deadline, pto_count, is_pto, resets_count, last_eliciting, last_set}
-use Rattle.qa_base.proofs.machine.RunLaws.{all_hold}
+use Rattle.qa_base.proofs.machine.RunLaws.{form_holds}
 use Rattle.qa_base.specs.machine.Widths.{IsTimely}
 use Rattle.qa_base.proofs.machine.Steps.{pto_count_after}
 
@@ -118,15 +118,22 @@ counted true pto n bound most = omega arith
 counted false true n bound most = let less = bound refl in omega (arith, less)
 counted false false n bound most = omega arith
 
-pto_in_time : (c : Settings) (e : Event) (h : List Event) → first_broken c h e ≡ None → IsTimely e → is_pto (e ∷ h) ≡ true → pto_count c h < 40
+-- a timer that is early comes while there are few doublings, and any other when they have passed
+early_or_due : (n time : ℕ) (space : Space) (due : Option Due) → is_none due ≡ false → is_other Pto space due ≡ false → (is_before time due ≡ true → n < 40) → IsFar n due → time ≤ max_time + 1000000000000 → n < 40
+early_or_due n time space due some same few far in_time = elim (cases_Bool (is_before time due)) [
+  | inl early ↦ few early
+  | inr late ↦ by_due n time space due some same late far in_time
+]
+
+pto_in_time : (c : Settings) (e : Event) (h : List Event) → first_unborne c h e ≡ None → IsTimely e → is_pto (e ∷ h) ≡ true → pto_count c h < 40
 pto_in_time c (Timer time Pto space) h allowed timely is =
-    let holds = all_hold c h (Timer time Pto space) allowed in
+    let holds = form_holds c h (Timer time Pto space) allowed in
     let soon = early_is_small c in
-    by_due (pto_count c h) (time + early c) space (deadline c h) holds.timer_not_set holds.timer_other holds.timer_early (far_deadline c h) (omega (arith, soon, timely))
+    early_or_due (pto_count c h) (time + early c) space (deadline c h) holds.timer_not_set holds.timer_other holds.timer_early (far_deadline c h) (omega (arith, soon, timely))
 pto_in_time c (Timer time Loss space) h allowed timely is = cc
 pto_in_time c _ h allowed timely is = cc
 
-pub small_pto_count : (c : Settings) (h : List Event) → IsRun c h → AllByRecursion IsTimely h → pto_count c h ≤ 40
-small_pto_count c [] run timely = omega arith
-small_pto_count c (e ∷ h) run timely =
-    rw (pto_count_after c e h) (counted (resets_count c (e ∷ h)) (is_pto (e ∷ h)) (pto_count c h) (pto_in_time c e h run.1 timely.0) (small_pto_count c h run.0 timely.1))
+pub small_pto_count : (c : Settings) (h : List Event) → IsCourse c h → AllByRecursion IsTimely h → pto_count c h ≤ 40
+small_pto_count c [] course timely = omega arith
+small_pto_count c (e ∷ h) course timely =
+    rw (pto_count_after c e h) (counted (resets_count c (e ∷ h)) (is_pto (e ∷ h)) (pto_count c h) (pto_in_time c e h course.1 timely.0) (small_pto_count c h course.0 timely.1))

@@ -1,5 +1,5 @@
 -- When a loss timer is set for: the packets of its space that are in flight and unsettled, where nothing is owed.
-use Rattle.std.proofs.Common.{◌≡◌, ◌∙◌, ◌+◌, ◌*◌, ℕ, min, List, [], ◌∷◌, Bool, true, false, ◌&&◌, not, Option, Some, None, option_map, map, mul-zero, refl, sym, ap, arith, subst, inl, inr}
+use Rattle.std.proofs.Common.{◌≡◌, ◌∙◌, ◌+◌, ◌*◌, ℕ, min, List, ◌∷◌, Bool, true, false, ◌&&◌, not, Option, Some, None, option_map, map, mul-zero, refl, sym, ap, arith, subst, inl, inr}
 use Rattle.std.specs.List.{AllByRecursion, filter}
 use Rattle.qa_base.specs.declared.event.Event.{Event}
 use Rattle.qa_base.specs.declared.event.Event.TheVariants.{Timer}
@@ -13,14 +13,14 @@ use Rattle.qa_base.specs.machine.Estimates.{rtt}
 use Rattle.qa_base.specs.machine.Loss.{detection, is_owed, owed}
 use Rattle.qa_base.specs.machine.Packets.{is_below_largest, is_discarded, is_of, is_some_packet, largest_acknowledged, least_of, packets, packets_of}
 use Rattle.qa_base.specs.machine.Rtt.{loss_delay}
-use Rattle.qa_base.specs.machine.Rules.{IsRun}
+use Rattle.qa_base.specs.machine.Departures.{IsCourse}
 use Rattle.qa_base.specs.machine.Timer.{Due, awaits_loss, deadline, earlier, earliest_loss, loss_due}
 use Rattle.qa_base.specs.values.Settings.{Settings, early, granularity, per_microsecond}
-use Rattle.qa_base.proofs.machine.RunLaws.{all_hold}
+use Rattle.qa_base.proofs.machine.RunLaws.{form_holds}
 use Rattle.qa_history.proofs.machine.Changes.{not_owed_now}
 use Rattle.qa_history.proofs.machine.Courses.{is_space_is}
 use Rattle.qa_history.proofs.machine.Detection.{earlier_is, timer_there}
-use Rattle.qa_history.proofs.machine.Pairs.{at_one, of_each, part_is, same_part}
+use Rattle.qa_history.proofs.machine.Pairs.{of_each, part_is, same_part}
 
 twice : (flies unsettled below : Bool) → (flies && (unsettled && true && true) && below) ≡ (flies && unsettled && below)
 twice true true below = refl
@@ -42,10 +42,10 @@ mapped : (s : Space) (delay : ℕ) (o : Option ℕ)
 mapped s delay None = refl
 mapped s delay (Some sent) = refl
 
--- in a run, when a loss timer goes off in a space, it is set for the time at which the first packet is old
-pub old_at_is : (c : Settings) (h : List Event) (time : ℕ) (s : Space) → IsRun c (Timer time Loss s ∷ h) → option_map (λ (d : Due). d.time) (loss_due c h s) ≡ old_at c (rtt c h) h s
+-- in a course, when a loss timer goes off in a space, it is set for the time at which the first packet is old
+pub old_at_is : (c : Settings) (h : List Event) (time : ℕ) (s : Space) → IsCourse c (Timer time Loss s ∷ h) → option_map (λ (d : Due). d.time) (loss_due c h s) ≡ old_at c (rtt c h) h s
 old_at_is c h time s run =
-    let holds = all_hold c h (Timer time Loss s) run.1 in
+    let holds = form_holds c h (Timer time Loss s) run.1 in
     let delay = loss_delay (granularity c) (rtt c h) in
     mapped s delay (least_of (map (λ p. p.time) (filter (awaits_loss c h) (packets_of h s))))
     ∙ ap (λ ps. option_map (λ sent. sent + delay) (least_of (map (λ p. p.time) ps))) (same_part (awaits_loss c h) (awaits_timer h) (packets_of h s) (same_awaits c (Timer time Loss s) h s holds.loss_owed (timer_there c h time s run)))

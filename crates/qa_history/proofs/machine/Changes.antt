@@ -17,14 +17,14 @@ use Rattle.qa_history.specs.machine.Oldest.{is_flying}
 use Rattle.qa_base.specs.machine.Packets.{Packet, packets, is_of, is_some_packet, is_followed_by, is_acknowledged, is_declared_lost, is_discarded, is_newly_acknowledged, largest_acknowledged}
 use Rattle.qa_base.specs.machine.Detection.{is_past_threshold}
 use Rattle.qa_base.specs.machine.Rtt.{Estimate}
-use Rattle.qa_base.specs.machine.Rules.{IsRun}
+use Rattle.qa_base.specs.machine.Departures.{IsCourse}
 use Rattle.qa_base.specs.values.Settings.{Settings, is_may}
 use Rattle.qa_history.proofs.machine.Courses.{is_space_same, is_space_is, same_number}
 use Rattle.qa_base.proofs.machine.WindowBound.{placed}
 use Rattle.qa_history.proofs.machine.Detection.{asked_was_flying, space_of_detection}
 use Rattle.qa_history.proofs.machine.Pairs.{at_one, has_first, has_later}
 use Rattle.qa_base.proofs.machine.Ranges.{has_all_names}
-use Rattle.qa_base.proofs.machine.RunLaws.{all_hold}
+use Rattle.qa_base.proofs.machine.RunLaws.{form_holds}
 use Rattle.qa_history.proofs.machine.Settled.{opens_from, owed_has, nameable_is, nameable_space, names_all, owed_is_named, has_some}
 
 -- ---- what one more event makes of a packet
@@ -62,7 +62,7 @@ one_of_numbers (p ∷ ps) n is = elim (or_cases (nat_eq p.number n) (is_in (numb
 same_spaces : (s t u : Space) → s ≡ u → t ≡ u → is_space s t ≡ true
 same_spaces s t u is_s is_t = rw (is_s, is_t) (is_space_same u)
 
-pub named_is_nameable : (c : Settings) (h : List Event) (time : ℕ) (space : Space) (ranges : List (ℕ × ℕ)) → IsRun c (Lost time space ranges ∷ h)
+pub named_is_nameable : (c : Settings) (h : List Event) (time : ℕ) (space : Space) (ranges : List (ℕ × ℕ)) → IsCourse c (Lost time space ranges ∷ h)
     → (p : Packet) → Contains (packets h) p → declares_lost p.space p.number (Lost time space ranges) ≡ true → is_nameable c h p ≡ true
 named_is_nameable c h time space ranges run p has named =
     let parts = and_parts (is_space p.space space) (is_named ranges p.number) named in
@@ -83,8 +83,8 @@ named_by false true named may must = refl
 named_by false false true may must = let no = may refl in cc
 named_by false false false may must = refl
 
--- in a run a Lost line names the packets that are owed and some of those that are free, of all that were sent
-pub names_taken : (c : Settings) (h : List Event) (time : ℕ) (space : Space) (ranges : List (ℕ × ℕ)) → IsRun c (Lost time space ranges ∷ h)
+-- in a course a Lost line names the packets that are owed and some of those that are free, of all that were sent
+pub names_taken : (c : Settings) (h : List Event) (time : ℕ) (space : Space) (ranges : List (ℕ × ℕ)) → IsCourse c (Lost time space ranges ∷ h)
     → (p : Packet) → Contains (packets h) p → declares_lost p.space p.number (Lost time space ranges) ≡ (is_owed c h p || is_named_free c (Lost time space ranges) h p)
 names_taken c h time space ranges run p has =
     named_by (is_owed c h p) (is_free c h p) (declares_lost p.space p.number (Lost time space ranges))
@@ -96,8 +96,8 @@ and_none false = refl
 
 -- ---- what was open before
 
--- in a run the event declares a packet lost that is not owed exactly where that is free and named
-pub named_if_free : (c : Settings) (e : Event) (h : List Event) → IsRun c (e ∷ h) → (p : Packet) → Contains (packets h) p → is_owed c h p ≡ false
+-- in a course the event declares a packet lost that is not owed exactly where that is free and named
+pub named_if_free : (c : Settings) (e : Event) (h : List Event) → IsCourse c (e ∷ h) → (p : Packet) → Contains (packets h) p → is_owed c h p ≡ false
     → declares_lost p.space p.number e ≡ is_named_free c e h p
 named_if_free c (Lost time space ranges) h run p has not_owed =
     names_taken c h time space ranges run p has ∙ ap (λ (b : Bool). b || is_named_free c (Lost time space ranges) h p) not_owed
@@ -158,8 +158,8 @@ not_discarded : (c : Settings) (e : Event) (h : List Event) (s : Space) (now : �
 not_discarded c (Discard time space) h s now at there = cc
 not_discarded c _ h s now at there = there
 
--- in a run what is free is open and in flight
-pub free_is_flying : (c : Settings) (h : List Event) → IsRun c h → (p : Packet) → is_free c h p ≡ true → is_flying c h p ≡ true
+-- in a course what is free is open and in flight
+pub free_is_flying : (c : Settings) (h : List Event) → IsCourse c h → (p : Packet) → is_free c h p ≡ true → is_flying c h p ≡ true
 free_is_flying c [] run p is = let left = free_is_left c [] p is in let none = left.at in cc
 free_is_flying c (e ∷ h) run p is =
     let left = free_is_left c (e ∷ h) p is in
@@ -170,7 +170,7 @@ free_is_flying c (e ∷ h) run p is =
     }))
 
 -- so what a Lost line names of it was open
-pub named_was_open : (c : Settings) (e : Event) (h : List Event) → IsRun c (e ∷ h) → (p : Packet) → is_named_free c e h p ≡ true → is_open c h p ≡ true
+pub named_was_open : (c : Settings) (e : Event) (h : List Event) → IsCourse c (e ∷ h) → (p : Packet) → is_named_free c e h p ≡ true → is_open c h p ≡ true
 named_was_open c e h run p is =
     let parts = and_parts (is_free c h p) (declares_lost p.space p.number e) is in
     (and_parts p.in_flight (is_open c h p) (free_is_flying c h run.0 p parts.0)).1
@@ -186,18 +186,18 @@ neither : (owed_then free_then : Bool) → owed_then ≡ false → false ≡ (ow
 neither owed_then true none = rw none refl
 neither owed_then false none = rw none refl
 
--- in a run the packets that are declared lost are those that were, those that were owed before the last event, and those that were free
+-- in a course the packets that are declared lost are those that were, those that were owed before the last event, and those that were free
 -- and that it names
-pub lost_is_taken : (c : Settings) (e : Event) (h : List Event) → IsRun c (e ∷ h) → (p : Packet) → Contains (packets h) p
+pub lost_is_taken : (c : Settings) (e : Event) (h : List Event) → IsCourse c (e ∷ h) → (p : Packet) → Contains (packets h) p
     → is_declared_lost (e ∷ h) p ≡ (is_owed c h p || is_named_free c e h p || is_declared_lost h p)
 lost_is_taken c (Lost time space ranges) h run p has =
     let e = Lost time space ranges in
     lost_after e h p has ∙ or_same (declares_lost p.space p.number e) (is_owed c h p || is_named_free c e h p) (is_declared_lost h p) (names_taken c h time space ranges run p has)
 lost_is_taken c e h run p has =
     lost_after e h p has ∙ or_same (declares_lost p.space p.number e) (is_owed c h p || is_named_free c e h p) (is_declared_lost h p)
-    (neither (is_owed c h p) (is_free c h p) (not_owed_now c e h p has (all_hold c h e run.1).loss_owed))
+    (neither (is_owed c h p) (is_free c h p) (not_owed_now c e h p has (form_holds c h e run.1).loss_owed))
 
-found_was_flying : (c : Settings) (e : Event) (h : List Event) → IsRun c (e ∷ h) → (p : Packet) → Contains (packets h) p
+found_was_flying : (c : Settings) (e : Event) (h : List Event) → IsCourse c (e ∷ h) → (p : Packet) → Contains (packets h) p
     → (d : Option (Space × ℕ)) → detection c (e ∷ h) ≡ d → is_found_at c (sampled c (e ∷ h)) (e ∷ h) p d ≡ true → is_flying c h p ≡ true
 found_was_flying c e h run p has None at is = cc
 found_was_flying c e h run p has (Some (s, now)) at is =
@@ -205,14 +205,14 @@ found_was_flying c e h run p has (Some (s, now)) at is =
     let more = and_parts (p.in_flight && is_unsettled (e ∷ h) p) (is_past_threshold c (sampled c (e ∷ h)) now (largest_acknowledged (e ∷ h) s) p) parts.1 in
     asked_was_flying c e h run s now at p has (and_from (is_of s p) (p.in_flight && is_unsettled (e ∷ h) p) parts.0 more.0)
 
--- in a run whatever an event finds lost was open and in flight
-pub owed_was_flying : (c : Settings) (e : Event) (h : List Event) → IsRun c (e ∷ h) → (p : Packet) → Contains (packets h) p → is_owed c (e ∷ h) p ≡ true → is_flying c h p ≡ true
+-- in a course whatever an event finds lost was open and in flight
+pub owed_was_flying : (c : Settings) (e : Event) (h : List Event) → IsCourse c (e ∷ h) → (p : Packet) → Contains (packets h) p → is_owed c (e ∷ h) p ≡ true → is_flying c h p ≡ true
 owed_was_flying c e h run p has is = found_was_flying c e h run p has (detection c (e ∷ h)) refl is
 
--- in a run whatever an event newly acknowledges was open
-pub newly_was_open : (c : Settings) (e : Event) (h : List Event) → IsRun c (e ∷ h) → (p : Packet) → Contains (packets h) p → is_newly_acknowledged e h p ≡ true → is_open c h p ≡ true
+-- in a course whatever an event newly acknowledges was open
+pub newly_was_open : (c : Settings) (e : Event) (h : List Event) → IsCourse c (e ∷ h) → (p : Packet) → Contains (packets h) p → is_newly_acknowledged e h p ≡ true → is_open c h p ≡ true
 newly_was_open c (Ack time space ranges delay app_limited) h run p has is =
-    let holds = all_hold c h (Ack time space ranges delay app_limited) run.1 in
+    let holds = form_holds c h (Ack time space ranges delay app_limited) run.1 in
     let parts = and_parts (acknowledges p.space p.number (Ack time space ranges delay app_limited) && not (is_acknowledged h p)) (not (is_declared_lost h p)) is in
     let more = and_parts (acknowledges p.space p.number (Ack time space ranges delay app_limited)) (not (is_acknowledged h p)) parts.0 in
     let of_space = (and_parts (is_space p.space space) (is_named ranges p.number) more.0).0 in

@@ -13,13 +13,13 @@ use Rattle.qa_base.specs.machine.Estimates.{sampled}
 use Rattle.qa_base.specs.machine.Detection.{is_found, is_found_at, found_at, is_unsettled}
 use Rattle.qa_base.specs.machine.Loss.{owed, is_owed, is_free, is_open, flight_size, bytes_in_flight, detection}
 use Rattle.qa_base.specs.machine.Packets.{Packet, packets, packet_of, is_of, is_acknowledged, is_declared_lost, is_discarded, is_newly_acknowledged, newly_acknowledged}
-use Rattle.qa_base.specs.machine.Rules.{IsRun}
+use Rattle.qa_base.specs.machine.Departures.{IsCourse}
 use Rattle.qa_base.specs.values.Settings.{Settings}
 use Rattle.qa_history.specs.machine.Declared.{is_named_free, named_free}
 use Rattle.qa_history.specs.machine.Sums.{counted, open_sum, is_discarded_by, discarded, bytes}
 use Rattle.qa_history.proofs.machine.Pairs.{of_each, same_part, part_of_part, none_left}
 use Rattle.qa_base.proofs.machine.Quiet.{same_sum, not_followed}
-use Rattle.qa_base.proofs.machine.RunLaws.{all_hold}
+use Rattle.qa_base.proofs.machine.RunLaws.{form_holds}
 use Rattle.qa_history.proofs.machine.Settled.{opens_is, open_before, covered_settles}
 use Rattle.qa_history.proofs.machine.Changes.{covered_after, lost_after, named_if_free, named_was_open, owed_was_flying, newly_was_open, found_unsettled}
 
@@ -41,7 +41,7 @@ by_tests false false true discards_it was_covered was_lost was_gone covered_now 
 by_tests false false false true was_covered was_lost was_gone covered_now lost_now covered_is lost_is not_covered not_lost not_gone = rw (covered_is, lost_is, not_covered, not_lost) refl
 by_tests false false false false was_covered was_lost was_gone covered_now lost_now covered_is lost_is not_covered not_lost not_gone = rw (covered_is, lost_is, not_covered, not_lost, not_gone) refl
 
-closes_if : (c : Settings) (e : Event) (h : List Event) → IsRun c (e ∷ h) → (p : Packet) → Contains (packets h) p → (was : Bool) → is_open c h p ≡ was
+closes_if : (c : Settings) (e : Event) (h : List Event) → IsCourse c (e ∷ h) → (p : Packet) → Contains (packets h) p → (was : Bool) → is_open c h p ≡ was
     → (was && not (is_open c (e ∷ h) p)) ≡ (is_newly_acknowledged e h p || is_owed c (e ∷ h) p || (discards p.space e && was) || is_named_free c e h p)
 closes_if c e h run p has true is =
     let o = opens_is c h p is in
@@ -59,9 +59,9 @@ closes_if c e h run p has false is =
     (or_from (is_newly_acknowledged e h p || is_owed c (e ∷ h) p) (discards p.space e && false)
     (or_from (is_newly_acknowledged e h p) (is_owed c (e ∷ h) p) not_newly not_owed) (and_right (discards p.space e) false refl)) not_named)
 
--- in a run an event closes the open packets that it newly acknowledges, that it finds lost, whose space it discards, and that were free
+-- in a course an event closes the open packets that it newly acknowledges, that it finds lost, whose space it discards, and that were free
 -- and that it names, and no others
-pub closes_is : (c : Settings) (e : Event) (h : List Event) → IsRun c (e ∷ h) → (p : Packet) → Contains (packets h) p
+pub closes_is : (c : Settings) (e : Event) (h : List Event) → IsCourse c (e ∷ h) → (p : Packet) → Contains (packets h) p
     → is_closed_by c e h p ≡ (is_newly_acknowledged e h p || is_owed c (e ∷ h) p || is_discarded_by c e h p || is_named_free c e h p)
 closes_is c e h run p has = closes_if c e h run p has (is_open c h p) refl
 
@@ -141,7 +141,7 @@ not_both_named c (Lost time space ranges) h p either = cc
 not_both_named c _ h p either = and_right (is_free c h p) false refl
 
 -- the weights of what an event closes
-closed_sum : (weight : Packet → ℕ) (c : Settings) (e : Event) (h : List Event) → IsRun c (e ∷ h)
+closed_sum : (weight : Packet → ℕ) (c : Settings) (e : Event) (h : List Event) → IsCourse c (e ∷ h)
     → sum_by weight (closed_by c e h) ≡ sum_by weight (newly_acknowledged (e ∷ h)) + sum_by weight (owed c (e ∷ h)) + sum_by weight (discarded c e h) + sum_by weight (named_free c e h)
 closed_sum weight c e h run =
     let newly = is_newly_acknowledged e h in
@@ -168,7 +168,7 @@ sent_is_open c h time space number size eliciting in_flight leave p place in_spa
     rw (not_covered, not_lost, still) refl
 
 -- the packet that an event sends is open after it
-sum_after : (weight : Packet → ℕ) (c : Settings) (e : Event) (h : List Event) → IsRun c (e ∷ h)
+sum_after : (weight : Packet → ℕ) (c : Settings) (e : Event) (h : List Event) → IsCourse c (e ∷ h)
     → open_sum weight c (e ∷ h) ≡ sum_by weight (packet_of (length h) e) + sum_by (counted (is_open c (e ∷ h)) weight) (packets h)
 sum_after weight c (Sent time space number size eliciting in_flight leave) h run =
     let e = Sent time space number size eliciting in_flight leave in
@@ -182,7 +182,7 @@ sum_after weight c (Sent time space number size eliciting in_flight leave) h run
       in_flight = in_flight;
       leave = leave;
     } in
-    let holds = all_hold c h e run.1 in
+    let holds = form_holds c h e run.1 in
     let open_now : is_open c (e ∷ h) p ≡ true = sent_is_open c h time space number size eliciting in_flight leave p refl refl holds.space_gone in
     let here : counted (is_open c (e ∷ h)) weight p ≡ weight p = ap (λ b. if b then weight p else 0) open_now in
     let alone : sum_by weight (p ∷ []) ≡ weight p = sum_by-cons weight p [] ∙ add-zero (weight p) in
@@ -190,9 +190,9 @@ sum_after weight c (Sent time space number size eliciting in_flight leave) h run
     ∙ ap (λ n. n + sum_by (counted (is_open c (e ∷ h)) weight) (packets h)) (here ∙ sym alone)
 sum_after weight c e h run = sym (zero-add _)
 
--- in a run one more event adds the packet that it sends to a sum over the open packets, and takes off those that it newly
+-- in a course one more event adds the packet that it sends to a sum over the open packets, and takes off those that it newly
 -- acknowledges, that it finds lost, whose space it discards, and that were free and that it names
-pub open_sum_after : (weight : Packet → ℕ) (c : Settings) (e : Event) (h : List Event) → IsRun c (e ∷ h)
+pub open_sum_after : (weight : Packet → ℕ) (c : Settings) (e : Event) (h : List Event) → IsCourse c (e ∷ h)
     → open_sum weight c (e ∷ h) + (sum_by weight (newly_acknowledged (e ∷ h)) + sum_by weight (owed c (e ∷ h)) + sum_by weight (discarded c e h) + sum_by weight (named_free c e h))
     ≡ open_sum weight c h + sum_by weight (packet_of (length h) e)
 open_sum_after weight c e h run =

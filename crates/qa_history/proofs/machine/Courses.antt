@@ -1,4 +1,4 @@
--- In which order the packets of a run stand: later, sent no earlier, and with a higher number in their space.
+-- In which order the packets of a course stand: later, sent no earlier, and with a higher number in their space.
 use Rattle.std.proofs.Common.{◌≡◌, ◌<◌, ◌≤◌, ℕ, List, [], ◌∷◌, length, true, refl, arith, Contains, inl, inr}
 use Rattle.std.proofs.lemmas.Bool.{ltb-false}
 use Rattle.std.specs.List.{AllByRecursion}
@@ -10,10 +10,10 @@ use Rattle.qa_base.specs.values.Events.{time_of, is_space}
 use Rattle.qa_base.specs.machine.Order.{IsLower}
 use Rattle.qa_history.specs.machine.Sequence.{WasSentBefore, EachTwo}
 use Rattle.qa_base.specs.machine.Packets.{Packet, packets, packets_of, is_of}
-use Rattle.qa_base.specs.machine.Rules.{IsRun}
+use Rattle.qa_base.specs.machine.Departures.{IsCourse}
 use Rattle.qa_base.specs.values.Settings.{Settings}
 use Rattle.qa_history.proofs.machine.Pairs.{of_each, each_weaker, two_of, two_of_part, part_is}
-use Rattle.qa_base.proofs.machine.RunLaws.{all_hold, numbers_fall}
+use Rattle.qa_base.proofs.machine.RunLaws.{form_holds, numbers_fall}
 use Rattle.qa_base.proofs.machine.WindowBound.{placed}
 use Rattle.qa_history.specs.machine.Parts.{AreOf}
 
@@ -36,11 +36,11 @@ by_more h e by = by
 later : (s t : ℕ) → s ≤ t → (ps : List Packet) → AreBy s ps → AreBy t ps
 later s t le ps by = each_weaker (λ q. q.time ≤ s) (λ q. q.time ≤ t) (λ q l. omega arith) ps by
 
--- each packet of a run was sent by the time of the event that comes next
-pub are_by : (c : Settings) (e : Event) (h : List Event) → IsRun c (e ∷ h) → AreBy (time_of e) (packets h)
+-- each packet of a course was sent by the time of the event that comes next
+pub are_by : (c : Settings) (e : Event) (h : List Event) → IsCourse c (e ∷ h) → AreBy (time_of e) (packets h)
 are_by c e [] run = tt
 are_by c e (last ∷ before) run =
-    let holds = all_hold c (last ∷ before) e run.1 in
+    let holds = form_holds c (last ∷ before) e run.1 in
     later (time_of last) (time_of e) (ltb-false (time_of e) (time_of last) holds.time_back) (packets (last ∷ before))
     (by_more before last (are_by c last before run.0))
 
@@ -51,7 +51,7 @@ joined p [] below by lower = tt
 joined p (q ∷ ps) below by lower =
     (record { place = below.0; time = by.0; number = lower.0 }, joined p ps below.1 by.1 lower.1)
 
-order_more : (c : Settings) (h : List Event) (e : Event) → IsRun c (e ∷ h) → EachTwo WasSentBefore (packets h) → EachTwo WasSentBefore (packets (e ∷ h))
+order_more : (c : Settings) (h : List Event) (e : Event) → IsCourse c (e ∷ h) → EachTwo WasSentBefore (packets h) → EachTwo WasSentBefore (packets (e ∷ h))
 order_more c h (Sent time space number size eliciting in_flight leave) run two =
     let e = Sent time space number size eliciting in_flight leave in
     let falls = numbers_fall c (e ∷ h) run in
@@ -68,8 +68,8 @@ order_more c h (Sent time space number size eliciting in_flight leave) run two =
     (joined p (packets h) (placed h) (are_by c e h run) falls.0, two)
 order_more c h _ run two = two
 
--- of each two packets of a run the one that stands behind was sent before the other
-pub in_order : (c : Settings) (h : List Event) → IsRun c h → EachTwo WasSentBefore (packets h)
+-- of each two packets of a course the one that stands behind was sent before the other
+pub in_order : (c : Settings) (h : List Event) → IsCourse c h → EachTwo WasSentBefore (packets h)
 in_order c [] run = tt
 in_order c (e ∷ h) run = order_more c h e run (in_order c h run.0)
 
@@ -95,7 +95,7 @@ is_of_back : (p q : Packet) → is_of p.space q ≡ true → is_of q.space p ≡
 is_of_back p q same = rw (is_space_is p.space q.space same) (is_space_same q.space)
 
 -- the one with the lower number was sent no later, and stands no further on
-pub lower_is_earlier : (c : Settings) (h : List Event) → IsRun c h → (p q : Packet) → Contains (packets h) p → Contains (packets h) q
+pub lower_is_earlier : (c : Settings) (h : List Event) → IsCourse c h → (p q : Packet) → Contains (packets h) p → Contains (packets h) q
     → is_of p.space q ≡ true → q.number ≤ p.number → (q.time ≤ p.time) × (q.place ≤ p.place)
 lower_is_earlier c h run p q has_p has_q same lower = elim (two_of WasSentBefore (packets h) p q (in_order c h run) has_p has_q) [
   | inl one ↦ rw one ((omega arith), (omega arith))
@@ -104,7 +104,7 @@ lower_is_earlier c h run p q has_p has_q same lower = elim (two_of WasSentBefore
 ]
 
 -- two of the same number are one
-pub same_number : (c : Settings) (h : List Event) → IsRun c h → (p q : Packet) → Contains (packets h) p → Contains (packets h) q
+pub same_number : (c : Settings) (h : List Event) → IsCourse c h → (p q : Packet) → Contains (packets h) p → Contains (packets h) q
     → is_of p.space q ≡ true → q.number ≡ p.number → p ≡ q
 same_number c h run p q has_p has_q same number = elim (two_of WasSentBefore (packets h) p q (in_order c h run) has_p has_q) [
   | inl one ↦ one
@@ -134,5 +134,5 @@ each_earlier s [] of two = tt
 each_earlier s (p ∷ ps) of two = (earlier_than s p ps of.0 of.1 two.0, each_earlier s ps of.1 two.1)
 
 -- of each two packets of one space the one that stands behind was sent no later and has a lower number
-pub in_order_of : (c : Settings) (h : List Event) (s : Space) → IsRun c h → EachTwo IsEarlier (packets_of h s)
+pub in_order_of : (c : Settings) (h : List Event) (s : Space) → IsCourse c h → EachTwo IsEarlier (packets_of h s)
 in_order_of c h s run = each_earlier s (packets_of h s) (are_of h s) (two_of_part WasSentBefore (is_of s) (packets h) (in_order c h run))

@@ -13,7 +13,7 @@ use Rattle.qa_base.specs.declared.space.Space.{Space}
 use Rattle.qa_history.specs.machine.Oldest.{is_flying, due_of, NoneFlies}
 use Rattle.qa_history.specs.machine.Sequence.{EachTwo}
 use Rattle.qa_base.specs.machine.Packets.{Packet, packets, packets_of, is_of, largest_acknowledged, least_of, is_below_largest}
-use Rattle.qa_base.specs.machine.Rules.{IsRun}
+use Rattle.qa_base.specs.machine.Departures.{IsCourse}
 use Rattle.qa_base.specs.values.Settings.{Settings, granularity}
 use Rattle.qa_base.specs.machine.Rtt.{loss_delay}
 use Rattle.qa_base.specs.machine.Timer.{Due, loss_due, awaits_loss}
@@ -107,8 +107,8 @@ awaits_of : (c : Settings) (h : List Event) (s : Space) (ps : List Packet) → A
 awaits_of c h s [] of = tt
 awaits_of c h s (p ∷ ps) of = (rw (is_space_is s p.space of.0) refl, awaits_of c h s ps of.1)
 
--- in a run the loss time of a space is that of its oldest packet that is open and in flight
-pub loss_due_is : (c : Settings) (h : List Event) → IsRun c h → (s : Space) → loss_due c h s ≡ due_of c h s (oldest_flying c h s)
+-- in a course the loss time of a space is that of its oldest packet that is open and in flight
+pub loss_due_is : (c : Settings) (h : List Event) → IsCourse c h → (s : Space) → loss_due c h s ≡ due_of c h s (oldest_flying c h s)
 loss_due_is c h run s =
     let ps = packets_of h s in
     let largest = largest_acknowledged h s in
@@ -141,7 +141,7 @@ oldest_is_next c h s front rest parts none =
     ∙ (ap (find test) parts
     ∙ (find-append test front rest ∙ ap (λ o. option_or o (find test rest)) (find_none test front none)))))
 
--- in a run it decides the loss time of its space
-pub loss_due_by_next : (c : Settings) (h : List Event) → IsRun c h → (s : Space) (front rest : List Packet) → reverse (packets h) ≡ front ++ rest → NoneFlies c h s front
+-- in a course it decides the loss time of its space
+pub loss_due_by_next : (c : Settings) (h : List Event) → IsCourse c h → (s : Space) (front rest : List Packet) → reverse (packets h) ≡ front ++ rest → NoneFlies c h s front
     → loss_due c h s ≡ due_of c h s (find (λ p. is_of s p && is_flying c h p) rest)
 loss_due_by_next c h run s front rest parts none = loss_due_is c h run s ∙ ap (due_of c h s) (oldest_is_next c h s front rest parts none)

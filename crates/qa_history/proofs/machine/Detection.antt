@@ -19,7 +19,7 @@ use Rattle.qa_history.specs.machine.Oldest.{is_flying, due_of, is_asked}
 use Rattle.qa_history.specs.machine.Sequence.{EachTwo}
 use Rattle.qa_base.specs.machine.Packets.{Packet, packets, packets_of, is_of, is_some_packet, is_discarded, acknowledges_new, largest_acknowledged, is_below_largest}
 use Rattle.qa_base.specs.machine.Rtt.{Estimate, pto_base}
-use Rattle.qa_base.specs.machine.Rules.{IsRun}
+use Rattle.qa_base.specs.machine.Departures.{IsCourse}
 use Rattle.qa_base.specs.values.Settings.{Settings, early, granularity}
 use Rattle.qa_base.specs.machine.Handshake.{is_confirmed, is_validated, has_keys}
 use Rattle.qa_base.specs.machine.Timer.{Due, is_kind, deadline, awaits_acknowledgment, last_eliciting, last_set, pto_count, earlier, earliest_loss, earliest_pto, anti_deadlock, loss_due, pto_due}
@@ -27,7 +27,7 @@ use Rattle.qa_history.proofs.machine.Courses.{IsEarlier, in_order_of, is_space_i
 use Rattle.qa_history.proofs.machine.Deadline.{first_passes, loss_due_is}
 use Rattle.qa_history.proofs.machine.Thresholds.{earlier_is_past_threshold}
 use Rattle.qa_history.proofs.machine.Pairs.{two_weaker, two_of_part, two_turned, part_turned, part_of_part, part_is, front}
-use Rattle.qa_base.proofs.machine.RunLaws.{all_hold}
+use Rattle.qa_base.proofs.machine.RunLaws.{form_holds}
 use Rattle.qa_history.proofs.machine.Settled.{opens_is, opens_from, unsettled_before, owed_has, has_some}
 use Rattle.qa_history.proofs.machine.Deadline.{oldest_flying}
 
@@ -47,7 +47,7 @@ found_of_asked c h now s =
 asked_is : (h : List Event) (s : Space) → asked h s ≡ reverse (filter (λ p. p.in_flight && is_unsettled h p) (packets_of h s))
 asked_is h s = part_turned (is_asked h s) (packets h) ∙ ap reverse (part_of_part (is_of s) (λ p. p.in_flight && is_unsettled h p) (packets h))
 
-late_first : (c : Settings) (h : List Event) (r : Estimate) (now : ℕ) (largest : Option ℕ) (s : Space) → IsRun c h
+late_first : (c : Settings) (h : List Event) (r : Estimate) (now : ℕ) (largest : Option ℕ) (s : Space) → IsCourse c h
     → EachTwo (λ p q. is_past_threshold c r now largest q ≡ true → is_past_threshold c r now largest p ≡ true) (asked h s)
 late_first c h r now largest s run =
     let open_here : Packet → Bool = λ p. p.in_flight && is_unsettled h p in
@@ -58,9 +58,9 @@ late_first c h r now largest s run =
     two_weaker (λ p q. IsEarlier q p) R (λ p q before late. earlier_is_past_threshold c r now largest q p (omega (arith, before.number)) before.time late) (reverse (filter open_here (packets_of h s))) two in
     subst (λ (ps : List Packet). EachTwo R ps) (sym (asked_is h s)) all
 
--- in a run, where the last event looks for losses in a space at a time, what it finds is, in the order of sending,
+-- in a course, where the last event looks for losses in a space at a time, what it finds is, in the order of sending,
 -- the packets asked of up to the first that is not late
-pub owed_is_front : (c : Settings) (h : List Event) → IsRun c h → (s : Space) (now : ℕ) → detection c h ≡ Some (s, now)
+pub owed_is_front : (c : Settings) (h : List Event) → IsCourse c h → (s : Space) (now : ℕ) → detection c h ≡ Some (s, now)
     → reverse (owed c h) ≡ take_while (is_past_threshold c (sampled c h) now (largest_acknowledged h s)) (asked h s)
 owed_is_front c h run s now at =
     let late = is_past_threshold c (sampled c h) now (largest_acknowledged h s) in
@@ -140,12 +140,12 @@ space_there c h s (Some p) is some =
     let opens = opens_is c h p (and_parts p.in_flight (is_open c h p) found.1).1 in
     rw (is_space_is s p.space of_space) opens.there
 
-loss_space_there : (c : Settings) (h : List Event) → IsRun c h → (s : Space) (due : Due) → loss_due c h s ≡ Some due → (is_discarded h due.space ≡ false)
+loss_space_there : (c : Settings) (h : List Event) → IsCourse c h → (s : Space) (due : Due) → loss_due c h s ≡ Some due → (is_discarded h due.space ≡ false)
 loss_space_there c h run s due is =
     let has = due_has c h s (oldest_flying c h s) due (sym (loss_due_is c h run s) ∙ is) in
     rw has.1 (space_there c h s (oldest_flying c h s) refl has.0)
 
-earliest_there : (c : Settings) (h : List Event) → IsRun c h → (due : Due) → earliest_loss c h ≡ Some due → is_discarded h due.space ≡ false
+earliest_there : (c : Settings) (h : List Event) → IsCourse c h → (due : Due) → earliest_loss c h ≡ Some due → is_discarded h due.space ≡ false
 earliest_there c h run due is = elim (earlier_is (loss_due c h Initial) (earlier (loss_due c h Handshake) (loss_due c h App)) due is) [
   | inl first ↦ loss_space_there c h run Initial due first
   | inr later ↦ elim (earlier_is (loss_due c h Handshake) (loss_due c h App) due later) [
@@ -161,9 +161,9 @@ timer_is kind space (Some due) some same =
     let both = and_parts (is_kind kind due.kind) (is_space space due.space) (not-false (is_kind kind due.kind && is_space space due.space) same) in
     (due, refl, both.0, both.1)
 
-pub timer_there : (c : Settings) (h : List Event) (time : ℕ) (s : Space) → IsRun c (Timer time Loss s ∷ h) → is_discarded h s ≡ false
+pub timer_there : (c : Settings) (h : List Event) (time : ℕ) (s : Space) → IsCourse c (Timer time Loss s ∷ h) → is_discarded h s ≡ false
 timer_there c h time s run =
-    let holds = all_hold c h (Timer time Loss s) run.1 in
+    let holds = form_holds c h (Timer time Loss s) run.1 in
     let set = timer_is Loss s (deadline c h) holds.timer_not_set holds.timer_other in
     let loss = loss_of (earliest_loss c h) (option_or (earliest_pto c h) (anti_deadlock c h)) set.0 (probes c h) set.1 set.2 in
     rw (is_space_is s set.0.space set.3) (earliest_there c h run.0 set.0 loss)
@@ -177,9 +177,9 @@ acknowledged_space : (new : Bool) (h : List Event) (space s : Space) (time now :
 acknowledged_space true h space s time now at there = rw (same_space space s time now at) at there
 acknowledged_space false h space s time now at there = cc
 
-pub space_of_detection : (c : Settings) (e : Event) (h : List Event) → IsRun c (e ∷ h) → (s : Space) (now : ℕ) → detection c (e ∷ h) ≡ Some (s, now) → is_discarded h s ≡ false
+pub space_of_detection : (c : Settings) (e : Event) (h : List Event) → IsCourse c (e ∷ h) → (s : Space) (now : ℕ) → detection c (e ∷ h) ≡ Some (s, now) → is_discarded h s ≡ false
 space_of_detection c (Ack time space ranges delay app_limited) h run s now at =
-    let holds = all_hold c h (Ack time space ranges delay app_limited) run.1 in
+    let holds = form_holds c h (Ack time space ranges delay app_limited) run.1 in
     acknowledged_space (acknowledges_new (Ack time space ranges delay app_limited ∷ h)) h space s time now at holds.space_gone
 space_of_detection c (Timer time Loss space) h run s now at =
     let there = timer_there c h time space run in
@@ -187,13 +187,13 @@ space_of_detection c (Timer time Loss space) h run s now at =
 space_of_detection c (Timer time Pto space) h run s now at = cc
 space_of_detection c _ h run s now at = cc
 
-nothing_owed : (c : Settings) (e : Event) (h : List Event) → IsRun c (e ∷ h) → (s : Space) (now : ℕ) → detection c (e ∷ h) ≡ Some (s, now) → is_some_packet (owed c h) ≡ false
-nothing_owed c (Ack time space ranges delay app_limited) h run s now at = (all_hold c h (Ack time space ranges delay app_limited) run.1).loss_owed
-nothing_owed c (Timer time kind space) h run s now at = (all_hold c h (Timer time kind space) run.1).loss_owed
+nothing_owed : (c : Settings) (e : Event) (h : List Event) → IsCourse c (e ∷ h) → (s : Space) (now : ℕ) → detection c (e ∷ h) ≡ Some (s, now) → is_some_packet (owed c h) ≡ false
+nothing_owed c (Ack time space ranges delay app_limited) h run s now at = (form_holds c h (Ack time space ranges delay app_limited) run.1).loss_owed
+nothing_owed c (Timer time kind space) h run s now at = (form_holds c h (Timer time kind space) run.1).loss_owed
 nothing_owed c _ h run s now at = cc
 
--- in a run each packet of which a detection asks was open and in flight before the event
-pub asked_was_flying : (c : Settings) (e : Event) (h : List Event) → IsRun c (e ∷ h) → (s : Space) (now : ℕ) → detection c (e ∷ h) ≡ Some (s, now)
+-- in a course each packet of which a detection asks was open and in flight before the event
+pub asked_was_flying : (c : Settings) (e : Event) (h : List Event) → IsCourse c (e ∷ h) → (s : Space) (now : ℕ) → detection c (e ∷ h) ≡ Some (s, now)
     → (p : Packet) → Contains (packets h) p → is_asked (e ∷ h) s p ≡ true → is_flying c h p ≡ true
 asked_was_flying c e h run s now at p has asked_of =
     let parts = and_parts (is_of s p) (p.in_flight && is_unsettled (e ∷ h) p) asked_of in

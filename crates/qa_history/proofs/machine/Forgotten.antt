@@ -19,7 +19,7 @@ use Rattle.qa_base.specs.machine.Loss.{owed, is_owed, is_open, is_persistent, de
 use Rattle.qa_history.specs.machine.Sequence.{EachTwo, WasSentBefore}
 use Rattle.qa_base.specs.machine.Packets.{Packet, packets, is_acknowledged, is_newly_acknowledged, newly_acknowledged}
 use Rattle.qa_base.specs.machine.Rtt.{persistent_after}
-use Rattle.qa_base.specs.machine.Rules.{IsRun}
+use Rattle.qa_base.specs.machine.Departures.{IsCourse}
 use Rattle.qa_base.specs.values.Settings.{Settings, granularity, is_may}
 use Rattle.qa_history.specs.machine.Sums.{counted, open_sum}
 use Rattle.qa_history.proofs.machine.Closing.{owed_among}
@@ -86,15 +86,15 @@ pairs_of_kept c g kept gone found parts two behind =
     found behind)
 
 -- none of the closed is found lost by the event that comes next
-closed_not_owed : (c : Settings) (e : Event) (h : List Event) (kept gone : List Packet) → IsRun c (e ∷ h) → packets h ≡ kept ++ gone → AreClosed c h gone
+closed_not_owed : (c : Settings) (e : Event) (h : List Event) (kept gone : List Packet) → IsCourse c (e ∷ h) → packets h ≡ kept ++ gone → AreClosed c h gone
     → AllByRecursion (λ p. is_owed c (e ∷ h) p ≡ false) gone
 closed_not_owed c e h kept gone run parts closed = of_each (λ p. is_owed c (e ∷ h) p ≡ false) gone (λ p has.
     let inside : Contains (packets h) p = subst (λ (ps : List Packet). Contains ps p) (sym parts) (Contains-append_right kept gone p has) in
     let shut : is_open c h p ≡ false = at_one (λ q. is_open c h q ≡ false) gone p closed has in
     false_from_ne_true (is_owed c (e ∷ h) p) (λ is. both_ways (is_open c h p) shut (and_parts p.in_flight (is_open c h p) (owed_was_flying c e h run p inside is)).1))
 
--- in a run none of them is found lost
-pub owed_of_kept : (c : Settings) (e : Event) (h : List Event) → IsRun c (e ∷ h) → (kept gone : List Packet) → packets h ≡ kept ++ gone → AreClosed c h gone
+-- in a course none of them is found lost
+pub owed_of_kept : (c : Settings) (e : Event) (h : List Event) → IsCourse c (e ∷ h) → (kept gone : List Packet) → packets h ≡ kept ++ gone → AreClosed c h gone
     → owed c (e ∷ h) ≡ filter (is_owed c (e ∷ h)) kept
 owed_of_kept c e h run kept gone parts closed =
     sym (owed_among c e h) ∙ (ap (filter (is_owed c (e ∷ h))) parts ∙ part_of_first (is_owed c (e ∷ h)) kept gone (closed_not_owed c e h kept gone run parts closed))
@@ -105,7 +105,7 @@ lost_of_kept : (c : Settings) (e : Event) (h : List Event) (kept gone : List Pac
 lost_of_kept c e h kept gone parts none =
     sym (lost_now_among c e h) ∙ (ap (filter (is_lost_now c (e ∷ h))) parts ∙ part_of_first (is_lost_now c (e ∷ h)) kept gone none)
 
-persistent_if : (c : Settings) (e : Event) (h : List Event) (kept gone : List Packet) → IsRun c (e ∷ h) → packets (e ∷ h) ≡ packets h → packets h ≡ kept ++ gone
+persistent_if : (c : Settings) (e : Event) (h : List Event) (kept gone : List Packet) → IsCourse c (e ∷ h) → packets (e ∷ h) ≡ packets h → packets h ≡ kept ++ gone
     → AllByRecursion (λ p. is_lost_now c (e ∷ h) p ≡ false) gone → is_persistent c (e ∷ h) ≡ is_persistent_among c (e ∷ h) kept
 persistent_if c e h kept gone run same parts none =
     let lost = filter (is_lost_now c (e ∷ h)) kept in
@@ -115,8 +115,8 @@ persistent_if c e h kept gone run same parts none =
     ap (λ found. list_any (λ p. list_any (are_ends (sampled c (e ∷ h)) c (e ∷ h) p) found) found) (lost_of_kept c e h kept gone parts none)
     ∙ pairs_of_kept c (e ∷ h) kept gone lost (same ∙ parts) two behind
 
--- in a run, packets before all others of which an event loses none have no part in whether it establishes persistent congestion
-pub persistent_unless_lost : (c : Settings) (e : Event) (h : List Event) → IsRun c (e ∷ h) → (kept gone : List Packet) → packets h ≡ kept ++ gone
+-- in a course, packets before all others of which an event loses none have no part in whether it establishes persistent congestion
+pub persistent_unless_lost : (c : Settings) (e : Event) (h : List Event) → IsCourse c (e ∷ h) → (kept gone : List Packet) → packets h ≡ kept ++ gone
     → AllByRecursion (λ p. is_lost_now c (e ∷ h) p ≡ false) gone → is_persistent c (e ∷ h) ≡ is_persistent_among c (e ∷ h) kept
 persistent_unless_lost c (Sent time space number size eliciting in_flight leave) h run kept gone parts none =
     ap (λ found. list_any (λ p. list_any (are_ends_among c (Sent time space number size eliciting in_flight leave ∷ h) kept p) found) found)
@@ -127,14 +127,14 @@ gone_has : (h : List Event) (kept gone : List Packet) (p : Packet) → packets h
 gone_has h kept gone p parts has = subst (λ (ps : List Packet). Contains ps p) (sym parts) (Contains-append_right kept gone p has)
 
 -- so it is of packets of no use
-pub persistent_of_kept : (c : Settings) (e : Event) (h : List Event) → IsRun c (e ∷ h) → (kept gone : List Packet) → packets h ≡ kept ++ gone → AreDropped c h gone
+pub persistent_of_kept : (c : Settings) (e : Event) (h : List Event) → IsCourse c (e ∷ h) → (kept gone : List Packet) → packets h ≡ kept ++ gone → AreDropped c h gone
     → is_persistent c (e ∷ h) ≡ is_persistent_among c (e ∷ h) kept
 persistent_of_kept c e h run kept gone parts dropped =
     persistent_unless_lost c e h run kept gone parts (of_each (λ p. is_lost_now c (e ∷ h) p ≡ false) gone
     (λ p has. dropped_not_lost c e h run p (gone_has h kept gone p parts has) (at_one (λ q. is_kept c h q ≡ false) gone p dropped has)))
 
 -- and of closed ones, where losses by number must be declared
-pub must_persistent_of_kept : (c : Settings) (e : Event) (h : List Event) → IsRun c (e ∷ h) → (kept gone : List Packet) → packets h ≡ kept ++ gone → is_may c.options.loss_by_number ≡ false
+pub must_persistent_of_kept : (c : Settings) (e : Event) (h : List Event) → IsCourse c (e ∷ h) → (kept gone : List Packet) → packets h ≡ kept ++ gone → is_may c.options.loss_by_number ≡ false
     → AreClosed c h gone → is_persistent c (e ∷ h) ≡ is_persistent_among c (e ∷ h) kept
 must_persistent_of_kept c e h run kept gone parts must closed =
     persistent_unless_lost c e h run kept gone parts (of_each (λ p. is_lost_now c (e ∷ h) p ≡ false) gone
@@ -142,8 +142,8 @@ must_persistent_of_kept c e h run kept gone parts must closed =
 
 -- ---- what else is never asked of them
 
--- in a run none of them is newly acknowledged
-pub newly_of_kept : (c : Settings) (e : Event) (h : List Event) → IsRun c (e ∷ h) → (kept gone : List Packet) → packets h ≡ kept ++ gone → AreClosed c h gone
+-- in a course none of them is newly acknowledged
+pub newly_of_kept : (c : Settings) (e : Event) (h : List Event) → IsCourse c (e ∷ h) → (kept gone : List Packet) → packets h ≡ kept ++ gone → AreClosed c h gone
     → newly_acknowledged (e ∷ h) ≡ filter (is_newly_acknowledged e h) kept
 newly_of_kept c e h run kept gone parts closed =
     ap (filter (is_newly_acknowledged e h)) parts ∙ part_of_first (is_newly_acknowledged e h) kept gone (of_each (λ p. is_newly_acknowledged e h p ≡ false) gone (λ p has.

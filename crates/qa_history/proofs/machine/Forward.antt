@@ -11,7 +11,7 @@ use Rattle.qa_base.specs.machine.Loss.{is_persistent}
 use Rattle.qa_history.specs.machine.Sequence.{EachTwo, WasSentBefore}
 use Rattle.qa_base.specs.machine.Packets.{Packet, packets, is_acknowledged}
 use Rattle.qa_base.specs.machine.Rtt.{persistent_after}
-use Rattle.qa_base.specs.machine.Rules.{IsRun}
+use Rattle.qa_base.specs.machine.Departures.{IsCourse}
 use Rattle.qa_base.specs.values.Settings.{Settings, granularity}
 use Rattle.qa_history.proofs.machine.Changes.{same_tests}
 use Rattle.qa_history.proofs.machine.Courses.{in_order}
@@ -248,8 +248,8 @@ walk_gives : (c : Settings) (h : List Event)
 walk_gives c h (inl (p, q, apart)) = of_apart c h p q (apart_back (is_acknowledged h) (counts_as_end c h) (persistent_after (granularity c) (sampled c h) c.max_ack_delay) (packets h) p q apart)
 walk_gives c h (inr (s, q, is, on)) = cc
 
--- in a run the last event establishes persistent congestion exactly where a walk in the order of sending finds it
-pub persistent_is_forward : (c : Settings) (h : List Event) → IsRun c h
+-- in a course the last event establishes persistent congestion exactly where a walk in the order of sending finds it
+pub persistent_is_forward : (c : Settings) (h : List Event) → IsCourse c h
     → is_persistent c h ≡ finds_apart (is_acknowledged h) (counts_as_end c h) (persistent_after (granularity c) (sampled c h) c.max_ack_delay) None (reverse (packets h))
 persistent_is_forward c h run =
     let limit = persistent_after (granularity c) (sampled c h) c.max_ack_delay in

@@ -9,7 +9,7 @@ use Rattle.qa_base.specs.machine.Estimates.{sampled}
 use Rattle.qa_base.specs.machine.Kept.{is_kept}
 use Rattle.qa_base.specs.machine.Loss.{declared, detection, is_free, is_open, is_owed}
 use Rattle.qa_base.specs.machine.Packets.{Packet, packets, is_acknowledged, is_declared_lost}
-use Rattle.qa_base.specs.machine.Rules.{IsRun}
+use Rattle.qa_base.specs.machine.Departures.{IsCourse}
 use Rattle.qa_base.specs.values.Events.{declares_lost}
 use Rattle.qa_base.specs.values.Settings.{Settings, is_may}
 use Rattle.qa_base.proofs.machine.Declared.{declared_is, none_free_by, owed_is}
@@ -66,7 +66,7 @@ lost_now_uncovered c (e ∷ h) p is = owed_uncovered c (e ∷ h) p is
 flying_kept : (c : Settings) (h : List Event) (p : Packet) → (p.in_flight && is_open c h p) ≡ true → is_kept c h p ≡ true
 flying_kept c h p is = or_left (is_open c h p) (is_owed c h p) (and_parts p.in_flight (is_open c h p) is).1
 
-pub lost_now_was_kept : (c : Settings) (e : Event) (h : List Event) → IsRun c (e ∷ h) → (p : Packet) → Contains (packets h) p → is_lost_now c (e ∷ h) p ≡ true → is_kept c h p ≡ true
+pub lost_now_was_kept : (c : Settings) (e : Event) (h : List Event) → IsCourse c (e ∷ h) → (p : Packet) → Contains (packets h) p → is_lost_now c (e ∷ h) p ≡ true → is_kept c h p ≡ true
 lost_now_was_kept c (Lost time space ranges) h run p has is =
     let e = Lost time space ranges in
     let taken = (and_parts (list_any (is_named_free c e h) (packets h)) (is_owed c h p || is_named_free c e h p) is).1 in
@@ -76,8 +76,8 @@ lost_now_was_kept c (Lost time space ranges) h run p has is =
     ]
 lost_now_was_kept c e h run p has is = flying_kept c h p (owed_was_flying c e h run p has is)
 
--- so nothing that is of no use is lost by an event of a run
-pub dropped_not_lost : (c : Settings) (e : Event) (h : List Event) → IsRun c (e ∷ h) → (p : Packet) → Contains (packets h) p → is_kept c h p ≡ false → is_lost_now c (e ∷ h) p ≡ false
+-- so nothing that is of no use is lost by an event of a course
+pub dropped_not_lost : (c : Settings) (e : Event) (h : List Event) → IsCourse c (e ∷ h) → (p : Packet) → Contains (packets h) p → is_kept c h p ≡ false → is_lost_now c (e ∷ h) p ≡ false
 dropped_not_lost c e h run p has none = false_from_ne_true (is_lost_now c (e ∷ h) p) (λ is. both_ways (is_kept c h p) none (lost_now_was_kept c e h run p has is))
 
 -- ---- where losses by number must be declared
@@ -92,7 +92,7 @@ must_lose c (Lost time space ranges) h p must = rw (none_named c (Lost time spac
 must_lose c _ h p must = refl
 
 -- so nothing that is closed is
-pub closed_not_lost : (c : Settings) (e : Event) (h : List Event) → IsRun c (e ∷ h) → (p : Packet) → Contains (packets h) p → is_may c.options.loss_by_number ≡ false → is_open c h p ≡ false
+pub closed_not_lost : (c : Settings) (e : Event) (h : List Event) → IsCourse c (e ∷ h) → (p : Packet) → Contains (packets h) p → is_may c.options.loss_by_number ≡ false → is_open c h p ≡ false
     → is_lost_now c (e ∷ h) p ≡ false
 closed_not_lost c e h run p has must shut =
     must_lose c e h p must

@@ -15,7 +15,7 @@ use Rattle.qa_base.specs.machine.Detection.{is_end}
 use Rattle.qa_base.specs.machine.Loss.{owed, is_owed, is_open, is_persistent}
 use Rattle.qa_base.specs.machine.Packets.{Packet, packets, packet_of, is_acknowledged, is_newly_acknowledged, newly_acknowledged}
 use Rattle.qa_base.specs.machine.Rtt.{persistent_after}
-use Rattle.qa_base.specs.machine.Rules.{IsRun}
+use Rattle.qa_base.specs.machine.Departures.{IsCourse}
 use Rattle.qa_base.specs.values.Settings.{Settings, granularity, is_may}
 use Rattle.qa_history.specs.machine.Sums.{counted, open_sum}
 use Rattle.qa_history.proofs.machine.Forgotten.{newly_of_kept, owed_of_kept, open_sum_of_kept}
@@ -34,15 +34,15 @@ parts_turned ps gone kept parts = sym (reverse-reverse ps) ∙ (ap reverse parts
 kept_turned : (test : Packet → Bool) (kept : List Packet) → reverse (filter test (reverse kept)) ≡ filter test kept
 kept_turned test kept = ap reverse (part_turned test kept) ∙ reverse-reverse (filter test kept)
 
--- in a run the packets that an event newly acknowledges are among those kept
-pub newly_of_kept_in_order : (c : Settings) (e : Event) (h : List Event) → IsRun c (e ∷ h) → (gone kept : List Packet) → reverse (packets h) ≡ gone ++ kept → AreClosed c h gone
+-- in a course the packets that an event newly acknowledges are among those kept
+pub newly_of_kept_in_order : (c : Settings) (e : Event) (h : List Event) → IsCourse c (e ∷ h) → (gone kept : List Packet) → reverse (packets h) ≡ gone ++ kept → AreClosed c h gone
     → reverse (newly_acknowledged (e ∷ h)) ≡ filter (is_newly_acknowledged e h) kept
 newly_of_kept_in_order c e h run gone kept parts closed =
     ap reverse (newly_of_kept c e h run (reverse kept) (reverse gone) (parts_turned (packets h) gone kept parts) (each_turned (λ p. is_open c h p ≡ false) gone closed))
     ∙ kept_turned (is_newly_acknowledged e h) kept
 
 -- and so are those that it finds lost
-pub owed_of_kept_in_order : (c : Settings) (e : Event) (h : List Event) → IsRun c (e ∷ h) → (gone kept : List Packet) → reverse (packets h) ≡ gone ++ kept → AreClosed c h gone
+pub owed_of_kept_in_order : (c : Settings) (e : Event) (h : List Event) → IsCourse c (e ∷ h) → (gone kept : List Packet) → reverse (packets h) ≡ gone ++ kept → AreClosed c h gone
     → reverse (owed c (e ∷ h)) ≡ filter (is_owed c (e ∷ h)) kept
 owed_of_kept_in_order c e h run gone kept parts closed =
     ap reverse (owed_of_kept c e h run (reverse kept) (reverse gone) (parts_turned (packets h) gone kept parts) (each_turned (λ p. is_open c h p ≡ false) gone closed))
@@ -71,7 +71,7 @@ gone_counts_not : (c : Settings) (e : Event) (h : List Event) (gone : List Packe
 gone_counts_not c e h gone none = of_each (λ p. counts_as_end c (e ∷ h) p ≡ false) gone (λ p has.
     and_left (is_lost_now c (e ∷ h) p) (is_end (sampled c (e ∷ h)) p) (at_one (λ q. is_lost_now c (e ∷ h) q ≡ false) gone p none has))
 
-walk_if : (c : Settings) (e : Event) (h : List Event) → IsRun c (e ∷ h) → (gone kept : List Packet) → packets (e ∷ h) ≡ packets h → reverse (packets h) ≡ gone ++ kept
+walk_if : (c : Settings) (e : Event) (h : List Event) → IsCourse c (e ∷ h) → (gone kept : List Packet) → packets (e ∷ h) ≡ packets h → reverse (packets h) ≡ gone ++ kept
     → AllByRecursion (λ p. is_lost_now c (e ∷ h) p ≡ false) gone
     → is_persistent c (e ∷ h) ≡ finds_apart (is_acknowledged (e ∷ h)) (counts_as_end c (e ∷ h)) (persistent_after (granularity c) (sampled c (e ∷ h)) c.max_ack_delay) None kept
 walk_if c e h run gone kept same parts none =
@@ -80,7 +80,7 @@ walk_if c e h run gone kept same parts none =
     ∙ (ap (finds_apart (is_acknowledged (e ∷ h)) (counts_as_end c (e ∷ h)) limit None) (ap reverse same ∙ parts)
     ∙ front_dropped (is_acknowledged (e ∷ h)) (counts_as_end c (e ∷ h)) limit gone kept (gone_counts_not c e h gone none))
 
-walk_of_kept : (c : Settings) (e : Event) (h : List Event) → IsRun c (e ∷ h) → (gone kept : List Packet) → reverse (packets h) ≡ gone ++ kept
+walk_of_kept : (c : Settings) (e : Event) (h : List Event) → IsCourse c (e ∷ h) → (gone kept : List Packet) → reverse (packets h) ≡ gone ++ kept
     → AllByRecursion (λ p. is_lost_now c (e ∷ h) p ≡ false) gone
     → is_persistent c (e ∷ h) ≡ finds_apart (is_acknowledged (e ∷ h)) (counts_as_end c (e ∷ h)) (persistent_after (granularity c) (sampled c (e ∷ h)) c.max_ack_delay) None kept
 walk_of_kept c (Sent time space number size eliciting in_flight leave) h run gone kept parts none =
@@ -91,15 +91,15 @@ walk_of_kept c e h run gone kept parts none = walk_if c e h run gone kept refl p
 gone_has : (h : List Event) (gone kept : List Packet) (p : Packet) → reverse (packets h) ≡ gone ++ kept → Contains gone p → Contains (packets h) p
 gone_has h gone kept p parts has = turned_has (packets h) p (subst (λ (ps : List Packet). Contains ps p) (sym parts) (Contains-append_left gone kept p has))
 
--- in a run an event establishes persistent congestion exactly where a walk over the packets kept finds it, in the order of sending
-pub persistent_is_walk_of_kept : (c : Settings) (e : Event) (h : List Event) → IsRun c (e ∷ h) → (gone kept : List Packet) → reverse (packets h) ≡ gone ++ kept → AreDropped c h gone
+-- in a course an event establishes persistent congestion exactly where a walk over the packets kept finds it, in the order of sending
+pub persistent_is_walk_of_kept : (c : Settings) (e : Event) (h : List Event) → IsCourse c (e ∷ h) → (gone kept : List Packet) → reverse (packets h) ≡ gone ++ kept → AreDropped c h gone
     → is_persistent c (e ∷ h) ≡ finds_apart (is_acknowledged (e ∷ h)) (counts_as_end c (e ∷ h)) (persistent_after (granularity c) (sampled c (e ∷ h)) c.max_ack_delay) None kept
 persistent_is_walk_of_kept c e h run gone kept parts dropped =
     walk_of_kept c e h run gone kept parts (of_each (λ p. is_lost_now c (e ∷ h) p ≡ false) gone
     (λ p has. dropped_not_lost c e h run p (gone_has h gone kept p parts has) (at_one (λ q. is_kept c h q ≡ false) gone p dropped has)))
 
 -- and so it does where closed packets are left out, where losses by number must be declared
-pub must_persistent_is_walk_of_kept : (c : Settings) (e : Event) (h : List Event) → IsRun c (e ∷ h) → (gone kept : List Packet) → reverse (packets h) ≡ gone ++ kept → is_may c.options.loss_by_number ≡ false
+pub must_persistent_is_walk_of_kept : (c : Settings) (e : Event) (h : List Event) → IsCourse c (e ∷ h) → (gone kept : List Packet) → reverse (packets h) ≡ gone ++ kept → is_may c.options.loss_by_number ≡ false
     → AreClosed c h gone
     → is_persistent c (e ∷ h) ≡ finds_apart (is_acknowledged (e ∷ h)) (counts_as_end c (e ∷ h)) (persistent_after (granularity c) (sampled c (e ∷ h)) c.max_ack_delay) None kept
 must_persistent_is_walk_of_kept c e h run gone kept parts must closed =
@@ -121,8 +121,8 @@ open_sum_of_kept_in_order weight c h gone kept parts closed =
 
 -- ---- after one more event
 
--- in a run the closed stay closed
-pub stay_closed_in_order : (c : Settings) (e : Event) (h : List Event) → IsRun c (e ∷ h) → (gone kept : List Packet) → reverse (packets h) ≡ gone ++ kept → AreClosed c h gone → AreClosed c (e ∷ h) gone
+-- in a course the closed stay closed
+pub stay_closed_in_order : (c : Settings) (e : Event) (h : List Event) → IsCourse c (e ∷ h) → (gone kept : List Packet) → reverse (packets h) ≡ gone ++ kept → AreClosed c h gone → AreClosed c (e ∷ h) gone
 stay_closed_in_order c e h run gone kept parts closed = of_each (λ p. is_open c (e ∷ h) p ≡ false) gone (λ p has.
     let inside : Contains (packets h) p = turned_has (packets h) p (subst (λ (ps : List Packet). Contains ps p) (sym parts) (Contains-append_left gone kept p has)) in
     closed_stays c e h run p inside (at_one (λ q. is_open c h q ≡ false) gone p closed has))

@@ -13,12 +13,12 @@ use Rattle.qa_base.specs.machine.Detection.{is_found, is_found_at, found_at, is_
 use Rattle.qa_base.specs.machine.Loss.{owed, is_owed, is_free, nameable, is_nameable, is_open, detection}
 use Rattle.qa_base.specs.machine.Numbers.{has_all, names_between}
 use Rattle.qa_base.specs.machine.Packets.{Packet, packets, packets_of, is_of, is_some_packet, is_acknowledged, is_declared_lost, is_discarded, greatest, greatest_in, greatest_of, largest_acknowledged, is_below_largest}
-use Rattle.qa_base.specs.machine.Rules.{IsRun}
+use Rattle.qa_base.specs.machine.Departures.{IsCourse}
 use Rattle.qa_base.specs.values.Settings.{Settings}
 use Rattle.qa_history.proofs.machine.Courses.{is_space_same, is_space_is}
 use Rattle.qa_base.proofs.machine.WindowBound.{placed}
 use Rattle.qa_history.proofs.machine.Pairs.{at_one, part_has, part_is, some_one, first_or_rest}
-use Rattle.qa_base.proofs.machine.RunLaws.{all_hold}
+use Rattle.qa_base.proofs.machine.RunLaws.{form_holds}
 
 -- ---- covered, lost, gone
 
@@ -116,38 +116,38 @@ named_at ranges (q ∷ ps) p all has =
 not_while_owed : (c : Settings) (h : List Event) (p : Packet) (G : Type 0) → Contains (packets h) p → is_owed c h p ≡ true → is_some_packet (owed c h) ≡ false → G
 not_while_owed c h p G has is none = absurd (both_ways (is_some_packet (owed c h)) none (has_some (owed c h) p (owed_has c h p has is)))
 
--- the space of a Lost line in a run
-pub nameable_space : (c : Settings) (h : List Event) (time : ℕ) (space : Space) (ranges : List (ℕ × ℕ)) → IsRun c (Lost time space ranges ∷ h)
+-- the space of a Lost line in a course
+pub nameable_space : (c : Settings) (h : List Event) (time : ℕ) (space : Space) (ranges : List (ℕ × ℕ)) → IsCourse c (Lost time space ranges ∷ h)
     → (p : Packet) → is_nameable c h p ≡ true → p.space ≡ space
 nameable_space c h time space ranges run p is =
-    let holds = all_hold c h (Lost time space ranges) run.1 in
+    let holds = form_holds c h (Lost time space ranges) run.1 in
     let one = some_one (is_of space) (nameable c h) (not-false (list_any (is_of space) (nameable c h)) holds.loss_not_owed) in
     named_of_one c h p one.0 is (nameable_is c h one.0 one.1).1 ∙ sym (is_space_is space one.0.space one.2)
 
-pub owed_space : (c : Settings) (h : List Event) (time : ℕ) (space : Space) (ranges : List (ℕ × ℕ)) → IsRun c (Lost time space ranges ∷ h)
+pub owed_space : (c : Settings) (h : List Event) (time : ℕ) (space : Space) (ranges : List (ℕ × ℕ)) → IsCourse c (Lost time space ranges ∷ h)
     → (p : Packet) → is_owed c h p ≡ true → p.space ≡ space
 owed_space c h time space ranges run p is = nameable_space c h time space ranges run p (or_left (is_owed c h p) (is_free c h p) is)
 
-pub names_all : (c : Settings) (h : List Event) (time : ℕ) (space : Space) (ranges : List (ℕ × ℕ)) → IsRun c (Lost time space ranges ∷ h)
+pub names_all : (c : Settings) (h : List Event) (time : ℕ) (space : Space) (ranges : List (ℕ × ℕ)) → IsCourse c (Lost time space ranges ∷ h)
     → names_between ranges (numbers (owed c h)) (numbers (nameable c h)) ≡ true
-names_all c h time space ranges run = not-false (names_between ranges (numbers (owed c h)) (numbers (nameable c h))) (all_hold c h (Lost time space ranges) run.1).loss_set
+names_all c h time space ranges run = not-false (names_between ranges (numbers (owed c h)) (numbers (nameable c h))) (form_holds c h (Lost time space ranges) run.1).loss_set
 
--- a Lost line of a run declares each packet lost that is owed
-pub owed_is_named : (c : Settings) (h : List Event) (time : ℕ) (space : Space) (ranges : List (ℕ × ℕ)) → IsRun c (Lost time space ranges ∷ h)
+-- a Lost line of a course declares each packet lost that is owed
+pub owed_is_named : (c : Settings) (h : List Event) (time : ℕ) (space : Space) (ranges : List (ℕ × ℕ)) → IsCourse c (Lost time space ranges ∷ h)
     → (p : Packet) → Contains (packets h) p → is_owed c h p ≡ true → declares_lost p.space p.number (Lost time space ranges) ≡ true
 owed_is_named c h time space ranges run p has is =
     let between = names_all c h time space ranges run in
     let named = named_at ranges (owed c h) p (and_parts (has_all (numbers (nameable c h)) ranges) (list_all (is_named ranges) (numbers (owed c h))) between).1 (owed_has c h p has is) in
     and_from (is_space p.space space) (is_named ranges p.number) (rw (owed_space c h time space ranges run p is) (is_space_same space)) named
 
--- in a run, what is owed is declared lost by the event that comes next
-pub owed_then_lost : (c : Settings) (e : Event) (h : List Event) → IsRun c (e ∷ h) → (p : Packet) → Contains (packets h) p → is_owed c h p ≡ true → is_declared_lost (e ∷ h) p ≡ true
+-- in a course, what is owed is declared lost by the event that comes next
+pub owed_then_lost : (c : Settings) (e : Event) (h : List Event) → IsCourse c (e ∷ h) → (p : Packet) → Contains (packets h) p → is_owed c h p ≡ true → is_declared_lost (e ∷ h) p ≡ true
 owed_then_lost c (Lost time space ranges) h run p has is =
     let below : p.place < length h = at_one (λ q. q.place < length h) (packets h) p (placed h) has in
     or_left (declares_lost p.space p.number (Lost time space ranges) && nat_lt p.place (length h)) (is_declared_lost h p)
     (and_from (declares_lost p.space p.number (Lost time space ranges)) (nat_lt p.place (length h))
     (owed_is_named c h time space ranges run p has is) (lt-ltb p.place (length h) below))
-owed_then_lost c e h run p has is = not_while_owed c h p (is_declared_lost (e ∷ h) p ≡ true) has is (all_hold c h e run.1).loss_owed
+owed_then_lost c e h run p has is = not_while_owed c h p (is_declared_lost (e ∷ h) p ≡ true) has is (form_holds c h e run.1).loss_owed
 
 -- ---- open
 
@@ -187,8 +187,8 @@ opens_is c h p is =
 pub opens_from : (c : Settings) (h : List Event) (p : Packet) → Opens c h p → is_open c h p ≡ true
 opens_from c h p o = rw (o.unsettled, o.free, o.there) refl
 
--- in a run a packet that is open was open before the last event, unless that sent it
-pub open_before : (c : Settings) (e : Event) (h : List Event) → IsRun c (e ∷ h) → (p : Packet) → Contains (packets h) p → is_open c (e ∷ h) p ≡ true → is_open c h p ≡ true
+-- in a course a packet that is open was open before the last event, unless that sent it
+pub open_before : (c : Settings) (e : Event) (h : List Event) → IsCourse c (e ∷ h) → (p : Packet) → Contains (packets h) p → is_open c (e ∷ h) p ≡ true → is_open c h p ≡ true
 open_before c e h run p has is =
     let now = opens_is c (e ∷ h) p is in
     opens_from c h p (record {
@@ -197,6 +197,6 @@ open_before c e h run p has is =
       there = false_from_ne_true (is_discarded h p.space) (λ gone. both_ways (is_discarded (e ∷ h) p.space) now.there (gone_stays e h p.space gone));
     })
 
--- in a run a packet that is not open is not open after one more event
-pub closed_stays : (c : Settings) (e : Event) (h : List Event) → IsRun c (e ∷ h) → (p : Packet) → Contains (packets h) p → is_open c h p ≡ false → is_open c (e ∷ h) p ≡ false
+-- in a course a packet that is not open is not open after one more event
+pub closed_stays : (c : Settings) (e : Event) (h : List Event) → IsCourse c (e ∷ h) → (p : Packet) → Contains (packets h) p → is_open c h p ≡ false → is_open c (e ∷ h) p ≡ false
 closed_stays c e h run p has closed = false_from_ne_true (is_open c (e ∷ h) p) (λ is. both_ways (is_open c h p) closed (open_before c e h run p has is))

@@ -6,7 +6,7 @@ use Rattle.qa_base.specs.declared.event.Event.{Event}
 use Rattle.qa_base.specs.machine.Detection.{is_old, is_past_threshold}
 use Rattle.qa_base.specs.machine.Packets.{Packet, packets, is_of}
 use Rattle.qa_base.specs.machine.Rtt.{Estimate, loss_delay}
-use Rattle.qa_base.specs.machine.Rules.{IsRun}
+use Rattle.qa_base.specs.machine.Departures.{IsCourse}
 use Rattle.qa_base.specs.values.Settings.{Settings, granularity, is_may}
 use Rattle.qa_history.proofs.machine.Courses.{lower_is_earlier}
 
@@ -34,8 +34,8 @@ earlier_is_past_threshold c r now (Some largest) p q lower earlier late =
       | inr old ↦ or_right (not (is_may c.options.loss_by_number) && nat_le c.options.packet_threshold (largest - q.number)) (is_old c r now q) (earlier_is_old c r now p q earlier old)
     ])
 
--- in a run, of two packets of one space, if the one with the higher number is late, so is the other
-pub lower_is_past_threshold : (c : Settings) (h : List Event) → IsRun c h → (r : Estimate) (now : ℕ) (largest : Option ℕ) (p q : Packet)
+-- in a course, of two packets of one space, if the one with the higher number is late, so is the other
+pub lower_is_past_threshold : (c : Settings) (h : List Event) → IsCourse c h → (r : Estimate) (now : ℕ) (largest : Option ℕ) (p q : Packet)
     → Contains (packets h) p → Contains (packets h) q → is_of p.space q ≡ true → q.number ≤ p.number
     → is_past_threshold c r now largest p ≡ true → is_past_threshold c r now largest q ≡ true
 lower_is_past_threshold c h run r now largest p q has_p has_q same lower late =

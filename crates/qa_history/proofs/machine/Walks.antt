@@ -12,7 +12,7 @@ use Rattle.qa_base.specs.machine.Detection.{is_found, is_found_at, is_past_thres
 use Rattle.qa_base.specs.machine.Loss.{owed, is_owed, detection}
 use Rattle.qa_history.specs.machine.Oldest.{is_flying, is_asked, NoneFlies}
 use Rattle.qa_base.specs.machine.Packets.{Packet, packets, is_of, is_discarded, largest_acknowledged}
-use Rattle.qa_base.specs.machine.Rules.{IsRun}
+use Rattle.qa_base.specs.machine.Departures.{IsCourse}
 use Rattle.qa_base.specs.values.Settings.{Settings}
 use Rattle.qa_history.proofs.machine.Courses.{is_space_is}
 use Rattle.qa_history.proofs.machine.Detection.{asked, owed_is_front, asked_was_flying, space_of_detection}
@@ -25,7 +25,7 @@ turned_has ps p has =
     let all : AllByRecursion (Contains ps) (reverse ps) = each_turned (Contains ps) ps (of_each (Contains ps) ps (λ q is. is)) in
     at_one (Contains ps) (reverse ps) p all has
 
-none_asked : (c : Settings) (e : Event) (h : List Event) → IsRun c (e ∷ h) → (s : Space) (now : ℕ) → detection c (e ∷ h) ≡ Some (s, now)
+none_asked : (c : Settings) (e : Event) (h : List Event) → IsCourse c (e ∷ h) → (s : Space) (now : ℕ) → detection c (e ∷ h) ≡ Some (s, now)
     → (front rest : List Packet) → reverse (packets h) ≡ front ++ rest → NoneFlies c h s front → AllByRecursion (λ p. is_asked (e ∷ h) s p ≡ false) front
 none_asked c e h run s now at front rest parts none = of_each (λ p. is_asked (e ∷ h) s p ≡ false) front (λ p has.
     let inside : Contains (packets h) p = turned_has (packets h) p (subst (λ (ps : List Packet). Contains ps p) (sym parts) (Contains-append_left front rest p has)) in
@@ -44,8 +44,8 @@ same_packets : (c : Settings) (e : Event) (h : List Event) (d : Space × ℕ) �
 same_packets c (Sent time space number size eliciting in_flight leave) h d at = cc
 same_packets c _ h d at = refl
 
--- in a run, where no packet of a front is of the space, open and in flight before the event, the walk may begin behind that front
-pub owed_of_rest : (c : Settings) (e : Event) (h : List Event) → IsRun c (e ∷ h) → (s : Space) (now : ℕ) → detection c (e ∷ h) ≡ Some (s, now)
+-- in a course, where no packet of a front is of the space, open and in flight before the event, the walk may begin behind that front
+pub owed_of_rest : (c : Settings) (e : Event) (h : List Event) → IsCourse c (e ∷ h) → (s : Space) (now : ℕ) → detection c (e ∷ h) ≡ Some (s, now)
     → (front rest : List Packet) → reverse (packets h) ≡ front ++ rest → NoneFlies c h s front
     → reverse (owed c (e ∷ h)) ≡ take_while (is_past_threshold c (sampled c (e ∷ h)) now (largest_acknowledged (e ∷ h) s)) (filter (is_asked (e ∷ h) s) rest)
 owed_of_rest c e h run s now at front rest parts none =
@@ -70,8 +70,8 @@ not_discarded : (c : Settings) (e : Event) (h : List Event) (s : Space) (d : Spa
 not_discarded c (Discard time space) h s d at = cc
 not_discarded c _ h s d at = refl
 
--- in a run, after a detection in a space, a packet of it is open and in flight that was asked of and is not late
-pub flies_after : (c : Settings) (e : Event) (h : List Event) → IsRun c (e ∷ h) → (s : Space) (now : ℕ) → detection c (e ∷ h) ≡ Some (s, now)
+-- in a course, after a detection in a space, a packet of it is open and in flight that was asked of and is not late
+pub flies_after : (c : Settings) (e : Event) (h : List Event) → IsCourse c (e ∷ h) → (s : Space) (now : ℕ) → detection c (e ∷ h) ≡ Some (s, now)
     → (p : Packet) → is_of s p ≡ true → is_flying c (e ∷ h) p ≡ (is_asked (e ∷ h) s p && not (is_past_threshold c (sampled c (e ∷ h)) now (largest_acknowledged (e ∷ h) s) p))
 flies_after c e h run s now at p of_space =
     let g = e ∷ h in

@@ -12,6 +12,7 @@ use Rattle.qa_history.specs.machine.Oldest.{is_flying, NoneFlies}
 use Rattle.qa_base.specs.machine.Packets.{Packet, packets, is_of, is_acknowledged, is_declared_lost, is_discarded}
 use Rattle.qa_base.specs.machine.Rules.{IsRun}
 use Rattle.qa_base.specs.values.Settings.{Settings}
+use Rattle.qa_base.proofs.machine.RunLaws.{course_of}
 use Rattle.qa_history.proofs.machine.Changes.{covered_after, free_is_left, lost_is_taken, found_unsettled}
 use Rattle.qa_history.proofs.machine.Settled.{open_before}
 use Rattle.qa_history.proofs.machine.Walks.{turned_has}
@@ -49,7 +50,7 @@ pub fate_after : (c : Settings) (e : Event) (h : List Event) → IsRun c (e ∷ 
     → fate c (e ∷ h) p ≡ fate_next (acknowledges p.space p.number e) (is_owed c (e ∷ h) p) (is_named_free c e h p) (fate c h p)
 fate_after c e h run p has =
     next_by (acknowledges p.space p.number e) (is_named_free c e h p) (is_acknowledged h p) (is_declared_lost h p) (is_owed c h p) (is_acknowledged (e ∷ h) p) (is_declared_lost (e ∷ h) p) (is_owed c (e ∷ h) p)
-    (covered_after e h p has) (lost_is_taken c e h run p has) (λ found. found_unsettled c (e ∷ h) p (detection c (e ∷ h)) found) (free_not_covered c e h p)
+    (covered_after e h p has) (lost_is_taken c e h (course_of c (e ∷ h) run) p has) (λ found. found_unsettled c (e ∷ h) p (detection c (e ∷ h)) found) (free_not_covered c e h p)
 
 open_by : (covered lost is_due gone : Bool) → (not covered && not lost && not is_due && not gone) ≡ (is_unacknowledged (fate_by covered lost is_due) && not gone)
 open_by true lost is_due gone = refl
@@ -66,7 +67,7 @@ open_is_uncovered c h p = open_by (is_acknowledged h p) (is_declared_lost h p) (
 flying_before : (c : Settings) (e : Event) (h : List Event) → IsRun c (e ∷ h) → (p : Packet) → Contains (packets h) p → is_flying c (e ∷ h) p ≡ true → is_flying c h p ≡ true
 flying_before c e h run p has is =
     let parts = and_parts p.in_flight (is_open c (e ∷ h) p) is in
-    and_from p.in_flight (is_open c h p) parts.0 (open_before c e h run p has parts.1)
+    and_from p.in_flight (is_open c h p) parts.0 (open_before c e h (course_of c (e ∷ h) run) p has parts.1)
 
 none_flies_still : (c : Settings) (e : Event) (h : List Event) → IsRun c (e ∷ h) → (s : Space) (p : Packet) → Contains (packets h) p
     → (is_of s p && is_flying c h p) ≡ false → (is_of s p && is_flying c (e ∷ h) p) ≡ false

@@ -15,6 +15,7 @@ use Rattle.qa_base.specs.values.Events.{declares_lost, is_quiet}
 use Rattle.qa_base.specs.values.Settings.{Settings, is_may}
 use Rattle.qa_base.proofs.machine.Declared.{free_is, must_declared_by, declared_is}
 use Rattle.qa_base.proofs.machine.Quiet.{owed-quiet, same_sum}
+use Rattle.qa_base.proofs.machine.RunLaws.{course_of}
 use Rattle.qa_history.specs.machine.Declared.{IsFarBelow, is_named_free, named_free}
 use Rattle.qa_history.specs.machine.Oldest.{is_flying}
 use Rattle.qa_history.specs.machine.Sums.{bytes}
@@ -66,7 +67,7 @@ free_is_apart c h p has = free_not_owed c h p (free_here c h p has)
 
 -- in a run it is open and in flight
 pub free_flies : (c : Settings) (h : List Event) (p : Packet) → IsRun c h → Contains (free c h) p → is_flying c h p ≡ true
-free_flies c h p run has = free_is_flying c h run p (free_here c h p has)
+free_flies c h p run has = free_is_flying c h (course_of c h run) p (free_here c h p has)
 
 -- and there is none but behind a detection
 pub none_is_free : (c : Settings) (h : List Event) → detection c h ≡ None → free c h ≡ []

@@ -15,6 +15,7 @@ use Rattle.qa_base.specs.machine.Numbers.{is_in}
 use Rattle.qa_base.specs.machine.Packets.{Packet, packets, packet_of, packets_of, is_of}
 use Rattle.qa_base.specs.machine.Rules.{IsRun}
 use Rattle.qa_base.specs.values.Settings.{Settings}
+use Rattle.qa_base.proofs.machine.RunLaws.{course_of}
 use Rattle.qa_history.specs.machine.Sequence.{EachTwo}
 use Rattle.qa_laws.specs.machine.Useful.{runs_begun}
 use Rattle.qa_history.proofs.machine.Courses.{IsEarlier, in_order_of}
@@ -113,15 +114,15 @@ sent_last place time space number size eliciting in_flight leave = record {
 pub runs_sent : (c : Settings) (h : List Event) (time : ℕ) (space : Space) (number size : ℕ) (eliciting in_flight : Bool) (leave : Leave) → IsRun c (Sent time space number size eliciting in_flight leave ∷ h)
     → runs (Sent time space number size eliciting in_flight leave ∷ h) ≡ runs h + runs_begun (numbers_of h space) number
 runs_sent c h time Initial number size eliciting in_flight leave run =
-    let two = in_order_of c (Sent time Initial number size eliciting in_flight leave ∷ h) Initial run in
+    let two = in_order_of c (Sent time Initial number size eliciting in_flight leave ∷ h) Initial (course_of c (Sent time Initial number size eliciting in_flight leave ∷ h) run) in
     let more = begun (sent_last (length h) time Initial number size eliciting in_flight leave) (packets_of h Initial) two.0 two.1 in
     omega (arith, more)
 runs_sent c h time Handshake number size eliciting in_flight leave run =
-    let two = in_order_of c (Sent time Handshake number size eliciting in_flight leave ∷ h) Handshake run in
+    let two = in_order_of c (Sent time Handshake number size eliciting in_flight leave ∷ h) Handshake (course_of c (Sent time Handshake number size eliciting in_flight leave ∷ h) run) in
     let more = begun (sent_last (length h) time Handshake number size eliciting in_flight leave) (packets_of h Handshake) two.0 two.1 in
     omega (arith, more)
 runs_sent c h time App number size eliciting in_flight leave run =
-    let two = in_order_of c (Sent time App number size eliciting in_flight leave ∷ h) App run in
+    let two = in_order_of c (Sent time App number size eliciting in_flight leave ∷ h) App (course_of c (Sent time App number size eliciting in_flight leave ∷ h) run) in
     let more = begun (sent_last (length h) time App number size eliciting in_flight leave) (packets_of h App) two.0 two.1 in
     omega (arith, more)
 

@@ -21,6 +21,7 @@ use Rattle.qa_history.proofs.machine.Pairs.{at_one, of_each}
 use Rattle.qa_history.proofs.machine.Settled.{open_before}
 use Rattle.qa_history.proofs.machine.Walks.{owed_of_rest, flies_after}
 use Rattle.qa_base.proofs.machine.WindowBound.{each_append}
+use Rattle.qa_base.proofs.machine.RunLaws.{course_of}
 
 -- ---- one walk in the place of two
 
@@ -42,7 +43,7 @@ pub owed_is_passed : (c : Settings) (e : Event) (h : List Event) → IsRun c (e 
     → (front rest : List Packet) → reverse (packets h) ≡ front ++ rest → NoneFlies c h s front
     → reverse (owed c (e ∷ h)) ≡ filter (is_asked (e ∷ h) s) (take_while (is_passed (e ∷ h) s (is_past_threshold c (sampled c (e ∷ h)) now (largest_acknowledged (e ∷ h) s))) rest)
 owed_is_passed c e h run s now at front rest parts none =
-    owed_of_rest c e h run s now at front rest parts none
+    owed_of_rest c e h (course_of c (e ∷ h) run) s now at front rest parts none
     ∙ passed_is (is_asked (e ∷ h) s) (is_past_threshold c (sampled c (e ∷ h)) now (largest_acknowledged (e ∷ h) s)) rest
 
 -- ---- the new front
@@ -65,7 +66,7 @@ passed_by false late is = refl
 flies_not : (c : Settings) (e : Event) (h : List Event) → IsRun c (e ∷ h) → (s : Space) (now : ℕ) → detection c (e ∷ h) ≡ Some (s, now) → (p : Packet) (of_space : Bool) → is_of s p ≡ of_space
     → is_passed (e ∷ h) s (is_past_threshold c (sampled c (e ∷ h)) now (largest_acknowledged (e ∷ h) s)) p ≡ true → (of_space && is_flying c (e ∷ h) p) ≡ false
 flies_not c e h run s now at p true of_s passed =
-    flies_after c e h run s now at p of_s ∙ passed_by (is_asked (e ∷ h) s p) (is_past_threshold c (sampled c (e ∷ h)) now (largest_acknowledged (e ∷ h) s) p) passed
+    flies_after c e h (course_of c (e ∷ h) run) s now at p of_s ∙ passed_by (is_asked (e ∷ h) s p) (is_past_threshold c (sampled c (e ∷ h)) now (largest_acknowledged (e ∷ h) s) p) passed
 flies_not c e h run s now at p false of_s passed = refl
 
 -- in a run none of the packets up to where the walk stops is open and in flight after the event
@@ -92,7 +93,7 @@ pub stays_open : (c : Settings) (e : Event) (h : List Event) → IsRun c (e ∷ 
     → is_newly_acknowledged e h p ≡ false → is_owed c (e ∷ h) p ≡ false → is_discarded_by c e h p ≡ false → is_named_free c e h p ≡ false
     → is_open c (e ∷ h) p ≡ is_open c h p
 stays_open c e h run p has not_newly not_owed there unnamed =
-    open_if (is_open c h p) (is_open c (e ∷ h) p) (is_newly_acknowledged e h p || is_owed c (e ∷ h) p || is_discarded_by c e h p || is_named_free c e h p) (closes_is c e h run p has)
+    open_if (is_open c h p) (is_open c (e ∷ h) p) (is_newly_acknowledged e h p || is_owed c (e ∷ h) p || is_discarded_by c e h p || is_named_free c e h p) (closes_is c e h (course_of c (e ∷ h) run) p has)
     (or_from (is_newly_acknowledged e h p || is_owed c (e ∷ h) p || is_discarded_by c e h p) (is_named_free c e h p)
     (or_from (is_newly_acknowledged e h p || is_owed c (e ∷ h) p) (is_discarded_by c e h p) (or_from (is_newly_acknowledged e h p) (is_owed c (e ∷ h) p) not_newly not_owed) there) unnamed)
-    (open_before c e h run p has)
+    (open_before c e h (course_of c (e ∷ h) run) p has)

@@ -17,7 +17,7 @@ use Rattle.qa_base.specs.machine.Packets.{Packet, packets, packet_of, is_some_pa
 use Rattle.qa_base.specs.machine.Rules.{IsRun}
 use Rattle.qa_base.specs.values.Events.{is_quiet}
 use Rattle.qa_base.specs.values.Settings.{Settings}
-use Rattle.qa_base.proofs.machine.RunLaws.{all_hold}
+use Rattle.qa_base.proofs.machine.RunLaws.{all_hold, course_of}
 use Rattle.qa_base.proofs.machine.WindowBound.{each_append}
 use Rattle.qa_history.specs.machine.Parts.{AreDropped, BeginsKept}
 use Rattle.qa_history.specs.machine.Sums.{is_discarded_by}
@@ -80,8 +80,8 @@ kept_is c h = kept_behind c h [] (reverse (packets h)) refl tt
 pub dropped_stays : (c : Settings) (e : Event) (h : List Event) → IsRun c (e ∷ h) → (p : Packet) → Contains (packets h) p → is_kept c h p ≡ false → is_kept c (e ∷ h) p ≡ false
 dropped_stays c e h run p has is =
     let parts = or_parts (is_open c h p) (is_owed c h p) is in
-    or_from (is_open c (e ∷ h) p) (is_owed c (e ∷ h) p) (closed_stays c e h run p has parts.0)
-    (false_from_ne_true (is_owed c (e ∷ h) p) (λ found. both_ways (is_open c h p) parts.0 (and_parts p.in_flight (is_open c h p) (owed_was_flying c e h run p has found)).1))
+    or_from (is_open c (e ∷ h) p) (is_owed c (e ∷ h) p) (closed_stays c e h (course_of c (e ∷ h) run) p has parts.0)
+    (false_from_ne_true (is_owed c (e ∷ h) p) (λ found. both_ways (is_open c h p) parts.0 (and_parts p.in_flight (is_open c h p) (owed_was_flying c e h (course_of c (e ∷ h) run) p has found)).1))
 
 front_has : (h : List Event) (gone kept : List Packet) → reverse (packets h) ≡ gone ++ kept → (p : Packet) → Contains gone p → Contains (packets h) p
 front_has h gone kept parts p has = turned_has (packets h) p (subst (λ (ps : List Packet). Contains ps p) (sym parts) (Contains-append_left gone kept p has))

@@ -4,7 +4,6 @@ use Rattle.qa_base.specs.values.Events.{is_space}
 use Rattle.qa_running.proofs.Nameable.{nameable_in_is_held}
 use Rattle.qa_running.specs.Freeing.{free_of}
 use Rattle.qa_sent.specs.Free.{is_free_by}
-use Rattle.qa_sent.specs.Fates.{is_owed_in}
 use Rattle.qa_sent.specs.declared.free.FreePackets.{FreePackets}
 use Rattle.qa_running.proofs.answers.RunningState.has_nameable_in.Goals as goal
 

@@ -1,4 +1,4 @@
-use Rattle.std.proofs.Common.{◌≡◌, ◌∙◌, sym, ap, subst}
+use Rattle.std.proofs.Common.{◌∙◌, sym, ap, subst}
 use Rattle.qa_base.specs.machine.Numbers.{names_between}
 use Rattle.qa_running.proofs.Losses.{owed_numbers_stand}
 use Rattle.qa_running.proofs.Nameable.{losses_are_named, owed_in_free}

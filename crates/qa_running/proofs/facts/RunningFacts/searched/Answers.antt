@@ -1,4 +1,4 @@
-use Rattle.std.proofs.Common.{◌≡◌, ◌∙◌, Option, option_map, sym, ap}
+use Rattle.std.proofs.Common.{◌∙◌, option_map, sym, ap}
 use Rattle.qa_connection.specs.declared.detection.Detection.{Detection}
 use Rattle.qa_running.proofs.Sparing.{searched_is_held}
 use Rattle.qa_running.proofs.facts.RunningFacts.searched.Goals as goal

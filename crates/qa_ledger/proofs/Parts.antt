@@ -1,0 +1,102 @@
+-- Of the rules past which the machine does not go on, the first that is broken; and of all rules, those that are.
+use Rattle.std.proofs.Common.{◌≡◌, ◌∙◌, List, [], ◌∷◌, ◌++◌, Bool, true, false, ◌&&◌, not, None, Some, Option, refl, sym, ap, append_assoc}
+use Rattle.std.specs.Prelude.{if◌then◌else◌, map, nat_lt}
+use Rattle.std.specs.Option.{option_or}
+use Rattle.qa_base.specs.declared.event.Event.{Event}
+use Rattle.qa_base.specs.declared.event.Event.TheVariants.{Metrics}
+use Rattle.qa_base.specs.declared.rule.Field.{Field}
+use Rattle.qa_base.specs.declared.rule.Rule.{Rule}
+use Rattle.qa_base.specs.declared.rule.Rule.TheVariants as rule
+use Rattle.qa_base.specs.machine.Breaches.{is_time_back, is_loss_owed, is_loss_not_owed, is_other_loss_set, is_space_gone, is_number_not_higher, is_past_window, is_past_probe, is_past_recovery, is_ack_unsent, is_timer_not_set, is_timer_other, is_timer_early, is_probe_owed, is_not_confirmed, is_timer_late, is_collapse_missing}
+use Rattle.qa_base.specs.machine.Departures.{departures, first_unborne, is_unborne, most_doublings, rules_of}
+use Rattle.qa_base.specs.machine.Metrics.{differences, metric_tests}
+use Rattle.qa_base.specs.machine.Rules.{first_of}
+use Rattle.qa_base.specs.machine.State.{totals}
+use Rattle.qa_base.specs.machine.Timer.{pto_count}
+use Rattle.qa_base.specs.values.Settings.{Settings}
+use Rattle.qa_ledger.specs.Tests.{tests_of_packets, tests_of_answers, all_of_packets, all_of_answers, all_of_lateness}
+use Rattle.qa_ledger.proofs.Firsts.{first_of_both}
+
+and_true : (b : Bool) → (b && true) ≡ b
+and_true true = refl
+and_true false = refl
+
+and_false : (b : Bool) → (b && false) ≡ false
+and_false true = refl
+and_false false = refl
+
+-- ---- reported values are borne
+
+passed : (b : Bool) (r : Rule) (rest : Option Rule) → (if b && false then Some r else rest) ≡ rest
+passed true r rest = refl
+passed false r rest = refl
+
+-- the tests of which the machine does not go on, of some
+abbrev unborne_of : Settings → List Event → List (Bool × Rule) → List (Bool × Rule)
+unborne_of c h tests = map (λ test. (is_unborne c h test, test.1)) tests
+
+borne_fields : (c : Settings) (h : List Event) (fields : List (Bool × Field)) (others : List (Bool × Rule))
+    → first_of (unborne_of c h (map (λ test. (test.0, rule.Metric test.1)) fields ++ others)) ≡ first_of (unborne_of c h others)
+borne_fields c h [] others = refl
+borne_fields c h (test ∷ fields) others =
+    passed test.0 (rule.Metric test.1) (first_of (unborne_of c h (map (λ test. (test.0, rule.Metric test.1)) fields ++ others))) ∙ borne_fields c h fields others
+
+borne_report : (c : Settings) (h : List Event) (e : Event) (others : List (Bool × Rule)) → first_of (unborne_of c h (metric_tests c h e ++ others)) ≡ first_of (unborne_of c h others)
+borne_report c h (Metrics time values) others = borne_fields c h (differences c values (totals c h)) others
+borne_report c h _ others = refl
+
+-- none of those behind V15
+none_behind : (c : Settings) (h : List Event) (e : Event) → first_of (unborne_of c h (metric_tests c h e ++ all_of_lateness c h e)) ≡ None
+none_behind c h e =
+    borne_report c h e (all_of_lateness c h e)
+    ∙ (passed (is_timer_late c h e) rule.TimerLate _ ∙ passed (is_collapse_missing c h e) rule.CollapseMissing None)
+
+-- ---- the others
+
+first_of_form : (b1 b2 b3 b4 b5 b6 b7 b8 b9 b10 b11 b12 b13 b14 b15 : Bool) (tests : List (Bool × Rule)) → first_of tests ≡ None
+    → first_of ((b1 && true, rule.TimeBack) ∷ (b2 && true, rule.LossOwed) ∷ (b3 && true, rule.LossNotOwed) ∷ (b4 && true, rule.LossSet) ∷ (b5 && true, rule.SpaceGone) ∷ (b6 && true, rule.NumberNotHigher) ∷ (b7 && false, rule.PastWindow) ∷ (b8 && false, rule.PastProbe) ∷ (b9 && false, rule.PastRecovery) ∷ (b10 && true, rule.AckUnsent) ∷ (b11 && true, rule.TimerNotSet) ∷ (b12 && true, rule.TimerOther) ∷ (b13, rule.TimerEarly) ∷ (b14 && false, rule.ProbeOwed) ∷ (b15 && true, rule.NotConfirmed) ∷ tests)
+    ≡ first_of ((b1, rule.TimeBack) ∷ (b2, rule.LossOwed) ∷ (b3, rule.LossNotOwed) ∷ (b4, rule.LossSet) ∷ (b5, rule.SpaceGone) ∷ (b6, rule.NumberNotHigher) ∷ (b10, rule.AckUnsent) ∷ (b11, rule.TimerNotSet) ∷ (b12, rule.TimerOther) ∷ (b13, rule.TimerEarly) ∷ (b15, rule.NotConfirmed) ∷ [])
+first_of_form b1 b2 b3 b4 b5 b6 b7 b8 b9 b10 b11 b12 b13 b14 b15 tests none =
+    rw (and_true b1, and_true b2, and_true b3, and_true b4, and_true b5, and_true b6, and_false b7, and_false b8, and_false b9, and_true b10, and_true b11, and_true b12, and_false b14, and_true b15, none) refl
+
+-- the first rule past which the machine does not go on, by the two parts in which it is looked for
+pub first_in_parts : (c : Settings) (h : List Event) (e : Event) → first_unborne c h e ≡ option_or (first_of (tests_of_packets c h e)) (first_of (tests_of_answers c h e))
+unfolding first_unborne
+first_in_parts c h e =
+    first_of_form (is_time_back h e) (is_loss_owed c h e) (is_loss_not_owed c h e) (is_other_loss_set c h e) (is_space_gone h e) (is_number_not_higher h e)
+    (is_past_window c h e) (is_past_probe c h e) (is_past_recovery c h e) (is_ack_unsent h e) (is_timer_not_set c h e) (is_timer_other c h e)
+    (is_timer_early c h e && not (nat_lt (pto_count c h) most_doublings)) (is_probe_owed h e) (is_not_confirmed h e)
+    (unborne_of c h (metric_tests c h e ++ all_of_lateness c h e)) (none_behind c h e)
+    ∙ first_of_both (tests_of_packets c h e) (tests_of_answers c h e)
+
+-- ---- all rules that are broken
+
+one_more : (b : Bool) (r : Rule) (tests others : List (Bool × Rule)) → rules_of (tests ++ others) ≡ rules_of tests ++ rules_of others
+    → rules_of ((b, r) ∷ (tests ++ others)) ≡ rules_of ((b, r) ∷ tests) ++ rules_of others
+one_more true r tests others rest = ap (λ (rs : List Rule). r ∷ rs) rest
+one_more false r tests others rest = rest
+
+pub rules_of_both : (tests others : List (Bool × Rule)) → rules_of (tests ++ others) ≡ rules_of tests ++ rules_of others
+rules_of_both [] others = refl
+rules_of_both (test ∷ tests) others = one_more test.0 test.1 tests others (rules_of_both tests others)
+
+-- by the four parts in which they are looked for
+pub departures_in_parts : (c : Settings) (h : List Event) (e : Event)
+    → departures c h e ≡ ((rules_of (all_of_packets c h e) ++ rules_of (all_of_answers c h e)) ++ rules_of (metric_tests c h e)) ++ rules_of (all_of_lateness c h e)
+unfolding departures
+departures_in_parts c h e =
+    let packets = all_of_packets c h e in
+    let answers = all_of_answers c h e in
+    let reports = metric_tests c h e in
+    let late = all_of_lateness c h e in
+    rules_of_both packets (answers ++ (reports ++ late))
+    ∙ (ap (λ rs. rules_of packets ++ rs) (rules_of_both answers (reports ++ late)
+    ∙ ap (λ rs. rules_of answers ++ rs) (rules_of_both reports late))
+    ∙ (sym (append_assoc (rules_of packets) (rules_of answers) (rules_of reports ++ rules_of late))
+    ∙ sym (append_assoc (rules_of packets ++ rules_of answers) (rules_of reports) (rules_of late))))
+
+-- where each part is found behind those before it
+pub found_in_parts : (c : Settings) (h : List Event) (e : Event) (r0 r1 r2 r3 r4 : List Rule) (packets answers late : List (Bool × Rule)) → r0 ≡ []
+    → packets ≡ all_of_packets c h e → r1 ≡ r0 ++ rules_of packets → answers ≡ all_of_answers c h e → r2 ≡ r1 ++ rules_of answers
+    → r3 ≡ r2 ++ rules_of (metric_tests c h e) → late ≡ all_of_lateness c h e → r4 ≡ r3 ++ rules_of late → r4 ≡ departures c h e
+found_in_parts c h e r0 r1 r2 r3 r4 packets answers late none p e1 a e2 e3 l e4 = rw (e4, e3, e2, e1, none, p, a, l) (sym (departures_in_parts c h e))

@@ -1,0 +1,94 @@
+//! The first rule that an event breaks and past which the machine does not go on.
+ghost use Rattle.std.specs.Prelude.{◌≡◌, List};
+ghost use Rattle.qa_base.specs.declared.event.Event.{Event as AnEvent};
+ghost use Rattle.qa_base.specs.machine.Departures as conduct;
+ghost use Rattle.qa_base.specs.machine.Rules as rules;
+ghost use Rattle.qa_base.specs.values.Settings.{Settings};
+ghost use Rattle.qa_ledger.specs.Tests as tests;
+
+use crate::rules::{
+    deadline_at, is_ack_unsent, is_loss_not_owed, is_loss_owed, is_not_confirmed,
+    is_number_not_higher, is_other_loss_set, is_space_gone, is_time_back, is_timer_early,
+    is_timer_not_set, is_timer_other,
+};
+use crate::state::State;
+use qa_base::{Due, Event, Rule};
+
+/// So often a probe timeout can be doubled before it is longer than any time in range.
+const MOST_DOUBLINGS: u64 = 40;
+
+/// V13, where the timeout of the early timer cannot be doubled once more: a history in which such
+/// timers went on would count doublings without end.
+fn is_timer_unborne<S: State>(state: &S, event: &Event, due: &Option<Due>) -> bool
+    ensures { (c : Settings) (h : List AnEvent) → S.tells state.now c h
+        → due.now ≡ tests.deadline_at c h event.now
+        → result ≡ tests.is_timer_unborne c h event.now }
+{
+    is_timer_early(state, event, due) && MOST_DOUBLINGS <= state.totals().pto_count
+}
+
+/// The first of V1 to V6 that the event breaks after these events.
+fn first_of_packets<S: State>(state: &S, event: &Event) -> Option<Rule>
+    ensures { (c : Settings) (h : List AnEvent) → S.tells state.now c h
+        → result ≡ rules.first_of (tests.tests_of_packets c h event.now) }
+{
+    if is_time_back(state, event) {
+        return Some(Rule::TimeBack);
+    }
+    if is_loss_owed(state, event) {
+        return Some(Rule::LossOwed);
+    }
+    if is_loss_not_owed(state, event) {
+        return Some(Rule::LossNotOwed);
+    }
+    if is_other_loss_set(state, event) {
+        return Some(Rule::LossSet);
+    }
+    if is_space_gone(state, event) {
+        return Some(Rule::SpaceGone);
+    }
+    if is_number_not_higher(state, event) {
+        return Some(Rule::NumberNotHigher);
+    }
+    None
+}
+
+/// The first of V10 to V13 and V15 that the event breaks after these events, V13 only where the timeout
+/// cannot be doubled once more.
+fn first_of_answers<S: State>(state: &S, event: &Event) -> Option<Rule>
+    ensures { (c : Settings) (h : List AnEvent) → S.tells state.now c h
+        → result ≡ rules.first_of (tests.tests_of_answers c h event.now) }
+{
+    if is_ack_unsent(state, event) {
+        return Some(Rule::AckUnsent);
+    }
+    let due = deadline_at(state, event);
+    if is_timer_not_set(event, &due) {
+        return Some(Rule::TimerNotSet);
+    }
+    if is_timer_other(event, &due) {
+        return Some(Rule::TimerOther);
+    }
+    if is_timer_unborne(state, event, &due) {
+        return Some(Rule::TimerEarly);
+    }
+    if is_not_confirmed(state, event) {
+        return Some(Rule::NotConfirmed);
+    }
+    None
+}
+
+/// The first rule that the event breaks after these events and past which the machine does not go on:
+/// of V1 to V6, V10 to V12 and V15, and of V13 after 40 probe timeouts without a reset.
+///
+/// The others are rules of conduct: an event that breaks only those leaves the events a history that
+/// the machine can follow.
+pub fn first_unborne<S: State>(state: &S, event: &Event) -> Option<Rule>
+    ensures { (c : Settings) (h : List AnEvent) → S.tells state.now c h
+        → result ≡ conduct.first_unborne c h event.now }
+{
+    match first_of_packets(state, event) {
+        Some(rule) => Some(rule),
+        None => first_of_answers(state, event),
+    }
+}
