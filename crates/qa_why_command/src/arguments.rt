@@ -16,14 +16,25 @@ const QUIET: &str = "quiet";
 
 const JSON: &str = "json";
 
+const ROWS: &str = "rows";
+
 /// The version of the program.
 const VERSION: &str = "0.3.0";
 
-/// Which traces to tell of, and how.
+/// What is told of each trace.
+#[derive(Clone, Copy, PartialEq, Eq)]
+pub enum Told {
+    /// Why it is refused, in this form.
+    Why(Form),
+    /// What the machine held behind each of its lines.
+    Rows,
+}
+
+/// Which traces to tell of, and what.
 #[derive(Drop)]
 pub struct Inquiry<'a> {
-    /// In which form.
-    pub form: Form,
+    /// What is told of each.
+    pub told: Told,
     /// Nothing is to be written of accepted traces.
     pub quiet: bool,
     /// The names of files; none for standard input.
@@ -58,16 +69,22 @@ fn inquiry_of<'a>(alloc: Global, matches: &ArgMatches<'a>) -> Result<Inquiry<'a>
         Some(names) => Vec::from_slice(alloc, names)?,
         None => Vec::new(alloc),
     };
-    let form = if matches.get_flag(JSON) {
-        Form::Json
-    } else {
-        Form::Text
-    };
     Ok(Inquiry {
-        form,
+        told: told_by(matches),
         quiet: matches.get_flag(QUIET),
         files,
     })
+}
+
+/// What the options ask for, of which two exclude each other.
+fn told_by(matches: &ArgMatches<'_>) -> Told {
+    if matches.get_flag(ROWS) {
+        Told::Rows
+    } else if matches.get_flag(JSON) {
+        Told::Why(Form::Json)
+    } else {
+        Told::Why(Form::Text)
+    }
 }
 
 /// The text by which the parser ends. An error of its own that says it is out of memory is no text.
@@ -96,6 +113,13 @@ fn parser<'a>(alloc: Global) -> Result<Command<'a>, AllocError> {
         .long(JSON)
         .help("Write a JSON object for each trace, on one line")
         .action(ArgAction::SetTrue);
+    let rows = Arg::new(alloc, ROWS)
+        .short('r')
+        .long(ROWS)
+        .help("Write a JSON object for each line, with the state behind it, and nothing else")
+        .action(ArgAction::SetTrue)
+        .conflicts_with(JSON)?
+        .conflicts_with(QUIET)?;
     let files = Arg::new(alloc, FILE)
         .help("A trace; - is standard input, which is also read where no file is named")
         .action(ArgAction::Append);
@@ -108,5 +132,6 @@ fn parser<'a>(alloc: Global) -> Result<Command<'a>, AllocError> {
         )
         .arg(json)?
         .arg(quiet)?
+        .arg(rows)?
         .arg(files)
 }

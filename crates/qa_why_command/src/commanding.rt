@@ -1,13 +1,16 @@
 //! The whole command.
 ghost use Rattle.std.specs.Prelude.{◌≡◌, ℕ, List, Some, IfOk, codes};
 ghost use Rattle.qa_why_command.specs.Commands as defined;
+ghost use Rattle.qa_rows.specs.Rows.{WritesRows};
 ghost use Rattle.qa_why_trace.specs.Why.{Writes};
+ghost use Rattle.qa_why_trace.specs.declared.form.Form.{Form as AForm};
 
-use crate::arguments::{Asked, Inquiry, parse};
+use crate::arguments::{Asked, Inquiry, Told, parse};
 use crate::tally::Tally;
 use qa_arguments::ArgumentsFault;
 use qa_check::{AuditFault, Metered, Outcome, Sink, Source, write_whole};
 use qa_commands::write_line;
+use qa_rows::rows;
 use qa_running::Running;
 use qa_why_trace::{Form, why};
 use std::alloc::Global;
@@ -149,7 +152,7 @@ fn tell_several<R: Files, I: Source, O: Sink, E: Sink>(
             return;
         }
     }
-    if inquiry.form == Form::Json {
+    if inquiry.told != Told::Why(Form::Text) {
         return;
     }
     if let Err(failure) = write_tally(alloc, tally, output) {
@@ -207,17 +210,7 @@ fn tell_of<R: Files, I: Source, O: Sink>(
         return Err(Failure::Open);
     };
     let mut reader = Metered::new(file);
-    match why::<Running, _, O>(
-        alloc,
-        inquiry.form,
-        name,
-        inquiry.quiet,
-        &mut reader,
-        output,
-    ) {
-        Ok(outcome) => Ok(outcome),
-        Err(fault) => Err(Failure::Audit(fault)),
-    }
+    tell_read(alloc, inquiry, name, &mut reader, output)
 }
 
 /// Tells of the trace on standard input.
@@ -227,11 +220,36 @@ fn tell_input<I: Source, O: Sink>(
     input: &mut I,
     output: &mut O,
 ) -> Result<Outcome, Failure>
-    ensures { (bytes : List ℕ) → I.left input.old ≡ Some bytes
-        → IfOk result (λ outcome. Writes (O.held output.old) (O.held output.new) inquiry.now.form inquiry.now.quiet (codes "-") outcome bytes) }
+    ensures why { (form : AForm) (bytes : List ℕ) → inquiry.now.told ≡ Told.Why form
+        → I.left input.old ≡ Some bytes
+        → IfOk result (λ outcome. Writes (O.held output.old) (O.held output.new) form inquiry.now.quiet (codes "-") outcome bytes) }
+    ensures rows { (bytes : List ℕ) → inquiry.now.told ≡ Told.Rows
+        → I.left input.old ≡ Some bytes
+        → IfOk result (λ outcome. WritesRows (O.held output.old) (O.held output.new) outcome bytes) }
 {
-    let (form, quiet) = (inquiry.form, inquiry.quiet);
-    match why::<Running, I, O>(alloc, form, STANDARD_INPUT, quiet, input, output) {
+    tell_read(alloc, inquiry, STANDARD_INPUT, input, output)
+}
+
+/// Tells of the trace of this name that is read.
+fn tell_read<R: Source, O: Sink>(
+    alloc: Global,
+    inquiry: &Inquiry<'_>,
+    name: &str,
+    reader: &mut R,
+    output: &mut O,
+) -> Result<Outcome, Failure>
+    ensures why { (form : AForm) (bytes : List ℕ) → inquiry.now.told ≡ Told.Why form
+        → R.left reader.old ≡ Some bytes
+        → IfOk result (λ outcome. Writes (O.held output.old) (O.held output.new) form inquiry.now.quiet name.now outcome bytes) }
+    ensures rows { (bytes : List ℕ) → inquiry.now.told ≡ Told.Rows
+        → R.left reader.old ≡ Some bytes
+        → IfOk result (λ outcome. WritesRows (O.held output.old) (O.held output.new) outcome bytes) }
+{
+    let told = match inquiry.told {
+        Told::Why(form) => why::<Running, R, O>(alloc, form, name, inquiry.quiet, reader, output),
+        Told::Rows => rows::<Running, R, O>(alloc, reader, output),
+    };
+    match told {
         Ok(outcome) => Ok(outcome),
         Err(fault) => Err(Failure::Audit(fault)),
     }

@@ -246,6 +246,7 @@ pub extern "C" fn qaudit_report(alloc: Global, qaudit: &mut Qaudit, out: &mut [u
     ensures kept { qaudit.new.handle.held ≡ qaudit.old.handle.held }
     ensures length { length out.new ≡ length out.old }
     ensures none { result ≡ 0 → out.new ≡ out.old }
+    ensures unknown { verdict_known qaudit.old.handle.held ≡ None → result ≡ 0 }
     ensures told { result ≢ 0 → (bytes : List ℕ) → HoldsFed qaudit.old.handle.held bytes
         → Tells result out.old out.new (text.report (verdict reading bytes)) }
 {
@@ -261,6 +262,7 @@ pub extern "C" fn qaudit_first_line(alloc: Global, qaudit: &mut Qaudit, out: &mu
     ensures kept { qaudit.new.handle.held ≡ qaudit.old.handle.held }
     ensures length { length out.new ≡ length out.old }
     ensures none { result ≡ 0 → out.new ≡ out.old }
+    ensures unknown { verdict_known qaudit.old.handle.held ≡ None → result ≡ 0 }
     ensures told { result ≢ 0 → (bytes : List ℕ) → HoldsFed qaudit.old.handle.held bytes
         → Tells result out.old out.new (text.verdict_text (verdict reading bytes)) }
 {
