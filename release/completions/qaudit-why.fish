@@ -2,5 +2,6 @@
 
 complete -c qaudit-why -s j -l json -d 'Write a JSON object for each trace, on one line'
 complete -c qaudit-why -s q -l quiet -d 'Write nothing of accepted traces'
+complete -c qaudit-why -s r -l rows -d 'Write a JSON object for each line, with the state behind it'
 complete -c qaudit-why -s h -l help -d 'Print help'
 complete -c qaudit-why -s V -l version -d 'Print version'
