@@ -5,7 +5,7 @@ ghost use Rattle.qa_base.specs.values.Limits.{max_lines};
 
 use qa_base::{Event, Header, Leave, PacketNumber, Role, Rule, Space, Span, Spans, Ticks};
 use qa_causes::{Cause, Explains};
-use qa_ledger::{Ledger, LedgerFault};
+use qa_ledger::{Bears, Ledger, LedgerFault};
 use qa_running::Running;
 use std::alloc::Global;
 use std::test::Fail;
@@ -114,6 +114,52 @@ fn a_cause(rt: HostRuntime) -> Result<(), Fail> {
         Err(_) => false,
     };
     assert!(rt; told);
+    Ok(())
+}
+
+/// A probe of 1,200 bytes at time 0.
+fn probe(number: u64) -> Option<Event> {
+    Some(Event::Sent {
+        time: Ticks::of(0),
+        space: Space::App,
+        number: PacketNumber::new(number)?,
+        size: 1200,
+        eliciting: true,
+        in_flight: true,
+        leave: Leave::Probe,
+    })
+}
+
+/// Has the ledger bear an event; None where there is none, or it does not fit.
+fn borne(ledger: &mut Running, event: Option<Event>) -> Option<Result<(), LedgerFault>>
+    requires few { ledger.old.connection.events < max_lines }
+    ensures { ledger.new.connection.events ≤ ledger.old.connection.events + 1 }
+{
+    let event = event?;
+    if !event.fits() {
+        return None;
+    }
+    Some(ledger.bear(&event))
+}
+
+/// The first rule that the event breaks.
+fn first_departure(ledger: &Running, alloc: Global, event: Option<Event>) -> Option<Rule> {
+    let found = ledger.departures(alloc, &event?).ok()?;
+    found.first().copied()
+}
+
+/// A probe before any probe timeout breaks V8, past-probe, and the ledger goes on with it; a second
+/// packet of the same number it does not bear.
+#[test]
+fn a_probe_without_a_timeout_is_borne(rt: HostRuntime) -> Result<(), Fail> {
+    let header = Header::new(Role::Server, 1200, None, None, None)?;
+    let mut ledger = Running::start(rt.alloc(), header);
+    let departure = first_departure(&ledger, rt.alloc(), probe(0));
+    assert_eq!(rt; departure, Some(Rule::PastProbe));
+    assert_eq!(rt; borne(&mut ledger, probe(0)), Some(Ok(())));
+    assert_eq!(rt; ledger.totals().bytes_in_flight, 1200);
+    let answer = borne(&mut ledger, probe(0));
+    assert_eq!(rt; answer, Some(Err(LedgerFault::Broken(Rule::NumberNotHigher))));
     Ok(())
 }
 
