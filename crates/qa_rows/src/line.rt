@@ -61,7 +61,7 @@ fn row_text(alloc: Global, n: u64, said: &str, state: &[u8]) -> Result<Vec<u8>, 
 
 // ---- the row
 
-/// The row of a line, blank or not.
+/// The row of a line that is not blank.
 fn row_of_line<L: Explains>(
     alloc: Global,
     n: u64,
@@ -77,9 +77,9 @@ fn row_of_line<L: Explains>(
     row_text(alloc, n, said.as_str(), &state)
 }
 
-/// The row of line n of a trace, which the ledger admitted last: one JSON object with the line's number,
-/// what it says as `write_line` has it, and the state of the machine behind it, and then LF. A blank
-/// line has no row, and the answer is empty.
+/// The row of line n of a trace, by a ledger that has admitted the events up to it, its own included:
+/// one JSON object with the line's number, what it says as `write_line` has it, and the state of the
+/// machine behind it, and then LF. A blank line has no row, and the answer is empty.
 ///
 /// Sizes and windows are in bytes, times in the unit of the trace. Asks for an event that fits
 /// (`Event::fits`), as every line does that was read. `AllocError` comes where it is out of memory.
