@@ -5,14 +5,14 @@ use Rattle.std.specs.Io.KnownBytes.{Appends}
 use Rattle.qa_format.specs.format.Lines.{ended_lines, unended, last_line}
 use Rattle.qa_format.specs.format.Reading.{reading}
 use Rattle.qa_format.specs.verdicts.Explain as explanation
-use Rattle.qa_format.proofs.verdicts.Rows.{rows_begin, explanation_begins}
+use Rattle.qa_format.proofs.verdicts.Rows.{told_begin, explanation_begins}
 use Rattle.qa_check.specs.declared.auditing.Outcome.{Outcome}
 use Rattle.qa_check.specs.declared.auditing.AuditFault.{AuditFault}
 use Rattle.qa_check.specs.declared.auditing.AuditFault.TheVariants as faults
 use Rattle.qa_check.specs.Audit.{Reports, BeginsReport, ReadsEnough, is_write_fault}
 use Rattle.qa_check.specs.Failures.{failures_after}
 use Rattle.qa_check.specs.Writing as writing
-use Rattle.qa_check.specs.Writing.{Begins, BeginsRead, ShowsRead, ended_rows}
+use Rattle.qa_check.specs.Writing.{Begins, BeginsRead, ShowsRead, told_ended}
 use Rattle.qa_check.proofs.Writing.{begins_longer}
 use Rattle.qa_commands.specs.Checking.{AreOf, Audited, Checks, heading, stops}
 use Rattle.qa_commands.specs.Ending.{failure_of}
@@ -70,7 +70,7 @@ audited_untold left held held' origin (Err OutOfMemory) a = a
 begun_rows : {last : ℕ} (left left' held held' : Option (List ℕ)) → BeginsRead left left' last held held' (explanation.rows reading)
     → (bytes : List ℕ) × Begins held held' (explanation.rows reading bytes)
 begun_rows left left' held held' (bytes, consumes, further, begun) = elim begun [
-  | inl ended ↦ let more = rows_begin reading (ended_lines bytes) (last_line (unended bytes)) in (bytes, begins_longer held held' _ _ more.0 more.1 ended)
+  | inl ended ↦ let more = told_begin explanation.row_said reading (ended_lines bytes) (last_line (unended bytes)) in (bytes, begins_longer held held' _ _ more.0 more.1 ended)
   | inr all ↦ (bytes, all.1)
 ]
 

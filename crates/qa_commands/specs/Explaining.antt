@@ -5,7 +5,7 @@ use Rattle.std.specs.Io.KnownBytes.{Appends}
 use Rattle.qa_format.specs.format.Reading.{reading}
 use Rattle.qa_format.specs.verdicts.Explain as explanation
 use Rattle.qa_check.specs.Writing as writing
-use Rattle.qa_check.specs.Writing.{Begins, ended_rows}
+use Rattle.qa_check.specs.Writing.{Begins, told_ended}
 use Rattle.qa_check.specs.declared.auditing.Outcome.{Outcome}
 use Rattle.qa_commands.specs.Checking.{AreOf}
 use Rattle.qa_commands.specs.declared.ending.Failure.{Failure}
@@ -19,7 +19,7 @@ abbrev pub Explained : Option (List ℕ) → Origin → Result Outcome Failure �
 Explained left origin (Ok outcome) old new = (bytes : List ℕ) × AreOf left bytes × writing.Explains old new outcome bytes
 Explained left origin (Err Arguments) old new = ⊥
 Explained left origin (Err (Open name)) old new = ⊥
-Explained left origin (Err (Read failed)) old new = (failed ≡ origin) × ((bytes : List ℕ) × Appends old new (ended_rows bytes))
+Explained left origin (Err (Read failed)) old new = (failed ≡ origin) × ((bytes : List ℕ) × Appends old new (told_ended explanation.row_said bytes))
 Explained left origin (Err Write) old new = (bytes : List ℕ) × AreOf left bytes × Begins old new (explanation.explain reading bytes)
 Explained left origin (Err OutOfMemory) old new = (bytes : List ℕ) × Begins old new (explanation.rows reading bytes)
 

@@ -1,5 +1,5 @@
 //! The whole command.
-ghost use Rattle.std.specs.Prelude.{◌≡◌, ℕ, List, Some, IfOk, codes};
+ghost use Rattle.std.specs.Prelude.{◌≡◌, ℕ, List, Some, Ok, IfOk, codes};
 ghost use Rattle.qa_why_command.specs.Commands as defined;
 ghost use Rattle.qa_rows.specs.Rows.{WritesRows};
 ghost use Rattle.qa_why_trace.specs.Why.{Writes};
@@ -245,10 +245,23 @@ fn tell_read<R: Source, O: Sink>(
         → R.left reader.old ≡ Some bytes
         → IfOk result (λ outcome. WritesRows (O.held output.old) (O.held output.new) outcome bytes) }
 {
-    let told = match inquiry.told {
-        Told::Why(form) => why::<Running, R, O>(alloc, form, name, inquiry.quiet, reader, output),
-        Told::Rows => rows::<Running, R, O>(alloc, reader, output),
-    };
+    match inquiry.told {
+        Told::Why(form) => judged(why::<Running, R, O>(
+            alloc,
+            form,
+            name,
+            inquiry.quiet,
+            reader,
+            output,
+        )),
+        Told::Rows => judged(rows::<Running, R, O>(alloc, reader, output)),
+    }
+}
+
+/// What came of a trace, or why there is no verdict on it.
+fn judged(told: Result<Outcome, AuditFault>) -> Result<Outcome, Failure>
+    ensures { IfOk result (λ outcome. told ≡ Ok outcome) }
+{
     match told {
         Ok(outcome) => Ok(outcome),
         Err(fault) => Err(Failure::Audit(fault)),

@@ -1,4 +1,4 @@
-use Rattle.std.proofs.Common.{false, true}
+use Rattle.std.proofs.Common.{false}
 use Rattle.qa_commands.proofs.Writes.{part_less, part_more}
 use Rattle.qa_commands.specs.Names.{escaped}
 use Rattle.qa_commands.proofs.naming.write_escaped.Goals as goal

@@ -1,4 +1,4 @@
-use Rattle.std.proofs.Common.{◌≡◌, false, length, take}
+use Rattle.std.proofs.Common.{false, length, take}
 use Rattle.std.specs.Prelude.{flat_map}
 use Rattle.std.specs.Str.{chars}
 use Rattle.qa_commands.specs.Names.{shown_character}
