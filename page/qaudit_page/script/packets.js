@@ -1,0 +1,351 @@
+// Packets over time: a lane for each packet number space, each with numbers of its own, and below
+// them how long the loss detection timer has to run.
+
+const TIMER_LANE = 66;
+const LEAST_LANE = 56;
+const LANE_GAP = 10;
+const lanes = [];
+let shownPackets = [], timerLane = null, isDense = false, packetRadius = 3.6;
+
+// Whether a packet, or the time until it was ended, is in the view.
+function isPacketSeen(packet) {
+  const x = xOfPacket(packet);
+  if (x > view.to) return false;
+  if (x >= view.from) return true;
+  const end = endOf(packet);
+  return end.how === 'open' || (end.at === end.at && xOf(end.at) >= view.from);
+}
+
+function lookForPackets() {
+  const {count, space} = trace.packets;
+  shownPackets = [];
+  for (let p = 0; p < count; p++) {
+    if (xOfPacket(p) > view.to) break;
+    if (shownSpaces[space[p]] && isPacketSeen(p)) shownPackets.push(p);
+  }
+  isDense = shownPackets.length > 1500;
+  packetRadius = shownPackets.length > 4000 ? 1.2 : shownPackets.length > 500 ? 2.3 : 3.6;
+}
+
+// Divides the height among the spaces that are seen: most of it to the one with most packets.
+function layLanes(height) {
+  const counts = [0, 0, 0], {space, number} = trace.packets;
+  const least = [Infinity, Infinity, Infinity], most = [-Infinity, -Infinity, -Infinity];
+  for (const p of shownPackets) {
+    const s = space[p];
+    counts[s]++;
+    least[s] = Math.min(least[s], number[p]);
+    most[s] = Math.max(most[s], number[p]);
+  }
+  const seen = [0, 1, 2].filter(s => counts[s]);
+  const hasTimer = trace.state.timer.some(code => code !== NO_SPACE);
+  const room = height - (hasTimer ? TIMER_LANE + LANE_GAP : 0) - LANE_GAP * (seen.length - 1) - 22;
+  const wanted = counts.map(n => n && Math.sqrt(n) + 1), sum = wanted[0] + wanted[1] + wanted[2];
+  lanes.length = 0;
+  let top = 22;
+  for (const s of seen) {
+    const small = seen.length > 1 ? Math.min(LEAST_LANE, room / seen.length) : 0;
+    const tall = small + (room - small * seen.length) * wanted[s] / sum;
+    const pad = Math.max(0.7, (most[s] - least[s]) * 0.05);
+    lanes.push({space: s, top, tall, low: least[s] - pad, high: most[s] + pad});
+    top += tall + LANE_GAP;
+  }
+  timerLane = hasTimer ? {top: height - TIMER_LANE, tall: TIMER_LANE - 4, ...timerRange()} : null;
+}
+
+// How long the timer has to run in the view, in milliseconds; below 0 where it is late.
+function timerRange() {
+  const {deadline} = trace.state;
+  let low = 0, high = 0;
+  const last = Math.min(trace.limit, trace.count - 1, placeAt(view.to) + 1);
+  for (let i = Math.max(0, placeAt(view.from) - 1); i <= last; i++) {
+    if (i < trace.limit) high = Math.max(high, (deadline[i] - trace.time[i]) / trace.scale || 0);
+    if (i && !'hbu'.includes(trace.kind[i]))
+      low = Math.min(low, (deadline[i - 1] - trace.time[i]) / trace.scale || 0);
+  }
+  return {low: low < high * -0.02 ? low * 1.1 : -high * 0.06, high: (high || 1) * 1.1};
+}
+
+const inLane = (area, lane, value) =>
+  area.y + lane.top + lane.tall * (1 - (value - lane.low) / (lane.high - lane.low));
+const laneOf = space => lanes.find(lane => lane.space === space);
+function yOfPacket(area, packet) {
+  return inLane(area, laneOf(trace.packets.space[packet]), trace.packets.number[packet]);
+}
+
+// The ticks of all lanes, as parts of the height, 1 at the top.
+function laneTicks(height) {
+  const ticks = [], at = (lane, value) => 1 - inLane({y: 0}, lane, value) / height;
+  for (const lane of lanes) {
+    const step = Math.max(1, niceStep((lane.high - lane.low) / Math.max(1, lane.tall / 34)));
+    for (let n = Math.ceil(lane.low / step) * step; n <= lane.high; n += step) {
+      const number = trace.packets.least[lane.space] + BigInt(Math.round(n));
+      if (number >= 0n) ticks.push({v: at(lane, n), label: grouped(number)});
+    }
+  }
+  if (timerLane) {
+    const step = niceStep(timerLane.high / 2);
+    for (let n = 0; n <= timerLane.high; n += step)
+      ticks.push({v: at(timerLane, n), label: grouped(+n.toPrecision(12)) + ' ms'});
+  }
+  return ticks;
+}
+
+function niceStep(least) {
+  const power = 10 ** Math.floor(Math.log10(least || 1));
+  return [1, 2, 5, 10].map(by => by * power).find(step => step >= least * 0.999) || 1;
+}
+
+function updatePackets() {
+  lookForPackets();
+  layLanes(charts.packets.getArea().h);
+  charts.packets.updateOptions({dateWindow: [view.from, view.to]});
+}
+
+function drawPackets(event) {
+  const context = event.drawingContext, area = event.plotArea, to = scaleOf(area, [0, 1]);
+  context.save();
+  for (const lane of lanes) drawLane(context, area, lane);
+  for (const lane of lanes) drawGreatest(context, area, to, lane.space);
+  const drawn = thinned(area, to);
+  for (const isJudged of [true, false]) for (const {space} of lanes) {
+    const packets = drawn.filter(p => trace.packets.space[p] === space &&
+      trace.packets.at[p] < trace.limit === isJudged);
+    drawFates(context, area, to, packets, toneOfSpace(space, isJudged));
+    drawGlyphs(context, area, to, packets, space, isJudged);
+  }
+  drawLeaves(context, area, to);
+  drawLosses(context, area, to);
+  if (timerLane) drawTimer(context, area, to);
+  drawSelectedPacket(context, area, to);
+  drawOver(context, area, true);
+  drawSilences(context, area, to);
+  drawNotJudged(context, area, to);
+  context.restore();
+}
+
+function drawLane(context, area, lane) {
+  const bottom = Math.round(area.y + lane.top + lane.tall) + 0.5;
+  stroked(context, colors.line, 1, [], () => {
+    context.moveTo(area.x, bottom);
+    context.lineTo(area.x + area.w, bottom);
+  });
+  const name = SPACES[lane.space], y = area.y + lane.top + 2;
+  words(context, name, area.x + area.w - 4, y, colors[name], 'right', 'top', 'bold ' + FONT);
+}
+
+// The greatest number that was acknowledged so far, as a step, from one lane's bottom to its top.
+function drawGreatest(context, area, to, space) {
+  const {at, greatest} = trace.acks, lane = laneOf(space), least = trace.packets.least[space];
+  const gone = trace.marks.find(mark => mark.of === 'discard' && mark.space === space);
+  let most = -1, y = 0, x = 0;
+  stroked(context, colors[SPACES[space]], 1.4, [], () => {
+    for (let k = 0; k < at.length; k++) {
+      if (at[k] >= trace.limit || trace.space[at[k]] !== space) continue;
+      const number = Math.min(Number(BigInt(greatest[k]) - least), lane.high);
+      if (number <= most) continue;
+      x = to.x(view.x[at[k]]);
+      if (x > area.x + area.w + 5) break;
+      if (most >= 0) context.lineTo(x, y);
+      const begins = most < 0;
+      most = number;
+      y = inLane(area, lane, Math.max(number, lane.low));
+      if (begins) context.moveTo(x, y);
+      else context.lineTo(x, y);
+    }
+    const end = to.x(xOf(Math.min(gone ? gone.at : trace.limit, trace.count - 1)));
+    if (most >= 0) context.lineTo(Math.max(x, Math.min(area.x + area.w, end)), y);
+  }, 0.55);
+}
+
+// Of packets at one point one is drawn, but each that was lost.
+function thinned(area, to) {
+  const free = [0, 1, 2].map(() => cells(area, isDense ? 2 : 0.5));
+  const {space, lost} = trace.packets;
+  return shownPackets.filter(p => xOfPacket(p) < view.from || lost[p] === lost[p] ||
+    free[space[p]](to.x(xOfPacket(p)), yOfPacket(area, p)));
+}
+
+// From sent to what became of each packet.
+function drawFates(context, area, to, packets, tone) {
+  const forms = {
+    acked: [tone, [], isDense ? 0.22 : 0.45], lost: [colors.lost, [3, 3], 0.9],
+    gone: [tone, [1, 3], 0.6], open: [tone, [1, 4], 0.75],
+  };
+  const by = {acked: [], lost: [], gone: [], open: [], bare: []};
+  for (const p of packets) by[endOf(p).how].push(p);
+  for (const how of ['acked', 'lost', 'gone', 'open']) {
+    const [color, dashes, alpha] = forms[how];
+    stroked(context, color, 1, isDense && how !== 'open' ? [] : dashes, () => {
+      for (const p of by[how]) {
+        const y = yOfPacket(area, p), x = Math.max(area.x - 9, to.x(xOfPacket(p)));
+        const end = how === 'open' ? trace.count - 1 : endOf(p).at;
+        // The dots of neighbours stand above each other.
+        context.moveTo(how === 'open' ? Math.ceil(x / 5) * 5 : x, y);
+        context.lineTo(Math.min(area.x + area.w + 9, to.x(xOf(end))), y);
+      }
+    }, alpha);
+  }
+  if (!isDense) stroked(context, tone, 1.6, [], () => {
+    for (const p of by.acked) {
+      const x = to.x(xOf(endOf(p).at)), y = yOfPacket(area, p);
+      context.moveTo(x, y - packetRadius * 1.2);
+      context.lineTo(x, y + packetRadius * 1.2);
+    }
+  });
+}
+
+// The packets themselves: filled where they are ack-eliciting, and else hollow.
+function drawGlyphs(context, area, to, packets, space, isJudged) {
+  const tone = toneOfSpace(space, isJudged), r = packetRadius;
+  for (const isFilled of [false, true]) {
+    context.beginPath();
+    for (const p of packets) {
+      if (!!(trace.packets.flags[p] & ELICITING) !== isFilled || xOfPacket(p) < view.from) continue;
+      const x = to.x(xOfPacket(p)), y = yOfPacket(area, p);
+      if (r < 2) context.rect(x - 1, y - 1, 2, 2);
+      else glyph(context, space, x, y, r);
+    }
+    context.globalAlpha = isJudged ? 1 : 0.6;
+    context.fillStyle = isFilled ? tone : colors.paper;
+    context.fill();
+    context.strokeStyle = tone;
+    context.lineWidth = 1.2;
+    if (r >= 2) context.stroke();
+    context.globalAlpha = 1;
+  }
+}
+
+// A ring about a probe, a box about the packet that an entry into recovery allows.
+function drawLeaves(context, area, to) {
+  const {flags} = trace.packets, r = packetRadius + 3;
+  stroked(context, colors.timer, 1.6, [], () => {
+    for (const p of shownPackets) {
+      if (!(flags[p] & (PROBE | RECOVERY)) || xOfPacket(p) < view.from) continue;
+      const x = to.x(xOfPacket(p)), y = yOfPacket(area, p);
+      if (flags[p] & PROBE) {
+        context.moveTo(x + r, y);
+        context.arc(x, y, r, 0, 2 * Math.PI);
+      } else context.rect(x - r, y - r, 2 * r, 2 * r);
+    }
+  });
+}
+
+// A cross where a packet was declared lost.
+function drawLosses(context, area, to) {
+  const apart = cells(area, isDense ? 4 : 1), {lost} = trace.packets;
+  for (const isJudged of [true, false])
+    stroked(context, isJudged ? colors.lost : colors.soft, 2, [], () => {
+      for (const p of shownPackets) {
+        if (!(lost[p] < trace.count) || lost[p] < trace.limit !== isJudged) continue;
+        const x = to.x(view.x[lost[p]]), y = yOfPacket(area, p);
+        if (x < area.x - 5 || x > area.x + area.w + 5 || !apart(x, y)) continue;
+        cross(context, x, y, Math.max(3.2, packetRadius));
+      }
+    });
+}
+
+// How long the timer has to run: a fall from each line that sets it to the next, and to 0 where it
+// fires. Below 0 it is late.
+function drawTimer(context, area, to) {
+  const {deadline, timer} = trace.state, zero = inLane(area, timerLane, 0);
+  stroked(context, colors.soft, 1, [], () => {
+    context.moveTo(area.x, zero);
+    context.lineTo(area.x + area.w, zero);
+  });
+  const last = Math.min(trace.limit, trace.count, placeAt(view.to) + 1);
+  const y = (from, place) => inLane(area, timerLane, (deadline[from] - trace.time[place]) / trace.scale);
+  for (const isLoss of [false, true]) {
+    const free = cells({...area, h: area.h + 2}, 1);
+    stroked(context, colors.timer, 1.3, isLoss ? [2, 2] : [], () => {
+      for (let i = Math.max(0, placeAt(view.from) - 1); i < last; i++) {
+        if (timer[i] === NO_SPACE || timer[i] >= OF_LOSS !== isLoss) continue;
+        const next = i + 1 < trace.count && !'hbu'.includes(trace.kind[i + 1]) ? i + 1 : i;
+        const x = to.x(view.x[i]), top = y(i, i);
+        if (to.x(view.x[next]) - x < 1 && !free(x, top)) continue;
+        context.moveTo(x, top);
+        context.lineTo(to.x(view.x[next]), y(i, next));
+      }
+    });
+  }
+  drawFired(context, area, to, y);
+  const label = area.w < 480 ? 'timer' : 'time until the timer fires';
+  words(context, label, area.x + area.w - 4, area.y + timerLane.top + 1, colors.timer, 'right', 'top');
+}
+
+// Where a timer fired: a triangle, hollow for one that looks for losses.
+function drawFired(context, area, to, y) {
+  for (const mark of trace.marks) {
+    if ((mark.of !== 'pto' && mark.of !== 'loss') || !isSeen(view.x[mark.at])) continue;
+    const isJudged = mark.at < trace.limit, x = to.x(view.x[mark.at]);
+    const hadDeadline = mark.at > 0 && mark.at <= trace.limit;
+    const at = hadDeadline ? y(mark.at - 1, mark.at) : inLane(area, timerLane, 0);
+    context.beginPath();
+    triangle(context, x, at === at ? at : inLane(area, timerLane, 0), 5);
+    context.fillStyle = mark.of === 'loss' ? colors.paper : isJudged ? colors.timer : colors.soft;
+    context.fill();
+    context.strokeStyle = isJudged ? colors.timer : colors.soft;
+    context.lineWidth = 1.6;
+    context.stroke();
+  }
+}
+
+function drawSelectedPacket(context, area, to) {
+  const packet = view.selected >= 0 ? trace.packets.of[view.selected] : -1;
+  if (packet < 0 || !laneOf(trace.packets.space[packet])) return;
+  const x = to.x(xOfPacket(packet)), y = yOfPacket(area, packet);
+  stroked(context, colors.ink, 2, [], () => context.arc(x, y, 8, 0, 2 * Math.PI));
+}
+
+// The silences that are seen, each with how long it is and what is in flight.
+function drawSilences(context, area, to) {
+  if (view.byLine) return;
+  const bottom = area.y + (timerLane ? timerLane.top - LANE_GAP : area.h) - 6;
+  let drawn = 0;
+  for (const it of trace.silences) {
+    const left = Math.max(area.x, to.x(view.x[it.at - 1]));
+    const right = Math.min(area.x + area.w, to.x(view.x[it.at]));
+    const over = it.over / trace.scale * area.w / (view.to - view.from);
+    if (right - left < 24 || over < 3 || drawn > 20) continue;
+    drawn++;
+    drawSilence(context, it, left, right, bottom);
+  }
+}
+
+function drawSilence(context, silence, left, right, y) {
+  stroked(context, colors.ink, 1.3, [], () => {
+    context.moveTo(left + 2, y);
+    context.lineTo(right - 2, y);
+    for (const [x, by] of [[left + 2, 6], [right - 2, -6]]) {
+      context.moveTo(x + by, y - 4);
+      context.lineTo(x, y);
+      context.lineTo(x + by, y + 4);
+    }
+  });
+  context.font = FONT;
+  const long = milliseconds(Math.round(silence.long)), over = milliseconds(Math.round(silence.over));
+  const flying = silence.flying ? `${grouped(silence.flying)} B in flight` : 'nothing in flight';
+  const said = [`${long} without an event, ${flying}, ${over} past the deadline`,
+    `${long}, ${flying}`, flying, long]
+    .find(it => context.measureText(it).width < right - left - 8);
+  if (!said) return;
+  const width = context.measureText(said).width + 6, middle = (left + right) / 2;
+  context.globalAlpha = 0.85;
+  context.fillStyle = colors.paper;
+  context.fillRect(middle - width / 2, y - 20, width, 15);
+  context.globalAlpha = 1;
+  words(context, said, middle, y - 5, colors.ink, 'center', 'bottom');
+}
+
+function drawNotJudged(context, area, to) {
+  if (trace.limit < trace.count) {
+    const x = Math.max(area.x, to.x(view.x[trace.limit]));
+    const bottom = area.y + (timerLane ? timerLane.top - LANE_GAP : area.h) - 26;
+    if (area.x + area.w - x > 70)
+      words(context, 'not judged', area.x + area.w - 5, bottom, colors.soft, 'right', 'bottom',
+        'italic ' + FONT);
+  }
+  if (!shownPackets.length)
+    words(context, 'no packet in this span', area.x + area.w / 2, area.y + area.h / 3, colors.soft,
+      'center');
+}

@@ -1,0 +1,250 @@
+"""A trace as columns: its lines, the state behind those that were judged, and what became of each
+packet by the lines."""
+
+from array import array
+from bisect import bisect_left
+from collections.abc import Iterable
+from dataclasses import dataclass, field
+
+from .failure import Failure
+from .lenient import METRICS, SPACES, Event, read
+from .program import Object
+from .texts import runs
+
+# How the kind of a line is written, a character a line.
+KINDS = {
+    "header": "h",
+    "sent": "s",
+    "ack": "a",
+    "lost": "l",
+    "timer": "t",
+    "discard": "d",
+    "confirmed": "c",
+    "keys": "k",
+    "metrics": "m",
+}
+BLANK, OTHER = "b", "u"
+NO_SPACE = 3
+# Beside the space of a line: that a timer is the one for losses.
+OF_LOSS = 4
+ELICITING, IN_FLIGHT, PROBE, RECOVERY = 1, 2, 4, 8
+LEAVES = {"probe": PROBE, "recovery": RECOVERY}
+# The amounts of a state, by their keys without the unit.
+AMOUNTS = (
+    "window",
+    "ssthresh",
+    "in_flight",
+    "latest_rtt",
+    "min_rtt",
+    "smoothed_rtt",
+    "rttvar",
+    "pto_count",
+    "deadline",
+)
+
+
+class Numbers:
+    """The packets of a space in the order of their numbers, to be marked once each."""
+
+    def __init__(self) -> None:
+        self.numbers: list[int] = []
+        self.packets: list[int] = []
+        # Of each packet, the next one that may be without the mark.
+        self.nexts: dict[str, list[int]] = {"acked": [0], "lost": [0], "gone": [0]}
+
+    def add(self, number: int, packet: int) -> None:
+        """A packet; one whose number is not above those before it has no fate."""
+        if self.numbers and number <= self.numbers[-1]:
+            return
+        self.numbers.append(number)
+        self.packets.append(packet)
+        for chain in self.nexts.values():
+            chain.append(len(self.numbers))
+
+    def mark(self, mark: str, low: int, high: int) -> list[int]:
+        """The packets with numbers from low to high that had no such mark; they have it then."""
+        chain, found = self.nexts[mark], []
+        place = first_unmarked(chain, bisect_left(self.numbers, low))
+        while place < len(self.numbers) and self.numbers[place] <= high:
+            found.append(self.packets[place])
+            chain[place] = place + 1
+            place = first_unmarked(chain, place + 1)
+        return found
+
+
+def first_unmarked(chain: list[int], place: int) -> int:
+    """The first place from this one on that leads to itself, to which all on the way lead then."""
+    root = place
+    while chain[root] != root:
+        root = chain[root]
+    while chain[place] != root:
+        chain[place], place = root, chain[place]
+    return root
+
+
+@dataclass
+class Packets:
+    """A row for each packet that was sent."""
+
+    line: list[int] = field(default_factory=list)
+    space: list[int] = field(default_factory=list)
+    number: list[int] = field(default_factory=list)
+    size: list[int] = field(default_factory=list)
+    flags: list[int] = field(default_factory=list)
+    # The lines that acknowledged it, declared it lost, and discarded its space; 0 for none.
+    acked: list[int] = field(default_factory=list)
+    lost: list[int] = field(default_factory=list)
+    gone: list[int] = field(default_factory=list)
+
+
+@dataclass
+class State:
+    """The state behind each line that has a row."""
+
+    line: list[int] = field(default_factory=list)
+    amounts: dict[str, list[int | None]] = field(
+        default_factory=lambda: {name: [] for name in AMOUNTS}
+    )
+    # The kind and the space of the timer that is set, as with lines that say timers; 3 for none.
+    timer: bytearray = field(default_factory=bytearray)
+    # How many packets are owed, and which, by the row.
+    owed: list[int] = field(default_factory=list)
+    owed_text: dict[int, str] = field(default_factory=dict)
+
+
+class Trace:
+    """The columns of a trace, whose lines are numbered from 1."""
+
+    def __init__(self, data: bytes) -> None:
+        self.lines = data.split(b"\n")
+        if self.lines[-1] == b"":
+            self.lines.pop()
+        count = len(self.lines)
+        self.header: Event = {}
+        self.unit = "us"
+        self.kind = bytearray(OTHER.encode() * count)
+        self.time = array("q", bytes(8 * count))
+        self.space = bytearray([NO_SPACE]) * count
+        self.packets = Packets()
+        self.numbers = [Numbers() for _ in SPACES]
+        # The line and the greatest number of each acknowledgment.
+        self.acks: list[tuple[int, int]] = []
+        self.metrics: list[tuple[int, list[int | None]]] = []
+        self.state = State()
+        self.now = 0
+
+    # Lines.
+
+    def blank(self, line: int) -> None:
+        """A blank line, or one that cannot be read."""
+        is_blank = not self.lines[line - 1].strip(b" \t\r")
+        self.kind[line - 1] = ord(BLANK if is_blank else OTHER)
+        self.time[line - 1] = self.now
+
+    def event(self, line: int, said: Event) -> None:
+        """What a line says."""
+        name = said["event"]
+        kind = KINDS[name]
+        self.kind[line - 1] = ord(kind)
+        self.now = said.get("time", self.now) if kind != "h" else self.now
+        self.time[line - 1] = self.now
+        space = SPACES.index(said["space"]) if "space" in said and kind != "h" else NO_SPACE
+        is_of_loss = kind == "t" and said["kind"] == "loss"
+        self.space[line - 1] = space + (OF_LOSS if is_of_loss else 0)
+        if kind == "s":
+            self.sent(line, space, said)
+        elif kind == "a":
+            self.end(line, self.mark("acked", space, said["ranges"]), self.packets.acked)
+            self.acks.append((line, max(high for _, high in said["ranges"])))
+        elif kind == "l":
+            self.end(line, self.mark("lost", space, said["ranges"]), self.packets.lost)
+        elif kind == "d":
+            self.discard(line, space)
+        elif kind == "m":
+            self.metrics.append((line, [said.get(name) for name in METRICS]))
+
+    def sent(self, line: int, space: int, said: Event) -> None:
+        """A packet."""
+        packets = self.packets
+        self.numbers[space].add(said["number"], len(packets.line))
+        flags = ELICITING * (said.get("eliciting") is True)
+        flags += IN_FLIGHT * (said.get("in_flight") is True)
+        leave = said.get("leave")
+        flags += LEAVES.get(leave, 0) if isinstance(leave, str) else 0
+        packets.line.append(line)
+        packets.space.append(space)
+        packets.number.append(said["number"])
+        packets.size.append(said["size"])
+        packets.flags.append(flags)
+        packets.acked.append(0)
+        packets.lost.append(0)
+        packets.gone.append(0)
+
+    def mark(self, mark: str, space: int, ranges: list[list[int]]) -> list[int]:
+        """The packets that ranges mark for the first time."""
+        numbers = self.numbers[space]
+        return [packet for low, high in ranges for packet in numbers.mark(mark, low, high)]
+
+    @staticmethod
+    def end(line: int, packets: list[int], column: list[int]) -> None:
+        """Notes the line that says what became of packets."""
+        for packet in packets:
+            column[packet] = line
+
+    def discard(self, line: int, space: int) -> None:
+        """What is neither acknowledged nor lost of a space goes with its keys."""
+        packets, numbers = self.packets, self.numbers[space].numbers
+        if numbers:
+            for packet in self.numbers[space].mark("gone", 0, numbers[-1]):
+                if not packets.acked[packet] and not packets.lost[packet]:
+                    packets.gone[packet] = line
+
+    # Rows.
+
+    def row(self, row: Object) -> None:
+        """The row of a line."""
+        line, said, held = row["line"], row["event"], row["state"]
+        if said["event"] == "header":
+            self.header = said
+            self.unit = said.get("unit", "us")
+        self.event(line, said)
+        state, unit = self.state, self.unit
+        state.line.append(line)
+        amounts = state.amounts
+        amounts["window"].append(held["window_bytes"])
+        amounts["ssthresh"].append(held["ssthresh_bytes"])
+        amounts["in_flight"].append(held["in_flight_bytes"])
+        for name in ("latest_rtt", "min_rtt", "smoothed_rtt", "rttvar", "deadline"):
+            amounts[name].append(held[f"{name}_{unit}"])
+        amounts["pto_count"].append(held["pto_count"])
+        kind, owed = held["set_kind"], held["owed"]
+        is_of_loss = OF_LOSS if kind == "loss" else 0
+        set_for = SPACES.index(held["set_space"]) + is_of_loss if kind else NO_SPACE
+        state.timer.append(set_for)
+        state.owed.append(sum(high - low + 1 for low, high in owed))
+        if owed:
+            state.owed_text[len(state.line) - 1] = f"{held['owed_space']} {runs(owed)}"
+
+
+def trace_of(data: bytes, rows: Iterable[Object], first_unjudged: int | None) -> Trace:
+    """The columns of the bytes of a trace whose rows are these. Lines from the first unjudged one
+    on have none and are read as they seem."""
+    trace, next_line = Trace(data), 1
+    try:
+        for row in rows:
+            for line in range(next_line, row["line"]):
+                trace.blank(line)
+            trace.row(row)
+            next_line = row["line"] + 1
+    except (KeyError, TypeError, ValueError, IndexError, AttributeError) as fault:
+        text = f"qaudit-why wrote an unknown row before line {next_line}: {fault!r}"
+        raise Failure(text) from fault
+    for line in range(next_line, len(trace.lines) + 1):
+        said = None
+        if first_unjudged is not None and line >= first_unjudged:
+            said = read(trace.lines[line - 1])
+        if said is None:
+            trace.blank(line)
+        else:
+            trace.event(line, said)
+    return trace
