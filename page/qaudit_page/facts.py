@@ -136,7 +136,8 @@ def of_window(amounts: Amounts) -> Facts:
 def of_probe(amounts: Amounts) -> Facts:
     """What a probe timeout allows, and what was spent."""
     if not amounts.has("spent_bytes"):
-        return [("probe timeouts before it", "none")]
+        would = size(amounts.number("allowance_bytes"))
+        return [("probe timeouts before it", "none"), ("one would allow", would)]
     spent, packet = amounts.number("spent_bytes"), amounts.number("size_bytes")
     allowed = amounts.number("allowance_bytes")
     return [

@@ -86,7 +86,7 @@ function laneTicks(height) {
   if (timerLane) {
     const step = niceStep(timerLane.high / 2);
     for (let n = 0; n <= timerLane.high; n += step)
-      ticks.push({v: at(timerLane, n), label: grouped(+n.toPrecision(12)) + ' ms'});
+      ticks.push({v: at(timerLane, n), label: grouped(+n.toPrecision(12))});
   }
   return ticks;
 }
@@ -131,7 +131,7 @@ function drawLane(context, area, lane) {
     context.lineTo(area.x + area.w, bottom);
   });
   const name = SPACES[lane.space], y = area.y + lane.top + 2;
-  words(context, name, area.x + area.w - 4, y, colors[name], 'right', 'top', 'bold ' + FONT);
+  words(context, name, area.x + 4, y, colors[name], 'left', 'top', 'bold ' + FONT);
 }
 
 // The greatest number that was acknowledged so far, as a step, from one lane's bottom to its top.
@@ -269,8 +269,8 @@ function drawTimer(context, area, to) {
     });
   }
   drawFired(context, area, to, y);
-  const label = area.w < 480 ? 'timer' : 'time until the timer fires';
-  words(context, label, area.x + area.w - 4, area.y + timerLane.top + 1, colors.timer, 'right', 'top');
+  const y0 = area.y + timerLane.top + 1;
+  words(context, 'ms until the timer fires', area.x + 4, y0, colors.timer, 'left', 'top');
 }
 
 // Where a timer fired: a triangle, hollow for one that looks for losses.
