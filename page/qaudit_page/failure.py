@@ -8,6 +8,8 @@ class Status(IntEnum):
     """The exit status of a command."""
 
     WRITTEN = 0
+    # Of a table: a trace is refused, or newly refused.
+    REFUSED = 1
     # A trace that no page can be made of.
     UNSHOWN = 2
     # A file, a stream or a program that is needed failed or is missing.

@@ -46,8 +46,8 @@ const seriesOfWindow = () => ({
 const seriesOfRtt = () => ({
   smoothed: line(colors.initial, 2.2), latest: line(colors.latest, 1),
   least: line(colors.least, 1.4, DASHES.least),
-  lossDelay: line(colors.lost, 1.4, DASHES.lossDelay),
-  timeout: line(colors.timer, 1.4, DASHES.timeout), marks: {plotter: drawRttMarks},
+  lossDelay: line(colors.lost, 2, DASHES.lossDelay),
+  timeout: line(colors.timer, 2, DASHES.timeout), marks: {plotter: drawRttMarks},
 });
 
 function makeCharts() {
