@@ -1,10 +1,12 @@
 """A page of a trace: one HTML file with its script, its style and its data."""
 
 import base64
+import gc
 import hashlib
 import json
-from collections.abc import Iterable
+from collections.abc import Iterable, Iterator
 from concurrent.futures import ThreadPoolExecutor
+from contextlib import contextmanager
 from dataclasses import dataclass
 from pathlib import Path
 
@@ -45,11 +47,23 @@ def page_of(wanted: Wanted) -> tuple[Verdict, str]:
     library, program = dygraphs(wanted.dygraphs), find(wanted.program)
     data = read(wanted.trace)
     with Run(program, "--json", data) as judging, Run(program, "--rows", data) as telling:
-        rows = rows_by(telling)
         verdict = verdict_by(judging)
-        trace = trace_of(data, rows, verdict.first_unjudged)
+        with without_collector():
+            trace = trace_of(data, rows_by(telling), verdict.first_unjudged)
     part = part_of(trace, verdict, wanted.first, wanted.last)
     return verdict, written(wanted, library, trace, verdict, part)
+
+
+@contextmanager
+def without_collector() -> Iterator[None]:
+    """Meanwhile nothing looks for cycles: there are none in what JSON says, and much of it."""
+    was_enabled = gc.isenabled()
+    gc.disable()
+    try:
+        yield
+    finally:
+        if was_enabled:
+            gc.enable()
 
 
 def written(wanted: Wanted, library: str, trace: Trace, verdict: Verdict, part: Part) -> str:

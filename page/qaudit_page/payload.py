@@ -4,6 +4,7 @@ import base64
 import zlib
 from collections.abc import Iterable, Sequence
 from dataclasses import dataclass
+from operator import sub
 
 from .failure import Failure, Status
 from .lenient import METRICS, SPACES
@@ -84,18 +85,16 @@ def part_that_fits(trace: Trace, verdict: Verdict, part: Part) -> Part:
 
 def differences(values: Iterable[int]) -> list[int]:
     """Each value less the one before it."""
-    before, found = 0, []
-    for value in values:
-        found.append(value - before)
-        before = value
-    return found
+    listed = list(values)
+    return [*listed[:1], *map(sub, listed[1:], listed)]
 
 
 def column(values: Sequence[int | None]) -> Object:
     """A column that a script can hold: what it would round is there as digits too."""
-    clamped = [NOTHING if it is None else it if it <= EXACT else EXACT for it in values]
-    exact = {}
-    if max(clamped, default=0) == EXACT:
+    present = values if None not in values else [NOTHING if it is None else it for it in values]
+    clamped, exact = present, {}
+    if max(present, default=0) > EXACT:
+        clamped = [min(it, EXACT) for it in present]
         exact = {place: str(it) for place, it in enumerate(values) if it and it > EXACT}
     return {"by": differences(clamped), "exact": exact}
 

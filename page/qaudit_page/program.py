@@ -146,11 +146,11 @@ def verdict_of(program: str, data: bytes) -> Verdict:
         return verdict_by(run)
 
 
-def rows_by(run: Run) -> Iterator[Object]:
-    """The rows of a run with `--rows`."""
+def rows_by(run: Run) -> Iterator[list[Object]]:
+    """The rows of a run with `--rows`, some at a time."""
     for piece in run.lines():
         try:
-            rows = json.loads(b"[" + b",".join(piece) + b"]")
+            rows: list[Object] = json.loads(b"[" + b",".join(piece) + b"]")
         except ValueError as fault:
             raise Failure(f"{run.program} wrote rows that are not JSON: {fault}") from fault
-        yield from rows
+        yield rows

@@ -5,6 +5,7 @@ from array import array
 from bisect import bisect_left
 from collections.abc import Iterable
 from dataclasses import dataclass, field
+from operator import itemgetter
 
 from .failure import Failure
 from .lenient import METRICS, SPACES, Event, read
@@ -29,18 +30,24 @@ NO_SPACE = 3
 OF_LOSS = 4
 ELICITING, IN_FLIGHT, PROBE, RECOVERY = 1, 2, 4, 8
 LEAVES = {"probe": PROBE, "recovery": RECOVERY}
-# The amounts of a state, by their keys without the unit.
-AMOUNTS = (
-    "window",
-    "ssthresh",
-    "in_flight",
-    "latest_rtt",
-    "min_rtt",
-    "smoothed_rtt",
-    "rttvar",
-    "pto_count",
-    "deadline",
-)
+# The amounts of a state and their keys in a row, for the unit of its times.
+AMOUNTS = {
+    "window": "window_bytes",
+    "ssthresh": "ssthresh_bytes",
+    "in_flight": "in_flight_bytes",
+    "latest_rtt": "latest_rtt_{}",
+    "min_rtt": "min_rtt_{}",
+    "smoothed_rtt": "smoothed_rtt_{}",
+    "rttvar": "rttvar_{}",
+    "pto_count": "pto_count",
+    "deadline": "deadline_{}",
+}
+# How it is written what the timer is set for.
+TIMERS: dict[tuple[str | None, str | None], int] = {
+    (None, None): NO_SPACE,
+    **{("pto", name): space for space, name in enumerate(SPACES)},
+    **{("loss", name): space + OF_LOSS for space, name in enumerate(SPACES)},
+}
 
 
 class Numbers:
@@ -202,40 +209,41 @@ class Trace:
     # Rows.
 
     def row(self, row: Object) -> None:
-        """The row of a line."""
-        line, said, held = row["line"], row["event"], row["state"]
+        """What the line of a row says."""
+        said = row["event"]
         if said["event"] == "header":
             self.header = said
             self.unit = said.get("unit", "us")
-        self.event(line, said)
-        state, unit = self.state, self.unit
-        state.line.append(line)
-        amounts = state.amounts
-        amounts["window"].append(held["window_bytes"])
-        amounts["ssthresh"].append(held["ssthresh_bytes"])
-        amounts["in_flight"].append(held["in_flight_bytes"])
-        for name in ("latest_rtt", "min_rtt", "smoothed_rtt", "rttvar", "deadline"):
-            amounts[name].append(held[f"{name}_{unit}"])
-        amounts["pto_count"].append(held["pto_count"])
-        kind, owed = held["set_kind"], held["owed"]
-        is_of_loss = OF_LOSS if kind == "loss" else 0
-        set_for = SPACES.index(held["set_space"]) + is_of_loss if kind else NO_SPACE
-        state.timer.append(set_for)
-        state.owed.append(sum(high - low + 1 for low, high in owed))
-        if owed:
-            state.owed_text[len(state.line) - 1] = f"{held['owed_space']} {runs(owed)}"
+        self.event(row["line"], said)
+        self.state.line.append(row["line"])
+
+    def hold(self, states: list[Object]) -> None:
+        """The states of rows."""
+        state, begin = self.state, len(self.state.owed)
+        for name, key in AMOUNTS.items():
+            column = map(itemgetter(key.format(self.unit)), states)
+            state.amounts[name].extend(column)
+        codes = map(itemgetter("set_kind", "set_space"), states)
+        state.timer.extend(map(TIMERS.__getitem__, codes))
+        for place, held in enumerate(states, begin):
+            owed = held["owed"]
+            state.owed.append(sum(high - low + 1 for low, high in owed) if owed else 0)
+            if owed:
+                state.owed_text[place] = f"{held['owed_space']} {runs(owed)}"
 
 
-def trace_of(data: bytes, rows: Iterable[Object], first_unjudged: int | None) -> Trace:
-    """The columns of the bytes of a trace whose rows are these. Lines from the first unjudged one
-    on have none and are read as they seem."""
+def trace_of(data: bytes, rows: Iterable[list[Object]], first_unjudged: int | None) -> Trace:
+    """The columns of the bytes of a trace whose rows are these, some at a time. Lines from the
+    first unjudged one on have none and are read as they seem."""
     trace, next_line = Trace(data), 1
     try:
-        for row in rows:
-            for line in range(next_line, row["line"]):
-                trace.blank(line)
-            trace.row(row)
-            next_line = row["line"] + 1
+        for piece in rows:
+            for row in piece:
+                for line in range(next_line, row["line"]):
+                    trace.blank(line)
+                trace.row(row)
+                next_line = row["line"] + 1
+            trace.hold([row["state"] for row in piece])
     except (KeyError, TypeError, ValueError, IndexError, AttributeError) as fault:
         text = f"qaudit-why wrote an unknown row before line {next_line}: {fault!r}"
         raise Failure(text) from fault

@@ -60,8 +60,10 @@ def seen(data: bytes, report: str | None = None) -> tuple[Trace, Verdict]:
     """A trace as a page has it, by the second machine."""
     report = report or judged(data)
     verdict = Verdict(object_of("-", data, report))
-    rows = map(json.loads, rows_of(data, first_not_good(data, report)))
-    return trace_of(data, rows, verdict.first_unjudged), verdict
+    rows = [json.loads(row) for row in rows_of(data, first_not_good(data, report))]
+    # In pieces, as from a program.
+    pieces = [rows[place : place + 7] for place in range(0, len(rows), 7)]
+    return trace_of(data, pieces, verdict.first_unjudged), verdict
 
 
 def made(data: bytes, report: str | None = None, **wanted: Any) -> str:
