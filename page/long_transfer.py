@@ -41,12 +41,20 @@ class Transfer:
         timeout = self.smoothed + 4 * self.rttvar + 25_000
         due = self.now + timeout if self.flying else None
         state = {
-            "events": len(self.rows), "window_bytes": self.window, "ssthresh_bytes": self.ssthresh,
-            "in_flight_bytes": self.flying, "latest_rtt_us": self.latest,
-            "min_rtt_us": self.least, "smoothed_rtt_us": self.smoothed,
-            "rttvar_us": self.rttvar, "pto_count": 0, "owed_space": "app" if owed else None,
-            "owed": [[it, it] for it in owed or []], "set_kind": "pto" if due else None,
-            "set_space": "app" if due else None, "deadline_us": due,
+            "events": len(self.rows),
+            "window_bytes": self.window,
+            "ssthresh_bytes": self.ssthresh,
+            "in_flight_bytes": self.flying,
+            "latest_rtt_us": self.latest,
+            "min_rtt_us": self.least,
+            "smoothed_rtt_us": self.smoothed,
+            "rttvar_us": self.rttvar,
+            "pto_count": 0,
+            "owed_space": "app" if owed else None,
+            "owed": [[it, it] for it in owed or []],
+            "set_kind": "pto" if due else None,
+            "set_space": "app" if due else None,
+            "deadline_us": due,
         }
         row = {"line": len(self.trace), "event": dict(sorted(event.items())), "state": state}
         self.rows.append(json.dumps(row, separators=(",", ":")))
@@ -67,8 +75,18 @@ class Transfer:
         self.flying += SIZE
         self.sent[self.number] = self.now
         self.open.append(self.number)
-        self.put({"event": "sent", "time": self.now, "space": "app", "number": self.number,
-                  "size": SIZE, "eliciting": True, "in_flight": True, "leave": "window"})
+        self.put(
+            {
+                "event": "sent",
+                "time": self.now,
+                "space": "app",
+                "number": self.number,
+                "size": SIZE,
+                "eliciting": True,
+                "in_flight": True,
+                "leave": "window",
+            }
+        )
         waits = max(0.0, self.busy - self.now) * RATE
         if waits + SIZE <= ROOM and self.random.random() > DROPS:
             self.busy = max(self.busy, self.now) + SIZE / RATE
@@ -86,16 +104,34 @@ class Transfer:
             del self.sent[number]
         self.flying -= SIZE * len(numbers)
         lost = self.lost()
-        self.window += 0 if lost else SIZE * len(numbers) if self.ssthresh is None else (
-            SIZE * SIZE * len(numbers) // self.window)
+        self.window += (
+            0
+            if lost
+            else SIZE * len(numbers)
+            if self.ssthresh is None
+            else (SIZE * SIZE * len(numbers) // self.window)
+        )
         ranges = [[it, it] for it in reversed(numbers)]
         self.put({"event": "ack", "time": self.now, "space": "app", "ranges": ranges}, lost)
         if lost:
-            self.put({"event": "lost", "time": self.now, "space": "app",
-                      "ranges": [[it, it] for it in lost]})
+            self.put(
+                {
+                    "event": "lost",
+                    "time": self.now,
+                    "space": "app",
+                    "ranges": [[it, it] for it in lost],
+                }
+            )
         if self.random.random() < REPORTS:
-            self.put({"event": "metrics", "time": self.now, "window": self.window,
-                      "bytes_in_flight": self.flying, "smoothed_rtt": self.smoothed})
+            self.put(
+                {
+                    "event": "metrics",
+                    "time": self.now,
+                    "window": self.window,
+                    "bytes_in_flight": self.flying,
+                    "smoothed_rtt": self.smoothed,
+                }
+            )
 
     def sample(self, rtt: int) -> None:
         """A sample of the round-trip time."""

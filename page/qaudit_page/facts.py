@@ -141,8 +141,10 @@ def of_probe(amounts: Amounts) -> Facts:
     spent, packet = amounts.number("spent_bytes"), amounts.number("size_bytes")
     allowed = amounts.number("allowance_bytes")
     return [
-        ("sent since the last probe timeout", f"{count(spent)} + {count(packet)} ="
-         f" {size(spent + packet)}"),
+        (
+            "sent since the last probe timeout",
+            f"{count(spent)} + {count(packet)} =" f" {size(spent + packet)}",
+        ),
         ("allowed", size(allowed)),
         ("past it by", size(spent + packet - allowed)),
     ]
@@ -179,7 +181,10 @@ def of_early(amounts: Amounts) -> Facts:
     if amounts.time("allowed"):
         told.append(("allowed", amounts.shown("allowed")))
     told.append(
-        ("deadline", f"{amounts.after(since)} + {amounts.after(due - since)} = {amounts.after(due)}")
+        (
+            "deadline",
+            f"{amounts.after(since)} + {amounts.after(due - since)} = {amounts.after(due)}",
+        )
     )
     if amounts.said["counts_from"] == "packet":
         packet = f"packet {amounts.number('packet')} of {amounts.said['set_space']} was sent"
@@ -205,15 +210,19 @@ def of_report(amounts: Amounts) -> Facts:
         name = str(it["field"])
         unit = next(key for key in it if key.startswith("reported_")).removeprefix("reported_")
         shown = {
-            what: None if it[f"{what}_{unit}"] is None else
-            size(it[f"{what}_{unit}"]) if unit == "bytes" else amounts.after(it[f"{what}_{unit}"])
+            what: None
+            if it[f"{what}_{unit}"] is None
+            else size(it[f"{what}_{unit}"])
+            if unit == "bytes"
+            else amounts.after(it[f"{what}_{unit}"])
             for what in ("reported", "held", "difference", "slack")
         }
         held = shown["held"] or "none"
         differs = f", {shown['difference']} apart" if shown["difference"] else ""
         allowed = f", {shown['slack']} allowed" if it[f"slack_{unit}"] else ""
-        told.append((name, f"reported {shown['reported']}, the machine has {held}"
-                     f"{differs}{allowed}"))
+        told.append(
+            (name, f"reported {shown['reported']}, the machine has {held}" f"{differs}{allowed}")
+        )
     return told
 
 
@@ -234,7 +243,10 @@ def of_collapse(amounts: Amounts) -> Facts:
     reported = amounts.number("reported_window_bytes")
     return [
         ("window reported", size(reported)),
-        ("at most", f"{least} (two datagrams) + {acknowledged} (acknowledged since) +"
-         f" {slack} (slack) = {size(sum(parts))}"),
+        (
+            "at most",
+            f"{least} (two datagrams) + {acknowledged} (acknowledged since) +"
+            f" {slack} (slack) = {size(sum(parts))}",
+        ),
         ("past it by", size(reported - sum(parts))),
     ]

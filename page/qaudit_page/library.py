@@ -25,7 +25,9 @@ def dygraphs(given: Path | None) -> str:
         raise Failure(f"{text} with --dygraphs") from fault
     version = VERSION.search(script)
     if version is None or version.groups() != WANTED:
-        found = "is not dygraphs" if version is None else f"is dygraphs {'.'.join(version.groups())}"
+        found = (
+            "is not dygraphs" if version is None else f"is dygraphs {'.'.join(version.groups())}"
+        )
         wanted = ".".join(WANTED)
         raise Failure(f"{path} {found}: {wanted} is wanted, as Debian's {PACKAGE} has it")
     if ENDINGS.search(script):

@@ -212,7 +212,9 @@ def changes_shown(changes: list[Change]) -> str:
         for it in changes
     )
     worse = sum(it.is_worse for it in changes)
-    told = f"{plural(worse, 'trace')} newly refused or by another rule, {len(changes) - worse} other"
+    told = (
+        f"{plural(worse, 'trace')} newly refused or by another rule, {len(changes) - worse} other"
+    )
     return f'<h2>Since the run before</h2><p>{told}</p><table class="changes">{head}{rows}</table>'
 
 
@@ -230,8 +232,10 @@ def cells(results: list[Result], named: re.Pattern[str] | None, beside: Path) ->
         told = "".join(f"<td>{''.join(cell(it, beside) for it in here)}</td>" for here in shown)
         kinds = Counter(it.kind for here in shown for it in here)
         rows.append(f'<tr><th scope="row">{html(case)}</th>{told}<td>{counted(kinds)}</td></tr>')
-    sums = [Counter(it.kind for (_, at), here in by_place.items() if at == stacks for it in here)
-            for stacks in columns]
+    sums = [
+        Counter(it.kind for (_, at), here in by_place.items() if at == stacks for it in here)
+        for stacks in columns
+    ]
     foot = "".join(f"<td>{counted(it)}</td>" for it in sums)
     rows.append(f'</tbody><tfoot><tr><th scope="row">all</th>{foot}<td></td></tr></tfoot>')
     return "".join(rows)
@@ -255,5 +259,6 @@ def rules(results: list[Result]) -> str:
     """How many traces break each rule first, or have each fault."""
     by_rule = Counter(f"{it.rule} {it.name}" for it in results if it.rule)
     ordered = sorted(by_rule.items(), key=lambda it: (-it[1], it[0]))
-    return "".join(f'<tr><th scope="row">{html(rule)}</th><td>{number}</td></tr>'
-                   for rule, number in ordered)
+    return "".join(
+        f'<tr><th scope="row">{html(rule)}</th><td>{number}</td></tr>' for rule, number in ordered
+    )

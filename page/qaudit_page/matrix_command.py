@@ -37,7 +37,8 @@ found in a directory is each file in it, and below it, that ends in .trace."""
 ENDING = """\
 The exit status is 0 where all are accepted, 1 where one is refused, 2 where one cannot be read, 3
 where a file or a program is missing or failed, and 64 where the arguments are wrong. With --against
-it is 0 where nothing is refused that was not before, and 1 where something is, or by another rule."""
+it is 0 where nothing is refused that was not before, and 1 where something is, or by another
+rule."""
 WIDTH = 40
 BAD_IN_NAMES = re.compile(r"[^A-Za-z0-9._-]+")
 
@@ -64,7 +65,9 @@ def arguments() -> argparse.Namespace:
     text = "where the table is written; without it on standard output"
     parser.add_argument("--output", type=Path, metavar="FILE", help=text)
     text = "how many traces at a time; without it as many as there are cores"
-    parser.add_argument("--jobs", type=int, default=len(os.sched_getaffinity(0)), metavar="N", help=text)
+    parser.add_argument(
+        "--jobs", type=int, default=len(os.sched_getaffinity(0)), metavar="N", help=text
+    )
     add_shared(parser)
     text = "traces, or directories of traces"
     parser.add_argument("traces", type=Path, metavar="TRACE|DIRECTORY", nargs="+", help=text)

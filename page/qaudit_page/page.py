@@ -155,8 +155,9 @@ def quote(trace: Trace, verdict: Verdict) -> str:
 
 def overview(wanted: Wanted, trace: Trace, verdict: Verdict, part: Part) -> Facts:
     """What the trace is, in numbers."""
-    drawn = [time for time, kind in zip(trace.time, trace.kind, strict=True)
-             if kind not in NO_EVENTS]
+    drawn = [
+        time for time, kind in zip(trace.time, trace.kind, strict=True) if kind not in NO_EVENTS
+    ]
     packets = trace.packets
     judged = trace.state.line
     told = [("file", name_of(wanted.trace)), ("lines", count(len(trace.lines)))]

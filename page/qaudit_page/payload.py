@@ -91,7 +91,7 @@ def differences(values: Iterable[int]) -> list[int]:
 
 def column(values: Sequence[int | None]) -> Object:
     """A column that a script can hold: what it would round is there as digits too."""
-    present = values if None not in values else [NOTHING if it is None else it for it in values]
+    present = [NOTHING if it is None else it for it in values]
     clamped, exact = present, {}
     if max(present, default=0) > EXACT:
         clamped = [min(it, EXACT) for it in present]
@@ -131,8 +131,10 @@ def packets_of(trace: Trace, part: Part) -> Object:
     numbers = [packets.number[place] for place in kept]
     spaces = [packets.space[place] for place in kept]
     # Numbers count from the least of their space, and so stay exact where they are great.
-    least = [min((n for n, s in zip(numbers, spaces, strict=True) if s == space), default=0)
-             for space in range(len(SPACES))]
+    least = [
+        min((n for n, s in zip(numbers, spaces, strict=True) if s == space), default=0)
+        for space in range(len(SPACES))
+    ]
     from_least = [number - least[space] for number, space in zip(numbers, spaces, strict=True)]
     found: Object = {
         "line": differences(packets.line[place] for place in kept),
@@ -141,8 +143,11 @@ def packets_of(trace: Trace, part: Part) -> Object:
         "number": column(from_least),
         "size": differences(packets.size[place] for place in kept),
         "flags": "".join(f"{packets.flags[place]:x}" for place in kept),
-        "before": [trace.time[packets.line[place] - 1] for place in kept
-                   if packets.line[place] < part.first],
+        "before": [
+            trace.time[packets.line[place] - 1]
+            for place in kept
+            if packets.line[place] < part.first
+        ],
     }
     for name in ("acked", "lost", "gone"):
         ends: list[int] = getattr(packets, name)

@@ -68,10 +68,10 @@ class Verdict:
 def find(given: Path | None) -> str:
     """The path of the program: the one that is given, or on the path, or beside this command."""
     if given is not None:
-        found = shutil.which(given if given.parent.parts else Path(".", given))
+        found = shutil.which(str(given.absolute()))
     else:
         beside = Path(sys.argv[0]).resolve().parent / NAME
-        found = shutil.which(NAME) or shutil.which(beside)
+        found = shutil.which(NAME) or shutil.which(str(beside))
     if found is None:
         raise Failure(f"there is no program {given or NAME}; --program names one")
     return found

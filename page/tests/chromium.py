@@ -1,6 +1,7 @@
 """A headless Chromium for the tests, where Debian's chromium-driver and python3-selenium are."""
 
 import base64
+import importlib
 import json
 import shutil
 import sys
@@ -10,15 +11,18 @@ from typing import Any
 # Where Debian's package lies, for a Python that is not Debian's.
 sys.path.append("/usr/lib/python3/dist-packages")
 
-try:
-    from selenium import webdriver
-    from selenium.webdriver.chrome.options import Options
-    from selenium.webdriver.chrome.service import Service
-except ImportError:
-    webdriver = None
 
+def module(name: str) -> Any:
+    """A module of selenium, which says little of its types; None where there is none."""
+    try:
+        return importlib.import_module(f"selenium.webdriver{name}")
+    except ImportError:
+        return None
+
+
+WEBDRIVER = module("")
 DRIVER = shutil.which("chromedriver")
-MISSING = "" if webdriver and DRIVER else "no chromium-driver or no python3-selenium is installed"
+MISSING = "" if WEBDRIVER and DRIVER else "no chromium-driver or no python3-selenium is installed"
 READY = "return window.qauditPage !== undefined || !document.getElementById('trouble').hidden"
 SECONDS = 30
 
@@ -27,13 +31,20 @@ class Browser:
     """A browser whose window is this wide, in light or in dark colours."""
 
     def __init__(self, width: int = 1200, height: int = 900, *, is_dark: bool = False) -> None:
-        options = Options()
+        options = module(".chrome.options").Options()
         options.binary_location = shutil.which("chromium") or ""
-        for argument in ("--headless=new", "--no-sandbox", "--disable-gpu", "--hide-scrollbars",
-                         "--force-device-scale-factor=1", "--disable-dev-shm-usage"):
+        for argument in (
+            "--headless=new",
+            "--no-sandbox",
+            "--disable-gpu",
+            "--hide-scrollbars",
+            "--force-device-scale-factor=1",
+            "--disable-dev-shm-usage",
+        ):
             options.add_argument(argument)
         options.set_capability("goog:loggingPrefs", {"browser": "ALL", "performance": "ALL"})
-        self.driver = webdriver.Chrome(service=Service(DRIVER), options=options)
+        service = module(".chrome.service").Service(DRIVER)
+        self.driver = WEBDRIVER.Chrome(service=service, options=options)
         self.driver.set_script_timeout(SECONDS)
         self.resize(width, height)
         self.dress(is_dark=is_dark)
@@ -57,9 +68,8 @@ class Browser:
 
     def wait(self, condition: str) -> None:
         """Waits until a script returns true."""
-        from selenium.webdriver.support.ui import WebDriverWait
-
-        WebDriverWait(self.driver, SECONDS, 0.02).until(lambda it: it.execute_script(condition))
+        waiting = module(".support.ui").WebDriverWait(self.driver, SECONDS, 0.02)
+        waiting.until(lambda it: it.execute_script(condition))
 
     def run(self, script: str, *arguments: object) -> Any:
         """What a script returns."""

@@ -69,7 +69,8 @@ def seen(data: bytes, report: str | None = None) -> tuple[Trace, Verdict]:
 def made(data: bytes, report: str | None = None, **wanted: Any) -> str:
     """The page of a trace."""
     trace, verdict = seen(data, report)
-    asked = Wanted(**{"trace": Path("made.trace"), **wanted})
+    fields: dict[str, Any] = {"trace": Path("made.trace"), **wanted}
+    asked = Wanted(**fields)
     part = part_of(trace, verdict, asked.first, asked.last)
     return written(asked, LIBRARY, trace, verdict, part)
 

@@ -3,7 +3,7 @@
 import base64
 import re
 import zlib
-from typing import Any
+from collections.abc import Callable
 
 from tests.chromium import Browser
 
@@ -25,7 +25,10 @@ class Scale:
     def __init__(self, browser: Browser, chart: str) -> None:
         """Of the lanes of `packets-app` the one that counts from the most, where app is alone."""
         is_of_lanes, chart = chart == "packets-app", chart.removesuffix("-app")
-        browser.run("document.getElementById(`chart-${arguments[0]}`).scrollIntoView({block: 'center'})", chart)
+        browser.run(
+            "document.getElementById(`chart-${arguments[0]}`).scrollIntoView({block: 'center'})",
+            chart,
+        )
         browser.settled()
         self.browser = browser
         self.x = line_through([(number(text), x) for text, x, _ in browser.run(LABELS, chart, "x")])
@@ -34,7 +37,10 @@ class Scale:
 
     def has(self, x: float, y: float, tone: str) -> bool:
         """Whether the colour of a name is at a place of the diagram, or a few pixels beside it."""
-        style = "return getComputedStyle(document.documentElement).getPropertyValue('--' + arguments[0])"
+        style = (
+            "const style = getComputedStyle(document.documentElement);"
+            "return style.getPropertyValue('--' + arguments[0])"
+        )
         color = color_of(self.browser.run(style, tone))
         left, top = round(self.x(x)) - REACH, round(self.y(y)) - REACH
         found = colors(self.browser, left, top, 2 * REACH + 1, 2 * REACH + 1)
@@ -57,10 +63,13 @@ def number(text: str) -> float:
     return float(text.replace(",", ""))
 
 
-def line_through(points: list[tuple[float, float]]) -> Any:
+def line_through(points: list[tuple[float, float]]) -> Callable[[float], float]:
     """The line through the outermost two points, in which all others lie but for two pixels."""
     (a, b), (c, d) = min(points), max(points)
-    place = lambda value: b + (value - a) * (d - b) / (c - a)  # noqa: E731
+
+    def place(value: float) -> float:
+        return b + (value - a) * (d - b) / (c - a)
+
     if any(abs(place(value) - pixel) > 2 for value, pixel in points):
         raise AssertionError(f"the labels of an axis do not lie in a line: {points}")
     return place
@@ -76,7 +85,13 @@ def color_of(text: str) -> Color:
 def colors(browser: Browser, left: float, top: float, width: int, height: int) -> list[Color]:
     """The colours of a part of what is seen."""
     scroll = browser.run("return [scrollX, scrollY]")
-    clip = {"x": left + scroll[0], "y": top + scroll[1], "width": width, "height": height, "scale": 1}
+    clip = {
+        "x": left + scroll[0],
+        "y": top + scroll[1],
+        "width": width,
+        "height": height,
+        "scale": 1,
+    }
     shot = browser.driver.execute_cdp_cmd("Page.captureScreenshot", {"format": "png", "clip": clip})
     return decoded(base64.b64decode(shot["data"]))
 

@@ -21,9 +21,14 @@ EVIL = (
 LOST = '{"event":"lost","time":100000,"space":"app","ranges":[[0,2]]}'
 # Packets 0 to 2 are lost; packet 8 at 200 ms goes past the window of 6,000 bytes.
 SMALL = (
-    HEADER, *(sent(n, n * 10_000) for n in range(5)), acked(100_000, (3, 4)), LOST,
-    *(sent(n, 120_000 + 1000 * n) for n in range(5, 8)), sent(8, 200_000, size=3600),
-    acked(300_000, (5, 8)), sent(9, 310_000),
+    HEADER,
+    *(sent(n, n * 10_000) for n in range(5)),
+    acked(100_000, (3, 4)),
+    LOST,
+    *(sent(n, 120_000 + 1000 * n) for n in range(5, 8)),
+    sent(8, 200_000, size=3600),
+    acked(300_000, (5, 8)),
+    sent(9, 310_000),
 )
 REFUSED = SMALL.index(sent(8, 200_000, size=3600)) + 1
 
@@ -31,6 +36,9 @@ REFUSED = SMALL.index(sent(8, 200_000, size=3600)) + 1
 @unittest.skipIf(MISSING or NO_LIBRARY, MISSING or NO_LIBRARY)
 class Browsing(unittest.TestCase):
     """One browser for all tests of a class."""
+
+    browser: Browser
+    folder: tempfile.TemporaryDirectory[str]
 
     @classmethod
     def setUpClass(cls) -> None:
@@ -52,8 +60,11 @@ class Browsing(unittest.TestCase):
     def tearDown(self) -> None:
         """No page says anything on the console or asks for anything."""
         self.assertEqual(self.browser.messages(), [])
-        asked = [url for url in self.browser.requests()
-                 if not url.startswith(("data:", "about:", "blob:")) and "/page.html" not in url]
+        asked = [
+            url
+            for url in self.browser.requests()
+            if not url.startswith(("data:", "about:", "blob:")) and "/page.html" not in url
+        ]
         self.assertEqual(asked, [])
 
     def key(self, key: str, **more: Any) -> None:
@@ -83,8 +94,10 @@ class Browsing(unittest.TestCase):
 
     def box(self, selector: str) -> Any:
         """Where an element is: its left, top, width and height."""
-        script = ("const it = document.querySelector(arguments[0]); it.scrollIntoView({block: 'center'});"
-                  "const b = it.getBoundingClientRect(); return [b.left, b.top, b.width, b.height]")
+        script = (
+            "const it = document.querySelector(arguments[0]); it.scrollIntoView({block: 'center'});"
+            "const b = it.getBoundingClientRect(); return [b.left, b.top, b.width, b.height]"
+        )
         return self.browser.run(script, selector)
 
     def view(self) -> list[float]:
@@ -121,15 +134,30 @@ class Using(Browsing):
         self.assertIn("refused V16 metric window", self.text("tr.selected"))
         self.assertIn("the machine stops before", self.text("tr.selected"))
         self.assertIn("not judged", self.text("tr.selected + tr"))
-        self.assertLessEqual(self.browser.run("return document.querySelectorAll('#rows tr').length"), 24)
+        self.assertLessEqual(
+            self.browser.run("return document.querySelectorAll('#rows tr').length"), 24
+        )
 
     def test_the_table_has_the_rows_of_the_machine(self) -> None:
         self.show(self.page, "#line=83")
         said = "return [...document.querySelectorAll('tr.selected td')].map(it => it.textContent)"
         cells = self.browser.run(said)
         self.assertEqual(cells[0], "144.684")
-        self.assertEqual(cells[2:], ["13,960", "25,200", "13,960", "41.086", "40.594", "41.938", "1.67",
-                                     "0", "0", "PTO app 217.922"])
+        self.assertEqual(
+            cells[2:],
+            [
+                "13,960",
+                "25,200",
+                "13,960",
+                "41.086",
+                "40.594",
+                "41.938",
+                "1.67",
+                "0",
+                "0",
+                "PTO app 217.922",
+            ],
+        )
 
     def test_keys(self) -> None:
         self.show(self.page)
@@ -195,7 +223,9 @@ class Using(Browsing):
         self.key("+")
         ends = []
         for chart in ("packets", "window", "rtt"):
-            script = f"return document.querySelector('#chart-{chart} .dygraph-axis-label-x').textContent"
+            script = (
+                f"return document.querySelector('#chart-{chart} .dygraph-axis-label-x').textContent"
+            )
             ends.append(self.browser.run(script))
         self.assertEqual(len(set(ends)), 1)
 
@@ -233,7 +263,9 @@ class Using(Browsing):
         """Looks for something."""
         self.browser.run(
             "const it = document.getElementById('find'); it.value = arguments[0];"
-            "it.dispatchEvent(new KeyboardEvent('keydown', {key: 'Enter', bubbles: true}))", text)
+            "it.dispatchEvent(new KeyboardEvent('keydown', {key: 'Enter', bubbles: true}))",
+            text,
+        )
         self.browser.settled()
 
     def test_find_and_the_axis_of_lines(self) -> None:
@@ -241,8 +273,10 @@ class Using(Browsing):
         self.find("app 100")
         self.assertIn('"number":100,', self.text("tr.selected"))
         at = self.selected()
-        self.browser.run("const it = document.getElementById('axis'); it.value = 'line';"
-                         "it.dispatchEvent(new Event('change'))")
+        self.browser.run(
+            "const it = document.getElementById('axis'); it.value = 'line';"
+            "it.dispatchEvent(new Event('change'))"
+        )
         self.browser.settled()
         low, high = self.view()
         self.assertTrue(low < at < high < 3000)
@@ -265,8 +299,10 @@ class Using(Browsing):
         self.browser.run("document.querySelector('#spaces button.initial').click()")
         self.browser.settled()
         self.browser.settled()
-        self.assertEqual(self.browser.run(
-            "return document.querySelector('#spaces button.initial').getAttribute('aria-pressed')"), "false")
+        self.assertEqual(
+            self.browser.run("return document.querySelector('#spaces button.initial').ariaPressed"),
+            "false",
+        )
         self.assertNotEqual(self.browser.run(labels), before)
 
     def test_widths_and_colours(self) -> None:
@@ -299,13 +335,20 @@ class Harm(Browsing):
             self.key("ArrowRight")
         self.browser.run(
             "for (const name of ['packets', 'window', 'rtt']) {"
-            "  const it = document.getElementById('chart-' + name), box = it.getBoundingClientRect();"
+            "  const it = document.getElementById('chart-' + name);"
+            "  const box = it.getBoundingClientRect();"
             "  for (let x = 70; x < box.width; x += 90) it.dispatchEvent(new PointerEvent("
             "    'pointermove', {clientX: box.left + x, clientY: box.top + 60, bubbles: true}));"
-            "}")
+            "}"
+        )
         self.assertIsNone(self.browser.run("return window.pwned ?? null"))
-        self.assertEqual(self.browser.run("return document.querySelectorAll("
-                                          "'img:not(.dygraph-rangesel-zoomhandle), svg, iframe').length"), 0)
+        self.assertEqual(
+            self.browser.run(
+                "return document.querySelectorAll("
+                "'img:not(.dygraph-rangesel-zoomhandle), svg, iframe').length"
+            ),
+            0,
+        )
         self.assertEqual(self.browser.run("return document.scripts.length"), 4)
         self.assertNotIn("could not be drawn", self.text("#trouble"))
 
@@ -316,7 +359,9 @@ class Harm(Browsing):
         self.assertIn("<script>window.pwned=1</script>", self.text("#rows"))
 
     def test_bytes(self) -> None:
-        self.harmless(joined(HEADER) + b'{"a":"\xff\xed\xa0\x80\x00"}\n\xff\xfe\x00\n' + b"\r\n" * 5)
+        self.harmless(
+            joined(HEADER) + b'{"a":"\xff\xed\xa0\x80\x00"}\n\xff\xfe\x00\n' + b"\r\n" * 5
+        )
         self.assertIn("\\xff", self.text("#rows"))
         self.harmless(joined(HEADER, '{"event":"metrics","time":5,"x":"\\ud800\\u202e\u202e"}'))
 
@@ -354,10 +399,28 @@ class Harm(Browsing):
         self.harmless(joined(HEADER, sent(0)) + blank * 300)
 
     def test_times_that_go_back_and_objects_of_all_kinds(self) -> None:
-        odd = ('{"event":"sent","time":"x"}', '{"event":{"a":1}}', "[]", '"x"', "null", "{}",
-               '{"event":"ack","time":9,"space":"app","ranges":[[5,1]]}', "[" * 5000)
-        self.harmless(joined(HEADER, sent(0, 50), sent(1, 40), *odd, sent(7, 3), sent(3, 60),
-                             HEADER, acked(2, (0, 9))))
+        odd = (
+            '{"event":"sent","time":"x"}',
+            '{"event":{"a":1}}',
+            "[]",
+            '"x"',
+            "null",
+            "{}",
+            '{"event":"ack","time":9,"space":"app","ranges":[[5,1]]}',
+            "[" * 5000,
+        )
+        self.harmless(
+            joined(
+                HEADER,
+                sent(0, 50),
+                sent(1, 40),
+                *odd,
+                sent(7, 3),
+                sent(3, 60),
+                HEADER,
+                acked(2, (0, 9)),
+            )
+        )
 
     def test_the_policy_holds(self) -> None:
         self.show(made(joined(HEADER, sent(0))))
@@ -367,7 +430,8 @@ class Harm(Browsing):
             "add('script', it => { it.textContent = 'window.pwned = 1'; });"
             "add('div', it => { it.innerHTML = '<b onclick=\"window.pwned = 2\">x</b>'; });"
             "document.querySelector('b[onclick]').click();"
-            "fetch('http://127.0.0.1:9/').catch(() => { window.isRefused = true; });")
+            "fetch('http://127.0.0.1:9/').catch(() => { window.isRefused = true; });"
+        )
         self.browser.wait("return window.isRefused === true")
         self.assertIsNone(self.browser.run("return window.pwned ?? null"))
         # The browser says of each that it refused it.
@@ -424,13 +488,20 @@ class Marks(Browsing):
         self.assertTrue(at.has(170, 60 + 120 + 25, "timer"), "the probe timeout")
 
     def test_a_silence_says_what_is_in_flight(self) -> None:
-        texts = "const said = []; const fill = CanvasRenderingContext2D.prototype.fillText;" \
-            "CanvasRenderingContext2D.prototype.fillText = function (text, ...more) {" \
-            "  said.push(text); return fill.call(this, text, ...more); };" \
+        texts = (
+            "const said = []; const fill = CanvasRenderingContext2D.prototype.fillText;"
+            "CanvasRenderingContext2D.prototype.fillText = function (text, ...more) {"
+            "  said.push(text); return fill.call(this, text, ...more); };"
             "window.saidTexts = said;"
+        )
         header = HEADER.replace('"version":1', '"version":2,"timer_late_us":1000')
-        data = joined(header, '{"event":"confirmed","time":0}', sent(0, 0), sent(1, 10),
-                      '{"event":"metrics","time":9000000}')
+        data = joined(
+            header,
+            '{"event":"confirmed","time":0}',
+            sent(0, 0),
+            sent(1, 10),
+            '{"event":"metrics","time":9000000}',
+        )
         self.show(made(data))
         self.browser.run(texts)
         self.key("+")
@@ -445,8 +516,9 @@ class Marks(Browsing):
         path = TRACES / "quinn-handshake-loss.trace"
         data, report = path.read_bytes(), report_of(path)
         self.show(made(data, report))
-        lines = self.browser.run("return [[...qauditPage.lines.rtt.lossDelay],"
-                                 " [...qauditPage.lines.rtt.timeout]]")
+        lines = self.browser.run(
+            "return [[...qauditPage.lines.rtt.lossDelay]," " [...qauditPage.lines.rtt.timeout]]"
+        )
         met = 0
         for line, sender, _ in states(data, report):
             if sender.first_rtt_sample is not None:
@@ -473,6 +545,7 @@ class WrongPages(Browsing):
     def test_a_state_past_the_verdict(self) -> None:
         def change(data: Any) -> None:
             data["unjudged"] = None
+
         self.show(self.changed(change))
         self.key("Home")
         self.assertTrue(Scale(self.browser, "window").has(280, 6_000, "app"))
@@ -483,6 +556,7 @@ class WrongPages(Browsing):
             by.insert(0, 12_000)
             by[1] = 0
             by.pop()
+
         self.show(self.changed(change))
         self.key("Home")
         self.assertTrue(Scale(self.browser, "window").has(101, 12_000, "app"))
@@ -490,6 +564,7 @@ class WrongPages(Browsing):
     def test_a_packet_at_another_number(self) -> None:
         def change(data: Any) -> None:
             data["packets"]["number"]["by"][1] += 1
+
         self.show(self.changed(change))
         self.key("Home")
         self.assertFalse(Scale(self.browser, "packets-app").has(10, 1, "app"))

@@ -47,8 +47,16 @@ def wanted_state(sender: Sender) -> tuple[object, ...]:
     due = sender.deadline()
     code = SPACES.index(due.space) + 4 * (due.kind == "loss") if due else 3
     return (
-        sender.window, sender.ssthresh, sender.bytes_in_flight, sender.latest_rtt, sender.min_rtt,
-        sender.smoothed_rtt, sender.rttvar, sender.pto_count, sender.owed, code,
+        sender.window,
+        sender.ssthresh,
+        sender.bytes_in_flight,
+        sender.latest_rtt,
+        sender.min_rtt,
+        sender.smoothed_rtt,
+        sender.rttvar,
+        sender.pto_count,
+        sender.owed,
+        code,
         due.time if due else None,
     )
 
@@ -59,16 +67,27 @@ def shown_states(data: Any) -> list[tuple[int, tuple[object, ...]]]:
     lines = summed(state["line"])
     columns: list[list[Any]] = [
         values_of(state[name])
-        for name in ("window", "ssthresh", "in_flight", "latest_rtt", "min_rtt", "smoothed_rtt",
-                     "rttvar", "pto_count")
+        for name in (
+            "window",
+            "ssthresh",
+            "in_flight",
+            "latest_rtt",
+            "min_rtt",
+            "smoothed_rtt",
+            "rttvar",
+            "pto_count",
+        )
     ]
     columns += [summed(state["owed"]), [int(digit) for digit in state["timer"]]]
-    due = [after + times[line - data["first"]]
-           for after, line in zip(summed(state["deadline"]["by"]), lines, strict=True)]
+    due = [
+        after + times[line - data["first"]]
+        for after, line in zip(summed(state["deadline"]["by"]), lines, strict=True)
+    ]
     for place, digits in state["deadline"]["exact"].items():
         due[int(place)] = int(digits)
-    columns.append([time if code != 3 else None
-                    for time, code in zip(due, columns[-1], strict=True)])
+    columns.append(
+        [time if code != 3 else None for time, code in zip(due, columns[-1], strict=True)]
+    )
     return list(zip(lines, zip(*columns, strict=True), strict=True))
 
 
@@ -85,16 +104,24 @@ class Columns(unittest.TestCase):
 
     def test_fates_of_packets(self) -> None:
         data = joined(
-            HEADER, sent(0), sent(1), sent(2), sent(5), sent(6, 3),
+            HEADER,
+            sent(0),
+            sent(1),
+            sent(2),
+            sent(5),
+            sent(6, 3),
             acked(100, (0, 0), (5, 5)),
             '{"event":"lost","time":100,"space":"app","ranges":[[1,2]]}',
-            sent(0, 101, "initial"), '{"event":"discard","time":102,"space":"initial"}',
+            sent(0, 101, "initial"),
+            '{"event":"discard","time":102,"space":"initial"}',
         )
         packets = Page(made(data)).data()["packets"]
         lines = summed(packets["line"])
         self.assertEqual(lines, [2, 3, 4, 5, 6, 9])
-        ends = {name: [line + by if by else 0 for line, by in zip(lines, packets[name], strict=True)]
-                for name in ("acked", "lost", "gone")}
+        ends = {
+            name: [line + by if by else 0 for line, by in zip(lines, packets[name], strict=True)]
+            for name in ("acked", "lost", "gone")
+        }
         self.assertEqual(ends["acked"], [7, 0, 0, 7, 0, 0])
         self.assertEqual(ends["lost"], [0, 8, 8, 0, 0, 0])
         self.assertEqual(ends["gone"], [0, 0, 0, 0, 0, 10])
@@ -102,12 +129,16 @@ class Columns(unittest.TestCase):
         self.assertEqual(packets["flags"], "333333")
 
     def test_leaves_and_bare_packets(self) -> None:
-        bare = sent(1, 2).replace('"eliciting":true,"in_flight":true', '"eliciting":false,'
-                                  '"in_flight":false')
-        data = joined(HEADER, sent(0, 1, "initial"),
-                      '{"event":"timer","time":999001,"kind":"pto","space":"initial"}',
-                      sent(1, 999001, "initial", more=',"leave":"probe"'),
-                      bare.replace('"time":2', '"time":999002'))
+        bare = sent(1, 2).replace(
+            '"eliciting":true,"in_flight":true', '"eliciting":false,' '"in_flight":false'
+        )
+        data = joined(
+            HEADER,
+            sent(0, 1, "initial"),
+            '{"event":"timer","time":999001,"kind":"pto","space":"initial"}',
+            sent(1, 999001, "initial", more=',"leave":"probe"'),
+            bare.replace('"time":2', '"time":999002'),
+        )
         page = Page(made(data)).data()
         self.assertEqual(page["packets"]["flags"], "370")
         self.assertEqual(page["kind"], "hstss")
@@ -117,17 +148,18 @@ class Columns(unittest.TestCase):
         first, last = 2**62 - 3, 2**62 - 1
         report = f'{{"event":"metrics","time":1,"bytes_in_flight":{2**64 - 1}}}'
         data = joined(HEADER, sent(0), sent(first), sent(last), acked(1, (last, last)), report)
-        data = Page(made(data)).data()
-        packets = data["packets"]
+        page = Page(made(data)).data()
+        packets = page["packets"]
         least = int(packets["least"][2])
         numbers = [least + (n or 0) for n in values_of(packets["number"])]
         self.assertEqual(numbers, [0, first, last])
-        self.assertEqual(data["acks"]["greatest"], [str(last)])
-        self.assertEqual(values_of(data["metrics"]["bytes_in_flight"]), [2**64 - 1])
+        self.assertEqual(page["acks"]["greatest"], [str(last)])
+        self.assertEqual(values_of(page["metrics"]["bytes_in_flight"]), [2**64 - 1])
 
     def test_a_part_has_the_packets_that_are_open_where_it_begins(self) -> None:
-        data = joined(HEADER, sent(0, 10), sent(1, 20), acked(30, (0, 0)), sent(2, 40),
-                      acked(50, (1, 2)))
+        data = joined(
+            HEADER, sent(0, 10), sent(1, 20), acked(30, (0, 0)), sent(2, 40), acked(50, (1, 2))
+        )
         page = Page(made(data, first=5))
         packets = page.data()["packets"]
         self.assertEqual(summed(packets["line"]), [3, 5])
@@ -143,9 +175,18 @@ class Columns(unittest.TestCase):
         self.assertGreater(len(page["packets"]["space"]), 800)
 
     def test_lines_behind_the_verdict_are_read_as_they_seem(self) -> None:
-        data = joined(HEADER, "5", '{"event":"sent"}', sent(0, 7), '{"event":[]}', "", acked(8, (0, 0)),
-                      '{"event":"ack","time":9,"space":"app","ranges":[[2,1]]}',
-                      '{"event":"metrics","time":9,"window":"x"}', '{"event":"keys","time":9}')
+        data = joined(
+            HEADER,
+            "5",
+            '{"event":"sent"}',
+            sent(0, 7),
+            '{"event":[]}',
+            "",
+            acked(8, (0, 0)),
+            '{"event":"ack","time":9,"space":"app","ranges":[[2,1]]}',
+            '{"event":"metrics","time":9,"window":"x"}',
+            '{"event":"keys","time":9}',
+        )
         page = Page(made(data)).data()
         self.assertEqual(page["kind"], "huusubauuk")
         self.assertEqual(summed(page["state"]["line"]), [1])

@@ -25,10 +25,16 @@ class Names(unittest.TestCase):
     def test_patterns(self) -> None:
         for text, key, wanted in (
             ("CLIENT_SERVER_CASE", "quinn_quic-go_transfer", ("transfer", "quinn \u2192 quic-go")),
-            ("SERVER_CLIENT/CASE", "logs/quinn_ngtcp2/handshakeloss/server/qlog/0",
-             ("handshakeloss", "quinn \u2192 ngtcp2")),
-            ("SERVER_CLIENT/CASE/SIDE", "quinn_ngtcp2/retry/client/1",
-             ("retry", "quinn \u2192 ngtcp2 \u2192 client")),
+            (
+                "SERVER_CLIENT/CASE",
+                "logs/quinn_ngtcp2/handshakeloss/server/qlog/0",
+                ("handshakeloss", "quinn \u2192 ngtcp2"),
+            ),
+            (
+                "SERVER_CLIENT/CASE/SIDE",
+                "quinn_ngtcp2/retry/client/1",
+                ("retry", "quinn \u2192 ngtcp2 \u2192 client"),
+            ),
             ("CASE", "retry", ("retry", "other")),
             ("CLIENT_SERVER_CASE", "odd", ("odd", "other")),
         ):
@@ -41,14 +47,27 @@ class Names(unittest.TestCase):
                 pattern(text)
 
     def test_changes(self) -> None:
-        results = [Result("a", "accepted"), Result("b", "refused", 9, "V7", "past-window"),
-                   Result("c", "refused", 3, "V1", "time-back"), Result("e", "accepted")]
-        before = {"a": "refused V7 past-window", "b": "refused V7 past-window", "c": "accepted",
-                  "d": "accepted", "e": "accepted"}
-        self.assertEqual(changes_of(results, before), [
-            Change("c", "accepted", "refused V1 time-back"),
-            Change("a", "refused V7 past-window", "accepted"), Change("d", "accepted", ""),
-        ])
+        results = [
+            Result("a", "accepted"),
+            Result("b", "refused", 9, "V7", "past-window"),
+            Result("c", "refused", 3, "V1", "time-back"),
+            Result("e", "accepted"),
+        ]
+        before = {
+            "a": "refused V7 past-window",
+            "b": "refused V7 past-window",
+            "c": "accepted",
+            "d": "accepted",
+            "e": "accepted",
+        }
+        self.assertEqual(
+            changes_of(results, before),
+            [
+                Change("c", "accepted", "refused V1 time-back"),
+                Change("a", "refused V7 past-window", "accepted"),
+                Change("d", "accepted", ""),
+            ],
+        )
         self.assertEqual([it.is_worse for it in changes_of(results, before)], [True, False, False])
 
 
@@ -68,15 +87,30 @@ class Tables(unittest.TestCase):
 
     def run_command(self, *words: object) -> Any:
         """How the command ends."""
-        arguments = [sys.executable, COMMAND, "--program", PROGRAM, "--output", self.table,
-                     *words, self.traces]
-        return subprocess.run(list(map(str, arguments)), capture_output=True, text=True, timeout=60,
-                              check=False, stdin=subprocess.DEVNULL)
+        arguments = [
+            sys.executable,
+            COMMAND,
+            "--program",
+            PROGRAM,
+            "--output",
+            self.table,
+            *words,
+            self.traces,
+        ]
+        return subprocess.run(
+            list(map(str, arguments)),
+            capture_output=True,
+            text=True,
+            timeout=60,
+            check=False,
+            stdin=subprocess.DEVNULL,
+        )
 
     def test_a_table_with_pages(self) -> None:
         pages = self.folder / "pages"
-        ended = self.run_command("--pattern", "CLIENT_SERVER_CASE", "--pages", pages,
-                                 "--json", self.json)
+        ended = self.run_command(
+            "--pattern", "CLIENT_SERVER_CASE", "--pages", pages, "--json", self.json
+        )
         self.assertEqual((ended.returncode, ended.stdout, ended.stderr), (1, "", ""))
         page = Page(self.table.read_text())
         self.assertIn("1 accepted, 1 refused", page.by_id["sum"])
@@ -84,7 +118,9 @@ class Tables(unittest.TestCase):
         self.assertIn("V6 number-not-higher1", page.by_id["rules"])
         self.assertIn("quinn \u2192 quic-go", page.by_id["table"])
         links = [it["href"] for tag, it in page.tags if tag == "a"]
-        self.assertEqual(sorted(links), ["pages/quinn_ngtcp2_loss.html", "pages/quinn_quic-go_loss.html"])
+        self.assertEqual(
+            sorted(links), ["pages/quinn_ngtcp2_loss.html", "pages/quinn_quic-go_loss.html"]
+        )
         for link in links:
             self.assertIn("</html>", (self.folder / str(link)).read_text())
         self.assertIn("default-src 'none'", page.policy())
@@ -124,7 +160,7 @@ class Tables(unittest.TestCase):
         self.assertEqual((ended.returncode, ended.stderr), (1, ""))
         page = Page(self.table.read_text())
         self.assertNotIn("script", [tag for tag, _ in page.tags])
-        self.assertIn("a<script>b\"&\\u{202e}", page.by_id["table"])
+        self.assertIn('a<script>b"&\\u{202e}', page.by_id["table"])
         for tag, attributes in page.tags:
             if tag == "a":
                 self.assertRegex(str(attributes["href"]), r"^pages/[A-Za-z0-9._-]+\.html$")
@@ -134,7 +170,9 @@ class Tables(unittest.TestCase):
         for name in ("a", "b"):
             (self.traces / name).mkdir()
             (self.traces / name / "0.trace").write_bytes(GOOD)
-        ended = self.run_command("--json", self.json, self.traces / "a" / "0.trace", self.traces / "a")
+        ended = self.run_command(
+            "--json", self.json, self.traces / "a" / "0.trace", self.traces / "a"
+        )
         self.assertEqual(ended.returncode, 1)
         keys = [it["key"] for it in json.loads(self.json.read_text())["traces"]]
         self.assertEqual(len(set(keys)), 6)
@@ -151,7 +189,12 @@ class Tables(unittest.TestCase):
         empty = self.folder / "empty"
         empty.mkdir()
         words = [sys.executable, str(COMMAND), "--program", str(PROGRAM)]
-        for more, status in (([str(empty)], 3), ([], 64), (["--pattern", "x", "y"], 64)):
+        wrong: list[tuple[list[str], int]] = [
+            ([str(empty)], 3),
+            ([], 64),
+            (["--pattern", "x", "y"], 64),
+        ]
+        for more, status in wrong:
             ended = subprocess.run([*words, *more], capture_output=True, timeout=60, check=False)
             self.assertEqual(ended.returncode, status)
             self.assertEqual(ended.stdout, b"")

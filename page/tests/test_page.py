@@ -36,8 +36,19 @@ from qaudit_page.texts import milliseconds, runs
 COMMAND = PAGE / "qaudit-page"
 # Of an object, what is no amount, or is told in other words.
 UNTOLD = {
-    "file", "verdict", "line", "rule", "name", "field", "event", "fault", "behind_header",
-    "window_overshoot", "counts_from", "free_space", "owed_space",
+    "file",
+    "verdict",
+    "line",
+    "rule",
+    "name",
+    "field",
+    "event",
+    "fault",
+    "behind_header",
+    "window_overshoot",
+    "counts_from",
+    "free_space",
+    "owed_space",
 }
 EVIL = (
     "</script><script>window.pwned=1</script><img src=x onerror=window.pwned=2>\"'&"
@@ -68,8 +79,12 @@ def shown_of(key: str, value: Any, unit: str) -> list[str]:
     if value is None:
         return ["none"]
     if key == "differences":
-        return [it for one in value for name, amount in one.items()
-                for it in shown_of(name, amount, unit)]
+        return [
+            it
+            for one in value
+            for name, amount in one.items()
+            for it in shown_of(name, amount, unit)
+        ]
     if key.endswith("_bytes"):
         return [f"{value:,}"]
     if key.endswith(f"_{unit}"):
@@ -104,8 +119,10 @@ class Corpus(unittest.TestCase):
         self.assertEqual(met, (RULES.keys() | FAULTS.keys()) - {"F11"})
 
     def test_names_are_those_of_the_rows_of_the_pages(self) -> None:
-        names = {**{rule: it.name for rule, it in RULES.items()},
-                 **{fault: it.name for fault, it in FAULTS.items()}}
+        names = {
+            **{rule: it.name for rule, it in RULES.items()},
+            **{fault: it.name for fault, it in FAULTS.items()},
+        }
         machine = (PAGE.parent / "docs" / "machine.md").read_text()
         form = (PAGE.parent / "docs" / "format.md").read_text()
         for number, name in names.items():
@@ -160,15 +177,23 @@ class Safety(unittest.TestCase):
     def test_nothing_of_a_trace_is_markup(self) -> None:
         quiet = Page(made(joined(HEADER, sent(0))))
         line = json.dumps({"event": "sent", "note": EVIL}, ensure_ascii=False)
-        evil = Page(made(joined(HEADER, line, f"<b>{EVIL}"), title=EVIL, trace=Path(f"a{EVIL[9:20]}")))
-        tags = [tag for tag, _ in evil.tags if tag not in ("div", "dt", "dd", "a", "code", "span", "p")]
-        wanted = [tag for tag, _ in quiet.tags if tag not in ("div", "dt", "dd", "a", "code", "span", "p")]
+        evil = Page(
+            made(joined(HEADER, line, f"<b>{EVIL}"), title=EVIL, trace=Path(f"a{EVIL[9:20]}"))
+        )
+        tags = [
+            tag for tag, _ in evil.tags if tag not in ("div", "dt", "dd", "a", "code", "span", "p")
+        ]
+        wanted = [
+            tag for tag, _ in quiet.tags if tag not in ("div", "dt", "dd", "a", "code", "span", "p")
+        ]
         self.assertEqual(tags, wanted)
         self.assertIn("\\u{202e}", evil.by_id["h1"])
         self.assertIn(EVIL.splitlines()[0][:40], evil.by_id["quote"])
 
     def test_what_is_not_seen_is_escaped(self) -> None:
-        data = joined(HEADER) + b'{"a":"\xff\xe2\x80\xae\x00\xe2\x80\xa8\xe3\x85\xa4\xed\xa0\x80"}\n'
+        data = (
+            joined(HEADER) + b'{"a":"\xff\xe2\x80\xae\x00\xe2\x80\xa8\xe3\x85\xa4\xed\xa0\x80"}\n'
+        )
         text = made(data)
         quote = Page(text).by_id["quote"]
         for shown in ("\\xff", "\\u{202e}", "\\u{0}", "\\u{2028}", "\\u{3164}", "\\xed\\xa0\\x80"):
@@ -209,7 +234,9 @@ class Limits(unittest.TestCase):
             self.part(data, 7)
 
     def test_too_many_lines(self) -> None:
-        data = joined(HEADER, *(sent(n) for n in range(10)), sent(10), *(sent(n) for n in range(40)))
+        data = joined(
+            HEADER, *(sent(n) for n in range(10)), sent(10), *(sent(n) for n in range(40))
+        )
         with mock.patch("qaudit_page.payload.MAX_LINES", 10):
             with self.assertRaisesRegex(Failure, r"--from 7 --to 16 would do") as caught:
                 self.part(data)
@@ -273,27 +300,37 @@ class Commands(unittest.TestCase):
 
     def test_another_library(self) -> None:
         other = Path(self.folder.name, "other.js")
-        for text, told_of in (("var a;", "is not dygraphs"), ('D.VERSION="2.1.0";', "is dygraphs 2.1"),
-                              ('D.VERSION="2.2.1";"</script>"', "an end of a script")):
+        for text, told_of in (
+            ("var a;", "is not dygraphs"),
+            ('D.VERSION="2.1.0";', "is dygraphs 2.1"),
+            ('D.VERSION="2.2.1";"</script>"', "an end of a script"),
+        ):
             other.write_text(text)
             self.fails(3, told_of, "--dygraphs", other, TRACES / "timer-late.trace")
 
     def test_a_program_without_rows(self) -> None:
         old = Path(self.folder.name, "old")
-        old.write_text('#!/bin/sh\n[ "$1" = --json ] && echo \'{"file":"-","verdict":"accepted",'
-                       '"events":1}\' && exit 0\necho usage >&2\nexit 64\n')
+        old.write_text(
+            '#!/bin/sh\n[ "$1" = --json ] && echo \'{"file":"-","verdict":"accepted",'
+            '"events":1}\' && exit 0\necho usage >&2\nexit 64\n'
+        )
         old.chmod(0o755)
         self.fails(3, f"{old} has no --rows", TRACES / "timer-late.trace", program=old)
 
     def test_a_program_that_fails(self) -> None:
         broken = Path(self.folder.name, "broken")
-        for text, told_of in (("exit 3", "ended with status 3"), ("kill -9 $$", "was killed by 9"),
-                              ("echo 5", "wrote no verdict")):
+        for text, told_of in (
+            ("exit 3", "ended with status 3"),
+            ("kill -9 $$", "was killed by 9"),
+            ("echo 5", "wrote no verdict"),
+        ):
             broken.write_text(f"#!/bin/sh\n{text}\n")
             broken.chmod(0o755)
             self.fails(3, told_of, TRACES / "timer-late.trace", program=broken)
-        broken.write_text('#!/bin/sh\n[ "$1" = --rows ] && echo \'{"line":1}\' && exit 0\n'
-                          'echo \'{"verdict":"accepted","events":1}\'\n')
+        broken.write_text(
+            '#!/bin/sh\n[ "$1" = --rows ] && echo \'{"line":1}\' && exit 0\n'
+            'echo \'{"verdict":"accepted","events":1}\'\n'
+        )
         self.fails(3, "wrote an unknown row", TRACES / "timer-late.trace", program=broken)
 
     def test_no_half_page_is_left(self) -> None:

@@ -11,7 +11,8 @@ function find(text) {
   if (packet) {
     const space = SPACES.indexOf(packet[1].toLowerCase()), number = BigInt(packet[2]);
     const at = p => trace.packets.space[p] === space && numberOf(p) === number;
-    for (let p = 0; p < trace.packets.count && place < 0; p++) if (at(p)) place = trace.packets.at[p];
+    for (let p = 0; p < trace.packets.count && place < 0; p++)
+      if (at(p)) place = trace.packets.at[p];
   }
   const isAsked = line || packet;
   byId('found').textContent = place >= 0 || !text.trim() ? '' :
@@ -78,7 +79,8 @@ function addControls() {
     if (row && !getSelection().toString()) select(placeShown(+row.dataset.line), {stays: true});
   });
   byId('axis').addEventListener('change', changeAxis);
-  byId('find').addEventListener('keydown', event => event.key === 'Enter' && find(event.target.value));
+  byId('find').addEventListener('keydown', event =>
+    event.key === 'Enter' && find(event.target.value));
   addEventListener('keydown', onKey);
   addEventListener('hashchange', followAddress);
   addEventListener('resize', redraw);
@@ -93,7 +95,8 @@ function addControls() {
 function addSpace(space) {
   const count = trace.packets.space.reduce((sum, it) => sum + (it === space), 0);
   if (!count) return;
-  const button = element('button', `${'\u25b2\u25a0\u25cf'[space]} ${SPACES[space]} ${grouped(count)}`);
+  const sign = '\u25b2\u25a0\u25cf'[space];
+  const button = element('button', `${sign} ${SPACES[space]} ${grouped(count)}`);
   button.type = 'button';
   button.classList.add(SPACES[space]);
   button.setAttribute('aria-pressed', 'true');
@@ -105,8 +108,8 @@ function addSpace(space) {
   byId('spaces').append(button);
 }
 
-// The pointer over a diagram: a click selects, a drag zooms, with shift it pans; one finger pans and
-// two zoom.
+// The pointer over a diagram: a click selects, a drag zooms, with shift it pans; one finger pans
+// and two zoom.
 function addPointer(name) {
   const box = byId(`chart-${name}`), pointers = new Map();
   let gesture = null;

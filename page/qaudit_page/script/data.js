@@ -1,4 +1,4 @@
-// What the page holds: columns and lines, unpacked. What a trace says is text here and never markup.
+// What the page holds: columns and lines, unpacked. What a trace says is text, and never markup.
 
 const SPACES = ['initial', 'handshake', 'app'];
 const NO_SPACE = 3;
@@ -58,7 +58,7 @@ function unpack(said, text) {
   trace.verdictAt = placeShown(said.verdict.line);
   unpackState(said.state);
   unpackPackets(said.packets);
-  trace.acks = {at: placesOf(said.acks.line), greatest: said.acks.greatest};
+  unpackAcks(said.acks);
   trace.reports = {at: placesOf(said.metrics.line)};
   for (const name of METRICS) trace.reports[name] = amounts(said.metrics[name]);
   trace.marks = marksOf();
@@ -121,6 +121,7 @@ function unpackPackets(said) {
   packets.at = packets.line.map(line => line - trace.first);
   for (const end of ['acked', 'lost', 'gone'])
     packets[end] = Float64Array.from(said[end], (by, p) => by ? packets.at[p] + by : NaN);
+  unpackEnds(packets);
   packets.of = new Int32Array(trace.count).fill(-1);
   for (let p = 0; p < packets.count; p++) if (packets.at[p] >= 0) packets.of[packets.at[p]] = p;
   trace.packets = packets;
@@ -132,13 +133,24 @@ function numberOf(packet) {
   return least[space[packet]] + BigInt(exact[packet] || number[packet]);
 }
 
-// What became of a packet first: where, and how.
-function endOf(packet) {
-  const {acked, lost, gone} = trace.packets;
-  if (lost[packet] === lost[packet]) return {at: lost[packet], how: 'lost'};
-  if (acked[packet] === acked[packet]) return {at: acked[packet], how: 'acked'};
-  if (gone[packet] === gone[packet]) return {at: gone[packet], how: 'gone'};
-  return {at: NaN, how: trace.packets.flags[packet] & ELICITING ? 'open' : 'bare'};
+// What became of each packet, and where.
+function unpackEnds(packets) {
+  packets.how = new Array(packets.count);
+  packets.end = new Float64Array(packets.count).fill(NaN);
+  for (let p = 0; p < packets.count; p++) {
+    packets.how[p] = ['lost', 'acked', 'gone'].find(end => packets[end][p] === packets[end][p]) ||
+      (packets.flags[p] & ELICITING ? 'open' : 'bare');
+    const ended = packets[packets.how[p]];
+    if (ended) packets.end[p] = ended[p];
+  }
+}
+
+// The greatest number of each acknowledgment, from the least number of its space.
+function unpackAcks(said) {
+  const at = placesOf(said.line), {least} = trace.packets;
+  const number = Float64Array.from(said.greatest, (digits, k) =>
+    Number(BigInt(digits) - (least[trace.space[at[k]]] || 0n)));
+  trace.acks = {at, number};
 }
 
 // The lines that are drawn as uprights in all diagrams.
@@ -151,7 +163,8 @@ function marksOf() {
       const of = code >= OF_LOSS ? 'loss' : 'pto';
       const label = `${of === 'loss' ? 'loss timer' : 'PTO'} ${name}`;
       marks.push({at, of, space: code % OF_LOSS, label});
-    } else if (kind === 'd') marks.push({at, of: 'discard', space: code, label: `${name} discarded`});
+    } else if (kind === 'd')
+      marks.push({at, of: 'discard', space: code, label: `${name} discarded`});
     else if (kind === 'c') marks.push({at, of: 'confirmed', label: 'confirmed'});
     else if (kind === 'k') marks.push({at, of: 'keys', label: 'Handshake keys'});
   }

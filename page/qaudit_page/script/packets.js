@@ -12,8 +12,8 @@ function isPacketSeen(packet) {
   const x = xOfPacket(packet);
   if (x > view.to) return false;
   if (x >= view.from) return true;
-  const end = endOf(packet);
-  return end.how === 'open' || (end.at === end.at && xOf(end.at) >= view.from);
+  const {how, end} = trace.packets;
+  return how[packet] === 'open' || xOf(end[packet]) >= view.from;
 }
 
 function lookForPackets() {
@@ -53,17 +53,24 @@ function layLanes(height) {
   timerLane = hasTimer ? {top: height - TIMER_LANE, tall: TIMER_LANE - 4, ...timerRange()} : null;
 }
 
-// How long the timer has to run in the view, in milliseconds; below 0 where it is late.
+// How long the timer has to run in the view, in milliseconds, but for the few longest; below 0
+// where it is late.
 function timerRange() {
-  const {deadline} = trace.state;
-  let low = 0, high = 0;
-  const last = Math.min(trace.limit, trace.count - 1, placeAt(view.to) + 1);
-  for (let i = Math.max(0, placeAt(view.from) - 1); i <= last; i++) {
-    if (i < trace.limit) high = Math.max(high, (deadline[i] - trace.time[i]) / trace.scale || 0);
-    if (i && !'hbu'.includes(trace.kind[i]))
-      low = Math.min(low, (deadline[i - 1] - trace.time[i]) / trace.scale || 0);
+  const {deadline} = trace.state, {time, scale, kind, limit, count} = trace, longs = [];
+  const first = Math.max(0, placeAt(view.from) - 1);
+  const last = Math.min(limit, count - 1, placeAt(view.to) + 1);
+  const step = Math.ceil((last - first + 1) / 5000);
+  let low = 0;
+  for (let i = first; i <= last; i++) {
+    const long = (deadline[i] - time[i]) / scale;
+    if (i % step === 0 && i < limit && long > 0) longs.push(long);
+    const isEvent = i && !'hbu'.includes(kind[i]);
+    if (isEvent) low = Math.min(low, (deadline[i - 1] - time[i]) / scale || 0);
   }
-  return {low: low < high * -0.02 ? low * 1.1 : -high * 0.06, high: (high || 1) * 1.1};
+  longs.sort((a, b) => a - b);
+  const usual = longs[Math.floor(longs.length * 0.9)] || 1;
+  const high = Math.min(longs[longs.length - 1] || 1, usual * 3);
+  return {low: low < high * -0.02 ? low * 1.1 : -high * 0.06, high: high * 1.1};
 }
 
 const inLane = (area, lane, value) =>
@@ -84,8 +91,8 @@ function laneTicks(height) {
     }
   }
   if (timerLane) {
-    const step = niceStep(timerLane.high / 2);
-    for (let n = 0; n <= timerLane.high; n += step)
+    const {low, high} = timerLane, step = niceStep((high - low) / 2);
+    for (let n = Math.ceil(low / step) * step; n <= high; n += step)
       ticks.push({v: at(timerLane, n), label: grouped(+n.toPrecision(12))});
   }
   return ticks;
@@ -136,13 +143,13 @@ function drawLane(context, area, lane) {
 
 // The greatest number that was acknowledged so far, as a step, from one lane's bottom to its top.
 function drawGreatest(context, area, to, space) {
-  const {at, greatest} = trace.acks, lane = laneOf(space), least = trace.packets.least[space];
+  const {at, number: numbers} = trace.acks, lane = laneOf(space);
   const gone = trace.marks.find(mark => mark.of === 'discard' && mark.space === space);
   let most = -1, y = 0, x = 0;
   stroked(context, colors[SPACES[space]], 1.4, [], () => {
     for (let k = 0; k < at.length; k++) {
       if (at[k] >= trace.limit || trace.space[at[k]] !== space) continue;
-      const number = Math.min(Number(BigInt(greatest[k]) - least), lane.high);
+      const number = Math.min(numbers[k], lane.high);
       if (number <= most) continue;
       x = to.x(view.x[at[k]]);
       if (x > area.x + area.w + 5) break;
@@ -173,13 +180,14 @@ function drawFates(context, area, to, packets, tone) {
     gone: [tone, [1, 3], 0.6], open: [tone, [1, 4], 0.75],
   };
   const by = {acked: [], lost: [], gone: [], open: [], bare: []};
-  for (const p of packets) by[endOf(p).how].push(p);
+  const {how: fate, end: ends} = trace.packets;
+  for (const p of packets) by[fate[p]].push(p);
   for (const how of ['acked', 'lost', 'gone', 'open']) {
     const [color, dashes, alpha] = forms[how];
     stroked(context, color, 1, isDense && how !== 'open' ? [] : dashes, () => {
       for (const p of by[how]) {
         const y = yOfPacket(area, p), x = Math.max(area.x - 9, to.x(xOfPacket(p)));
-        const end = how === 'open' ? trace.count - 1 : endOf(p).at;
+        const end = how === 'open' ? trace.count - 1 : ends[p];
         // The dots of neighbours stand above each other.
         context.moveTo(how === 'open' ? Math.ceil(x / 5) * 5 : x, y);
         context.lineTo(Math.min(area.x + area.w + 9, to.x(xOf(end))), y);
@@ -188,7 +196,7 @@ function drawFates(context, area, to, packets, tone) {
   }
   if (!isDense) stroked(context, tone, 1.6, [], () => {
     for (const p of by.acked) {
-      const x = to.x(xOf(endOf(p).at)), y = yOfPacket(area, p);
+      const x = to.x(xOf(ends[p])), y = yOfPacket(area, p);
       context.moveTo(x, y - packetRadius * 1.2);
       context.lineTo(x, y + packetRadius * 1.2);
     }
@@ -248,29 +256,44 @@ function drawLosses(context, area, to) {
 // How long the timer has to run: a fall from each line that sets it to the next, and to 0 where it
 // fires. Below 0 it is late.
 function drawTimer(context, area, to) {
-  const {deadline, timer} = trace.state, zero = inLane(area, timerLane, 0);
+  const {deadline} = trace.state, zero = inLane(area, timerLane, 0);
+  const y = (from, place) =>
+    inLane(area, timerLane, (deadline[from] - trace.time[place]) / trace.scale);
+  context.save();
+  context.beginPath();
+  context.rect(area.x, area.y + timerLane.top, area.w, area.h - timerLane.top);
+  context.clip();
   stroked(context, colors.soft, 1, [], () => {
     context.moveTo(area.x, zero);
     context.lineTo(area.x + area.w, zero);
   });
+  for (const isLoss of [false, true]) drawDeadlines(context, area, to, y, isLoss);
+  context.restore();
+  drawFired(context, area, to, y);
+  const isLate = -timerLane.low > timerLane.high;
+  const top = area.y + timerLane.top + (isLate ? timerLane.tall - 14 : 1);
+  words(context, 'ms until the timer fires', area.x + 4, top, colors.timer, 'left', 'top');
+}
+
+// Of lines in one column of pixels one is drawn for each height.
+function drawDeadlines(context, area, to, y, isLoss) {
+  const {timer} = trace.state, free = cells(area, 1);
   const last = Math.min(trace.limit, trace.count, placeAt(view.to) + 1);
-  const y = (from, place) => inLane(area, timerLane, (deadline[from] - trace.time[place]) / trace.scale);
-  for (const isLoss of [false, true]) {
-    const free = cells({...area, h: area.h + 2}, 1);
-    stroked(context, colors.timer, 1.3, isLoss ? [2, 2] : [], () => {
-      for (let i = Math.max(0, placeAt(view.from) - 1); i < last; i++) {
-        if (timer[i] === NO_SPACE || timer[i] >= OF_LOSS !== isLoss) continue;
-        const next = i + 1 < trace.count && !'hbu'.includes(trace.kind[i + 1]) ? i + 1 : i;
-        const x = to.x(view.x[i]), top = y(i, i);
-        if (to.x(view.x[next]) - x < 1 && !free(x, top)) continue;
+  stroked(context, colors.timer, 1.3, isLoss ? [2, 2] : [], () => {
+    for (let i = Math.max(0, placeAt(view.from) - 1); i < last; i++) {
+      if (timer[i] === NO_SPACE || timer[i] >= OF_LOSS !== isLoss) continue;
+      const isFollowed = i + 1 < trace.count && !'hbu'.includes(trace.kind[i + 1]);
+      const next = isFollowed ? i + 1 : i, x = to.x(view.x[i]), top = y(i, i);
+      if (to.x(view.x[next]) - x < 1) {
+        if (!free(x, top)) continue;
+        context.moveTo(x, top);
+        context.lineTo(x + 1, top);
+      } else {
         context.moveTo(x, top);
         context.lineTo(to.x(view.x[next]), y(i, next));
       }
-    });
-  }
-  drawFired(context, area, to, y);
-  const y0 = area.y + timerLane.top + 1;
-  words(context, 'ms until the timer fires', area.x + 4, y0, colors.timer, 'left', 'top');
+    }
+  });
 }
 
 // Where a timer fired: a triangle, hollow for one that looks for losses.
@@ -323,7 +346,7 @@ function drawSilence(context, silence, left, right, y) {
     }
   });
   context.font = FONT;
-  const long = milliseconds(Math.round(silence.long)), over = milliseconds(Math.round(silence.over));
+  const [long, over] = [silence.long, silence.over].map(it => milliseconds(Math.round(it)));
   const flying = silence.flying ? `${grouped(silence.flying)} B in flight` : 'nothing in flight';
   const said = [`${long} without an event, ${flying}, ${over} past the deadline`,
     `${long}, ${flying}`, flying, long]

@@ -89,9 +89,10 @@ function cells(area, grain) {
   const wide = Math.ceil(area.w / grain) + 3;
   const taken = new Uint8Array(wide * (Math.ceil(area.h / grain) + 3));
   return (x, y) => {
-    const row = Math.floor((y - area.y) / grain) + 1, column = Math.floor((x - area.x) / grain) + 1;
-    const cell = row * wide + column;
-    if (column < 0 || column >= wide || cell < 0 || cell >= taken.length || taken[cell]) return false;
+    const row = Math.floor((y - area.y) / grain) + 1;
+    const column = Math.floor((x - area.x) / grain) + 1, cell = row * wide + column;
+    if (column < 0 || column >= wide || cell < 0 || cell >= taken.length) return false;
+    if (taken[cell]) return false;
     taken[cell] = 1;
     return true;
   };

@@ -6,7 +6,8 @@ const widthOfLabels = () => innerWidth < 600 ? 56 : 74;
 
 // The range selector shows how many packets had been sent.
 function progress() {
-  const {count} = trace.packets, rows = [[view.low, 0]], step = Math.max(1, Math.floor(count / 700));
+  const {count} = trace.packets, rows = [[view.low, 0]];
+  const step = Math.max(1, Math.floor(count / 700));
   for (let p = 0; p < count; p += step) {
     const x = Math.max(view.low, xOfPacket(p));
     if (x > rows[rows.length - 1][0]) rows.push([x, p + 1]);
@@ -25,7 +26,7 @@ function followSelector(chart, isFirst) {
 function options(more) {
   return {
     legend: 'never', showLabelsOnHighlight: false, highlightCircleSize: 0, stepPlot: true,
-    labelsUTC: true, animatedZooms: false, fillAlpha: 0.13, connectSeparatedPoints: false,
+    labelsUTC: true, animatedZooms: false, fillAlpha: 0.13, connectSeparatedPoints: true,
     gridLineWidth: 0.5, rightGap: 8, xlabelHeight: 16, xlabel: nameOfAxis(),
     underlayCallback: drawUnder, interactionModel: {}, dateWindow: [view.from, view.to],
     drawCallback: followSelector, ...more,
@@ -51,7 +52,8 @@ const seriesOfRtt = () => ({
 });
 
 function makeCharts() {
-  const x = {axisLabelFormatter: tickOf, axisLabelWidth: 74, pixelsPerLabel: innerWidth < 600 ? 70 : 100};
+  const pixelsPerLabel = innerWidth < 600 ? 70 : 100;
+  const x = {axisLabelFormatter: tickOf, axisLabelWidth: 74, pixelsPerLabel};
   const y = {axisLabelWidth: widthOfLabels(), valueRange: [0, 1], pixelsPerLabel: 34};
   const ticker = () => charts.packets ? laneTicks(charts.packets.getArea().h) : [];
   isDrawing = true;
@@ -103,10 +105,12 @@ function fillKey(id, entries) {
   byId(id).replaceChildren(...items);
 }
 
-const level = (context, color, width, dashes, alpha) => stroked(context, color, width, dashes, () => {
-  context.moveTo(1, 8);
-  context.lineTo(25, 8);
-}, alpha);
+function level(context, color, width, dashes, alpha) {
+  stroked(context, color, width, dashes, () => {
+    context.moveTo(1, 8);
+    context.lineTo(25, 8);
+  }, alpha);
+}
 const standingLine = (context, color, width, dashes) =>
   upright(context, {y: 0, h: 16}, 13, color, width, dashes);
 const shaped = (context, color, width, shape, r) => stroked(context, color, width, [], () =>
@@ -134,13 +138,15 @@ function fillKeys() {
       c.arc(13, 8, 7, 0, 2 * Math.PI))],
     [any(p => flags[p] & RECOVERY), 'on entry to recovery', c => packetSample(c, used, true, () =>
       c.rect(6, 1, 14, 14))],
-    [any(p => endOf(p).how === 'acked'), 'until acknowledged', c => level(c, tone, 1, [], 0.6)],
-    [any(p => endOf(p).how === 'lost'), 'until declared lost', c => {
+    [any(p => trace.packets.how[p] === 'acked'), 'until acknowledged', c =>
+      level(c, tone, 1, [], 0.6)],
+    [any(p => trace.packets.how[p] === 'lost'), 'until declared lost', c => {
       level(c, colors.lost, 1, [3, 3]);
       stroked(c, colors.lost, 2, [], () => cross(c, 21, 8, 3.5));
     }],
-    [any(p => endOf(p).how === 'open'), 'never answered', c => level(c, tone, 1.3, [1, 4])],
-    [any(p => endOf(p).how === 'gone'), 'until its keys are discarded', c => level(c, tone, 1, [1, 3])],
+    [any(p => trace.packets.how[p] === 'open'), 'never answered', c => level(c, tone, 1.3, [1, 4])],
+    [any(p => trace.packets.how[p] === 'gone'), 'until its keys are discarded', c =>
+      level(c, tone, 1, [1, 3])],
     [trace.acks.at.length, 'greatest acknowledged', c => stroked(c, tone, 1.4, [], () => {
       c.moveTo(1, 13); c.lineTo(10, 13); c.lineTo(10, 4); c.lineTo(25, 4);
     }, 0.6)],

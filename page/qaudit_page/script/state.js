@@ -68,7 +68,12 @@ const orNull = value => value === value ? value : null;
 // line of the verdict.
 function rowsOf(series, pixels) {
   const columns = Object.values(series);
-  const rows = picked(columns, pixels).map(i => [view.x[i], ...columns.map(it => orNull(it[i])), 0]);
+  const places = picked(columns, pixels);
+  // A value is there where it changes, and at the end: a line with a dash for each row has none.
+  const isNew = (column, k) =>
+    !k || k === places.length - 1 || column[places[k]] !== column[places[k - 1]];
+  const rows = places.map((i, k) =>
+    [view.x[i], ...columns.map(it => isNew(it, k) ? orNull(it[i]) : null), 0]);
   const last = Math.min(trace.limit, trace.count) - 1, end = trace.verdictAt;
   if (rows.length && end > last && view.to > view.x[last])
     rows.push([view.x[end], ...columns.map(it => orNull(it[last])), 0]);
@@ -134,7 +139,8 @@ function rttReports() {
 
 // The values that the sender reports, as marks; one above the diagram as an arrow.
 function drawReported(context, area, range, column, color, shape) {
-  const to = scaleOf(area, range), {at} = trace.reports, free = cells(area, at.length < 300 ? 4 : 12);
+  const to = scaleOf(area, range), {at} = trace.reports;
+  const free = cells(area, at.length < 300 ? 4 : 12);
   for (const isJudged of [true, false])
     stroked(context, isJudged ? color : colors.soft, 1.3, [], () => {
       for (let k = 0; k < at.length; k++) {

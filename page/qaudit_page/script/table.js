@@ -63,9 +63,11 @@ function rowOfLine(place) {
     said.append(element('span', `${kind} ${rule} ${name}`, 'tag'), ' ');
   }
   put(said, trace.lines[place] || '', MOST_OF_LINE);
-  row.append(number, cellOf('time', hasTime(place) ? withoutUnit(milliseconds(trace.time[place])) : ''), said);
-  if (hasState(place)) for (const [name, amount] of COLUMNS) row.append(cellOf(name, amount(place)));
-  else {
+  const time = hasTime(place) ? withoutUnit(milliseconds(trace.time[place])) : '';
+  row.append(number, cellOf('time', time), said);
+  if (hasState(place)) {
+    for (const [name, amount] of COLUMNS) row.append(cellOf(name, amount(place)));
+  } else {
     // The text has the room of most of the columns that are empty.
     said.colSpan = COLUMNS.length - 1;
     row.append(cellWithout(place));
@@ -112,14 +114,16 @@ function summaryOf(place) {
   const line = `Line ${trace.first + place}, ${KINDS[trace.kind[place]]}`;
   const time = hasTime(place) ? `, ${milliseconds(trace.time[place])}` : '';
   const packet = trace.packets.of[place] >= 0 ? `, ${fateOf(trace.packets.of[place])}` : '';
-  const stand = {'verdict-line': `, ${trace.verdict.kind}`, unjudged: ', not judged', '': ''}[standing(place)];
-  return `${line}${time}${packet}${stand}`;
+  const stand =
+    {'verdict-line': `, ${trace.verdict.kind}`, unjudged: ', not judged'}[standing(place)];
+  return `${line}${time}${packet}${stand || ''}`;
 }
 
 // What became of a packet.
 function fateOf(packet) {
   const {at, acked, lost, gone, size, space, flags} = trace.packets;
-  const told = [`packet ${numberOf(packet)} of ${SPACES[space[packet]]}, ${grouped(size[packet])} B`];
+  const name = `packet ${numberOf(packet)} of ${SPACES[space[packet]]}`;
+  const told = [`${name}, ${grouped(size[packet])} B`];
   if (flags[packet] & PROBE) told.push('a probe');
   if (flags[packet] & RECOVERY) told.push('on entry to recovery');
   const ends = [[lost, 'declared lost'], [acked, 'acknowledged'], [gone, 'gone with its keys']];
@@ -130,7 +134,7 @@ function fateOf(packet) {
     const after = isShown ? ` after ${milliseconds(trace.time[end] - trace.time[at[packet]])}` : '';
     told.push(`${word} at line ${trace.first + end}${after}`);
   }
-  if (told.length === 1 || endOf(packet).how === 'open') told.push('never answered');
+  if (told.length === 1 || trace.packets.how[packet] === 'open') told.push('never answered');
   return told.join(', ');
 }
 
@@ -140,7 +144,7 @@ function showTip(place, event) {
   if (place < 0) return;
   const time = hasTime(place) ? ` \u00b7 ${milliseconds(trace.time[place])}` : '';
   const stand = {'verdict-line': ` \u00b7 ${trace.verdict.kind} by ${trace.verdict.rule}`,
-    unjudged: ' \u00b7 not judged', '': ''}[standing(place)];
+    unjudged: ' \u00b7 not judged'}[standing(place)] || '';
   const head = element('div');
   head.append(element('b', `line ${trace.first + place}`), time, stand);
   const said = element('div', undefined, 'text');

@@ -131,7 +131,8 @@ function drawOver(context, area, hasLabels) {
     const {line, rule, name, kind} = trace.verdict, x = to.x(view.x[trace.verdictAt]);
     upright(context, area, x, toneOfVerdict(), 2.5, []);
     const sign = kind === 'refused' ? '\u2717' : '?';
-    flags.push({x, text: `${sign} line ${line}: ${rule} ${name}`, color: toneOfVerdict(), full: true});
+    const text = `${sign} line ${line}: ${rule} ${name}`;
+    flags.push({x, text, color: toneOfVerdict(), full: true});
   }
   if (Number.isFinite(trace.verdict.deadline) && !view.byLine) {
     const x = to.x(trace.verdict.deadline / trace.scale);
