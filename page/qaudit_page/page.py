@@ -13,7 +13,7 @@ from pathlib import Path
 from .facts import Facts, facts_of
 from .files import name_of, read
 from .library import dygraphs, licence, resource, script
-from .payload import Part, packed, part_of, payload, shown, text_of
+from .payload import LEVEL_OF_LINES, Part, packed, part_of, payload, shown, text_of
 from .program import Run, Verdict, find, rows_by, verdict_by
 from .rules import FAULTS, RULES
 from .texts import count, html, milliseconds, plural
@@ -69,7 +69,7 @@ def without_collector() -> Iterator[None]:
 def written(wanted: Wanted, library: str, trace: Trace, verdict: Verdict, part: Part) -> str:
     """The whole page."""
     with ThreadPoolExecutor() as pool:
-        lines = pool.submit(lambda: packed(text_of(trace, part)))
+        lines = pool.submit(lambda: packed(text_of(trace, part), LEVEL_OF_LINES))
         columns = json.dumps(payload(trace, verdict, part), separators=(",", ":"))
         data = packed(columns)
         text = lines.result()

@@ -21,7 +21,8 @@ SHOWN_OF_LONG = 2_000
 # The greatest integer that a script holds exactly, with all below it.
 EXACT = 2**53 - 1
 NOTHING = -1
-LEVEL = 6
+# How well columns and lines are deflated; the lines while the columns are made.
+LEVEL, LEVEL_OF_LINES = 6, 9
 
 
 @dataclass(frozen=True)
@@ -166,13 +167,14 @@ def is_kept(trace: Trace, part: Part, place: int) -> bool:
     return min(ends) >= part.first if ends else is_awaited
 
 
-def acks_of(trace: Trace, part: Part) -> Object:
-    """The greatest number of each acknowledgment, over what was sent before it alone."""
+def acks_of(trace: Trace, part: Part, least: list[int]) -> Object:
+    """The greatest number of each acknowledgment, from the least of its space that is shown."""
     acks = [ack for ack in trace.acks if part.has(ack[0])]
-    return {
-        "line": differences(line for line, _ in acks),
-        "greatest": [str(greatest) if greatest > EXACT else greatest for _, greatest in acks],
-    }
+    found: Object = {"line": differences(line for line, _ in acks)}
+    spaces = [trace.space[line - 1] for line, _ in acks]
+    numbers = (greatest for _, greatest in acks)
+    from_least = [max(0, n - least[space]) for n, space in zip(numbers, spaces, strict=True)]
+    return found | {"greatest": column(from_least)}
 
 
 def metrics_of(trace: Trace, part: Part) -> Object:
@@ -187,7 +189,7 @@ def metrics_of(trace: Trace, part: Part) -> Object:
 def payload(trace: Trace, verdict: Verdict, part: Part) -> Object:
     """All that the script of a page draws, but for the text of the lines."""
     lines = slice(part.first - 1, part.last)
-    header = trace.header
+    header, packets = trace.header, packets_of(trace, part)
     return {
         "first": part.first,
         "count": max(0, part.last - part.first + 1),
@@ -208,8 +210,8 @@ def payload(trace: Trace, verdict: Verdict, part: Part) -> Object:
         "space": "".join(map(str, trace.space[lines])),
         "time": differences(trace.time[lines]),
         "state": state_of(trace, part),
-        "packets": packets_of(trace, part),
-        "acks": acks_of(trace, part),
+        "packets": packets,
+        "acks": acks_of(trace, part, list(map(int, packets["least"]))),
         "metrics": metrics_of(trace, part),
     }
 
@@ -226,7 +228,7 @@ def text_of(trace: Trace, part: Part) -> str:
     return "\n".join(map(shown, trace.lines[part.first - 1 : part.last]))
 
 
-def packed(text: str) -> str:
+def packed(text: str, level: int = LEVEL) -> str:
     """Text, deflated and in base64, so that nothing in it can end an element of the page."""
-    data = zlib.compress(text.encode("utf-8", "backslashreplace"), LEVEL)
+    data = zlib.compress(text.encode("utf-8", "backslashreplace"), level)
     return base64.b64encode(data).decode("ascii")

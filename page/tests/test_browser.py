@@ -478,6 +478,9 @@ class Marks(Browsing):
         self.assertTrue(at.has(310, 9, "soft"), "a packet that was not judged is grey")
         self.assertFalse(at.has(310, 9, "app"))
         self.assertTrue(at.has(200, 6, "refused"), "the line of the verdict")
+        self.assertTrue(at.has(127, 7, "app"), "packet 7, which was judged")
+        self.assertTrue(at.has(300, 7, "soft"), "its acknowledgment, which was not")
+        self.assertFalse(at.has(300, 7, "app"))
 
     def test_rtt(self) -> None:
         self.show(self.page)

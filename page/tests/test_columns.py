@@ -153,7 +153,7 @@ class Columns(unittest.TestCase):
         least = int(packets["least"][2])
         numbers = [least + (n or 0) for n in values_of(packets["number"])]
         self.assertEqual(numbers, [0, first, last])
-        self.assertEqual(page["acks"]["greatest"], [str(last)])
+        self.assertEqual(values_of(page["acks"]["greatest"]), [last - least])
         self.assertEqual(values_of(page["metrics"]["bytes_in_flight"]), [2**64 - 1])
 
     def test_a_part_has_the_packets_that_are_open_where_it_begins(self) -> None:

@@ -58,7 +58,8 @@ function unpack(said, text) {
   trace.verdictAt = placeShown(said.verdict.line);
   unpackState(said.state);
   unpackPackets(said.packets);
-  unpackAcks(said.acks);
+  // The greatest numbers count from the least of their space, as those of packets do.
+  trace.acks = {at: placesOf(said.acks.line), number: summed(said.acks.greatest.by)};
   trace.reports = {at: placesOf(said.metrics.line)};
   for (const name of METRICS) trace.reports[name] = amounts(said.metrics[name]);
   trace.marks = marksOf();
@@ -145,14 +146,6 @@ function unpackEnds(packets) {
   }
 }
 
-// The greatest number of each acknowledgment, from the least number of its space.
-function unpackAcks(said) {
-  const at = placesOf(said.line), {least} = trace.packets;
-  const number = Float64Array.from(said.greatest, (digits, k) =>
-    Number(BigInt(digits) - (least[trace.space[at[k]]] || 0n)));
-  trace.acks = {at, number};
-}
-
 // The lines that are drawn as uprights in all diagrams.
 function marksOf() {
   const marks = [];
@@ -176,7 +169,8 @@ function silencesOf() {
   const found = [], {deadline, in_flight: flying} = trace.state;
   for (let at = 1; at < trace.count && at <= trace.limit; at++) {
     if ('hbu'.includes(trace.kind[at])) continue;
-    const over = trace.time[at] - deadline[at - 1];
+    // Where a deadline lies behind the time at which it was set, it counts from then.
+    const over = trace.time[at] - Math.max(deadline[at - 1], trace.time[at - 1]);
     if (over > 0) found.push({at, over, long: trace.time[at] - trace.time[at - 1],
       flying: flying[at - 1]});
   }

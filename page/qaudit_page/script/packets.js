@@ -91,7 +91,7 @@ function laneTicks(height) {
     }
   }
   if (timerLane) {
-    const {low, high} = timerLane, step = niceStep((high - low) / 2);
+    const {low, high} = timerLane, step = niceStep((high - low) / 3);
     for (let n = Math.ceil(low / step) * step; n <= high; n += step)
       ticks.push({v: at(timerLane, n), label: grouped(+n.toPrecision(12))});
   }
@@ -116,10 +116,10 @@ function drawPackets(event) {
   for (const lane of lanes) drawGreatest(context, area, to, lane.space);
   const drawn = thinned(area, to);
   for (const isJudged of [true, false]) for (const {space} of lanes) {
-    const packets = drawn.filter(p => trace.packets.space[p] === space &&
-      trace.packets.at[p] < trace.limit === isJudged);
-    drawFates(context, area, to, packets, toneOfSpace(space, isJudged));
-    drawGlyphs(context, area, to, packets, space, isJudged);
+    const packets = drawn.filter(p => trace.packets.space[p] === space);
+    const sent = packets.filter(p => trace.packets.at[p] < trace.limit === isJudged);
+    drawFates(context, area, to, packets, space, isJudged);
+    drawGlyphs(context, area, to, sent, space, isJudged);
   }
   drawLeaves(context, area, to);
   drawLosses(context, area, to);
@@ -173,32 +173,43 @@ function thinned(area, to) {
     free[space[p]](to.x(xOfPacket(p)), yOfPacket(area, p)));
 }
 
-// From sent to what became of each packet.
-function drawFates(context, area, to, packets, tone) {
+// From sent to what became of each packet; grey from where lines were not judged.
+function drawFates(context, area, to, packets, space, isJudged) {
+  const tone = toneOfSpace(space, isJudged), {how: fate, end: ends, at} = trace.packets;
   const forms = {
-    acked: [tone, [], isDense ? 0.22 : 0.45], lost: [colors.lost, [3, 3], 0.9],
-    gone: [tone, [1, 3], 0.6], open: [tone, [1, 4], 0.75],
+    acked: [tone, [], isDense ? 0.22 : 0.45], gone: [tone, [1, 3], 0.6], open: [tone, [1, 4], 0.75],
+    lost: [isJudged ? colors.lost : colors.soft, [3, 3], 0.9],
   };
+  const limit = trace.limit < trace.count ? to.x(view.x[trace.limit]) : Infinity;
   const by = {acked: [], lost: [], gone: [], open: [], bare: []};
-  const {how: fate, end: ends} = trace.packets;
-  for (const p of packets) by[fate[p]].push(p);
-  for (const how of ['acked', 'lost', 'gone', 'open']) {
-    const [color, dashes, alpha] = forms[how];
-    stroked(context, color, 1, isDense && how !== 'open' ? [] : dashes, () => {
+  for (const p of packets) if (!isJudged || at[p] < trace.limit) by[fate[p]].push(p);
+  for (const how of Object.keys(forms)) {
+    const [color, dashes, alpha] = forms[how], isOpen = how === 'open';
+    stroked(context, color, 1, isDense && !isOpen ? [] : dashes, () => {
       for (const p of by[how]) {
-        const y = yOfPacket(area, p), x = Math.max(area.x - 9, to.x(xOfPacket(p)));
-        const end = how === 'open' ? trace.count - 1 : ends[p];
+        const y = yOfPacket(area, p), sent = Math.max(area.x - 9, to.x(xOfPacket(p)));
+        const end = Math.min(area.x + area.w + 9, to.x(xOf(isOpen ? trace.count - 1 : ends[p])));
+        const from = isJudged ? sent : Math.max(sent, limit);
+        const until = isJudged ? Math.min(end, limit) : end;
+        if (until <= from) continue;
         // The dots of neighbours stand above each other.
-        context.moveTo(how === 'open' ? Math.ceil(x / 5) * 5 : x, y);
-        context.lineTo(Math.min(area.x + area.w + 9, to.x(xOf(end))), y);
+        context.moveTo(isOpen ? Math.ceil(from / 5) * 5 : from, y);
+        context.lineTo(until, y);
       }
     }, alpha);
   }
-  if (!isDense) stroked(context, tone, 1.6, [], () => {
-    for (const p of by.acked) {
-      const x = to.x(xOf(ends[p])), y = yOfPacket(area, p);
-      context.moveTo(x, y - packetRadius * 1.2);
-      context.lineTo(x, y + packetRadius * 1.2);
+  if (!isDense) drawAcknowledged(context, area, to, by.acked, tone, isJudged);
+}
+
+// A short upright where a packet was acknowledged.
+function drawAcknowledged(context, area, to, packets, tone, isJudged) {
+  const {end} = trace.packets, r = packetRadius * 1.2;
+  stroked(context, tone, 1.6, [], () => {
+    for (const p of packets) {
+      if (end[p] < trace.limit !== isJudged) continue;
+      const x = to.x(xOf(end[p])), y = yOfPacket(area, p);
+      context.moveTo(x, y - r);
+      context.lineTo(x, y + r);
     }
   });
 }
@@ -226,17 +237,20 @@ function drawGlyphs(context, area, to, packets, space, isJudged) {
 
 // A ring about a probe, a box about the packet that an entry into recovery allows.
 function drawLeaves(context, area, to) {
-  const {flags} = trace.packets, r = packetRadius + 3;
-  stroked(context, colors.timer, 1.6, [], () => {
-    for (const p of shownPackets) {
-      if (!(flags[p] & (PROBE | RECOVERY)) || xOfPacket(p) < view.from) continue;
-      const x = to.x(xOfPacket(p)), y = yOfPacket(area, p);
-      if (flags[p] & PROBE) {
-        context.moveTo(x + r, y);
-        context.arc(x, y, r, 0, 2 * Math.PI);
-      } else context.rect(x - r, y - r, 2 * r, 2 * r);
-    }
-  });
+  const {flags, at} = trace.packets, r = packetRadius + 3;
+  const marked = shownPackets.filter(p =>
+    flags[p] & (PROBE | RECOVERY) && xOfPacket(p) >= view.from);
+  for (const isJudged of [true, false])
+    stroked(context, isJudged ? colors.timer : colors.soft, 1.6, [], () => {
+      for (const p of marked) {
+        if (at[p] < trace.limit !== isJudged) continue;
+        const x = to.x(xOfPacket(p)), y = yOfPacket(area, p);
+        if (flags[p] & PROBE) {
+          context.moveTo(x + r, y);
+          context.arc(x, y, r, 0, 2 * Math.PI);
+        } else context.rect(x - r, y - r, 2 * r, 2 * r);
+      }
+    });
 }
 
 // A cross where a packet was declared lost.
