@@ -25,7 +25,7 @@ library := bin/libqaudit.a
 library_shared := bin/libqaudit.so
 example := examples/ten-packets.trace
 # The tests of the programs of conformance/, which mostly wait for one another's processes.
-runner_tests := test_run test_trials test_mutations test_simulate test_links test_made_up
+runner_tests := test_run test_trials test_mutations test_rows test_simulate test_links test_made_up
 
 # All programs in Python, by the places where their names are unlike each other.
 python := $(addprefix conformance/,allocations cuts failing large library links made_up malicious memory mutations reasons \

@@ -128,7 +128,9 @@ def remaining(trace: Trace, begin: int, end: int) -> list[int]:
 def packets_of(trace: Trace, part: Part) -> Object:
     """The packets of a part, with those from before it that were not ended there."""
     packets = trace.packets
-    kept = [place for place, line in enumerate(packets.line) if is_kept(trace, part, place)]
+    kept: Sequence[int] = range(len(packets.line))
+    if part != Part(1, len(trace.lines)):
+        kept = [place for place in kept if is_kept(trace, part, place)]
     numbers = [packets.number[place] for place in kept]
     spaces = [packets.space[place] for place in kept]
     # Numbers count from the least of their space, and so stay exact where they are great.

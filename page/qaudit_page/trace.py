@@ -3,7 +3,7 @@ packet by the lines."""
 
 from array import array
 from bisect import bisect_left
-from collections.abc import Iterable
+from collections.abc import Callable, Iterable
 from dataclasses import dataclass, field
 from operator import itemgetter
 
@@ -25,6 +25,8 @@ KINDS = {
     "metrics": "m",
 }
 BLANK, OTHER = "b", "u"
+CODES = {name: ord(kind) for name, kind in KINDS.items()}
+SPACE_OF = {name: space for space, name in enumerate(SPACES)}
 NO_SPACE = 3
 # Beside the space of a line: that a timer is the one for losses.
 OF_LOSS = 4
@@ -57,25 +59,31 @@ class Numbers:
         self.numbers: list[int] = []
         self.packets: list[int] = []
         # Of each packet, the next one that may be without the mark.
-        self.nexts: dict[str, list[int]] = {"acked": [0], "lost": [0], "gone": [0]}
+        self.nexts: dict[str, list[int]] = {"acked": [], "lost": []}
+        # How many were there when the keys were discarded.
+        self.discarded = 0
 
     def add(self, number: int, packet: int) -> None:
         """A packet; one whose number is not above those before it has no fate."""
-        if self.numbers and number <= self.numbers[-1]:
-            return
-        self.numbers.append(number)
-        self.packets.append(packet)
-        for chain in self.nexts.values():
-            chain.append(len(self.numbers))
+        if not self.numbers or number > self.numbers[-1]:
+            self.numbers.append(number)
+            self.packets.append(packet)
 
     def mark(self, mark: str, low: int, high: int) -> list[int]:
         """The packets with numbers from low to high that had no such mark; they have it then."""
         chain, found = self.nexts[mark], []
+        chain.extend(range(len(chain), len(self.numbers) + 1))
         place = first_unmarked(chain, bisect_left(self.numbers, low))
         while place < len(self.numbers) and self.numbers[place] <= high:
             found.append(self.packets[place])
             chain[place] = place + 1
             place = first_unmarked(chain, place + 1)
+        return found
+
+    def discard(self) -> list[int]:
+        """The packets since the keys were last discarded."""
+        found = self.packets[self.discarded :]
+        self.discarded = len(self.packets)
         return found
 
 
@@ -89,19 +97,19 @@ def first_unmarked(chain: list[int], place: int) -> int:
     return root
 
 
-@dataclass
 class Packets:
-    """A row for each packet that was sent."""
+    """A row for each packet that was sent, which are no more than there are lines."""
 
-    line: list[int] = field(default_factory=list)
-    space: list[int] = field(default_factory=list)
-    number: list[int] = field(default_factory=list)
-    size: list[int] = field(default_factory=list)
-    flags: list[int] = field(default_factory=list)
-    # The lines that acknowledged it, declared it lost, and discarded its space; 0 for none.
-    acked: list[int] = field(default_factory=list)
-    lost: list[int] = field(default_factory=list)
-    gone: list[int] = field(default_factory=list)
+    def __init__(self, lines: int) -> None:
+        self.line: list[int] = []
+        self.space: list[int] = []
+        self.number: list[int] = []
+        self.size: list[int] = []
+        self.flags: list[int] = []
+        # The lines that acknowledged it, declared it lost, and discarded its space; 0 for none.
+        self.acked = [0] * lines
+        self.lost = [0] * lines
+        self.gone = [0] * lines
 
 
 @dataclass
@@ -132,13 +140,21 @@ class Trace:
         self.kind = bytearray(OTHER.encode() * count)
         self.time = array("q", bytes(8 * count))
         self.space = bytearray([NO_SPACE]) * count
-        self.packets = Packets()
+        self.packets = Packets(count)
         self.numbers = [Numbers() for _ in SPACES]
         # The line and the greatest number of each acknowledgment.
         self.acks: list[tuple[int, int]] = []
         self.metrics: list[tuple[int, list[int | None]]] = []
         self.state = State()
         self.now = 0
+        self.takes: dict[str, Callable[[int, Event], None]] = {
+            "sent": self.sent,
+            "ack": self.acknowledged,
+            "lost": self.lost,
+            "timer": self.fired,
+            "discard": self.discarded,
+            "metrics": self.reported,
+        }
 
     # Lines.
 
@@ -151,31 +167,21 @@ class Trace:
     def event(self, line: int, said: Event) -> None:
         """What a line says."""
         name = said["event"]
-        kind = KINDS[name]
-        self.kind[line - 1] = ord(kind)
-        self.now = said.get("time", self.now) if kind != "h" else self.now
+        self.kind[line - 1] = CODES[name]
+        if name != "header":
+            self.now = said["time"]
+            take = self.takes.get(name)
+            if take is not None:
+                take(line, said)
         self.time[line - 1] = self.now
-        space = SPACES.index(said["space"]) if "space" in said and kind != "h" else NO_SPACE
-        is_of_loss = kind == "t" and said["kind"] == "loss"
-        self.space[line - 1] = space + (OF_LOSS if is_of_loss else 0)
-        if kind == "s":
-            self.sent(line, space, said)
-        elif kind == "a":
-            self.end(line, self.mark("acked", space, said["ranges"]), self.packets.acked)
-            self.acks.append((line, max(high for _, high in said["ranges"])))
-        elif kind == "l":
-            self.end(line, self.mark("lost", space, said["ranges"]), self.packets.lost)
-        elif kind == "d":
-            self.discard(line, space)
-        elif kind == "m":
-            self.metrics.append((line, [said.get(name) for name in METRICS]))
 
-    def sent(self, line: int, space: int, said: Event) -> None:
+    def sent(self, line: int, said: Event) -> None:
         """A packet."""
         packets = self.packets
+        space = self.space[line - 1] = SPACE_OF[said["space"]]
         self.numbers[space].add(said["number"], len(packets.line))
-        flags = ELICITING * (said.get("eliciting") is True)
-        flags += IN_FLIGHT * (said.get("in_flight") is True)
+        flags = ELICITING if said.get("eliciting") is True else 0
+        flags += IN_FLIGHT if said.get("in_flight") is True else 0
         leave = said.get("leave")
         flags += LEAVES.get(leave, 0) if isinstance(leave, str) else 0
         packets.line.append(line)
@@ -183,28 +189,39 @@ class Trace:
         packets.number.append(said["number"])
         packets.size.append(said["size"])
         packets.flags.append(flags)
-        packets.acked.append(0)
-        packets.lost.append(0)
-        packets.gone.append(0)
 
-    def mark(self, mark: str, space: int, ranges: list[list[int]]) -> list[int]:
-        """The packets that ranges mark for the first time."""
+    def acknowledged(self, line: int, said: Event) -> None:
+        """An acknowledgment."""
+        self.mark("acked", line, said, self.packets.acked)
+        self.acks.append((line, max(high for _, high in said["ranges"])))
+
+    def lost(self, line: int, said: Event) -> None:
+        """Packets that were declared lost."""
+        self.mark("lost", line, said, self.packets.lost)
+
+    def mark(self, mark: str, line: int, said: Event, ends: list[int]) -> None:
+        """Notes the line that says first what became of packets."""
+        space = self.space[line - 1] = SPACE_OF[said["space"]]
         numbers = self.numbers[space]
-        return [packet for low, high in ranges for packet in numbers.mark(mark, low, high)]
+        for low, high in said["ranges"]:
+            for packet in numbers.mark(mark, low, high):
+                ends[packet] = line
 
-    @staticmethod
-    def end(line: int, packets: list[int], column: list[int]) -> None:
-        """Notes the line that says what became of packets."""
-        for packet in packets:
-            column[packet] = line
+    def fired(self, line: int, said: Event) -> None:
+        """A timer."""
+        self.space[line - 1] = TIMERS[said["kind"], said["space"]]
 
-    def discard(self, line: int, space: int) -> None:
+    def discarded(self, line: int, said: Event) -> None:
         """What is neither acknowledged nor lost of a space goes with its keys."""
-        packets, numbers = self.packets, self.numbers[space].numbers
-        if numbers:
-            for packet in self.numbers[space].mark("gone", 0, numbers[-1]):
-                if not packets.acked[packet] and not packets.lost[packet]:
-                    packets.gone[packet] = line
+        packets = self.packets
+        space = self.space[line - 1] = SPACE_OF[said["space"]]
+        for packet in self.numbers[space].discard():
+            if not packets.acked[packet] and not packets.lost[packet]:
+                packets.gone[packet] = line
+
+    def reported(self, line: int, said: Event) -> None:
+        """What the sender reports of itself."""
+        self.metrics.append((line, [said.get(name) for name in METRICS]))
 
     # Rows.
 
@@ -239,10 +256,11 @@ def trace_of(data: bytes, rows: Iterable[list[Object]], first_unjudged: int | No
     try:
         for piece in rows:
             for row in piece:
-                for line in range(next_line, row["line"]):
-                    trace.blank(line)
+                while next_line < row["line"]:
+                    trace.blank(next_line)
+                    next_line += 1
                 trace.row(row)
-                next_line = row["line"] + 1
+                next_line += 1
             trace.hold([row["state"] for row in piece])
     except (KeyError, TypeError, ValueError, IndexError, AttributeError) as fault:
         text = f"qaudit-why wrote an unknown row before line {next_line}: {fault!r}"
