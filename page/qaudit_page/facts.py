@@ -2,6 +2,7 @@
 
 from collections.abc import Callable
 
+from .failure import Failure
 from .program import Object
 from .texts import Ranges, count, milliseconds, runs, size
 
@@ -48,6 +49,16 @@ class Amounts:
 
 def facts_of(said: Object, unit: str) -> Facts:
     """The amounts that decide of what is refused or cannot be read."""
+    try:
+        return told_of(said, unit)
+    except (KeyError, TypeError, ValueError, AttributeError, StopIteration) as fault:
+        raise Failure(
+            f"qaudit-why wrote an unknown object for {said['verdict']}: {fault!r}"
+        ) from fault
+
+
+def told_of(said: Object, unit: str) -> Facts:
+    """The same; the errors of Python where something is missing."""
     of_rule: dict[str, Callable[[Amounts], Facts]] = {
         "V1": of_time_back,
         "V2": of_losses,

@@ -54,10 +54,12 @@ class Browser:
         metrics = {"width": width, "height": height, "deviceScaleFactor": 1, "mobile": False}
         self.driver.execute_cdp_cmd("Emulation.setDeviceMetricsOverride", metrics)
 
-    def dress(self, *, is_dark: bool) -> None:
-        """Sets which colours a person prefers."""
+    def dress(self, *, is_dark: bool, media: str = "screen") -> None:
+        """Sets which colours a person prefers, and whether it is a screen or paper."""
         feature = {"name": "prefers-color-scheme", "value": "dark" if is_dark else "light"}
-        self.driver.execute_cdp_cmd("Emulation.setEmulatedMedia", {"features": [feature]})
+        self.driver.execute_cdp_cmd(
+            "Emulation.setEmulatedMedia", {"media": media, "features": [feature]}
+        )
 
     def open(self, page: Path, fragment: str = "") -> None:
         """Opens a page anew and waits until it is drawn."""

@@ -318,6 +318,22 @@ class Using(Browsing):
             self.browser.resize(1200, 900)
             self.browser.dress(is_dark=False)
 
+    def test_paper_is_light(self) -> None:
+        self.browser.dress(is_dark=True)
+        try:
+            self.show(self.page)
+            paper = "return getComputedStyle(document.body).backgroundColor"
+            turned = "return getComputedStyle(document.querySelector('.chart canvas')).filter"
+            self.assertEqual(self.browser.run(turned), "none")
+            self.assertNotEqual(self.browser.run(paper), "rgb(255, 255, 255)")
+            self.browser.dress(is_dark=True, media="print")
+            self.assertEqual(self.browser.run(paper), "rgb(255, 255, 255)")
+            self.assertIn("invert(1)", self.browser.run(turned))
+            shown = "return getComputedStyle(document.getElementById('controls')).display"
+            self.assertEqual(self.browser.run(shown), "none")
+        finally:
+            self.browser.dress(is_dark=False)
+
     def test_a_part(self) -> None:
         self.show(made(REAL.read_bytes(), report_of(REAL), first=1000, last=1100))
         self.assertIn("Line 84 is not in this page", self.text("#trouble"))
@@ -393,6 +409,12 @@ class Harm(Browsing):
         totals = dict(line.split(" ", 1) for line in report.splitlines()[1:])
         row = self.text("tr.selected").replace(",", "")
         self.assertIn(totals["window"], row)
+
+    def test_timers_without_end(self) -> None:
+        fired = '{"event":"timer","time":%d,"kind":"%s","space":"app"}'
+        timers = (fired % (n, ("pto", "loss")[n % 2]) for n in range(30_000))
+        self.harmless(joined(HEADER, *timers))
+        self.assertLess(self.browser.run("return qauditPage.lastFrame()"), 2000)
 
     def test_lines_that_deflate_ten_thousandfold(self) -> None:
         blank = b" " * 60_000 + b"\n"

@@ -1,6 +1,8 @@
 """The table of many traces."""
 
 import json
+import os
+import pty
 import shutil
 import subprocess
 import sys
@@ -145,6 +147,18 @@ class Tables(unittest.TestCase):
         ended = self.run_command("--against", self.json)
         self.assertEqual((ended.returncode, ended.stderr), (0, ""))
         self.assertIn("not there", Page(self.table.read_text()).by_id["changes"])
+
+    def test_a_terminal_shows_how_far_it_is(self) -> None:
+        main, other = pty.openpty()
+        words = [sys.executable, COMMAND, "--program", PROGRAM, "--output", self.table, self.traces]
+        try:
+            subprocess.run(list(map(str, words)), stderr=other, timeout=60, check=False)
+            shown = os.read(main, 10_000).decode()
+        finally:
+            os.close(main)
+            os.close(other)
+        self.assertIn(f"[{20 * '#'}{20 * '.'}] 1 of 2", shown)
+        self.assertTrue(shown.endswith(f"[{40 * '#'}] 2 of 2\r\n"))
 
     def test_what_is_no_record(self) -> None:
         for text in ("", "[]", '{"version":2,"traces":[]}', '{"version":1,"traces":[{}]}'):

@@ -327,6 +327,9 @@ class Commands(unittest.TestCase):
             broken.write_text(f"#!/bin/sh\n{text}\n")
             broken.chmod(0o755)
             self.fails(3, told_of, TRACES / "timer-late.trace", program=broken)
+        said = '{"file":"-","verdict":"refused","line":2,"rule":"V7","name":"past-window"}'
+        broken.write_text(f"#!/bin/sh\n[ $1 = --json ] && echo '{said}'\nexit 1\n")
+        self.fails(3, "an unknown object", TRACES / "timer-late.trace", program=broken)
         broken.write_text(
             '#!/bin/sh\n[ "$1" = --rows ] && echo \'{"line":1}\' && exit 0\n'
             'echo \'{"verdict":"accepted","events":1}\'\n'

@@ -312,13 +312,16 @@ function drawDeadlines(context, area, to, y, isLoss) {
 
 // Where a timer fired: a triangle, hollow for one that looks for losses.
 function drawFired(context, area, to, y) {
+  const free = cells(area, 2);
   for (const mark of trace.marks) {
     if ((mark.of !== 'pto' && mark.of !== 'loss') || !isSeen(view.x[mark.at])) continue;
     const isJudged = mark.at < trace.limit, x = to.x(view.x[mark.at]);
     const hadDeadline = mark.at > 0 && mark.at <= trace.limit;
     const at = hadDeadline ? y(mark.at - 1, mark.at) : inLane(area, timerLane, 0);
+    const middle = at === at ? at : inLane(area, timerLane, 0);
+    if (!free(x, middle)) continue;
     context.beginPath();
-    triangle(context, x, at === at ? at : inLane(area, timerLane, 0), 5);
+    triangle(context, x, middle, 5);
     context.fillStyle = mark.of === 'loss' ? colors.paper : isJudged ? colors.timer : colors.soft;
     context.fill();
     context.strokeStyle = isJudged ? colors.timer : colors.soft;

@@ -106,7 +106,16 @@ function select(place, {stays = false, zooms = false, isNamed = true} = {}) {
   else if (!isSeen(x)) show(x - half, x + half);
   else redraw();
   byId('said').textContent = summaryOf(at);
-  if (isNamed) history.replaceState(null, '', `#line=${trace.first + at}`);
+  if (isNamed) nameLine(trace.first + at);
+}
+
+// Puts a line into the address, where the browser lets a page do so.
+function nameLine(line) {
+  try {
+    history.replaceState(null, '', `#line=${line}`);
+  } catch (error) {
+    if (error.name !== 'SecurityError') throw error;
+  }
 }
 
 // A line in words, for those who hear the page.

@@ -144,8 +144,14 @@ function drawOver(context, area, hasLabels) {
     upright(context, area, x, colors.ink, 1, []);
   }
   if (!hasLabels) return drawFlags(context, area, flags.slice(0, 1));
-  for (const mark of trace.marks) if (isSeen(view.x[mark.at]))
-    flags.push({x: to.x(view.x[mark.at]), text: mark.label, color: toneOfMark(mark.of)});
+  let before = -9, at = -1;
+  for (const mark of trace.marks) {
+    const x = to.x(view.x[mark.at]);
+    // Of thousands of marks a few have a flag.
+    if (!isSeen(view.x[mark.at]) || (x - before < 4 && mark.at > at + 20)) continue;
+    [before, at] = [x, mark.at];
+    flags.push({x, text: mark.label, color: toneOfMark(mark.of)});
+  }
   return drawFlags(context, area, flags);
 }
 
