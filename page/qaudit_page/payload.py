@@ -5,6 +5,7 @@ import zlib
 from collections.abc import Iterable, Sequence
 from dataclasses import dataclass
 from operator import sub
+from typing import cast
 
 from .failure import Failure, Status
 from .lenient import METRICS, SPACES
@@ -21,6 +22,7 @@ SHOWN_OF_LONG = 2_000
 # The greatest integer that a script holds exactly, with all below it.
 EXACT = 2**53 - 1
 NOTHING = -1
+DIGITS = bytes(range(48, 58)) + bytes(246)
 # How well columns and lines are deflated; the lines while the columns are made.
 LEVEL, LEVEL_OF_LINES = 6, 9
 
@@ -90,14 +92,25 @@ def differences(values: Iterable[int]) -> list[int]:
     return [*listed[:1], *map(sub, listed[1:], listed)]
 
 
+def clamped(values: Sequence[int | None]) -> Sequence[int]:
+    """Values that a script can hold: -1 for none, and the greatest where they are greater."""
+    present = cast(Sequence[int], values)
+    if None in values:
+        present = [NOTHING if it is None else it for it in values]
+    return present if max(present, default=0) <= EXACT else [min(it, EXACT) for it in present]
+
+
 def column(values: Sequence[int | None]) -> Object:
     """A column that a script can hold: what it would round is there as digits too."""
-    present = [NOTHING if it is None else it for it in values]
-    clamped, exact = present, {}
-    if max(present, default=0) > EXACT:
-        clamped = [min(it, EXACT) for it in present]
-        exact = {place: str(it) for place, it in enumerate(values) if it and it > EXACT}
-    return {"by": differences(clamped), "exact": exact}
+    held = clamped(values)
+    is_exact = max(held, default=0) < EXACT
+    exact = {} if is_exact else {n: str(it) for n, it in enumerate(values) if it and it > EXACT}
+    return {"by": differences(held), "exact": exact}
+
+
+def digits(codes: bytes | bytearray) -> str:
+    """Codes below ten, a digit each."""
+    return codes.translate(DIGITS).decode()
 
 
 def state_of(trace: Trace, part: Part) -> Object:
@@ -108,7 +121,7 @@ def state_of(trace: Trace, part: Part) -> Object:
     found: Object = {name: column(state.amounts[name][begin:end]) for name in AMOUNTS}
     found["deadline"] |= {"by": remaining(trace, begin, end)}
     found["line"] = differences(state.line[begin:end])
-    found["timer"] = "".join(map(str, state.timer[begin:end]))
+    found["timer"] = digits(state.timer[begin:end])
     found["owed"] = differences(state.owed[begin:end])
     owed = state.owed_text.items()
     found["owed_text"] = {row - begin: text for row, text in owed if begin <= row < end}
@@ -117,12 +130,10 @@ def state_of(trace: Trace, part: Part) -> Object:
 
 def remaining(trace: Trace, begin: int, end: int) -> list[int]:
     """How long after each line the timer is set for, which repeats where deadlines rise."""
-    deadlines, times = trace.state.amounts["deadline"], trace.time
-    lines = trace.state.line
-    return differences(
-        0 if due is None else min(due, EXACT) - times[lines[row] - 1]
-        for row, due in enumerate(deadlines[begin:end], begin)
-    )
+    lines, deadlines = trace.state.line[begin:end], trace.state.amounts["deadline"][begin:end]
+    pairs = zip(lines, deadlines, clamped(deadlines), strict=True)
+    times = trace.time
+    return differences(0 if due is None else held - times[line - 1] for line, due, held in pairs)
 
 
 def packets_of(trace: Trace, part: Part) -> Object:
@@ -141,7 +152,7 @@ def packets_of(trace: Trace, part: Part) -> Object:
     from_least = [number - least[space] for number, space in zip(numbers, spaces, strict=True)]
     found: Object = {
         "line": differences(packets.line[place] for place in kept),
-        "space": "".join(map(str, spaces)),
+        "space": digits(bytes(spaces)),
         "least": [str(number) for number in least],
         "number": column(from_least),
         "size": differences(packets.size[place] for place in kept),
@@ -209,7 +220,7 @@ def payload(trace: Trace, verdict: Verdict, part: Part) -> Object:
             "deadline": verdict.said.get(f"deadline_{trace.unit}"),
         },
         "kind": trace.kind[lines].decode(),
-        "space": "".join(map(str, trace.space[lines])),
+        "space": digits(trace.space[lines]),
         "time": differences(trace.time[lines]),
         "state": state_of(trace, part),
         "packets": packets,

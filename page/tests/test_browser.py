@@ -4,6 +4,7 @@ places."""
 import base64
 import json
 import re
+import sys
 import tempfile
 import unittest
 import zlib
@@ -31,6 +32,9 @@ SMALL = (
     sent(9, 310_000),
 )
 REFUSED = SMALL.index(sent(8, 200_000, size=3600)) + 1
+
+if MISSING:
+    print(f"pages are not tried in a browser: {MISSING}", file=sys.stderr)
 
 
 @unittest.skipIf(MISSING or NO_LIBRARY, MISSING or NO_LIBRARY)

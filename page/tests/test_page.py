@@ -298,6 +298,16 @@ class Commands(unittest.TestCase):
         self.fails(3, "cannot write page.html", "--output", "/nowhere/page.html", trace)
         self.fails(2, "there is no line from 100", "--from", 100, trace)
 
+    def test_more_than_a_page_takes(self) -> None:
+        for data, told_of in (
+            (joined(HEADER) + b"\n" * 600_000, "--from 1 --to 500000 would do"),
+            (joined(HEADER) + (b" " * 60_000 + b"\n") * 1_800, "--from 1 --to 1667 would do"),
+        ):
+            trace = Path(self.folder.name, "long.trace")
+            trace.write_bytes(data)
+            self.fails(2, told_of, "--output", self.page, trace)
+            trace.unlink()
+
     def test_another_library(self) -> None:
         other = Path(self.folder.name, "other.js")
         for text, told_of in (
