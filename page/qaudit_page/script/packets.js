@@ -286,7 +286,10 @@ function drawTimer(context, area, to) {
   drawFired(context, area, to, y);
   const isLate = -timerLane.low > timerLane.high;
   const top = area.y + timerLane.top + (isLate ? timerLane.tall - 14 : 1);
-  words(context, 'ms until the timer fires', area.x + 4, top, colors.timer, 'left', 'top');
+  const text = 'ms until the timer fires';
+  context.font = FONT;
+  backed(context, area.x + 2, top - 1, context.measureText(text).width + 4, 14);
+  words(context, text, area.x + 4, top, colors.timer, 'left', 'top');
 }
 
 // Of lines in one column of pixels one is drawn for each height.
@@ -370,10 +373,7 @@ function drawSilence(context, silence, left, right, y) {
     .find(it => context.measureText(it).width < right - left - 8);
   if (!said) return;
   const width = context.measureText(said).width + 6, middle = (left + right) / 2;
-  context.globalAlpha = 0.85;
-  context.fillStyle = colors.paper;
-  context.fillRect(middle - width / 2, y - 20, width, 15);
-  context.globalAlpha = 1;
+  backed(context, middle - width / 2, y - 20, width, 15);
   words(context, said, middle, y - 5, colors.ink, 'center', 'bottom');
 }
 

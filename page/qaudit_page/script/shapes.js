@@ -84,6 +84,14 @@ function words(context, text, x, y, color, align = 'left', baseline = 'middle', 
   context.fillText(text, x, y);
 }
 
+// A ground for words that stand over lines.
+function backed(context, left, top, width, height) {
+  context.globalAlpha = 0.85;
+  context.fillStyle = colors.paper;
+  context.fillRect(left, top, width, height);
+  context.globalAlpha = 1;
+}
+
 // Whether a point falls where none was before; points of a cell count as one.
 function cells(area, grain) {
   const wide = Math.ceil(area.w / grain) + 3;
