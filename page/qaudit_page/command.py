@@ -8,6 +8,7 @@ from typing import NoReturn
 from .failure import Failure, Status
 from .files import write
 from .page import Wanted, page_of
+from .texts import visible
 
 DESCRIPTION = """\
 Makes a page of a trace: one HTML file that says the verdict of qaudit and shows the run. It opens
@@ -68,7 +69,7 @@ def main() -> Status:
     try:
         write(given.output, page_of(wanted)[1])
     except Failure as failure:
-        print(f"qaudit-page: {failure}", file=sys.stderr)
+        print(f"qaudit-page: {visible(str(failure))}", file=sys.stderr)
         return failure.status
     return Status.WRITTEN
 

@@ -6,7 +6,6 @@ import tempfile
 from pathlib import Path
 
 from .failure import Failure, Status
-from .texts import visible
 
 MAX_INPUT = 2**30
 
@@ -26,9 +25,9 @@ def read(path: Path | None) -> bytes:
             with path.open("rb") as file:
                 data = file.read(MAX_INPUT + 1)
     except OSError as fault:
-        raise Failure(f"cannot read {visible(name_of(path))}: {fault.strerror}") from fault
+        raise Failure(f"cannot read {name_of(path)}: {fault.strerror}") from fault
     if len(data) > MAX_INPUT:
-        text = f"{visible(name_of(path))} has more than {MAX_INPUT:,} bytes: cut it into parts"
+        text = f"{name_of(path)} has more than {MAX_INPUT:,} bytes: cut it into parts"
         raise Failure(text, Status.UNSHOWN)
     return data
 
@@ -46,7 +45,7 @@ def write(path: Path | None, text: str) -> None:
         if path is None:
             # What is left would be written, and would fail, once more at the end.
             os.dup2(os.open(os.devnull, os.O_WRONLY), sys.stdout.fileno())
-        where = "standard output" if path is None else visible(name_of(path))
+        where = "standard output" if path is None else name_of(path)
         raise Failure(f"cannot write {where}: {fault.strerror}") from fault
 
 

@@ -113,7 +113,7 @@ def results_of(given: argparse.Namespace) -> list[Result]:
         try:
             given.pages.mkdir(parents=True, exist_ok=True)
         except OSError as fault:
-            text = f"cannot make {visible(str(given.pages))}: {fault.strerror}"
+            text = f"cannot make {given.pages}: {fault.strerror}"
             raise Failure(text) from fault
     jobs = jobs_of(given)
     if not jobs:
@@ -158,7 +158,7 @@ def main() -> Status:
         if given.json:
             write(given.json, recorded(results, given.pattern))
     except Failure as failure:
-        print(f"qaudit-matrix: {failure}", file=sys.stderr)
+        print(f"qaudit-matrix: {visible(str(failure))}", file=sys.stderr)
         return failure.status
     tell(changes or [])
     return status_of(results, changes)

@@ -12,7 +12,6 @@ from pathlib import Path
 from typing import IO, Any
 
 from .failure import Failure
-from .texts import visible
 
 NAME = "qaudit-why"
 VERDICTS = ("accepted", "refused", "unreadable")
@@ -123,7 +122,7 @@ class Run:
             raise Failure(f"{self.program} has no {self.mode}: a newer {NAME} is needed")
         if status not in range(len(VERDICTS)):
             self.errors.seek(0)
-            told = visible(self.errors.read(SHOWN).decode("utf-8", "backslashreplace").strip())
+            told = self.errors.read(SHOWN).decode("utf-8", "backslashreplace").strip()
             ending = f"ended with status {status}" if status > 0 else f"was killed by {-status}"
             raise Failure(f"{self.program} {self.mode} {ending}: {told}")
 

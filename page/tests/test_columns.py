@@ -19,9 +19,14 @@ from tests.made import (
     values_of,
 )
 
+from mutants import mutant
 from rows import first_not_good
 from sender import Sender
 from why import said_by
+
+from qaudit_page.payload import part_of, payload
+from qaudit_page.program import Verdict
+from qaudit_page.trace import trace_of
 
 SPACES = ("initial", "handshake", "app")
 
@@ -191,6 +196,22 @@ class Columns(unittest.TestCase):
         self.assertEqual(page["kind"], "huusubauuk")
         self.assertEqual(summed(page["state"]["line"]), [1])
         self.assertEqual(page["packets"]["acked"], [3])
+
+
+class Mutated(unittest.TestCase):
+    """Lines of all sorts, none of which was judged."""
+
+    def test_they_are_read_as_they_seem(self) -> None:
+        said = {"verdict": "unreadable", "line": 1, "fault": "F1", "name": "not-json"}
+        verdict, met = Verdict(said), set()
+        for seed in range(200):
+            trace = trace_of(mutant(seed), [], 1)
+            part = part_of(trace, verdict, None, None)
+            columns = payload(trace, verdict, part)
+            met |= set(columns["kind"])
+            self.assertEqual(len(columns["kind"]), len(trace.lines))
+            self.assertEqual(columns["state"]["line"], [])
+        self.assertEqual(met, set("hsaltdckmbu"))
 
 
 class WrongPages(unittest.TestCase):

@@ -293,6 +293,7 @@ class Commands(unittest.TestCase):
     def test_what_is_missing(self) -> None:
         trace = TRACES / "timer-late.trace"
         self.fails(3, "there is no program /nowhere", trace, program="/nowhere")
+        self.fails(3, "no program /no\\u{a}\\u{1b}where", trace, program="/no\n\x1bwhere")
         self.fails(3, "cannot read missing.trace", "--output", self.page, "missing.trace")
         self.fails(3, "libjs-dygraphs", "--dygraphs", "/nowhere.js", trace)
         self.fails(3, "cannot write page.html", "--output", "/nowhere/page.html", trace)
