@@ -205,7 +205,7 @@ def changes_shown(changes: list[Change]) -> str:
     """What is new and what is gone since the run before."""
     if not changes:
         return "<h2>Since the run before</h2><p>No verdict is another.</p>"
-    head = "<tr><th>trace</th><th>before</th><th>now</th></tr>"
+    head = "<thead><tr><th>trace</th><th>before</th><th>now</th></tr></thead>"
     rows = "".join(
         f'<tr class="{"worse" if it.is_worse else "better"}"><th>{html(it.key)}</th>'
         f"<td>{html(it.before) or 'not there'}</td><td>{html(it.now) or 'not there'}</td></tr>"
