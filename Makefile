@@ -25,13 +25,16 @@ library := bin/libqaudit.a
 library_shared := bin/libqaudit.so
 example := examples/ten-packets.trace
 # The tests of the programs of conformance/, which mostly wait for one another's processes.
-runner_tests := test_run test_trials test_mutations test_simulate test_links test_made_up
+runner_tests := test_run test_trials test_mutations test_rows test_simulate test_links test_made_up
 
 # All programs in Python, by the places where their names are unlike each other.
 python := $(addprefix conformance/,allocations cuts failing large library links made_up malicious memory mutations reasons \
 	refusals run simulate) \
 	conformance/fuzz/instrument conformance/lines/make.py $(wildcard conformance/*.py)
 python_of_fuzz := conformance/fuzz/run
+# The pages, and what measures and tests them.
+python_of_page := page/qaudit-page page/qaudit-matrix $(wildcard page/qaudit_page/*.py)
+python_of_page_tests := page/measure $(wildcard page/*.py page/tests/*.py)
 python_of_qlog := qlog/qlog-to-trace qlog/test_qlog.py $(wildcard qlog/qlog_to_trace/*.py)
 # captures/transfer.py runs where aioquic is, and is checked for style alone.
 python_of_captures := captures/audit.py captures/run captures/table examples/delay.py examples/logger.py
@@ -46,7 +49,7 @@ conformance := conformance-cuts conformance-failing conformance-refusals conform
 # What is handed to the library for C, in each language.
 bindings := conformance-library bindings-rust bindings-go bindings-python
 
-.PHONY: help build run lib one_byte lines test test_library gate conformance $(bindings) $(conformance) links made_up $(runner_tests) test_qlog lint \
+.PHONY: help build run lib one_byte lines test test_library gate conformance $(bindings) $(conformance) conformance-rows links made_up $(runner_tests) test_qlog test_page lint \
 	bench install dist clean
 
 help:
@@ -57,6 +60,7 @@ help:
 	@echo 'make test_library  builds the library for C and runs it over conformance/, in each language that is there'
 	@echo 'make gate      runs the merge gate alone'
 	@echo 'make conformance runs the programs over conformance/ alone, once the gate has built them'
+	@echo 'make test_page runs the tests of qaudit-page and qaudit-matrix, those in a browser where one is there'
 	@echo 'make lint      checks the types and the style of the programs in Python'
 	@echo 'make bench     builds it, measures it on long traces and compares it with others, in about five minutes;'
 	@echo '               the library for C too, where `make lib` built it before'
@@ -148,6 +152,10 @@ conformance-run:
 conformance-reasons:
 	conformance/reasons $(program_why)
 
+# What the machine holds behind each line, for pages.
+conformance-rows:
+	conformance/rows $(program_why)
+
 conformance-allocations:
 	conformance/allocations $(program)
 
@@ -185,6 +193,12 @@ $(runner_tests):
 test_qlog:
 	python3 qlog/test_qlog.py
 
+# Pages: their columns, their HTML, and in a headless Chromium what a person does. It wants Debian's libjs-dygraphs, and
+# chromium-driver and python3-selenium, and says what it leaves out. QAUDIT_WHY names a program that was proved; without one
+# page/stand_in.py stands in.
+test_page:
+	cd page && python3 -m unittest
+
 # No part of `test`, for it needs tools that need not be there. Both are told what to check by pyproject.toml; flake8,
 # which stands in for ruff where there is none, knows less and does not read it.
 lint:
@@ -194,10 +208,14 @@ lint:
 	mypy $(python_of_qlog)
 	mypy $(python_of_bindings)
 	mypy $(python_of_captures)
+	MYPYPATH=page mypy $(python_of_page)
+	MYPYPATH=page mypy $(python_of_page_tests)
+	MYPYPATH=conformance mypy --config-file= --strict conformance/rows
 	if command -v ruff > /dev/null; then ruff check; else \
 		flake8 --max-line-length 100 --extend-ignore E203,W503 \
 			--per-file-ignores '*/test_*.py:N802' $(python) $(python_of_fuzz) $(python_of_bench) \
-			$(python_of_qlog) $(python_of_captures) captures/transfer.py; fi
+			$(python_of_qlog) $(python_of_captures) captures/transfer.py \
+			$(python_of_page) $(python_of_page_tests) conformance/rows; fi
 
 # No part of `test`, for no number of seconds is right on every machine.
 bench: build

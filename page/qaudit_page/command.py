@@ -1,0 +1,83 @@
+"""The command qaudit-page."""
+
+import argparse
+import sys
+from pathlib import Path
+from typing import NoReturn
+
+from .failure import Failure, Status
+from .files import write
+from .page import Wanted, page_of
+from .texts import visible
+
+DESCRIPTION = """\
+Makes a page of a trace: one HTML file that says the verdict of qaudit and shows the run. It opens
+in any browser, with no server and no network."""
+ENDING = """\
+The exit status is 0 where the page is written, 2 where the trace is more than a page takes, 3 where
+a file, a program or dygraphs is missing or failed, and 64 where the arguments are wrong."""
+
+
+class Parser(argparse.ArgumentParser):
+    """Reads arguments; wrong ones have the status that they have in all programs here."""
+
+    def error(self, message: str) -> NoReturn:
+        """Ends the program."""
+        self.print_usage(sys.stderr)
+        self.exit(Status.USAGE, f"{self.prog}: {message}\n")
+
+
+def line(text: str) -> int:
+    """The number of a line."""
+    number = int(text)
+    if number < 1:
+        raise argparse.ArgumentTypeError("lines are numbered from 1")
+    return number
+
+
+def add_shared(parser: argparse.ArgumentParser) -> None:
+    """The options that both commands have."""
+    text = "the script of dygraphs 2.2; without it that of Debian's package libjs-dygraphs"
+    parser.add_argument("--dygraphs", type=Path, metavar="FILE", help=text)
+    text = "the program qaudit-why; without it the one on the path, or beside this command"
+    parser.add_argument("--program", type=Path, metavar="FILE", help=text)
+
+
+def arguments() -> argparse.Namespace:
+    """What the command is told."""
+    parser = Parser(prog="qaudit-page", description=DESCRIPTION, epilog=ENDING)
+    text = "the first line that is shown"
+    parser.add_argument("--from", dest="first", type=line, metavar="N", help=text)
+    text = "the last line that is shown"
+    parser.add_argument("--to", dest="last", type=line, metavar="N", help=text)
+    text = "the title of the page; without it the name of the file"
+    parser.add_argument("--title", metavar="TEXT", help=text)
+    text = "where the page is written; without it on standard output"
+    parser.add_argument("--output", type=Path, metavar="FILE", help=text)
+    add_shared(parser)
+    text = "the trace; without it standard input"
+    parser.add_argument("trace", type=Path, metavar="TRACE", nargs="?", help=text)
+    return parser.parse_args()
+
+
+def main() -> Status:
+    """Writes the page."""
+    given = arguments()
+    wanted = Wanted(
+        given.trace, given.program, given.dygraphs, given.title, given.first, given.last
+    )
+    try:
+        write(given.output, page_of(wanted)[1])
+    except Failure as failure:
+        print(f"qaudit-page: {visible(str(failure))}", file=sys.stderr)
+        return failure.status
+    return Status.WRITTEN
+
+
+def program() -> NoReturn:
+    """Runs the command and ends."""
+    try:
+        status = main()
+    except KeyboardInterrupt:
+        status = Status.FAULT
+    sys.exit(status)

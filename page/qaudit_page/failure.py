@@ -1,0 +1,25 @@
+"""How the commands end."""
+
+from enum import IntEnum
+from os import EX_USAGE
+
+
+class Status(IntEnum):
+    """The exit status of a command."""
+
+    WRITTEN = 0
+    # Of a table: a trace is refused, or newly refused.
+    REFUSED = 1
+    # A trace that no page can be made of.
+    UNSHOWN = 2
+    # A file, a stream or a program that is needed failed or is missing.
+    FAULT = 3
+    USAGE = EX_USAGE
+
+
+class Failure(Exception):
+    """Why nothing is written, in one line, and the status that tells of it."""
+
+    def __init__(self, text: str, status: Status = Status.FAULT) -> None:
+        super().__init__(text)
+        self.status = status

@@ -1,0 +1,264 @@
+"""A table of many traces: a row for each case, a column for each stack, and what is new."""
+
+import json
+import os
+import re
+from collections import Counter
+from collections.abc import Iterable, Iterator
+from dataclasses import asdict, dataclass
+from pathlib import Path
+from typing import Any
+from urllib.parse import quote
+
+from .failure import Failure
+from .files import name_of, write
+from .library import resource
+from .page import MARKS, Wanted, filled, page_of, policy
+from .program import verdict_of
+from .files import read
+from .program import find
+from .texts import count, html, plural
+
+OTHER = "other"
+FAILED = "failed"
+KINDS = ("accepted", "refused", "unreadable", FAILED)
+ENDING = ".trace"
+# What a job is told of: a trace of which anything but accepted is worse than before.
+VERSION = 1
+
+
+@dataclass(frozen=True)
+class Result:
+    """What became of one trace. `key` names it, in this run and in others."""
+
+    key: str
+    kind: str
+    # The line, the rule and its name; what failed, where that is why there is no verdict.
+    line: int = 0
+    rule: str = ""
+    name: str = ""
+    fault: str = ""
+    # Where its page lies.
+    page: str = ""
+
+    @property
+    def told(self) -> str:
+        """The verdict without the line, which moves as a trace grows."""
+        return " ".join(filter(None, (self.kind, self.rule, self.name)))
+
+
+@dataclass(frozen=True)
+class Job:
+    """A trace, its key, and what is to be done with it."""
+
+    trace: Path
+    key: str
+    page: Path | None = None
+    program: Path | None = None
+    dygraphs: Path | None = None
+
+
+def judged(job: Job) -> Result:
+    """Audits a trace, and writes its page where one is asked for."""
+    try:
+        if job.page is None:
+            verdict, fault = verdict_of(find(job.program), read(job.trace)), ""
+        else:
+            verdict, text = page_of(Wanted(job.trace, job.program, job.dygraphs, job.key))
+            write(job.page, text)
+            fault = ""
+    except Failure as failure:
+        return unshown(job, failure)
+    page = str(job.page or "")
+    return Result(job.key, verdict.kind, verdict.line, verdict.rule, verdict.name, fault, page)
+
+
+def unshown(job: Job, failure: Failure) -> Result:
+    """What became of a trace that has no page: its verdict, where there is one."""
+    if job.page is None:
+        return Result(job.key, FAILED, fault=str(failure))
+    found = judged(Job(job.trace, job.key, None, job.program))
+    fault = found.fault or f"no page: {failure}"
+    return Result(found.key, found.kind, found.line, found.rule, found.name, fault)
+
+
+# Which traces, and where each stands in the table.
+
+
+def traces_of(given: Iterable[Path]) -> Iterator[tuple[Path, str]]:
+    """The traces that are named and those in directories, each with its key."""
+    for path in given:
+        if not path.is_dir():
+            yield path, name_of(path).removesuffix(ENDING)
+            continue
+        for file in sorted(path.rglob(f"*{ENDING}")):
+            below = os.fsencode(file.relative_to(path)).decode("utf-8", "backslashreplace")
+            yield file, below.removesuffix(ENDING)
+
+
+def pattern(text: str) -> re.Pattern[str]:
+    """A pattern such as CLIENT_SERVER_CASE or SERVER_CLIENT/CASE: a word in capitals is any text
+    without a slash, and all else stands for itself. ValueError where it has no CASE, or one twice.
+    """
+    parts = re.split(r"([A-Z]+)", text)
+    names = [part.lower() for part in parts[1::2]]
+    if "case" not in names or len(set(names)) < len(names):
+        raise ValueError("a pattern has CASE in it, and each word in capitals once")
+    made = "".join(
+        f"(?P<{part.lower()}>[^/]+?)" if place % 2 else re.escape(part)
+        for place, part in enumerate(parts)
+    )
+    return re.compile(rf"(?:.*/)?{made}(?:/.*)?")
+
+
+def place_of(key: str, named: re.Pattern[str] | None) -> tuple[str, str]:
+    """The row and the column of a trace: its case, and its stacks."""
+    match = named.fullmatch(key) if named else None
+    if match is None:
+        return key, OTHER
+    parts = match.groupdict()
+    case = parts.pop("case")
+    return case, " \u2192 ".join(parts.values()) or OTHER
+
+
+# What is new.
+
+
+@dataclass(frozen=True)
+class Change:
+    """A trace whose verdict is another than before; an empty text stands for no trace."""
+
+    key: str
+    before: str
+    now: str
+
+    @property
+    def is_worse(self) -> bool:
+        """Whether something is refused that was not, or by another rule."""
+        return bool(self.now) and not self.now.startswith("accepted")
+
+
+def changes_of(results: list[Result], before: dict[str, str]) -> list[Change]:
+    """The traces whose verdict is another than before, the worse ones first."""
+    now = {result.key: result.told for result in results}
+    changes = [
+        Change(key, before.get(key, ""), now.get(key, ""))
+        for key in sorted(before.keys() | now.keys())
+        if before.get(key, "") != now.get(key, "")
+    ]
+    return sorted(changes, key=lambda it: not it.is_worse)
+
+
+def recorded(results: list[Result], named: re.Pattern[str] | None) -> str:
+    """The results as JSON."""
+    listed = []
+    for result in results:
+        case, stacks = place_of(result.key, named)
+        listed.append({**asdict(result), "case": case, "stacks": stacks})
+    return json.dumps({"version": VERSION, "traces": listed}, indent=1) + "\n"
+
+
+def told_before(path: Path) -> dict[str, str]:
+    """The verdicts of a run before, by the key of each trace."""
+    try:
+        said: Any = json.loads(read(path))
+        if said["version"] != VERSION:
+            raise ValueError("another version")
+        fields = ("key", "kind", "line", "rule", "name")
+        results = [Result(**{name: it[name] for name in fields}) for it in said["traces"]]
+    except (ValueError, KeyError, TypeError) as fault:
+        text = f"{name_of(path)} is not what qaudit-matrix --json writes: {fault}"
+        raise Failure(text) from fault
+    return {result.key: result.told for result in results}
+
+
+# The table.
+
+
+def table(
+    results: list[Result],
+    named: re.Pattern[str] | None,
+    beside: Path,
+    changes: list[Change] | None,
+) -> str:
+    """The page with the table, which will lie in a folder."""
+    style = resource("matrix.css")
+    total = Counter(result.kind for result in results)
+    return filled(
+        resource("matrix.html"),
+        POLICY=policy([], [style]),
+        STYLE=style,
+        TITLE=plural(len(results), "trace"),
+        SUM=counted(total),
+        CHANGES="" if changes is None else changes_shown(changes),
+        TABLE=cells(results, named, beside),
+        RULES=rules(results),
+    )
+
+
+def counted(by_kind: Counter[str]) -> str:
+    """How many came to which verdict."""
+    return ", ".join(f"{count(by_kind[kind])} {kind}" for kind in KINDS if by_kind[kind])
+
+
+def changes_shown(changes: list[Change]) -> str:
+    """What is new and what is gone since the run before."""
+    if not changes:
+        return "<h2>Since the run before</h2><p>No verdict is another.</p>"
+    head = "<thead><tr><th>trace</th><th>before</th><th>now</th></tr></thead>"
+    rows = "".join(
+        f'<tr class="{"worse" if it.is_worse else "better"}"><th>{html(it.key)}</th>'
+        f"<td>{html(it.before) or 'not there'}</td><td>{html(it.now) or 'not there'}</td></tr>"
+        for it in changes
+    )
+    worse = sum(it.is_worse for it in changes)
+    told = (
+        f"{plural(worse, 'trace')} newly refused or by another rule, {len(changes) - worse} other"
+    )
+    return f'<h2>Since the run before</h2><p>{told}</p><table class="changes">{head}{rows}</table>'
+
+
+def cells(results: list[Result], named: re.Pattern[str] | None, beside: Path) -> str:
+    """The table of cases by stacks."""
+    by_place: dict[tuple[str, str], list[Result]] = {}
+    for result in results:
+        by_place.setdefault(place_of(result.key, named), []).append(result)
+    cases = sorted({case for case, _ in by_place})
+    columns = sorted({stacks for _, stacks in by_place})
+    head = "".join(f'<th scope="col">{html(stacks)}</th>' for stacks in columns)
+    rows = [f'<thead><tr><th></th>{head}<th scope="col">all</th></tr></thead><tbody>']
+    for case in cases:
+        shown = [by_place.get((case, stacks), []) for stacks in columns]
+        told = "".join(f"<td>{''.join(cell(it, beside) for it in here)}</td>" for here in shown)
+        kinds = Counter(it.kind for here in shown for it in here)
+        rows.append(f'<tr><th scope="row">{html(case)}</th>{told}<td>{counted(kinds)}</td></tr>')
+    sums = [
+        Counter(it.kind for (_, at), here in by_place.items() if at == stacks for it in here)
+        for stacks in columns
+    ]
+    foot = "".join(f"<td>{counted(it)}</td>" for it in sums)
+    rows.append(f'</tbody><tfoot><tr><th scope="row">all</th>{foot}<td></td></tr></tfoot>')
+    return "".join(rows)
+
+
+def cell(result: Result, beside: Path) -> str:
+    """A trace in the table: a sign, a word, the first rule and its line, and a link to its page."""
+    told = f"{MARKS.get(result.kind, '!')} {result.kind}"
+    if result.rule:
+        told += f"<small>{html(result.rule)} {html(result.name)}, line {count(result.line)}</small>"
+    if result.fault:
+        told += f"<small>{html(result.fault[:200])}</small>"
+    about = f'class="{result.kind}" title="{html(result.key)}"'
+    if not result.page:
+        return f"<span {about}>{told}</span>"
+    link = quote(os.path.relpath(os.fsencode(result.page), os.fsencode(beside)))
+    return f'<a {about} href="{html(link)}">{told}</a>'
+
+
+def rules(results: list[Result]) -> str:
+    """How many traces break each rule first, or have each fault."""
+    by_rule = Counter(f"{it.rule} {it.name}" for it in results if it.rule)
+    ordered = sorted(by_rule.items(), key=lambda it: (-it[1], it[0]))
+    return "".join(
+        f'<tr><th scope="row">{html(rule)}</th><td>{number}</td></tr>' for rule, number in ordered
+    )

@@ -1,0 +1,179 @@
+"""A page of a trace: one HTML file with its script, its style and its data."""
+
+import base64
+import gc
+import hashlib
+import json
+from collections.abc import Iterable, Iterator
+from concurrent.futures import ThreadPoolExecutor
+from contextlib import contextmanager
+from dataclasses import dataclass
+from pathlib import Path
+
+from .facts import Facts, facts_of
+from .files import name_of, read
+from .library import dygraphs, licence, resource, script
+from .payload import LEVEL_OF_LINES, Part, packed, part_of, payload, shown, text_of
+from .program import Run, Verdict, find, rows_by, verdict_by
+from .rules import FAULTS, RULES
+from .texts import count, html, milliseconds, plural
+from .trace import Trace, trace_of
+
+# Of the line of the verdict, as many characters stand above the diagrams.
+MAX_QUOTE = 4_000
+MARKS = {"accepted": "\u2713", "refused": "\u2717", "unreadable": "?"}
+NO_EVENTS = b"hbu"
+
+
+@dataclass(frozen=True)
+class Wanted:
+    """What a page is to show."""
+
+    trace: Path | None
+    program: Path | None = None
+    dygraphs: Path | None = None
+    title: str | None = None
+    first: int | None = None
+    last: int | None = None
+
+    @property
+    def name(self) -> str:
+        """The title of the page."""
+        return self.title or name_of(self.trace)
+
+
+def page_of(wanted: Wanted) -> tuple[Verdict, str]:
+    """The page of a trace, and its verdict."""
+    library, program = dygraphs(wanted.dygraphs), find(wanted.program)
+    data = read(wanted.trace)
+    with Run(program, "--json", data) as judging, Run(program, "--rows", data) as telling:
+        verdict = verdict_by(judging)
+        with without_collector():
+            trace = trace_of(data, rows_by(telling), verdict.first_unjudged)
+    part = part_of(trace, verdict, wanted.first, wanted.last)
+    return verdict, written(wanted, library, trace, verdict, part)
+
+
+@contextmanager
+def without_collector() -> Iterator[None]:
+    """Meanwhile nothing looks for cycles: there are none in what JSON says, and much of it."""
+    was_enabled = gc.isenabled()
+    gc.disable()
+    try:
+        yield
+    finally:
+        if was_enabled:
+            gc.enable()
+
+
+def written(wanted: Wanted, library: str, trace: Trace, verdict: Verdict, part: Part) -> str:
+    """The whole page."""
+    with ThreadPoolExecutor() as pool:
+        lines = pool.submit(lambda: packed(text_of(trace, part), LEVEL_OF_LINES))
+        columns = json.dumps(payload(trace, verdict, part), separators=(",", ":"))
+        data = packed(columns)
+        text = lines.result()
+    style, own = resource("page.css"), script()
+    return filled(
+        resource("page.html"),
+        POLICY=policy([library, own], [style]),
+        TITLE=html(wanted.name),
+        VERDICT_TEXT=html(verdict.text),
+        STYLE=style,
+        KIND=verdict.kind,
+        MARK=MARKS[verdict.kind],
+        SENTENCE=sentence(verdict),
+        FACTS=pairs(facts_of(verdict.said, trace.unit)),
+        QUOTE=quote(trace, verdict),
+        OVERVIEW=pairs(overview(wanted, trace, verdict, part)),
+        OPTIONS=pairs(options(trace)),
+        LICENCE=html_of_lines(licence()),
+        DATA=data,
+        LINES=text,
+        LIBRARY=library,
+        SCRIPT=own,
+    )
+
+
+def filled(template: str, **parts: str) -> str:
+    """A template with each of its places filled; what is put in is not looked at again."""
+    pieces = template.split("@@")
+    for place in range(1, len(pieces), 2):
+        pieces[place] = parts[pieces[place]]
+    return "".join(pieces)
+
+
+def policy(scripts: list[str], styles: list[str]) -> str:
+    """A policy by which the page runs these texts and fetches nothing. The range selector of
+    dygraphs has a picture as an address of its own data."""
+    return (
+        f"default-src 'none'; script-src {' '.join(map(hashed, scripts))};"
+        f" style-src {' '.join(map(hashed, styles))}; img-src data:;"
+        " base-uri 'none'; form-action 'none'"
+    )
+
+
+def hashed(text: str) -> str:
+    """The name of a text in a policy."""
+    digest = hashlib.sha256(text.encode()).digest()
+    return f"'sha256-{base64.b64encode(digest).decode()}'"
+
+
+def html_of_lines(text: str) -> str:
+    """A text of several lines as HTML."""
+    return "\n".join(html(line) for line in text.splitlines())
+
+
+def pairs(rows: Iterable[tuple[str, str]]) -> str:
+    """Names with their values."""
+    return "".join(f"<div><dt>{html(a)}</dt> <dd>{html(b)}</dd></div>" for a, b in rows)
+
+
+def sentence(verdict: Verdict) -> str:
+    """The verdict in a sentence."""
+    if verdict.kind == "accepted":
+        told = "In all that the trace tells, the sender kept to RFC 9002."
+        return f"<b>Accepted.</b> {told}"
+    meaning = RULES.get(verdict.rule) or FAULTS.get(verdict.rule)
+    told = html(meaning.sentence) if meaning else ""
+    source = f' <span class="source">{html(meaning.source)}</span>' if meaning else ""
+    word = verdict.kind.capitalize()
+    line = f'<a href="#line={verdict.line}">line {count(verdict.line)}</a>'
+    what = f"{html(verdict.rule)} {html(verdict.name)}"
+    return f"<b>{word} at {line}: {what}.</b> {told}{source}"
+
+
+def quote(trace: Trace, verdict: Verdict) -> str:
+    """The line of the verdict as it stands in the trace."""
+    if not 0 < verdict.line <= len(trace.lines):
+        return ""
+    text = shown(trace.lines[verdict.line - 1])
+    more = f" .. ({count(len(text))} characters)" if len(text) > MAX_QUOTE else ""
+    line = f'<span class="number">{verdict.line}</span> {html(text[:MAX_QUOTE])}{more}'
+    return f'<p class="quote" id="quote"><code>{line}</code></p>'
+
+
+def overview(wanted: Wanted, trace: Trace, verdict: Verdict, part: Part) -> Facts:
+    """What the trace is, in numbers."""
+    drawn = [
+        time for time, kind in zip(trace.time, trace.kind, strict=True) if kind not in NO_EVENTS
+    ]
+    packets = trace.packets
+    judged = trace.state.line
+    told = [("file", name_of(wanted.trace)), ("lines", count(len(trace.lines)))]
+    if verdict.kind != "accepted" and judged:
+        told.append(("judged", f"up to line {count(judged[-1])}"))
+    span = max(drawn) - min(drawn) if drawn else 0
+    told.append(("span", milliseconds(span, trace.unit)))
+    acked, lost = sum(map(bool, packets.acked)), sum(map(bool, packets.lost))
+    sent = plural(len(packets.line), "packet")
+    told.append(("sent", f"{sent}, {count(acked)} acknowledged, {count(lost)} declared lost"))
+    if (part.first, part.last) != (1, len(trace.lines)):
+        told.append(("shown", f"lines {count(part.first)} to {count(part.last)}"))
+    return told
+
+
+def options(trace: Trace) -> Facts:
+    """What the header says."""
+    keys = [key for key in trace.header if key != "event"]
+    return [(key, json.dumps(trace.header[key])) for key in keys]

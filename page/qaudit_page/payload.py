@@ -1,0 +1,247 @@
+"""What the script of a page draws: columns of a part of a trace, packed."""
+
+import base64
+import zlib
+from collections.abc import Iterable, Sequence
+from dataclasses import dataclass
+from operator import sub
+from typing import cast
+
+from .failure import Failure, Status
+from .lenient import METRICS, SPACES
+from .program import Object, Verdict
+from .texts import count, decoded
+from .trace import AMOUNTS, ELICITING, Trace
+
+# What a page takes; docs/page.md has what it costs.
+MAX_LINES = 500_000
+MAX_BYTES = 100_000_000
+# Of a line that is longer than any that is read, as much is shown.
+MAX_SHOWN = 65_536
+SHOWN_OF_LONG = 2_000
+# The greatest integer that a script holds exactly, with all below it.
+EXACT = 2**53 - 1
+NOTHING = -1
+DIGITS = bytes(range(48, 58)) + bytes(246)
+# How well columns and lines are deflated; the lines while the columns are made.
+LEVEL, LEVEL_OF_LINES = 6, 9
+
+
+@dataclass(frozen=True)
+class Part:
+    """The lines that are shown, the first and the last."""
+
+    first: int
+    last: int
+
+    def has(self, line: int) -> bool:
+        """Whether a line is shown."""
+        return self.first <= line <= self.last
+
+
+def part_of(trace: Trace, verdict: Verdict, first: int | None, last: int | None) -> Part:
+    """The part that is asked for. Failure where it has no line, or more than a page takes."""
+    total = len(trace.lines)
+    part = Part(first or 1, min(last or total, total))
+    if total and part.first > part.last:
+        text = f"there is no line from {part.first} to {last or total}: the trace has {total}"
+        raise Failure(text, Status.UNSHOWN)
+    if fits(trace, part):
+        return part
+    smaller = part_that_fits(trace, verdict, part)
+    text = (
+        f"lines {count(part.first)} to {count(part.last)} are more than a page takes,"
+        f" {count(MAX_LINES)} lines and {count(MAX_BYTES)} bytes:"
+        f" --from {smaller.first} --to {smaller.last} would do"
+    )
+    raise Failure(text, Status.UNSHOWN)
+
+
+def shown_bytes(line: bytes) -> int:
+    """How many bytes of a line a page has."""
+    return len(line) + 1 if len(line) <= MAX_SHOWN else SHOWN_OF_LONG
+
+
+def fits(trace: Trace, part: Part) -> bool:
+    """Whether a page takes a part of a trace."""
+    lines = trace.lines[part.first - 1 : part.last]
+    return len(lines) <= MAX_LINES and sum(map(shown_bytes, lines)) <= MAX_BYTES
+
+
+def part_that_fits(trace: Trace, verdict: Verdict, part: Part) -> Part:
+    """A part that a page takes, about the line of the verdict, or from the first line on."""
+    middle = verdict.line if part.has(verdict.line) else part.first
+    low = high = middle
+    room = MAX_BYTES - shown_bytes(trace.lines[middle - 1])
+    while high - low + 1 < MAX_LINES:
+        is_before = low > part.first and (middle - low <= high - middle or high == part.last)
+        line = low - 1 if is_before else high + 1
+        room -= shown_bytes(trace.lines[line - 1]) if line <= part.last else MAX_BYTES
+        if room < 0:
+            break
+        low, high = min(low, line), max(high, line)
+    return Part(low, high)
+
+
+# Columns.
+
+
+def differences(values: Iterable[int]) -> list[int]:
+    """Each value less the one before it."""
+    listed = list(values)
+    return [*listed[:1], *map(sub, listed[1:], listed)]
+
+
+def clamped(values: Sequence[int | None]) -> Sequence[int]:
+    """Values that a script can hold: -1 for none, and the greatest where they are greater."""
+    present = cast(Sequence[int], values)
+    if None in values:
+        present = [NOTHING if it is None else it for it in values]
+    return present if max(present, default=0) <= EXACT else [min(it, EXACT) for it in present]
+
+
+def column(values: Sequence[int | None]) -> Object:
+    """A column that a script can hold: what it would round is there as digits too."""
+    held = clamped(values)
+    is_exact = max(held, default=0) < EXACT
+    exact = {} if is_exact else {n: str(it) for n, it in enumerate(values) if it and it > EXACT}
+    return {"by": differences(held), "exact": exact}
+
+
+def digits(codes: bytes | bytearray) -> str:
+    """Codes below ten, a digit each."""
+    return codes.translate(DIGITS).decode()
+
+
+def state_of(trace: Trace, part: Part) -> Object:
+    """The state behind the lines of a part that have a row."""
+    state = trace.state
+    kept = [place for place, line in enumerate(state.line) if part.has(line)]
+    begin, end = (kept[0], kept[-1] + 1) if kept else (0, 0)
+    found: Object = {name: column(state.amounts[name][begin:end]) for name in AMOUNTS}
+    found["deadline"] |= {"by": remaining(trace, begin, end)}
+    found["line"] = differences(state.line[begin:end])
+    found["timer"] = digits(state.timer[begin:end])
+    found["owed"] = differences(state.owed[begin:end])
+    owed = state.owed_text.items()
+    found["owed_text"] = {row - begin: text for row, text in owed if begin <= row < end}
+    return found
+
+
+def remaining(trace: Trace, begin: int, end: int) -> list[int]:
+    """How long after each line the timer is set for, which repeats where deadlines rise."""
+    lines, deadlines = trace.state.line[begin:end], trace.state.amounts["deadline"][begin:end]
+    pairs = zip(lines, deadlines, clamped(deadlines), strict=True)
+    times = trace.time
+    return differences(0 if due is None else held - times[line - 1] for line, due, held in pairs)
+
+
+def packets_of(trace: Trace, part: Part) -> Object:
+    """The packets of a part, with those from before it that were not ended there."""
+    packets = trace.packets
+    kept: Sequence[int] = range(len(packets.line))
+    if part != Part(1, len(trace.lines)):
+        kept = [place for place in kept if is_kept(trace, part, place)]
+    numbers = [packets.number[place] for place in kept]
+    spaces = [packets.space[place] for place in kept]
+    # Numbers count from the least of their space, and so stay exact where they are great.
+    least = [
+        min((n for n, s in zip(numbers, spaces, strict=True) if s == space), default=0)
+        for space in range(len(SPACES))
+    ]
+    from_least = [number - least[space] for number, space in zip(numbers, spaces, strict=True)]
+    found: Object = {
+        "line": differences(packets.line[place] for place in kept),
+        "space": digits(bytes(spaces)),
+        "least": [str(number) for number in least],
+        "number": column(from_least),
+        "size": differences(packets.size[place] for place in kept),
+        "flags": "".join(f"{packets.flags[place]:x}" for place in kept),
+        "before": [
+            trace.time[packets.line[place] - 1]
+            for place in kept
+            if packets.line[place] < part.first
+        ],
+    }
+    for name in ("acked", "lost", "gone"):
+        ends: list[int] = getattr(packets, name)
+        found[name] = [ends[place] - packets.line[place] if ends[place] else 0 for place in kept]
+    return found
+
+
+def is_kept(trace: Trace, part: Part, place: int) -> bool:
+    """Whether a packet is in a part, or was sent before it and is open where it begins."""
+    packets = trace.packets
+    line = packets.line[place]
+    if line >= part.first:
+        return line <= part.last
+    ends = [it for it in (packets.acked[place], packets.lost[place], packets.gone[place]) if it]
+    is_awaited = bool(packets.flags[place] & ELICITING)
+    return min(ends) >= part.first if ends else is_awaited
+
+
+def acks_of(trace: Trace, part: Part, least: list[int]) -> Object:
+    """The greatest number of each acknowledgment, from the least of its space that is shown."""
+    acks = [ack for ack in trace.acks if part.has(ack[0])]
+    found: Object = {"line": differences(line for line, _ in acks)}
+    spaces = [trace.space[line - 1] for line, _ in acks]
+    numbers = (greatest for _, greatest in acks)
+    from_least = [max(0, n - least[space]) for n, space in zip(numbers, spaces, strict=True)]
+    return found | {"greatest": column(from_least)}
+
+
+def metrics_of(trace: Trace, part: Part) -> Object:
+    """The reported values, a column each."""
+    reports = [report for report in trace.metrics if part.has(report[0])]
+    found: Object = {"line": differences(line for line, _ in reports)}
+    for place, name in enumerate(METRICS):
+        found[name] = column([values[place] for _, values in reports])
+    return found
+
+
+def payload(trace: Trace, verdict: Verdict, part: Part) -> Object:
+    """All that the script of a page draws, but for the text of the lines."""
+    lines = slice(part.first - 1, part.last)
+    header, packets = trace.header, packets_of(trace, part)
+    return {
+        "first": part.first,
+        "count": max(0, part.last - part.first + 1),
+        "total": len(trace.lines),
+        "unit": trace.unit,
+        "unjudged": verdict.first_unjudged,
+        "max_ack_delay": header.get("max_ack_delay", 0),
+        "timer_late_us": header.get("timer_late_us"),
+        "verdict": {
+            "kind": verdict.kind,
+            "line": verdict.line,
+            "rule": verdict.rule,
+            "name": verdict.name,
+            "field": verdict.said.get("field"),
+            "deadline": verdict.said.get(f"deadline_{trace.unit}"),
+        },
+        "kind": trace.kind[lines].decode(),
+        "space": digits(trace.space[lines]),
+        "time": differences(trace.time[lines]),
+        "state": state_of(trace, part),
+        "packets": packets,
+        "acks": acks_of(trace, part, list(map(int, packets["least"]))),
+        "metrics": metrics_of(trace, part),
+    }
+
+
+def shown(line: bytes) -> str:
+    """A line as text; the beginning of one that is too long."""
+    if len(line) <= MAX_SHOWN:
+        return decoded(line)
+    return f"{decoded(line[:SHOWN_OF_LONG])} .. ({count(len(line))} bytes, cut here)"
+
+
+def text_of(trace: Trace, part: Part) -> str:
+    """The lines of a part as one text."""
+    return "\n".join(map(shown, trace.lines[part.first - 1 : part.last]))
+
+
+def packed(text: str, level: int = LEVEL) -> str:
+    """Text, deflated and in base64, so that nothing in it can end an element of the page."""
+    data = zlib.compress(text.encode("utf-8", "backslashreplace"), level)
+    return base64.b64encode(data).decode("ascii")

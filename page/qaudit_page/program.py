@@ -1,0 +1,155 @@
+"""What the program qaudit-why says of a trace: its verdict with the facts, and its rows."""
+
+import json
+import os
+import shutil
+import subprocess
+import sys
+import tempfile
+from collections.abc import Iterator
+from dataclasses import dataclass
+from pathlib import Path
+from typing import IO, Any
+
+from .failure import Failure
+
+NAME = "qaudit-why"
+VERDICTS = ("accepted", "refused", "unreadable")
+# How many rows are read at once.
+PIECE = 2_000
+SHOWN = 300
+
+# What JSON says; each value is looked at before it is used.
+Object = dict[str, Any]
+
+
+@dataclass(frozen=True)
+class Verdict:
+    """What `--json` says of a trace."""
+
+    said: Object
+
+    @property
+    def kind(self) -> str:
+        """Accepted, refused or unreadable."""
+        return str(self.said["verdict"])
+
+    @property
+    def line(self) -> int:
+        """The line that is refused or cannot be read; 0 where all is accepted."""
+        return int(self.said.get("line", 0))
+
+    @property
+    def rule(self) -> str:
+        """The rule or the fault, as V7."""
+        return str(self.said.get("rule", self.said.get("fault", "")))
+
+    @property
+    def name(self) -> str:
+        """The name of the rule or the fault, with the field or the key that it is about."""
+        about = self.said.get("field", self.said.get("key"))
+        return str(self.said.get("name", "")) + (f" {about}" if about else "")
+
+    @property
+    def first_unjudged(self) -> int | None:
+        """The first line that has no row; None where all have, as at the end of a trace."""
+        is_whole = self.kind == "accepted" or self.rule == "V17"
+        return None if is_whole else self.line
+
+    @property
+    def text(self) -> str:
+        """The verdict as the program `qaudit` writes it."""
+        if self.kind == "accepted":
+            return self.kind
+        return f"{self.kind} line {self.line} {self.rule} {self.name}"
+
+
+def find(given: Path | None) -> str:
+    """The path of the program: the one that is given, or on the path, or beside this command."""
+    if given is not None:
+        found = shutil.which(str(given.absolute()))
+    else:
+        beside = Path(sys.argv[0]).resolve().parent / NAME
+        found = shutil.which(NAME) or shutil.which(str(beside))
+    if found is None:
+        raise Failure(f"there is no program {given or NAME}; --program names one")
+    return found
+
+
+class Run:
+    """A run of the program over the bytes of a trace, which it has on standard input."""
+
+    def __init__(self, program: str, mode: str, data: bytes) -> None:
+        self.program, self.mode = program, mode
+        self.errors: IO[bytes] = tempfile.TemporaryFile()
+        with tempfile.TemporaryFile() as file:
+            file.write(data)
+            file.seek(0)
+            try:
+                self.process = subprocess.Popen(
+                    [program, mode, "-"], stdin=file, stdout=subprocess.PIPE, stderr=self.errors
+                )
+            except OSError as fault:
+                raise Failure(f"cannot run {program}: {fault.strerror}") from fault
+
+    def __enter__(self) -> "Run":
+        return self
+
+    def __exit__(self, *_: object) -> None:
+        self.output.close()
+        self.errors.close()
+        if self.process.poll() is None:
+            self.process.kill()
+        self.process.wait()
+
+    @property
+    def output(self) -> IO[bytes]:
+        """What the program writes."""
+        if self.process.stdout is None:
+            raise ValueError("standard output is not captured")
+        return self.process.stdout
+
+    def lines(self) -> Iterator[list[bytes]]:
+        """The lines that it writes, some at a time, and that it ended with a verdict."""
+        while piece := self.output.readlines(PIECE * 400):
+            yield piece
+        self.end()
+
+    def end(self) -> None:
+        """Failure where the program did not end with a verdict."""
+        status = self.process.wait()
+        if status == os.EX_USAGE:
+            raise Failure(f"{self.program} has no {self.mode}: a newer {NAME} is needed")
+        if status not in range(len(VERDICTS)):
+            self.errors.seek(0)
+            told = self.errors.read(SHOWN).decode("utf-8", "backslashreplace").strip()
+            ending = f"ended with status {status}" if status > 0 else f"was killed by {-status}"
+            raise Failure(f"{self.program} {self.mode} {ending}: {told}")
+
+
+def verdict_by(run: Run) -> Verdict:
+    """What a run with `--json` says."""
+    text = b"".join(line for piece in run.lines() for line in piece)
+    try:
+        said = json.loads(text)
+    except ValueError:
+        said = None
+    if not isinstance(said, dict) or said.get("verdict") not in VERDICTS:
+        raise Failure(f"{run.program} wrote no verdict: {text[:SHOWN]!r}")
+    return Verdict(said)
+
+
+def verdict_of(program: str, data: bytes) -> Verdict:
+    """What the program says of the bytes of a trace."""
+    with Run(program, "--json", data) as run:
+        return verdict_by(run)
+
+
+def rows_by(run: Run) -> Iterator[list[Object]]:
+    """The rows of a run with `--rows`, some at a time."""
+    for piece in run.lines():
+        try:
+            rows: list[Object] = json.loads(b"[" + b",".join(piece) + b"]")
+        except ValueError as fault:
+            raise Failure(f"{run.program} wrote rows that are not JSON: {fault}") from fault
+        yield rows

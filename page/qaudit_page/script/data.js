@@ -1,0 +1,245 @@
+// What the page holds: columns and lines, unpacked. What a trace says is text, and never markup.
+
+const SPACES = ['initial', 'handshake', 'app'];
+const NO_SPACE = 3;
+const OF_LOSS = 4;
+const ELICITING = 1;
+const PROBE = 4;
+const RECOVERY = 8;
+const KINDS = {
+  h: 'header', s: 'sent', a: 'ack', l: 'lost', t: 'timer', d: 'discard', c: 'confirmed', k: 'keys',
+  m: 'metrics', b: 'blank', u: 'not readable',
+};
+const AMOUNTS = [
+  'window', 'ssthresh', 'in_flight', 'latest_rtt', 'min_rtt', 'smoothed_rtt', 'rttvar', 'pto_count',
+];
+const METRICS = [
+  'window', 'ssthresh', 'bytes_in_flight', 'latest_rtt', 'min_rtt', 'smoothed_rtt', 'rttvar',
+];
+const byId = id => document.getElementById(id);
+
+async function inflated(id) {
+  const raw = atob(byId(id).textContent);
+  byId(id).textContent = '';
+  const bytes = Uint8Array.from(raw, char => char.charCodeAt(0));
+  const stream = new Blob([bytes]).stream().pipeThrough(new DecompressionStream('deflate'));
+  return new Response(stream).text();
+}
+
+// The values whose differences these are.
+function summed(differences) {
+  const values = new Float64Array(differences.length);
+  let sum = 0;
+  for (let i = 0; i < differences.length; i++) {
+    sum += differences[i];
+    values[i] = sum;
+  }
+  return values;
+}
+
+// A column, where -1 stands for what is absent.
+function amounts(column) {
+  const values = summed(column.by);
+  for (let i = 0; i < values.length; i++) if (values[i] === -1) values[i] = NaN;
+  return values;
+}
+
+const trace = {};
+
+function unpack(said, text) {
+  Object.assign(trace, said);
+  trace.lines = text.split('\n');
+  trace.time = summed(said.time);
+  // How many of the trace's units of time are a millisecond.
+  trace.scale = said.unit === 'ns' ? 1e6 : 1e3;
+  trace.space = Uint8Array.from(said.space, Number);
+  // The place of the first line that was not judged.
+  trace.limit = said.unjudged === null ? said.count : Math.max(0, said.unjudged - said.first);
+  trace.verdictAt = placeShown(said.verdict.line);
+  unpackState(said.state);
+  unpackPackets(said.packets);
+  // The greatest numbers count from the least of their space, as those of packets do.
+  trace.acks = {at: placesOf(said.acks.line), number: summed(said.acks.greatest.by)};
+  trace.reports = {at: placesOf(said.metrics.line)};
+  for (const name of METRICS) trace.reports[name] = amounts(said.metrics[name]);
+  trace.marks = marksOf();
+  trace.silences = silencesOf();
+  trace.culprit = culpritOf();
+}
+
+const placesOf = lines => summed(lines).map(line => line - trace.first);
+
+// The place of a line; -1 where it is not shown.
+function placeShown(line) {
+  const place = line - trace.first;
+  return line > 0 && place >= 0 && place < trace.count ? place : -1;
+}
+
+// The state behind each line: that of its row, of a blank line that of the row above.
+function unpackState(said) {
+  const rows = placesOf(said.line);
+  const rowOf = new Int32Array(trace.count).fill(-1);
+  let row = -1;
+  for (let place = 0; place < trace.limit; place++) {
+    if (row + 1 < rows.length && rows[row + 1] === place) row++;
+    rowOf[place] = row;
+  }
+  const state = {rowOf, said};
+  for (const name of AMOUNTS) state[name] = spread(amounts(said[name]), rowOf);
+  state.owed = spread(summed(said.owed), rowOf);
+  const after = summed(said.deadline.by);
+  for (let i = 0; i < rows.length; i++) after[i] += trace.time[rows[i]];
+  const timer = spread(Float64Array.from(said.timer, Number), rowOf);
+  state.timer = Uint8Array.from(timer, code => code === code ? code : NO_SPACE);
+  state.deadline = spread(after, rowOf);
+  for (let i = 0; i < trace.count; i++) if (state.timer[i] === NO_SPACE) state.deadline[i] = NaN;
+  trace.state = state;
+  trace.judged = rows.length;
+  trace.firstSample = state.min_rtt.findIndex((least, i) => least > 0 || state.latest_rtt[i] > 0);
+  if (trace.firstSample < 0) trace.firstSample = trace.count;
+}
+
+function spread(values, rowOf) {
+  return Float64Array.from(rowOf, row => row < 0 ? NaN : values[row]);
+}
+
+// The digits of an amount of a state, all of them.
+function digitsOf(name, place) {
+  const exact = trace.state.said[name].exact[trace.state.rowOf[place]];
+  if (exact !== undefined) return exact;
+  const value = trace.state[name][place];
+  return value === value ? String(value) : '';
+}
+
+function unpackPackets(said) {
+  const packets = {
+    line: summed(said.line), space: Uint8Array.from(said.space, Number),
+    number: summed(said.number.by), exact: said.number.exact, size: summed(said.size),
+    flags: Uint8Array.from(said.flags, digit => parseInt(digit, 16)),
+    least: said.least.map(BigInt), before: said.before,
+  };
+  packets.count = packets.line.length;
+  packets.at = packets.line.map(line => line - trace.first);
+  for (const end of ['acked', 'lost', 'gone'])
+    packets[end] = Float64Array.from(said[end], (by, p) => by ? packets.at[p] + by : NaN);
+  unpackEnds(packets);
+  packets.of = new Int32Array(trace.count).fill(-1);
+  for (let p = 0; p < packets.count; p++) if (packets.at[p] >= 0) packets.of[packets.at[p]] = p;
+  trace.packets = packets;
+}
+
+// The number of a packet, exactly.
+function numberOf(packet) {
+  const {least, space, number, exact} = trace.packets;
+  return least[space[packet]] + BigInt(exact[packet] || number[packet]);
+}
+
+// What became of each packet, and where.
+function unpackEnds(packets) {
+  packets.how = new Array(packets.count);
+  packets.end = new Float64Array(packets.count).fill(NaN);
+  for (let p = 0; p < packets.count; p++) {
+    packets.how[p] = ['lost', 'acked', 'gone'].find(end => packets[end][p] === packets[end][p]) ||
+      (packets.flags[p] & ELICITING ? 'open' : 'bare');
+    const ended = packets[packets.how[p]];
+    if (ended) packets.end[p] = ended[p];
+  }
+}
+
+// The lines that are drawn as uprights in all diagrams.
+function marksOf() {
+  const marks = [];
+  const words = {d: 'discard', c: 'confirmed', k: 'keys'};
+  for (let at = 0; at < trace.count; at++) {
+    const kind = trace.kind[at], code = trace.space[at], name = SPACES[code % OF_LOSS];
+    if (kind === 't') {
+      const of = code >= OF_LOSS ? 'loss' : 'pto';
+      const label = `${of === 'loss' ? 'loss timer' : 'PTO'} ${name}`;
+      marks.push({at, of, space: code % OF_LOSS, label});
+    } else if (kind === 'd')
+      marks.push({at, of: 'discard', space: code, label: `${name} discarded`});
+    else if (kind === 'c') marks.push({at, of: 'confirmed', label: 'confirmed'});
+    else if (kind === 'k') marks.push({at, of: 'keys', label: 'Handshake keys'});
+  }
+  return marks;
+}
+
+// Where nothing happened for longer than the deadline of the timer that was set.
+function silencesOf() {
+  const found = [], {deadline, in_flight: flying} = trace.state;
+  for (let at = 1; at < trace.count && at <= trace.limit; at++) {
+    if ('hbu'.includes(trace.kind[at])) continue;
+    // Where a deadline lies behind the time at which it was set, it counts from then.
+    const over = trace.time[at] - Math.max(deadline[at - 1], trace.time[at - 1]);
+    if (over > 0) found.push({at, over, long: trace.time[at] - trace.time[at - 1],
+      flying: flying[at - 1]});
+  }
+  return found.sort((a, b) => b.over - a.over).slice(0, 2000);
+}
+
+// What the refused line would make of the state, or says of it, and the diagram that has that.
+function culpritOf() {
+  const at = trace.verdictAt, {rule, field} = trace.verdict;
+  if (at < 1 || trace.verdict.kind !== 'refused') return null;
+  const packet = trace.packets.of[at];
+  if (rule === 'V7' && packet >= 0)
+    return {chart: 'window', value: trace.state.in_flight[at - 1] + trace.packets.size[packet]};
+  const report = trace.reports.at.indexOf(at);
+  const of = {V16: field, V19: 'window'}[rule];
+  if (report < 0 || !of) return null;
+  const chart = /rtt/.test(of) ? 'rtt' : 'window';
+  return {chart, value: trace.reports[of][report]};
+}
+
+// Text for people.
+
+function grouped(digits) {
+  return String(digits).replace(/\B(?=(\d{3})+(?!\d))/g, ',');
+}
+
+// A time of the trace in milliseconds, with all of its digits.
+function milliseconds(digits) {
+  const text = String(digits), sign = text.startsWith('-') ? '-' : '';
+  const places = trace.scale === 1e6 ? 6 : 3;
+  const padded = text.replace('-', '').padStart(places + 1, '0');
+  const rest = padded.slice(-places).replace(/0+$/, '');
+  return sign + grouped(padded.slice(0, -places)) + (rest ? '.' + rest : '') + ' ms';
+}
+
+// What is not seen when it is printed, or turns the order of text around.
+const UNSEEN = new RegExp('[\\u0000-\\u001f\\u007f-\\u00a0\\u00ad\\u034f\\u061c\\u115f\\u1160' +
+  '\\u17b4\\u17b5\\u180b-\\u180f\\u200b-\\u200f\\u2028-\\u202f\\u205f-\\u206f\\u2800\\u3164' +
+  '\\ufe00-\\ufe0f\\ufeff\\uffa0\\ufff0-\\uffff\\u{e0000}-\\u{e0fff}]|\\p{Cs}|\\p{Cn}', 'gu');
+
+// Puts foreign text into an element: as text nodes, with an escape for what is not seen.
+function put(parent, text, most) {
+  const shown = text.length > most ? text.slice(0, most) : text;
+  let at = 0;
+  for (const found of shown.matchAll(UNSEEN)) {
+    putPlain(parent, shown.slice(at, found.index));
+    parent.append(element('span', `\\u{${found[0].codePointAt(0).toString(16)}}`, 'escape'));
+    at = found.index + found[0].length;
+  }
+  putPlain(parent, shown.slice(at));
+  if (shown !== text) parent.append(` .. (${grouped(text.length)} characters)`);
+}
+
+// Text that may be broken behind a comma; what is copied is the text alone.
+function putPlain(parent, text) {
+  text.split(/(?<=,)/).forEach((piece, place) => {
+    if (place) parent.append(document.createElement('wbr'));
+    parent.append(piece);
+  });
+}
+
+function element(name, text, className) {
+  const made = document.createElement(name);
+  if (text !== undefined) made.textContent = text;
+  if (className) made.className = className;
+  return made;
+}
+
+function tell(text) {
+  byId('trouble').textContent = text;
+  byId('trouble').hidden = false;
+}

@@ -1,0 +1,217 @@
+// The congestion window and the round-trip time, as the rows of the machine have them.
+
+let windowRange = [0, 1], rttRange = [0, 1];
+const lines = {window: {}, rtt: {}};
+
+// The series of both diagrams, in bytes and in milliseconds.
+function setLines() {
+  const {state, scale, firstSample} = trace;
+  const inTime = column => column.map((value, i) => i >= firstSample ? value / scale : NaN);
+  lines.window = {window: state.window, ssthresh: state.ssthresh, flight: state.in_flight};
+  lines.rtt = {
+    smoothed: inTime(state.smoothed_rtt), latest: inTime(state.latest_rtt),
+    least: inTime(state.min_rtt), lossDelay: lossDelay().map((v, i) => i >= firstSample ? v : NaN),
+    timeout: timeout().map((v, i) => i >= firstSample ? v : NaN),
+  };
+}
+
+// The loss delay (RFC 9002, 6.1.2) by the state of each line, in milliseconds.
+function lossDelay() {
+  const {latest_rtt: latest, smoothed_rtt: smoothed} = trace.state;
+  return smoothed.map((value, i) =>
+    Math.max(1, Math.ceil(9 / 8 * Math.max(latest[i], value)) / trace.scale));
+}
+
+// The probe timeout (6.2.1), for application data and before it is doubled, in milliseconds.
+function timeout() {
+  const {smoothed_rtt: smoothed, rttvar} = trace.state;
+  return smoothed.map((value, i) =>
+    (value + Math.max(4 * rttvar[i], trace.scale) + trace.max_ack_delay) / trace.scale);
+}
+
+// The places of the view, a few for each pixel: ends and extremes of each column of pixels.
+function picked(columns, pixels) {
+  const low = Math.max(0, placeAt(view.from) - 1);
+  const high = Math.min(trace.limit, trace.count, placeAt(view.to) + 2) - 1;
+  const places = [];
+  if (high - low < pixels * 4) {
+    for (let i = low; i <= high; i++) places.push(i);
+    return places;
+  }
+  const width = (view.to - view.from) / pixels;
+  for (let i = low; i <= high;) {
+    const from = Math.floor((view.x[i] - view.from) / width);
+    const end = Math.max(view.x[i], view.from + (from + 1) * width);
+    i = pickColumn(columns, i, high, end, places);
+  }
+  return places;
+}
+
+function pickColumn(columns, begin, high, end, places) {
+  const least = columns.map(() => begin), most = columns.map(() => begin);
+  let i = begin;
+  do {
+    for (let k = 0; k < columns.length; k++) {
+      const value = columns[k][i];
+      if (value < columns[k][least[k]]) least[k] = i;
+      if (value > columns[k][most[k]]) most[k] = i;
+    }
+    i++;
+  } while (i <= high && view.x[i] < end);
+  places.push(...[...new Set([begin, i - 1, ...least, ...most])].sort((a, b) => a - b));
+  return i;
+}
+
+const orNull = value => value === value ? value : null;
+
+// The rows that dygraphs draws: x, each series, and a place for marks. The state holds until the
+// line of the verdict.
+function rowsOf(series, pixels) {
+  const columns = Object.values(series);
+  const places = picked(columns, pixels);
+  // A value is there where it changes, and at the end: a line with a dash for each row has none.
+  const isNew = (column, k) =>
+    !k || k === places.length - 1 || column[places[k]] !== column[places[k - 1]];
+  const rows = places.map((i, k) =>
+    [view.x[i], ...columns.map(it => isNew(it, k) ? orNull(it[i]) : null), 0]);
+  const last = Math.min(trace.limit, trace.count) - 1, end = trace.verdictAt;
+  if (rows.length && end > last && view.to > view.x[last])
+    rows.push([view.x[end], ...columns.map(it => orNull(it[last])), 0]);
+  if (!rows.length)
+    for (const x of [view.low, view.high]) rows.push([x, ...columns.map(() => null), 0]);
+  return rows;
+}
+
+// The least and the greatest value that is seen, of the rows and of what is reported.
+function extremes(rows, reported, chart) {
+  let low = Infinity, high = -Infinity;
+  for (const row of rows) for (let k = 1; k < row.length - 1; k++) if (row[k] !== null) {
+    low = Math.min(low, row[k]);
+    high = Math.max(high, row[k]);
+  }
+  if (high < 0) [low, high] = [0, 0];
+  const {at} = trace.reports, limit = high ? high * 4 : Infinity;
+  for (let k = 0; k < at.length; k++) if (isSeen(view.x[at[k]])) for (const column of reported) {
+    const value = column[k];
+    if (value <= limit) high = Math.max(high, value);
+    if (value <= limit) low = Math.min(low, value);
+  }
+  const culprit = trace.culprit;
+  if (culprit && culprit.chart === chart && isSeen(view.x[trace.verdictAt])) {
+    const value = culprit.value / (chart === 'rtt' ? trace.scale : 1);
+    if (value < high * 8) high = Math.max(high, value);
+  }
+  return [low, high];
+}
+
+// From 0, but where one looks closely and all that is seen lies far above it.
+function padded([low, high]) {
+  const isClose = view.to - view.from < (view.high - view.low) / 3;
+  if (!isClose || !(low > high * 0.7)) return [0, (high || 1) * 1.2];
+  const room = (high - low || high * 0.1) * 0.25;
+  return [low - room, high + room * 1.6];
+}
+
+const pixelsOf = chart => Math.max(200, charts[chart].getArea().w);
+
+function updateWindow() {
+  const rows = rowsOf(lines.window, pixelsOf('window')), {window, bytes_in_flight} = trace.reports;
+  windowRange = padded(extremes(rows, [window, bytes_in_flight], 'window'));
+  const axes = {y: {valueRange: windowRange}};
+  charts.window.updateOptions({file: rows, dateWindow: [view.from, view.to], axes});
+}
+
+function updateRtt() {
+  const rows = rowsOf(lines.rtt, pixelsOf('rtt'));
+  rttRange = padded(extremes(rows, rttReports(), 'rtt'));
+  if (trace.firstSample >= trace.count && trace.judged)
+    rttRange = [0, trace.state.smoothed_rtt[trace.limit - 1] / trace.scale * 1.3];
+  const axes = {y: {valueRange: rttRange}};
+  charts.rtt.updateOptions({file: rows, dateWindow: [view.from, view.to], axes});
+}
+
+let rttReported = null;
+function rttReports() {
+  const inTime = column => column.map(value => value / trace.scale);
+  rttReported ||= ['smoothed_rtt', 'latest_rtt', 'min_rtt'].map(it => inTime(trace.reports[it]));
+  return rttReported;
+}
+
+// The values that the sender reports, as marks; one above the diagram as an arrow.
+function drawReported(context, area, range, column, color, shape) {
+  const to = scaleOf(area, range), {at} = trace.reports;
+  const free = cells(area, at.length < 300 ? 4 : 12);
+  for (const isJudged of [true, false])
+    stroked(context, isJudged ? color : colors.soft, 1.3, [], () => {
+      for (let k = 0; k < at.length; k++) {
+        const x = to.x(view.x[at[k]]), value = column[k];
+        if (value !== value || at[k] < trace.limit !== isJudged || !isSeen(view.x[at[k]])) continue;
+        const y = Math.max(area.y + 6, to.y(value));
+        if (!free(x, y)) continue;
+        if (value > range[1]) triangle(context, x, y, 4);
+        else shape(context, x, y, 4);
+      }
+    });
+}
+
+const circle = (context, x, y, r) => {
+  context.moveTo(x + r * 0.8, y);
+  context.arc(x, y, r * 0.8, 0, 2 * Math.PI);
+};
+
+// A cross at the value that is refused.
+function drawCulprit(context, area, range, chart) {
+  const culprit = trace.culprit;
+  if (!culprit || culprit.chart !== chart) return;
+  const to = scaleOf(area, range), value = culprit.value / (chart === 'rtt' ? trace.scale : 1);
+  const x = to.x(view.x[trace.verdictAt]), y = Math.max(area.y + 9, to.y(value));
+  context.beginPath();
+  context.arc(x, y, 8.5, 0, 2 * Math.PI);
+  context.fillStyle = colors.paper;
+  context.fill();
+  stroked(context, colors.refused, 3, [], () => cross(context, x, y, 5.5));
+}
+
+function drawWindowMarks(event) {
+  const context = event.drawingContext, area = event.plotArea;
+  const {window, ssthresh, bytes_in_flight} = trace.reports;
+  context.save();
+  drawReported(context, area, windowRange, window, colors.app, diamond);
+  drawReported(context, area, windowRange, ssthresh, colors.soft, diamond);
+  drawReported(context, area, windowRange, bytes_in_flight, colors.flight, circle);
+  drawOver(context, area, false);
+  drawCulprit(context, area, windowRange, 'window');
+  context.restore();
+}
+
+function drawRttMarks(event) {
+  const context = event.drawingContext, area = event.plotArea;
+  const [smoothed, latest, least] = rttReports();
+  context.save();
+  drawAssumed(context, area);
+  drawReported(context, area, rttRange, smoothed, colors.initial, diamond);
+  drawReported(context, area, rttRange, latest, colors.latest, circle);
+  drawReported(context, area, rttRange, least, colors.least, circle);
+  drawOver(context, area, false);
+  drawCulprit(context, area, rttRange, 'rtt');
+  context.restore();
+}
+
+// Before the first sample the round-trip time is assumed, and drawn apart.
+function drawAssumed(context, area) {
+  const end = Math.min(trace.firstSample, trace.limit, trace.count) - 1;
+  if (end < 0 || !trace.judged) return;
+  const to = scaleOf(area, rttRange), value = trace.state.smoothed_rtt[end] / trace.scale;
+  const from = Math.max(area.x, to.x(view.x[0]));
+  const until = Math.min(area.x + area.w, to.x(xOf(end + 1)));
+  if (until <= area.x) return;
+  const y = Math.max(area.y + 26, to.y(value)), isAbove = to.y(value) < area.y;
+  stroked(context, colors.initial, 1.6, [2, 3], () => {
+    context.moveTo(from, y);
+    context.lineTo(until, y);
+  });
+  const text = `${isAbove ? '\u2191 ' : ''}assumed ${+value.toPrecision(6)} ms`;
+  context.font = FONT;
+  if (context.measureText(text).width < until - from + 40)
+    words(context, text, from + 3, y + 3, colors.soft, 'left', 'top');
+}

@@ -1,0 +1,201 @@
+// The lines about the selected one, each with the state behind it; and what the pointer is at.
+
+const ROWS = 24;
+const MOST_OF_LINE = 3000;
+const MOST_OF_TIP = 600;
+let tableFrom = 0;
+
+// The columns behind the text of a line, with their amounts.
+const COLUMNS = [
+  ['window', i => bytes('window', i)], ['in flight', i => bytes('in_flight', i)],
+  ['ssthresh', i => bytes('ssthresh', i) || 'none'], ['latest', i => timeOf('latest_rtt', i)],
+  ['least', i => timeOf('min_rtt', i)], ['smoothed', i => timeOf('smoothed_rtt', i)],
+  ['rttvar', i => timeOf('rttvar', i)], ['PTOs', i => digitsOf('pto_count', i)],
+  ['owed', owedAt], ['timer', timerAt],
+];
+
+const bytes = (name, place) => grouped(digitsOf(name, place));
+const timeOf = (name, place) => withoutUnit(milliseconds(digitsOf(name, place)));
+const withoutUnit = text => text.replace(' ms', '');
+
+function owedAt(place) {
+  const said = trace.state.said.owed_text[trace.state.rowOf[place]];
+  return said ? `${trace.state.owed[place]}: ${said}` : String(trace.state.owed[place]);
+}
+
+function timerAt(place) {
+  const code = trace.state.timer[place];
+  if (code === NO_SPACE) return 'none';
+  const exact = trace.state.said.deadline.exact[trace.state.rowOf[place]];
+  const due = withoutUnit(milliseconds(exact || trace.state.deadline[place]));
+  return `${code >= OF_LOSS ? 'loss' : 'PTO'} ${SPACES[code % OF_LOSS]} ${due}`;
+}
+
+const hasState = place => place < trace.limit && trace.state.rowOf[place] >= 0;
+const hasTime = place => !'hbu'.includes(trace.kind[place]);
+
+// What the verdict is of a line, where it is not that the line is good.
+function standing(place) {
+  if (place === trace.verdictAt) return 'verdict-line';
+  return place >= trace.limit ? 'unjudged' : '';
+}
+
+function fillTable() {
+  const rows = [];
+  for (let i = tableFrom; i < Math.min(trace.count, tableFrom + ROWS); i++) rows.push(rowOfLine(i));
+  byId('rows').replaceChildren(...rows);
+  byId('earlier').disabled = tableFrom === 0;
+  byId('later').disabled = tableFrom + ROWS >= trace.count;
+}
+
+function rowOfLine(place) {
+  const row = element('tr', undefined, standing(place));
+  row.dataset.line = trace.first + place;
+  if (place === view.selected) {
+    row.classList.add('selected');
+    row.setAttribute('aria-current', 'true');
+  }
+  const number = element('th', String(trace.first + place));
+  number.scope = 'row';
+  const said = element('td', undefined, 'text');
+  if (place === trace.verdictAt) {
+    const {kind, rule, name} = trace.verdict;
+    said.append(element('span', `${kind} ${rule} ${name}`, 'tag'), ' ');
+  }
+  put(said, trace.lines[place] || '', MOST_OF_LINE);
+  const time = hasTime(place) ? withoutUnit(milliseconds(trace.time[place])) : '';
+  row.append(number, cellOf('time', time), said);
+  if (hasState(place)) {
+    for (const [name, amount] of COLUMNS) row.append(cellOf(name, amount(place)));
+  } else {
+    // The text has the room of most of the columns that are empty.
+    said.colSpan = COLUMNS.length - 1;
+    row.append(cellWithout(place));
+  }
+  return row;
+}
+
+function cellOf(name, text) {
+  const cell = element('td', text);
+  cell.dataset.name = name;
+  return cell;
+}
+
+function cellWithout(place) {
+  const isVerdict = place === trace.verdictAt, isBefore = place < trace.limit;
+  const words = isVerdict ? 'the machine stops before this line' : isBefore ? '' : 'not judged';
+  const cell = element('td', words, 'without');
+  cell.colSpan = 2;
+  return cell;
+}
+
+function turnTable(by) {
+  tableFrom = Math.max(0, Math.min(trace.count - ROWS, tableFrom + by));
+  fillTable();
+}
+
+// Selects a line. The table turns to it, unless it is there and stays; the view goes to it.
+function select(place, {stays = false, zooms = false, isNamed = true} = {}) {
+  if (!trace.count) return;
+  view.selected = Math.max(0, Math.min(trace.count - 1, place));
+  const at = view.selected, isThere = at >= tableFrom && at < tableFrom + ROWS;
+  if (!stays || !isThere) tableFrom = Math.max(0, Math.min(trace.count - ROWS, at - 9));
+  fillTable();
+  const x = view.x[at], half = (view.to - view.from) / 2;
+  if (zooms) showAround(at, at, 40);
+  else if (!isSeen(x)) show(x - half, x + half);
+  else redraw();
+  byId('said').textContent = summaryOf(at);
+  if (isNamed) nameLine(trace.first + at);
+}
+
+// Puts a line into the address, where the browser lets a page do so.
+function nameLine(line) {
+  try {
+    history.replaceState(null, '', `#line=${line}`);
+  } catch (error) {
+    if (error.name !== 'SecurityError') throw error;
+  }
+}
+
+// A line in words, for those who hear the page.
+function summaryOf(place) {
+  const line = `Line ${trace.first + place}, ${KINDS[trace.kind[place]]}`;
+  const time = hasTime(place) ? `, ${milliseconds(trace.time[place])}` : '';
+  const packet = trace.packets.of[place] >= 0 ? `, ${fateOf(trace.packets.of[place])}` : '';
+  const stand =
+    {'verdict-line': `, ${trace.verdict.kind}`, unjudged: ', not judged'}[standing(place)];
+  return `${line}${time}${packet}${stand || ''}`;
+}
+
+// What became of a packet.
+function fateOf(packet) {
+  const {at, acked, lost, gone, size, space, flags} = trace.packets;
+  const name = `packet ${numberOf(packet)} of ${SPACES[space[packet]]}`;
+  const told = [`${name}, ${grouped(size[packet])} B`];
+  if (flags[packet] & PROBE) told.push('a probe');
+  if (flags[packet] & RECOVERY) told.push('on entry to recovery');
+  const ends = [[lost, 'declared lost'], [acked, 'acknowledged'], [gone, 'gone with its keys']];
+  for (const [ending, word] of ends) {
+    const end = ending[packet];
+    if (!(end === end)) continue;
+    const isShown = end < trace.count && at[packet] >= 0;
+    const after = isShown ? ` after ${milliseconds(trace.time[end] - trace.time[at[packet]])}` : '';
+    told.push(`${word} at line ${trace.first + end}${after}`);
+  }
+  if (told.length === 1 || trace.packets.how[packet] === 'open') told.push('never answered');
+  return told.join(', ');
+}
+
+function showTip(place, event) {
+  const box = byId('tip');
+  box.hidden = place < 0;
+  if (place < 0) return;
+  const time = hasTime(place) ? ` \u00b7 ${milliseconds(trace.time[place])}` : '';
+  const stand = {'verdict-line': ` \u00b7 ${trace.verdict.kind} by ${trace.verdict.rule}`,
+    unjudged: ' \u00b7 not judged'}[standing(place)] || '';
+  const head = element('div');
+  head.append(element('b', `line ${trace.first + place}`), time, stand);
+  const said = element('div', undefined, 'text');
+  put(said, trace.lines[place] || '', MOST_OF_TIP);
+  box.replaceChildren(head, said);
+  if (trace.packets.of[place] >= 0) box.append(element('div', fateOf(trace.packets.of[place])));
+  if (hasState(place)) {
+    const amounts = COLUMNS.map(([name, amount]) => `${name} ${amount(place)}`);
+    box.append(element('div', amounts.join(' \u00b7 '), 'state'));
+  }
+  const {offsetWidth: width, offsetHeight: height} = box;
+  const isLow = event.clientY + 18 + height > innerHeight;
+  box.style.left = `${Math.max(4, Math.min(innerWidth - width - 8, event.clientX + 16))}px`;
+  box.style.top = `${isLow ? Math.max(4, event.clientY - height - 14) : event.clientY + 18}px`;
+}
+
+// The place of what lies nearest to the pointer in a diagram; -1 where it is at none.
+function nearest(name, x, y) {
+  const area = charts[name].getArea();
+  if (x < area.x || x > area.x + area.w || y < area.y || y > area.y + area.h) return -1;
+  const at = name === 'packets' ? nearestPacket(area, x, y) : -1;
+  if (at >= 0) return at;
+  const to = scaleOf(area, [0, 1]), isNear = place => Math.abs(to.x(view.x[place]) - x) < 4;
+  if (trace.verdictAt >= 0 && isNear(trace.verdictAt)) return trace.verdictAt;
+  const mark = trace.marks.find(it => isNear(it.at));
+  if (mark) return mark.at;
+  const value = view.from + (x - area.x) / area.w * (view.to - view.from), next = placeAt(value);
+  if (next <= 0 || next >= trace.count) return Math.max(0, Math.min(trace.count - 1, next));
+  return view.x[next] - value < value - view.x[next - 1] ? next : next - 1;
+}
+
+function nearestPacket(area, x, y) {
+  const to = scaleOf(area, [0, 1]), {at, acked, lost} = trace.packets;
+  let found = -1, least = 144;
+  for (const p of shownPackets) {
+    const high = yOfPacket(area, p) - y;
+    if (high > 12 || high < -12) continue;
+    for (const [place, more] of [[at[p], 0], [lost[p], 1], [acked[p], 2]]) {
+      if (!(place >= 0 && place < trace.count)) continue;
+      const wide = to.x(view.x[place]) - x, distance = wide * wide + high * high + more;
+      if (distance < least) [least, found] = [distance, place];
+    }
+  }
+  return found;
+}

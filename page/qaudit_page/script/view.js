@@ -1,0 +1,182 @@
+// The span that all diagrams show, the line that is selected, and what all diagrams have.
+
+const view = {byLine: false, x: new Float64Array(0), low: 0, high: 1, from: 0, to: 1, selected: -1};
+const shownSpaces = [true, true, true];
+const charts = {};
+let isDrawing = false, frameWanted = 0, frames = 0, lastFrame = 0;
+
+// The x of each line: its time in milliseconds, which never falls here, or its number.
+function setAxis() {
+  const {count, first, kind, time, scale} = trace;
+  const x = new Float64Array(count);
+  let begin = 0;
+  while (begin < count - 1 && 'hbu'.includes(kind[begin])) begin++;
+  let latest = count ? time[begin] / scale : 0;
+  for (let i = 0; i < count; i++) {
+    if (i > begin && time[i] / scale > latest) latest = time[i] / scale;
+    x[i] = view.byLine ? first + i : latest;
+  }
+  const last = count ? x[count - 1] : 1, start = count ? x[0] : 0, span = last - start || 1;
+  Object.assign(view, {x, low: start - span * 0.015, high: last + span * 0.03});
+}
+
+// The first place whose x is not below this one.
+function placeAt(x) {
+  let low = 0, high = trace.count;
+  while (low < high) {
+    const middle = (low + high) >> 1;
+    if (view.x[middle] < x) low = middle + 1;
+    else high = middle;
+  }
+  return low;
+}
+
+// The x of a place, of one behind the lines that are shown, and of a packet from before them.
+const xOf = place => place < trace.count ? view.x[place] : view.high;
+function xOfPacket(packet) {
+  const at = trace.packets.at[packet];
+  if (at >= 0) return view.x[at];
+  return view.byLine ? trace.packets.line[packet] : trace.packets.before[packet] / trace.scale;
+}
+
+const isSeen = x => x >= view.from && x <= view.to;
+
+function show(from, to) {
+  const all = view.high - view.low, least = view.byLine ? 4 : Math.min(all, 2 / trace.scale);
+  if (!(to - from > least)) {
+    const middle = (from + to) / 2;
+    from = middle - least / 2;
+    to = middle + least / 2;
+  }
+  if (to - from > all) [from, to] = [view.low, view.high];
+  const by = Math.max(0, view.low - from) - Math.max(0, to - view.high);
+  Object.assign(view, {from: from + by, to: to + by});
+  redraw();
+}
+
+const showAll = () => show(view.low, view.high);
+
+function zoom(by, center) {
+  const x = view.selected >= 0 ? view.x[view.selected] : NaN;
+  const about = center ?? (isSeen(x) ? x : (view.from + view.to) / 2);
+  show(about - (about - view.from) * by, about + (view.to - about) * by);
+}
+
+function pan(share) {
+  const by = (view.to - view.from) * share;
+  show(view.from + by, view.to + by);
+}
+
+// Shows lines with some about them, and a little room at the sides.
+function showAround(first, last, margin) {
+  const from = view.x[Math.max(0, first - margin)];
+  const to = view.x[Math.min(trace.count - 1, last + margin)];
+  const room = (to - from) * 0.05 || (view.byLine ? 5 : 1);
+  show(from - room, to + room);
+}
+
+function redraw() {
+  if (!frameWanted) frameWanted = requestAnimationFrame(update);
+}
+
+function update() {
+  if (frameWanted) cancelAnimationFrame(frameWanted);
+  frameWanted = 0;
+  const begun = performance.now();
+  isDrawing = true;
+  updatePackets();
+  updateWindow();
+  updateRtt();
+  isDrawing = false;
+  lastFrame = performance.now() - begun;
+  frames++;
+}
+
+// Where a diagram has an x and a y, in pixels.
+function scaleOf(area, range) {
+  const byX = area.w / (view.to - view.from), byY = area.h / (range[1] - range[0]);
+  return {
+    x: value => area.x + (value - view.from) * byX,
+    y: value => area.y + area.h - (value - range[0]) * byY,
+  };
+}
+
+// Below the data of each diagram: what was not judged, and what happened.
+function drawUnder(context, area) {
+  const to = scaleOf(area, [0, 1]);
+  context.save();
+  context.beginPath();
+  context.rect(area.x, area.y, area.w, area.h);
+  context.clip();
+  if (trace.limit < trace.count) {
+    const from = to.x(view.x[trace.limit]), x = Math.max(area.x, from);
+    if (x < area.x + area.w) hatched(context, x, area.y, area.x + area.w - x, area.h, area.x);
+  }
+  const seen = trace.marks.filter(mark => isSeen(view.x[mark.at]));
+  let before = -9;
+  for (const mark of seen) {
+    const x = to.x(view.x[mark.at]);
+    if (x - before < 1) continue;
+    before = x;
+    const alpha = seen.length > 80 ? 0.3 : 0.75;
+    upright(context, area, x, toneOfMark(mark.of), 1, DASHES[mark.of], alpha);
+  }
+  context.restore();
+}
+
+// Above the data: the line of the verdict, the deadline that decides, and the one selected.
+function drawOver(context, area, hasLabels) {
+  const to = scaleOf(area, [0, 1]), flags = [];
+  if (trace.verdictAt >= 0) {
+    const {line, rule, name, kind} = trace.verdict, x = to.x(view.x[trace.verdictAt]);
+    upright(context, area, x, toneOfVerdict(), 2.5, []);
+    const sign = kind === 'refused' ? '\u2717' : '?';
+    const text = `${sign} line ${line}: ${rule} ${name}`;
+    flags.push({x, text, color: toneOfVerdict(), full: true});
+  }
+  if (Number.isFinite(trace.verdict.deadline) && !view.byLine) {
+    const x = to.x(trace.verdict.deadline / trace.scale);
+    upright(context, area, x, colors.timer, 2, [2, 2]);
+    flags.push({x, text: 'its deadline', color: colors.timer, boxed: true});
+  }
+  if (view.selected >= 0) {
+    const x = to.x(view.x[view.selected]);
+    upright(context, area, x, colors.ink, 1, []);
+  }
+  if (!hasLabels) return drawFlags(context, area, flags.slice(0, 1));
+  let before = -9, at = -1;
+  for (const mark of trace.marks) {
+    const x = to.x(view.x[mark.at]);
+    // Of thousands of marks a few have a flag.
+    if (!isSeen(view.x[mark.at]) || (x - before < 4 && mark.at > at + 20)) continue;
+    [before, at] = [x, mark.at];
+    flags.push({x, text: mark.label, color: toneOfMark(mark.of)});
+  }
+  return drawFlags(context, area, flags);
+}
+
+// Flags in rows at the top; one that finds no place is left out.
+function drawFlags(context, area, flags) {
+  const rows = area.w < 480 ? [[], []] : [[], [], [], []];
+  context.font = FONT;
+  for (const flag of flags) {
+    if (flag.x < area.x - 1 || flag.x > area.x + area.w + 1) continue;
+    const width = context.measureText(flag.text).width + 8;
+    const isAtEnd = flag.x + width + 2 > area.x + area.w;
+    const left = Math.max(area.x, isAtEnd ? flag.x - width - 2 : flag.x + 2);
+    const row = rows.findIndex(taken => taken.every(([a, b]) => left + width < a || left > b));
+    if (row < 0) continue;
+    rows[row].push([left, left + width]);
+    drawFlag(context, flag, left, area.y + 2 + row * 18, width);
+  }
+}
+
+function drawFlag(context, flag, left, top, width) {
+  context.globalAlpha = flag.full ? 1 : 0.85;
+  context.fillStyle = flag.full ? flag.color : colors.paper;
+  context.fillRect(left, top, width, 16);
+  context.globalAlpha = 1;
+  if (flag.boxed) stroked(context, flag.color, 1, [], () =>
+    context.rect(left + 0.5, top + 0.5, width - 1, 15));
+  words(context, flag.text, left + 4, top + 8.5, flag.full ? colors.paper : flag.color);
+}

@@ -1,0 +1,60 @@
+"""Amounts and foreign text for people, as text and as HTML."""
+
+import re
+from html import escape
+
+NANOSECONDS = {"us": 1_000, "ns": 1}
+NANOSECONDS_IN_A_MILLISECOND = 1_000_000
+SHOWN_RUNS = 16
+# What Python calls printable and nobody sees: fillers, selectors of variations, tags.
+UNSEEN = re.compile("[\u034f\u115f\u1160\u17b4\u17b5\u180b-\u180f\u2800\u3164\ufe00-\ufe0f\uffa0]")
+
+Ranges = list[list[int]]
+
+
+def count(value: int) -> str:
+    """A number with its thousands apart."""
+    return f"{value:,}"
+
+
+def plural(number: int, noun: str) -> str:
+    """A number of things."""
+    return f"{count(number)} {noun}" + ("" if number == 1 else "s")
+
+
+def milliseconds(value: int, unit: str) -> str:
+    """A time as milliseconds, with all of its digits."""
+    sign, amount = ("-" if value < 0 else ""), abs(value) * NANOSECONDS[unit]
+    whole, rest = divmod(amount, NANOSECONDS_IN_A_MILLISECOND)
+    digits = f".{rest:06}".rstrip("0") if rest else ""
+    return f"{sign}{whole:,}{digits} ms"
+
+
+def size(value: int) -> str:
+    """A number of bytes."""
+    return f"{count(value)} B"
+
+
+def runs(ranges: Ranges) -> str:
+    """Runs of packet numbers."""
+    shown = [str(low) if low == high else f"{low}-{high}" for low, high in ranges[:SHOWN_RUNS]]
+    more = len(ranges) - len(shown)
+    return ", ".join(shown) + (f" and {plural(more, 'run')} more" if more else "")
+
+
+def visible(text: str) -> str:
+    """Text with an escape for each character that is not seen when it is printed."""
+    return "".join(
+        char if (char.isprintable() and not UNSEEN.match(char)) else f"\\u{{{ord(char):x}}}"
+        for char in text
+    )
+
+
+def html(text: str) -> str:
+    """Text of others as HTML, in an element or in an attribute with quotes."""
+    return escape(visible(text), quote=True)
+
+
+def decoded(line: bytes) -> str:
+    """The bytes of a line as text, with an escape for each byte that is not UTF-8."""
+    return line.decode("utf-8", "backslashreplace")

@@ -1,0 +1,276 @@
+"""A trace as columns: its lines, the state behind those that were judged, and what became of each
+packet by the lines."""
+
+from array import array
+from bisect import bisect_left
+from collections.abc import Callable, Iterable
+from dataclasses import dataclass, field
+from operator import itemgetter
+
+from .failure import Failure
+from .lenient import METRICS, SPACES, Event, read
+from .program import Object
+from .texts import runs
+
+# How the kind of a line is written, a character a line.
+KINDS = {
+    "header": "h",
+    "sent": "s",
+    "ack": "a",
+    "lost": "l",
+    "timer": "t",
+    "discard": "d",
+    "confirmed": "c",
+    "keys": "k",
+    "metrics": "m",
+}
+BLANK, OTHER = "b", "u"
+CODES = {name: ord(kind) for name, kind in KINDS.items()}
+SPACE_OF = {name: space for space, name in enumerate(SPACES)}
+NO_SPACE = 3
+# Beside the space of a line: that a timer is the one for losses.
+OF_LOSS = 4
+ELICITING, IN_FLIGHT, PROBE, RECOVERY = 1, 2, 4, 8
+LEAVES = {"probe": PROBE, "recovery": RECOVERY}
+# The amounts of a state and their keys in a row, for the unit of its times.
+AMOUNTS = {
+    "window": "window_bytes",
+    "ssthresh": "ssthresh_bytes",
+    "in_flight": "in_flight_bytes",
+    "latest_rtt": "latest_rtt_{}",
+    "min_rtt": "min_rtt_{}",
+    "smoothed_rtt": "smoothed_rtt_{}",
+    "rttvar": "rttvar_{}",
+    "pto_count": "pto_count",
+    "deadline": "deadline_{}",
+}
+# How it is written what the timer is set for.
+TIMERS: dict[tuple[str | None, str | None], int] = {
+    (None, None): NO_SPACE,
+    **{("pto", name): space for space, name in enumerate(SPACES)},
+    **{("loss", name): space + OF_LOSS for space, name in enumerate(SPACES)},
+}
+
+
+class Numbers:
+    """The packets of a space in the order of their numbers, to be marked once each."""
+
+    def __init__(self) -> None:
+        self.numbers: list[int] = []
+        self.packets: list[int] = []
+        # Of each packet, the next one that may be without the mark.
+        self.nexts: dict[str, list[int]] = {"acked": [], "lost": []}
+        # How many were there when the keys were discarded.
+        self.discarded = 0
+
+    def add(self, number: int, packet: int) -> None:
+        """A packet; one whose number is not above those before it has no fate."""
+        if not self.numbers or number > self.numbers[-1]:
+            self.numbers.append(number)
+            self.packets.append(packet)
+
+    def mark(self, mark: str, low: int, high: int) -> list[int]:
+        """The packets with numbers from low to high that had no such mark; they have it then."""
+        chain, found = self.nexts[mark], []
+        chain.extend(range(len(chain), len(self.numbers) + 1))
+        place = first_unmarked(chain, bisect_left(self.numbers, low))
+        while place < len(self.numbers) and self.numbers[place] <= high:
+            found.append(self.packets[place])
+            chain[place] = place + 1
+            place = first_unmarked(chain, place + 1)
+        return found
+
+    def discard(self) -> list[int]:
+        """The packets since the keys were last discarded."""
+        found = self.packets[self.discarded :]
+        self.discarded = len(self.packets)
+        return found
+
+
+def first_unmarked(chain: list[int], place: int) -> int:
+    """The first place from this one on that leads to itself, to which all on the way lead then."""
+    root = place
+    while chain[root] != root:
+        root = chain[root]
+    while chain[place] != root:
+        chain[place], place = root, chain[place]
+    return root
+
+
+class Packets:
+    """A row for each packet that was sent, which are no more than there are lines."""
+
+    def __init__(self, lines: int) -> None:
+        self.line: list[int] = []
+        self.space: list[int] = []
+        self.number: list[int] = []
+        self.size: list[int] = []
+        self.flags: list[int] = []
+        # The lines that acknowledged it, declared it lost, and discarded its space; 0 for none.
+        self.acked = [0] * lines
+        self.lost = [0] * lines
+        self.gone = [0] * lines
+
+
+@dataclass
+class State:
+    """The state behind each line that has a row."""
+
+    line: list[int] = field(default_factory=list)
+    amounts: dict[str, list[int | None]] = field(
+        default_factory=lambda: {name: [] for name in AMOUNTS}
+    )
+    # The kind and the space of the timer that is set, as with lines that say timers; 3 for none.
+    timer: bytearray = field(default_factory=bytearray)
+    # How many packets are owed, and which, by the row.
+    owed: list[int] = field(default_factory=list)
+    owed_text: dict[int, str] = field(default_factory=dict)
+
+
+class Trace:
+    """The columns of a trace, whose lines are numbered from 1."""
+
+    def __init__(self, data: bytes) -> None:
+        self.lines = data.split(b"\n")
+        if self.lines[-1] == b"":
+            self.lines.pop()
+        count = len(self.lines)
+        self.header: Event = {}
+        self.unit = "us"
+        self.kind = bytearray(OTHER.encode() * count)
+        self.time = array("q", bytes(8 * count))
+        self.space = bytearray([NO_SPACE]) * count
+        self.packets = Packets(count)
+        self.numbers = [Numbers() for _ in SPACES]
+        # The line and the greatest number of each acknowledgment.
+        self.acks: list[tuple[int, int]] = []
+        self.metrics: list[tuple[int, list[int | None]]] = []
+        self.state = State()
+        self.now = 0
+        self.takes: dict[str, Callable[[int, Event], None]] = {
+            "sent": self.sent,
+            "ack": self.acknowledged,
+            "lost": self.lost,
+            "timer": self.fired,
+            "discard": self.discarded,
+            "metrics": self.reported,
+        }
+
+    # Lines.
+
+    def blank(self, line: int) -> None:
+        """A blank line, or one that cannot be read."""
+        is_blank = not self.lines[line - 1].strip(b" \t\r")
+        self.kind[line - 1] = ord(BLANK if is_blank else OTHER)
+        self.time[line - 1] = self.now
+
+    def event(self, line: int, said: Event) -> None:
+        """What a line says."""
+        name = said["event"]
+        self.kind[line - 1] = CODES[name]
+        if name != "header":
+            self.now = said["time"]
+            take = self.takes.get(name)
+            if take is not None:
+                take(line, said)
+        self.time[line - 1] = self.now
+
+    def sent(self, line: int, said: Event) -> None:
+        """A packet."""
+        packets = self.packets
+        space = self.space[line - 1] = SPACE_OF[said["space"]]
+        self.numbers[space].add(said["number"], len(packets.line))
+        flags = ELICITING if said.get("eliciting") is True else 0
+        flags += IN_FLIGHT if said.get("in_flight") is True else 0
+        leave = said.get("leave")
+        flags += LEAVES.get(leave, 0) if isinstance(leave, str) else 0
+        packets.line.append(line)
+        packets.space.append(space)
+        packets.number.append(said["number"])
+        packets.size.append(said["size"])
+        packets.flags.append(flags)
+
+    def acknowledged(self, line: int, said: Event) -> None:
+        """An acknowledgment."""
+        self.mark("acked", line, said, self.packets.acked)
+        self.acks.append((line, max(high for _, high in said["ranges"])))
+
+    def lost(self, line: int, said: Event) -> None:
+        """Packets that were declared lost."""
+        self.mark("lost", line, said, self.packets.lost)
+
+    def mark(self, mark: str, line: int, said: Event, ends: list[int]) -> None:
+        """Notes the line that says first what became of packets."""
+        space = self.space[line - 1] = SPACE_OF[said["space"]]
+        numbers = self.numbers[space]
+        for low, high in said["ranges"]:
+            for packet in numbers.mark(mark, low, high):
+                ends[packet] = line
+
+    def fired(self, line: int, said: Event) -> None:
+        """A timer."""
+        self.space[line - 1] = TIMERS[said["kind"], said["space"]]
+
+    def discarded(self, line: int, said: Event) -> None:
+        """What is neither acknowledged nor lost of a space goes with its keys."""
+        packets = self.packets
+        space = self.space[line - 1] = SPACE_OF[said["space"]]
+        for packet in self.numbers[space].discard():
+            if not packets.acked[packet] and not packets.lost[packet]:
+                packets.gone[packet] = line
+
+    def reported(self, line: int, said: Event) -> None:
+        """What the sender reports of itself."""
+        self.metrics.append((line, [said.get(name) for name in METRICS]))
+
+    # Rows.
+
+    def row(self, row: Object) -> None:
+        """What the line of a row says."""
+        said = row["event"]
+        if said["event"] == "header":
+            self.header = said
+            self.unit = said.get("unit", "us")
+        self.event(row["line"], said)
+        self.state.line.append(row["line"])
+
+    def hold(self, states: list[Object]) -> None:
+        """The states of rows."""
+        state, begin = self.state, len(self.state.owed)
+        for name, key in AMOUNTS.items():
+            column = map(itemgetter(key.format(self.unit)), states)
+            state.amounts[name].extend(column)
+        codes = map(itemgetter("set_kind", "set_space"), states)
+        state.timer.extend(map(TIMERS.__getitem__, codes))
+        for place, held in enumerate(states, begin):
+            owed = held["owed"]
+            state.owed.append(sum(high - low + 1 for low, high in owed) if owed else 0)
+            if owed:
+                state.owed_text[place] = f"{held['owed_space']} {runs(owed)}"
+
+
+def trace_of(data: bytes, rows: Iterable[list[Object]], first_unjudged: int | None) -> Trace:
+    """The columns of the bytes of a trace whose rows are these, some at a time. Lines from the
+    first unjudged one on have none and are read as they seem."""
+    trace, next_line = Trace(data), 1
+    try:
+        for piece in rows:
+            for row in piece:
+                while next_line < row["line"]:
+                    trace.blank(next_line)
+                    next_line += 1
+                trace.row(row)
+                next_line += 1
+            trace.hold([row["state"] for row in piece])
+    except (KeyError, TypeError, ValueError, IndexError, AttributeError) as fault:
+        text = f"qaudit-why wrote an unknown row before line {next_line}: {fault!r}"
+        raise Failure(text) from fault
+    for line in range(next_line, len(trace.lines) + 1):
+        said = None
+        if first_unjudged is not None and line >= first_unjudged:
+            said = read(trace.lines[line - 1])
+        if said is None:
+            trace.blank(line)
+        else:
+            trace.event(line, said)
+    return trace

@@ -1,0 +1,112 @@
+"""A headless Chromium for the tests, where Debian's chromium-driver and python3-selenium are."""
+
+import base64
+import importlib
+import json
+import shutil
+import sys
+from pathlib import Path
+from typing import Any
+
+# Where Debian's package lies, for a Python that is not Debian's.
+sys.path.append("/usr/lib/python3/dist-packages")
+
+
+def module(name: str) -> Any:
+    """A module of selenium, which says little of its types; None where there is none."""
+    try:
+        return importlib.import_module(f"selenium.webdriver{name}")
+    except ImportError:
+        return None
+
+
+WEBDRIVER = module("")
+DRIVER = shutil.which("chromedriver")
+MISSING = "" if WEBDRIVER and DRIVER else "no chromium-driver or no python3-selenium is installed"
+READY = "return window.qauditPage !== undefined || !document.getElementById('trouble').hidden"
+SECONDS = 30
+
+
+class Browser:
+    """A browser whose window is this wide, in light or in dark colours."""
+
+    def __init__(self, width: int = 1200, height: int = 900, *, is_dark: bool = False) -> None:
+        options = module(".chrome.options").Options()
+        options.binary_location = shutil.which("chromium") or ""
+        for argument in (
+            "--headless=new",
+            "--no-sandbox",
+            "--disable-gpu",
+            "--hide-scrollbars",
+            "--force-device-scale-factor=1",
+            "--disable-dev-shm-usage",
+        ):
+            options.add_argument(argument)
+        options.set_capability("goog:loggingPrefs", {"browser": "ALL", "performance": "ALL"})
+        service = module(".chrome.service").Service(DRIVER)
+        self.driver = WEBDRIVER.Chrome(service=service, options=options)
+        self.driver.set_script_timeout(SECONDS)
+        self.resize(width, height)
+        self.dress(is_dark=is_dark)
+
+    def resize(self, width: int, height: int) -> None:
+        """Sets the size of what the page has."""
+        metrics = {"width": width, "height": height, "deviceScaleFactor": 1, "mobile": False}
+        self.driver.execute_cdp_cmd("Emulation.setDeviceMetricsOverride", metrics)
+
+    def dress(self, *, is_dark: bool, media: str = "screen") -> None:
+        """Sets which colours a person prefers, and whether it is a screen or paper."""
+        feature = {"name": "prefers-color-scheme", "value": "dark" if is_dark else "light"}
+        self.driver.execute_cdp_cmd(
+            "Emulation.setEmulatedMedia", {"media": media, "features": [feature]}
+        )
+
+    def open(self, page: Path, fragment: str = "") -> None:
+        """Opens a page anew and waits until it is drawn."""
+        self.driver.get("about:blank")
+        self.messages()
+        self.driver.get(page.resolve().as_uri() + fragment)
+        self.wait(READY)
+
+    def wait(self, condition: str) -> None:
+        """Waits until a script returns true."""
+        waiting = module(".support.ui").WebDriverWait(self.driver, SECONDS, 0.02)
+        waiting.until(lambda it: it.execute_script(condition))
+
+    def run(self, script: str, *arguments: object) -> Any:
+        """What a script returns."""
+        return self.driver.execute_script(script, *arguments)
+
+    def settled(self) -> None:
+        """Waits until all that was asked for is drawn."""
+        self.driver.execute_async_script(
+            "const done = arguments[0];"
+            "requestAnimationFrame(() => requestAnimationFrame(() => done(1)))"
+        )
+
+    def messages(self) -> list[str]:
+        """What stands on the console since this was last asked."""
+        return [entry["message"] for entry in self.driver.get_log("browser")]
+
+    def requests(self) -> list[str]:
+        """The addresses that were asked for since this was last asked."""
+        found = []
+        for entry in self.driver.get_log("performance"):
+            message = json.loads(entry["message"])["message"]
+            if message["method"] == "Network.requestWillBeSent":
+                found.append(message["params"]["request"]["url"])
+        return found
+
+    def picture(self, file: Path, *, is_whole: bool = True) -> None:
+        """Keeps a picture of the page."""
+        height = self.run("return document.documentElement.scrollHeight")
+        width = self.run("return innerWidth")
+        if is_whole:
+            self.resize(width, height)
+            self.settled()
+        shot = self.driver.execute_cdp_cmd("Page.captureScreenshot", {"format": "png"})
+        file.write_bytes(base64.b64decode(shot["data"]))
+
+    def close(self) -> None:
+        """Ends the browser."""
+        self.driver.quit()

@@ -1,0 +1,141 @@
+"""Traces and pages for the tests, and what is in a page."""
+
+import base64
+import json
+import os
+import sys
+import zlib
+from html.parser import HTMLParser
+from pathlib import Path
+from typing import Any
+
+PAGE = Path(__file__).resolve().parents[1]
+PROJECT = PAGE.parent
+TRACES = PROJECT / "conformance" / "traces"
+STAND_IN = PAGE / "stand_in.py"
+# The program that the commands run in tests: one that was proved where the environment names it.
+PROGRAM = Path(os.environ.get("QAUDIT_WHY", STAND_IN)).resolve()
+sys.path.append(str(PROJECT / "conformance"))
+
+from objects import object_of  # noqa: E402
+from rows import first_not_good, rows_of  # noqa: E402
+
+from qaudit_page.library import PLACE, dygraphs  # noqa: E402
+from qaudit_page.page import Wanted, written  # noqa: E402
+from qaudit_page.payload import part_of  # noqa: E402
+from qaudit_page.program import Verdict  # noqa: E402
+from qaudit_page.trace import Trace, trace_of  # noqa: E402
+from stand_in import judged  # noqa: E402
+
+LIBRARY = dygraphs(None) if PLACE.exists() else "// no dygraphs"
+NO_LIBRARY = "" if PLACE.exists() else "Debian's package libjs-dygraphs is not installed"
+HEADER = '{"event":"header","version":1,"role":"server","max_datagram_size":1200}'
+
+
+def sent(number: int, time: int = 0, space: str = "app", size: int = 1200, more: str = "") -> str:
+    """A packet that is ack-eliciting."""
+    return (
+        f'{{"event":"sent","time":{time},"space":"{space}","number":{number},"size":{size},'
+        f'"eliciting":true,"in_flight":true{more}}}'
+    )
+
+
+def acked(time: int, *ranges: tuple[int, int], space: str = "app") -> str:
+    """An acknowledgment."""
+    listed = json.dumps([list(pair) for pair in ranges])
+    return f'{{"event":"ack","time":{time},"space":"{space}","ranges":{listed}}}'
+
+
+def joined(*lines: str) -> bytes:
+    """Lines as a trace."""
+    return "".join(f"{line}\n" for line in lines).encode()
+
+
+def report_of(path: Path) -> str:
+    """The report of a trace of the corpus."""
+    return path.with_suffix(".report").read_text()
+
+
+def seen(data: bytes, report: str | None = None) -> tuple[Trace, Verdict]:
+    """A trace as a page has it, by the second machine."""
+    report = report or judged(data)
+    verdict = Verdict(object_of("-", data, report))
+    rows = [json.loads(row) for row in rows_of(data, first_not_good(data, report))]
+    # In pieces, as from a program.
+    pieces = [rows[place : place + 7] for place in range(0, len(rows), 7)]
+    return trace_of(data, pieces, verdict.first_unjudged), verdict
+
+
+def made(data: bytes, report: str | None = None, **wanted: Any) -> str:
+    """The page of a trace."""
+    trace, verdict = seen(data, report)
+    fields: dict[str, Any] = {"trace": Path("made.trace"), **wanted}
+    asked = Wanted(**fields)
+    part = part_of(trace, verdict, asked.first, asked.last)
+    return written(asked, LIBRARY, trace, verdict, part)
+
+
+class Page(HTMLParser):
+    """What is in a page."""
+
+    def __init__(self, text: str) -> None:
+        super().__init__(convert_charrefs=True)
+        self.tags: list[tuple[str, dict[str, str | None]]] = []
+        self.open: list[str] = []
+        self.by_id: dict[str, str] = {}
+        self.texts: dict[str, list[str]] = {}
+        self.feed(text)
+        self.close()
+
+    def handle_starttag(self, tag: str, attrs: list[tuple[str, str | None]]) -> None:
+        """An element begins."""
+        found = dict(attrs)
+        self.tags.append((tag, found))
+        if tag not in ("meta", "input", "br"):
+            self.open.append(found.get("id") or tag)
+
+    def handle_endtag(self, tag: str) -> None:
+        """An element ends."""
+        self.open.pop()
+
+    def handle_data(self, data: str) -> None:
+        """Text, which belongs to all elements that are open."""
+        for name in self.open:
+            self.by_id[name] = self.by_id.get(name, "") + data
+        if self.open:
+            self.texts.setdefault(self.open[-1], []).append(data)
+
+    def policy(self) -> str:
+        """The policy of the page."""
+        metas = [attributes for tag, attributes in self.tags if tag == "meta"]
+        return next(it["content"] or "" for it in metas if "http-equiv" in it)
+
+    def data(self) -> Any:
+        """The columns."""
+        return json.loads(unpacked(self.by_id["data"]))
+
+    def lines(self) -> list[str]:
+        """The lines."""
+        return unpacked(self.by_id["text"]).split("\n")
+
+
+def unpacked(text: str) -> str:
+    """What was packed."""
+    return zlib.decompress(base64.b64decode(text)).decode()
+
+
+def summed(differences: list[int]) -> list[int]:
+    """The values whose differences these are."""
+    total, values = 0, []
+    for difference in differences:
+        total += difference
+        values.append(total)
+    return values
+
+
+def values_of(column: Any) -> list[int | None]:
+    """The values of a column, exactly."""
+    values = [None if it == -1 else it for it in summed(column["by"])]
+    for place, digits in column["exact"].items():
+        values[int(place)] = int(digits)
+    return values

@@ -1,0 +1,603 @@
+"""Pages in a headless Chromium: what a person does, traces that mean harm, and marks at their
+places."""
+
+import base64
+import json
+import re
+import sys
+import tempfile
+import unittest
+import zlib
+from pathlib import Path
+from typing import Any
+
+from tests.chromium import MISSING, Browser
+from tests.made import HEADER, NO_LIBRARY, TRACES, acked, joined, made, report_of, sent
+from tests.pixels import Scale
+
+EVIL = (
+    "</script><script>window.pwned=1</script><img src=x onerror=window.pwned=2>"
+    "<svg/onload=window.pwned=3>\u2028\u202e\u0000"
+)
+LOST = '{"event":"lost","time":100000,"space":"app","ranges":[[0,2]]}'
+# Packets 0 to 2 are lost; packet 8 at 200 ms goes past the window of 6,000 bytes.
+SMALL = (
+    HEADER,
+    *(sent(n, n * 10_000) for n in range(5)),
+    acked(100_000, (3, 4)),
+    LOST,
+    *(sent(n, 120_000 + 1000 * n) for n in range(5, 8)),
+    sent(8, 200_000, size=3600),
+    acked(300_000, (5, 8)),
+    sent(9, 310_000),
+)
+REFUSED = SMALL.index(sent(8, 200_000, size=3600)) + 1
+
+if MISSING:
+    print(f"pages are not tried in a browser: {MISSING}", file=sys.stderr)
+
+
+@unittest.skipIf(MISSING or NO_LIBRARY, MISSING or NO_LIBRARY)
+class Browsing(unittest.TestCase):
+    """One browser for all tests of a class."""
+
+    browser: Browser
+    folder: tempfile.TemporaryDirectory[str]
+
+    @classmethod
+    def setUpClass(cls) -> None:
+        cls.browser = Browser()
+        cls.folder = tempfile.TemporaryDirectory()
+
+    @classmethod
+    def tearDownClass(cls) -> None:
+        cls.browser.close()
+        cls.folder.cleanup()
+
+    def show(self, text: str, fragment: str = "") -> None:
+        """Opens a page."""
+        page = Path(self.folder.name, "page.html")
+        page.write_bytes(text.encode("utf-8", "backslashreplace"))
+        self.browser.requests()
+        self.browser.open(page, fragment)
+
+    def tearDown(self) -> None:
+        """No page says anything on the console or asks for anything."""
+        self.assertEqual(self.browser.messages(), [])
+        asked = [
+            url
+            for url in self.browser.requests()
+            if not url.startswith(("data:", "about:", "blob:")) and "/page.html" not in url
+        ]
+        self.assertEqual(asked, [])
+
+    def key(self, key: str, **more: Any) -> None:
+        """A key is pressed."""
+        event = json.dumps({"key": key, "bubbles": True, "cancelable": True, **more})
+        self.browser.run(f"document.body.dispatchEvent(new KeyboardEvent('keydown', {event}))")
+        self.browser.settled()
+
+    def mouse(self, kind: str, x: float, y: float, **more: Any) -> None:
+        """An event of the mouse, as from the machine itself."""
+        event = {"type": kind, "x": x, "y": y, "button": "left", "clickCount": 1, **more}
+        self.browser.driver.execute_cdp_cmd("Input.dispatchMouseEvent", event)
+
+    def drag(self, x: float, y: float, by: float, **more: Any) -> None:
+        """The mouse is pressed, moved and let go."""
+        self.mouse("mousePressed", x, y, **more)
+        for share in (0.3, 0.6, 1):
+            self.mouse("mouseMoved", x + by * share, y, buttons=1, **more)
+        self.mouse("mouseReleased", x + by, y, **more)
+        self.browser.settled()
+
+    def touch(self, kind: str, *points: tuple[float, float]) -> None:
+        """Fingers are put down, moved or lifted."""
+        listed = [{"x": x, "y": y, "id": place} for place, (x, y) in enumerate(points)]
+        event = {"type": kind, "touchPoints": listed}
+        self.browser.driver.execute_cdp_cmd("Input.dispatchTouchEvent", event)
+
+    def box(self, selector: str) -> Any:
+        """Where an element is: its left, top, width and height."""
+        script = (
+            "const it = document.querySelector(arguments[0]); it.scrollIntoView({block: 'center'});"
+            "const b = it.getBoundingClientRect(); return [b.left, b.top, b.width, b.height]"
+        )
+        return self.browser.run(script, selector)
+
+    def view(self) -> list[float]:
+        """The span that is shown."""
+        found: list[float] = self.browser.run("return [qauditPage.view.from, qauditPage.view.to]")
+        return found
+
+    def selected(self) -> Any:
+        """The line that is selected."""
+        return self.browser.run("return qauditPage.selected()")
+
+    def text(self, selector: str) -> str:
+        """The text of an element."""
+        script = "return document.querySelector(arguments[0]).textContent"
+        return str(self.browser.run(script, selector))
+
+
+REAL = TRACES / "quinn-growth-before-the-loss.trace"
+
+
+class Using(Browsing):
+    """What a person does."""
+
+    page = ""
+
+    @classmethod
+    def setUpClass(cls) -> None:
+        super().setUpClass()
+        cls.page = made(REAL.read_bytes(), report_of(REAL))
+
+    def test_it_opens_at_the_refused_line(self) -> None:
+        self.show(self.page)
+        self.assertEqual(self.selected(), 84)
+        self.assertIn("refused V16 metric window", self.text("tr.selected"))
+        self.assertIn("the machine stops before", self.text("tr.selected"))
+        self.assertIn("not judged", self.text("tr.selected + tr"))
+        self.assertLessEqual(
+            self.browser.run("return document.querySelectorAll('#rows tr').length"), 24
+        )
+
+    def test_the_table_has_the_rows_of_the_machine(self) -> None:
+        self.show(self.page, "#line=83")
+        said = "return [...document.querySelectorAll('tr.selected td')].map(it => it.textContent)"
+        cells = self.browser.run(said)
+        self.assertEqual(cells[0], "144.684")
+        self.assertEqual(
+            cells[2:],
+            [
+                "13,960",
+                "25,200",
+                "13,960",
+                "41.086",
+                "40.594",
+                "41.938",
+                "1.67",
+                "0",
+                "0",
+                "PTO app 217.922",
+            ],
+        )
+
+    def test_keys(self) -> None:
+        self.show(self.page)
+        self.key("ArrowRight")
+        self.assertEqual(self.selected(), 85)
+        self.key("ArrowLeft")
+        self.key("ArrowLeft")
+        self.assertEqual(self.selected(), 83)
+        self.assertTrue(self.browser.run("return location.hash") == "#line=83")
+        self.assertIn("Line 83, lost", self.text("#said"))
+        whole = self.view()
+        self.key("+")
+        near = self.view()
+        self.assertAlmostEqual((near[1] - near[0]) / (whole[1] - whole[0]), 0.5, delta=0.01)
+        self.key("ArrowRight", shiftKey=True)
+        self.assertGreater(self.view()[0], near[0])
+        self.key("-")
+        self.key("0")
+        self.assertEqual(self.view(), whole)
+        self.key("End")
+        self.assertEqual(self.selected(), 2585)
+        self.key("v")
+        self.assertEqual(self.selected(), 84)
+
+    def test_addresses(self) -> None:
+        self.show(self.page, "#line=1000")
+        self.assertEqual(self.selected(), 1000)
+        self.browser.run("location.hash = '#line=1200'")
+        self.browser.settled()
+        self.assertEqual(self.selected(), 1200)
+        self.browser.run("location.hash = '#line=99999'")
+        self.browser.settled()
+        self.assertIn("Line 99999 is not in this page", self.text("#trouble"))
+
+    def test_a_click_selects_and_a_drag_zooms_or_pans(self) -> None:
+        self.show(self.page)
+        left, top, width, height = self.box("#chart-window")
+        x, y = left + width / 2, top + height / 2
+        self.mouse("mouseMoved", x, y, button="none")
+        self.assertIn("line ", self.text("#tip"))
+        self.drag(x, y, 0)
+        self.assertGreater(self.selected(), 1000)
+        whole = self.view()
+        self.drag(x, y, 100)
+        near = self.view()
+        self.assertLess(near[1] - near[0], (whole[1] - whole[0]) / 5)
+        self.drag(x, y, -60, modifiers=8)
+        panned = self.view()
+        self.assertAlmostEqual(panned[1] - panned[0], near[1] - near[0], places=3)
+        self.assertGreater(panned[0], near[0])
+        self.mouse("mouseWheel", x, y, deltaX=0, deltaY=-100, modifiers=2)
+        self.browser.settled()
+        self.assertLess(self.view()[1] - self.view()[0], panned[1] - panned[0])
+        self.mouse("mousePressed", x, y, clickCount=1)
+        self.mouse("mouseReleased", x, y, clickCount=1)
+        self.mouse("mousePressed", x, y, clickCount=2)
+        self.mouse("mouseReleased", x, y, clickCount=2)
+        self.browser.settled()
+        self.assertEqual(self.view(), whole)
+
+    def test_all_diagrams_have_one_span(self) -> None:
+        self.show(self.page)
+        self.key("+")
+        ends = []
+        for chart in ("packets", "window", "rtt"):
+            script = (
+                f"return document.querySelector('#chart-{chart} .dygraph-axis-label-x').textContent"
+            )
+            ends.append(self.browser.run(script))
+        self.assertEqual(len(set(ends)), 1)
+
+    def test_fingers(self) -> None:
+        self.show(self.page)
+        self.key("+")
+        left, top, width, height = self.box("#chart-packets")
+        x, y = left + width / 2, top + height / 2
+        before = self.view()
+        self.touch("touchStart", (x, y))
+        for by in (20, 60, 120):
+            self.touch("touchMove", (x - by, y))
+        self.touch("touchEnd")
+        self.browser.settled()
+        panned = self.view()
+        self.assertGreater(panned[0], before[0])
+        self.assertAlmostEqual(panned[1] - panned[0], before[1] - before[0], places=3)
+        self.touch("touchStart", (x - 50, y), (x + 50, y))
+        for by in (60, 80, 100):
+            self.touch("touchMove", (x - by, y), (x + by, y))
+        self.touch("touchEnd")
+        self.browser.settled()
+        pinched = self.view()
+        self.assertAlmostEqual((pinched[1] - pinched[0]) / (panned[1] - panned[0]), 0.5, delta=0.1)
+
+    def test_the_range_selector_moves_all(self) -> None:
+        self.show(self.page)
+        left, top, width, height = self.box(".dygraph-rangesel-zoomhandle")
+        before = self.view()
+        self.drag(left + width / 2, top + height / 2, 300)
+        self.assertGreater(self.view()[0], before[0])
+        self.assertAlmostEqual(self.view()[1], before[1], places=6)
+
+    def find(self, text: str) -> None:
+        """Looks for something."""
+        self.browser.run(
+            "const it = document.getElementById('find'); it.value = arguments[0];"
+            "it.dispatchEvent(new KeyboardEvent('keydown', {key: 'Enter', bubbles: true}))",
+            text,
+        )
+        self.browser.settled()
+
+    def test_find_and_the_axis_of_lines(self) -> None:
+        self.show(self.page)
+        self.find("app 100")
+        self.assertIn('"number":100,', self.text("tr.selected"))
+        at = self.selected()
+        self.browser.run(
+            "const it = document.getElementById('axis'); it.value = 'line';"
+            "it.dispatchEvent(new Event('change'))"
+        )
+        self.browser.settled()
+        low, high = self.view()
+        self.assertTrue(low < at < high < 3000)
+        self.find("app 99999")
+        self.assertEqual(self.text("#found"), "not in this page")
+        self.find("2")
+        self.assertEqual(self.selected(), 2)
+
+    def test_a_great_number_is_found_and_shown(self) -> None:
+        great = 2**62 - 1
+        self.show(made(joined(HEADER, sent(0), sent(great - 1, 5), sent(great, 9))))
+        self.find(f"app {great}")
+        self.assertEqual(self.selected(), 4)
+        self.assertIn(f"packet {great} of app", self.text("#said"))
+
+    def test_a_space_is_hidden(self) -> None:
+        self.show(self.page)
+        labels = "return document.querySelectorAll('#chart-packets .dygraph-axis-label-y').length"
+        before = self.browser.run(labels)
+        self.browser.run("document.querySelector('#spaces button.initial').click()")
+        self.browser.settled()
+        self.browser.settled()
+        self.assertEqual(
+            self.browser.run("return document.querySelector('#spaces button.initial').ariaPressed"),
+            "false",
+        )
+        self.assertNotEqual(self.browser.run(labels), before)
+
+    def test_widths_and_colours(self) -> None:
+        try:
+            for is_dark in (False, True):
+                for width in (1200, 400):
+                    self.browser.resize(width, 900)
+                    self.browser.dress(is_dark=is_dark)
+                    self.show(self.page)
+                    wide = self.browser.run("return document.documentElement.scrollWidth")
+                    self.assertLessEqual(wide, width)
+        finally:
+            self.browser.resize(1200, 900)
+            self.browser.dress(is_dark=False)
+
+    def test_paper_is_light(self) -> None:
+        self.browser.dress(is_dark=True)
+        try:
+            self.show(self.page)
+            paper = "return getComputedStyle(document.body).backgroundColor"
+            turned = "return getComputedStyle(document.querySelector('.chart canvas')).filter"
+            self.assertEqual(self.browser.run(turned), "none")
+            self.assertNotEqual(self.browser.run(paper), "rgb(255, 255, 255)")
+            self.browser.dress(is_dark=True, media="print")
+            self.assertEqual(self.browser.run(paper), "rgb(255, 255, 255)")
+            self.assertIn("invert(1)", self.browser.run(turned))
+            shown = "return getComputedStyle(document.getElementById('controls')).display"
+            self.assertEqual(self.browser.run(shown), "none")
+        finally:
+            self.browser.dress(is_dark=False)
+
+    def test_a_part(self) -> None:
+        self.show(made(REAL.read_bytes(), report_of(REAL), first=1000, last=1100))
+        self.assertIn("Line 84 is not in this page", self.text("#trouble"))
+        self.find("1050")
+        self.assertEqual(self.selected(), 1050)
+
+
+class Harm(Browsing):
+    """Traces that mean harm."""
+
+    def harmless(self, data: bytes, report: str | None = None) -> None:
+        """A page runs nothing of its trace, and draws or says why not."""
+        self.show(made(data, report, title=EVIL, trace=Path("a<b>&.trace")))
+        for _ in range(3):
+            self.key("ArrowRight")
+        self.browser.run(
+            "for (const name of ['packets', 'window', 'rtt']) {"
+            "  const it = document.getElementById('chart-' + name);"
+            "  const box = it.getBoundingClientRect();"
+            "  for (let x = 70; x < box.width; x += 90) it.dispatchEvent(new PointerEvent("
+            "    'pointermove', {clientX: box.left + x, clientY: box.top + 60, bubbles: true}));"
+            "}"
+        )
+        self.assertIsNone(self.browser.run("return window.pwned ?? null"))
+        self.assertEqual(
+            self.browser.run(
+                "return document.querySelectorAll("
+                "'img:not(.dygraph-rangesel-zoomhandle), svg, iframe').length"
+            ),
+            0,
+        )
+        self.assertEqual(self.browser.run("return document.scripts.length"), 4)
+        self.assertNotIn("could not be drawn", self.text("#trouble"))
+
+    def test_markup(self) -> None:
+        line = json.dumps({"event": "metrics", "time": 1, "note": EVIL}, ensure_ascii=False)
+        self.harmless(joined(HEADER, line, sent(0, 2), f"<b>{EVIL}", line))
+        self.assertIn("\\u{202e}", self.text("#rows"))
+        self.assertIn("<script>window.pwned=1</script>", self.text("#rows"))
+
+    def test_bytes(self) -> None:
+        self.harmless(
+            joined(HEADER) + b'{"a":"\xff\xed\xa0\x80\x00"}\n\xff\xfe\x00\n' + b"\r\n" * 5
+        )
+        self.assertIn("\\xff", self.text("#rows"))
+        self.harmless(joined(HEADER, '{"event":"metrics","time":5,"x":"\\ud800\\u202e\u202e"}'))
+
+    def test_empty(self) -> None:
+        self.harmless(b"", "unreadable line 1 F7 header-place\n")
+        self.harmless(b"\n\n\n", "unreadable line 4 F7 header-place\n")
+        self.harmless(joined(HEADER))
+
+    def test_a_line_of_ten_megabytes(self) -> None:
+        self.harmless(joined(HEADER, sent(0)) + b"<" * 10_000_000 + b"\n" + joined(sent(1, 5)))
+        self.assertIn("10,000,000 bytes, cut here", self.text("#rows"))
+
+    def test_acknowledgments_of_all_numbers(self) -> None:
+        every = acked(5, *[(0, 2**62 - 1)] * 2000)
+        self.harmless(joined(HEADER, *(sent(n, n) for n in range(300)), *[every] * 300))
+
+    def test_great_numbers(self) -> None:
+        numbers = (2**53 - 1, 2**53 + 1, 2**61, 2**62 - 1)
+        reports = (f'{{"event":"metrics","time":{10**15},"window":{2**64 - 1},"rttvar":{2**63}}}',)
+        self.harmless(joined(HEADER, *(sent(n, 10**15 - 9) for n in numbers), *reports * 3))
+        self.assertIn(str(2**64 - 1), self.text("#rows"))
+
+    def test_great_state_is_exact(self) -> None:
+        path = TRACES / "greatest-totals.trace"
+        data, report = path.read_bytes(), report_of(path)
+        self.harmless(data, report)
+        self.key("v")
+        self.key("ArrowLeft")
+        totals = dict(line.split(" ", 1) for line in report.splitlines()[1:])
+        row = self.text("tr.selected").replace(",", "")
+        self.assertIn(totals["window"], row)
+
+    def test_timers_without_end(self) -> None:
+        fired = '{"event":"timer","time":%d,"kind":"%s","space":"app"}'
+        timers = (fired % (n, ("pto", "loss")[n % 2]) for n in range(30_000))
+        self.harmless(joined(HEADER, *timers))
+        self.assertLess(self.browser.run("return qauditPage.lastFrame()"), 2000)
+
+    def test_lines_that_deflate_ten_thousandfold(self) -> None:
+        blank = b" " * 60_000 + b"\n"
+        self.harmless(joined(HEADER, sent(0)) + blank * 300)
+
+    def test_times_that_go_back_and_objects_of_all_kinds(self) -> None:
+        odd = (
+            '{"event":"sent","time":"x"}',
+            '{"event":{"a":1}}',
+            "[]",
+            '"x"',
+            "null",
+            "{}",
+            '{"event":"ack","time":9,"space":"app","ranges":[[5,1]]}',
+            "[" * 5000,
+        )
+        self.harmless(
+            joined(
+                HEADER,
+                sent(0, 50),
+                sent(1, 40),
+                *odd,
+                sent(7, 3),
+                sent(3, 60),
+                HEADER,
+                acked(2, (0, 9)),
+            )
+        )
+
+    def test_the_policy_holds(self) -> None:
+        self.show(made(joined(HEADER, sent(0))))
+        self.browser.run(
+            "const add = (name, set) => { const it = document.createElement(name); set(it);"
+            "  document.body.append(it); };"
+            "add('script', it => { it.textContent = 'window.pwned = 1'; });"
+            "add('div', it => { it.innerHTML = '<b onclick=\"window.pwned = 2\">x</b>'; });"
+            "document.querySelector('b[onclick]').click();"
+            "fetch('http://127.0.0.1:9/').catch(() => { window.isRefused = true; });"
+        )
+        self.browser.wait("return window.isRefused === true")
+        self.assertIsNone(self.browser.run("return window.pwned ?? null"))
+        # The browser says of each that it refused it.
+        self.assertGreaterEqual(len(self.browser.messages()), 3)
+        self.browser.requests()
+
+
+class Marks(Browsing):
+    """Marks at their places, by the labels of the axes and the colours of the picture."""
+
+    page = ""
+
+    @classmethod
+    def setUpClass(cls) -> None:
+        super().setUpClass()
+        cls.page = made(joined(*SMALL))
+
+    def deselected(self) -> None:
+        """Selects a line away from what is looked at."""
+        self.key("Home")
+
+    def test_window(self) -> None:
+        self.show(self.page)
+        self.assertEqual(self.selected(), REFUSED)
+        self.deselected()
+        at = Scale(self.browser, "window")
+        self.assertTrue(at.has(50, 12_000, "app"), "the window before the loss")
+        self.assertTrue(at.has(160, 6_000, "app"), "the window behind the loss")
+        self.assertTrue(at.has(160, 6_000, "app") and not at.has(160, 9_000, "app"))
+        self.assertTrue(at.has(60, 6_000, "flight"), "five packets in flight")
+        self.assertTrue(at.has(200, 7_200, "refused"), "the cross at what is refused")
+        self.assertFalse(at.has(180, 7_200, "refused"))
+        self.assertFalse(at.has(280, 6_000, "app"), "no state behind the verdict")
+
+    def test_packets(self) -> None:
+        self.show(self.page)
+        self.deselected()
+        at = Scale(self.browser, "packets-app")
+        self.assertTrue(at.has(10, 1, "app"), "packet 1")
+        self.assertTrue(at.has(40, 4, "app"), "packet 4")
+        self.assertFalse(at.has(10, 4, "app"))
+        self.assertTrue(at.has(100, 0, "lost") and at.has(100, 2, "lost"), "declared lost")
+        self.assertFalse(at.has(100, 3, "lost"))
+        self.assertTrue(at.has(310, 9, "soft"), "a packet that was not judged is grey")
+        self.assertFalse(at.has(310, 9, "app"))
+        self.assertTrue(at.has(200, 6, "refused"), "the line of the verdict")
+        self.assertTrue(at.has(127, 7, "app"), "packet 7, which was judged")
+        self.assertTrue(at.has(300, 7, "soft"), "its acknowledgment, which was not")
+        self.assertFalse(at.has(300, 7, "app"))
+
+    def test_rtt(self) -> None:
+        self.show(self.page)
+        self.deselected()
+        at = Scale(self.browser, "rtt")
+        self.assertTrue(at.has(150, 60, "latest"), "the first sample")
+        self.assertTrue(at.has(170, 67.5, "lost"), "the loss delay")
+        self.assertTrue(at.has(170, 60 + 120 + 25, "timer"), "the probe timeout")
+
+    def test_a_silence_says_what_is_in_flight(self) -> None:
+        texts = (
+            "const said = []; const fill = CanvasRenderingContext2D.prototype.fillText;"
+            "CanvasRenderingContext2D.prototype.fillText = function (text, ...more) {"
+            "  said.push(text); return fill.call(this, text, ...more); };"
+            "window.saidTexts = said;"
+        )
+        header = HEADER.replace('"version":1', '"version":2,"timer_late_us":1000')
+        data = joined(
+            header,
+            '{"event":"confirmed","time":0}',
+            sent(0, 0),
+            sent(1, 10),
+            '{"event":"metrics","time":9000000}',
+        )
+        self.show(made(data))
+        self.browser.run(texts)
+        self.key("+")
+        self.key("0")
+        said = self.browser.run("return window.saidTexts")
+        wanted = "8,999.99 ms without an event, 2,400 B in flight, 7,975.99 ms past the deadline"
+        self.assertIn(wanted, said)
+
+    def test_lines_of_the_rtt_diagram_are_those_of_the_second_machine(self) -> None:
+        from tests.test_columns import states
+
+        path = TRACES / "quinn-handshake-loss.trace"
+        data, report = path.read_bytes(), report_of(path)
+        self.show(made(data, report))
+        lines = self.browser.run(
+            "return [[...qauditPage.lines.rtt.lossDelay]," " [...qauditPage.lines.rtt.timeout]]"
+        )
+        met = 0
+        for line, sender, _ in states(data, report):
+            if sender.first_rtt_sample is not None:
+                met += 1
+                self.assertAlmostEqual(lines[0][line - 1], sender.loss_delay / 1000)
+                timeout = sender.pto_base + sender.settings.max_ack_delay
+                self.assertAlmostEqual(lines[1][line - 1], timeout / 1000)
+        self.assertGreater(met, 50)
+
+
+class WrongPages(Browsing):
+    """Wrong pages, which the marks at their places have to tell from right ones."""
+
+    def changed(self, change: Any) -> str:
+        """The page of the small trace with other columns."""
+        text = made(joined(*SMALL))
+        block = re.search(r'id="data">([^<]*)<', text)
+        assert block is not None
+        data = json.loads(zlib.decompress(base64.b64decode(block[1])))
+        change(data)
+        packed = base64.b64encode(zlib.compress(json.dumps(data).encode())).decode()
+        return text.replace(block[1], packed)
+
+    def test_a_state_past_the_verdict(self) -> None:
+        def change(data: Any) -> None:
+            data["unjudged"] = None
+
+        self.show(self.changed(change))
+        self.key("Home")
+        self.assertTrue(Scale(self.browser, "window").has(280, 6_000, "app"))
+
+    def test_a_row_shifted_by_one(self) -> None:
+        def change(data: Any) -> None:
+            by = data["state"]["window"]["by"]
+            by.insert(0, 12_000)
+            by[1] = 0
+            by.pop()
+
+        self.show(self.changed(change))
+        self.key("Home")
+        self.assertTrue(Scale(self.browser, "window").has(101, 12_000, "app"))
+
+    def test_a_packet_at_another_number(self) -> None:
+        def change(data: Any) -> None:
+            data["packets"]["number"]["by"][1] += 1
+
+        self.show(self.changed(change))
+        self.key("Home")
+        self.assertFalse(Scale(self.browser, "packets-app").has(10, 1, "app"))
+
+
+if __name__ == "__main__":
+    unittest.main()

@@ -1,0 +1,218 @@
+"""The table of many traces."""
+
+import json
+import os
+import pty
+import shutil
+import subprocess
+import sys
+import tempfile
+import unittest
+from pathlib import Path
+from typing import Any
+
+from tests.made import HEADER, NO_LIBRARY, PAGE, PROGRAM, TRACES, Page, joined, sent
+
+from qaudit_page.matrix import Change, Result, changes_of, pattern, place_of
+
+COMMAND = PAGE / "qaudit-matrix"
+GOOD = joined(HEADER, sent(0))
+BAD = joined(HEADER, sent(0), sent(0))
+EVIL = 'a<script>b"&\u202e'
+
+
+class Names(unittest.TestCase):
+    """Rows and columns by names."""
+
+    def test_patterns(self) -> None:
+        for text, key, wanted in (
+            ("CLIENT_SERVER_CASE", "quinn_quic-go_transfer", ("transfer", "quinn \u2192 quic-go")),
+            (
+                "SERVER_CLIENT/CASE",
+                "logs/quinn_ngtcp2/handshakeloss/server/qlog/0",
+                ("handshakeloss", "quinn \u2192 ngtcp2"),
+            ),
+            (
+                "SERVER_CLIENT/CASE/SIDE",
+                "quinn_ngtcp2/retry/client/1",
+                ("retry", "quinn \u2192 ngtcp2 \u2192 client"),
+            ),
+            ("CASE", "retry", ("retry", "other")),
+            ("CLIENT_SERVER_CASE", "odd", ("odd", "other")),
+        ):
+            with self.subTest(text):
+                self.assertEqual(place_of(key, pattern(text)), wanted)
+
+    def test_wrong_patterns(self) -> None:
+        for text in ("", "CLIENT_SERVER", "CASE_CASE", "case"):
+            with self.subTest(text), self.assertRaises(ValueError):
+                pattern(text)
+
+    def test_changes(self) -> None:
+        results = [
+            Result("a", "accepted"),
+            Result("b", "refused", 9, "V7", "past-window"),
+            Result("c", "refused", 3, "V1", "time-back"),
+            Result("e", "accepted"),
+        ]
+        before = {
+            "a": "refused V7 past-window",
+            "b": "refused V7 past-window",
+            "c": "accepted",
+            "d": "accepted",
+            "e": "accepted",
+        }
+        self.assertEqual(
+            changes_of(results, before),
+            [
+                Change("c", "accepted", "refused V1 time-back"),
+                Change("a", "refused V7 past-window", "accepted"),
+                Change("d", "accepted", ""),
+            ],
+        )
+        self.assertEqual([it.is_worse for it in changes_of(results, before)], [True, False, False])
+
+
+@unittest.skipIf(NO_LIBRARY, NO_LIBRARY)
+class Tables(unittest.TestCase):
+    """The command."""
+
+    def setUp(self) -> None:
+        folder = tempfile.TemporaryDirectory()
+        self.addCleanup(folder.cleanup)
+        self.folder = Path(folder.name)
+        self.traces = self.folder / "traces"
+        self.traces.mkdir()
+        (self.traces / "quinn_ngtcp2_loss.trace").write_bytes(GOOD)
+        (self.traces / "quinn_quic-go_loss.trace").write_bytes(BAD)
+        self.table, self.json = self.folder / "table.html", self.folder / "now.json"
+
+    def run_command(self, *words: object) -> Any:
+        """How the command ends."""
+        arguments = [
+            sys.executable,
+            COMMAND,
+            "--program",
+            PROGRAM,
+            "--output",
+            self.table,
+            *words,
+            self.traces,
+        ]
+        return subprocess.run(
+            list(map(str, arguments)),
+            capture_output=True,
+            text=True,
+            timeout=60,
+            check=False,
+            stdin=subprocess.DEVNULL,
+        )
+
+    def test_a_table_with_pages(self) -> None:
+        pages = self.folder / "pages"
+        ended = self.run_command(
+            "--pattern", "CLIENT_SERVER_CASE", "--pages", pages, "--json", self.json
+        )
+        self.assertEqual((ended.returncode, ended.stdout, ended.stderr), (1, "", ""))
+        page = Page(self.table.read_text())
+        self.assertIn("1 accepted, 1 refused", page.by_id["sum"])
+        self.assertIn("V6 number-not-higher, line 3", page.by_id["table"])
+        self.assertIn("V6 number-not-higher1", page.by_id["rules"])
+        self.assertIn("quinn \u2192 quic-go", page.by_id["table"])
+        links = [it["href"] for tag, it in page.tags if tag == "a"]
+        self.assertEqual(
+            sorted(links), ["pages/quinn_ngtcp2_loss.html", "pages/quinn_quic-go_loss.html"]
+        )
+        for link in links:
+            self.assertIn("</html>", (self.folder / str(link)).read_text())
+        self.assertIn("default-src 'none'", page.policy())
+        said = json.loads(self.json.read_text())
+        self.assertEqual([it["case"] for it in said["traces"]], ["loss", "loss"])
+
+    def test_against_a_run_before(self) -> None:
+        self.assertEqual(self.run_command("--json", self.json).returncode, 1)
+        ended = self.run_command("--against", self.json)
+        self.assertEqual((ended.returncode, ended.stderr), (0, ""))
+        (self.traces / "new.trace").write_bytes(GOOD)
+        self.assertEqual(self.run_command("--against", self.json).returncode, 0)
+        (self.traces / "quinn_ngtcp2_loss.trace").write_bytes(BAD)
+        ended = self.run_command("--against", self.json)
+        self.assertEqual(ended.returncode, 1)
+        wanted = "quinn_ngtcp2_loss: refused V6 number-not-higher, before accepted\n"
+        self.assertEqual(ended.stderr, wanted)
+        changes = Page(self.table.read_text()).by_id["changes"]
+        self.assertIn("1 trace newly refused or by another rule, 1 other", changes)
+        (self.traces / "quinn_ngtcp2_loss.trace").unlink()
+        (self.traces / "quinn_quic-go_loss.trace").write_bytes(GOOD)
+        ended = self.run_command("--against", self.json)
+        self.assertEqual((ended.returncode, ended.stderr), (0, ""))
+        self.assertIn("not there", Page(self.table.read_text()).by_id["changes"])
+
+    def test_a_terminal_shows_how_far_it_is(self) -> None:
+        main, other = pty.openpty()
+        words = [sys.executable, COMMAND, "--program", PROGRAM, "--output", self.table, self.traces]
+        try:
+            subprocess.run(list(map(str, words)), stderr=other, timeout=60, check=False)
+            shown = os.read(main, 10_000).decode()
+        finally:
+            os.close(main)
+            os.close(other)
+        self.assertIn(f"[{20 * '#'}{20 * '.'}] 1 of 2", shown)
+        self.assertTrue(shown.endswith(f"[{40 * '#'}] 2 of 2\r\n"))
+
+    def test_what_is_no_record(self) -> None:
+        for text in ("", "[]", '{"version":2,"traces":[]}', '{"version":1,"traces":[{}]}'):
+            self.json.write_text(text)
+            ended = self.run_command("--against", self.json)
+            self.assertEqual(ended.returncode, 3)
+            self.assertIn("is not what qaudit-matrix --json writes", ended.stderr)
+
+    def test_names_that_mean_harm(self) -> None:
+        (self.traces / f"{EVIL}.trace").write_bytes(BAD)
+        shutil.copyfile(TRACES / "timer-late.trace", self.traces / "-.trace")
+        ended = self.run_command("--pages", self.folder / "pages", "--json", self.json)
+        self.assertEqual((ended.returncode, ended.stderr), (1, ""))
+        page = Page(self.table.read_text())
+        self.assertNotIn("script", [tag for tag, _ in page.tags])
+        self.assertIn('a<script>b"&\\u{202e}', page.by_id["table"])
+        for tag, attributes in page.tags:
+            if tag == "a":
+                self.assertRegex(str(attributes["href"]), r"^pages/[A-Za-z0-9._-]+\.html$")
+                self.assertTrue((self.folder / str(attributes["href"])).exists())
+
+    def test_below_directories_and_one_name_twice(self) -> None:
+        for name in ("a", "b"):
+            (self.traces / name).mkdir()
+            (self.traces / name / "0.trace").write_bytes(GOOD)
+        ended = self.run_command(
+            "--json", self.json, self.traces / "a" / "0.trace", self.traces / "a"
+        )
+        self.assertEqual(ended.returncode, 1)
+        keys = [it["key"] for it in json.loads(self.json.read_text())["traces"]]
+        self.assertEqual(len(set(keys)), 6)
+        self.assertIn("b/0", keys)
+
+    def test_what_cannot_be_read(self) -> None:
+        (self.traces / "bad.trace").write_bytes(b"{\n")
+        self.assertEqual(self.run_command().returncode, 2)
+        (self.traces / "gone.trace").symlink_to("/nowhere")
+        self.assertEqual(self.run_command().returncode, 3)
+        self.assertIn("cannot read gone.trace", Page(self.table.read_text()).by_id["table"])
+
+    def test_nothing_and_wrong_arguments(self) -> None:
+        empty = self.folder / "empty"
+        empty.mkdir()
+        words = [sys.executable, str(COMMAND), "--program", str(PROGRAM)]
+        wrong: list[tuple[list[str], int]] = [
+            ([str(empty)], 3),
+            ([], 64),
+            (["--pattern", "x", "y"], 64),
+        ]
+        for more, status in wrong:
+            ended = subprocess.run([*words, *more], capture_output=True, timeout=60, check=False)
+            self.assertEqual(ended.returncode, status)
+            self.assertEqual(ended.stdout, b"")
+
+
+if __name__ == "__main__":
+    unittest.main()

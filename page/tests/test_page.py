@@ -1,0 +1,374 @@
+"""The HTML of pages, by a parser, and the command that writes them."""
+
+import base64
+import hashlib
+import json
+import re
+import subprocess
+import sys
+import tempfile
+import unittest
+from pathlib import Path
+from typing import Any
+from unittest import mock
+
+from tests.made import (
+    HEADER,
+    LIBRARY,
+    NO_LIBRARY,
+    PAGE,
+    PROGRAM,
+    TRACES,
+    Page,
+    acked,
+    joined,
+    made,
+    report_of,
+    seen,
+    sent,
+)
+
+from qaudit_page import payload
+from qaudit_page.failure import Failure
+from qaudit_page.rules import FAULTS, RULES
+from qaudit_page.texts import milliseconds, runs
+
+COMMAND = PAGE / "qaudit-page"
+# Of an object, what is no amount, or is told in other words.
+UNTOLD = {
+    "file",
+    "verdict",
+    "line",
+    "rule",
+    "name",
+    "field",
+    "event",
+    "fault",
+    "behind_header",
+    "window_overshoot",
+    "counts_from",
+    "free_space",
+    "owed_space",
+}
+EVIL = (
+    "</script><script>window.pwned=1</script><img src=x onerror=window.pwned=2>\"'&"
+    "\u2028\u202e\x00\x1b[2J"
+)
+EMPTY = "unreadable line 1 F7 header-place\n"
+
+
+def told(page: Page) -> str:
+    """The amounts of a page."""
+    return " ".join(page.by_id.get("facts", "").split())
+
+
+def missing(said: dict[str, Any], unit: str, text: str) -> list[str]:
+    """The amounts of an object that a text does not have."""
+    absent = []
+    for key, value in said.items():
+        for shown in shown_of(key, value, unit):
+            if not re.search(rf"(?<![\d,.]){re.escape(shown)}(?![\d])", text):
+                absent.append(f"{key} {shown}")
+    return absent
+
+
+def shown_of(key: str, value: Any, unit: str) -> list[str]:
+    """How an amount stands in a page."""
+    if key in UNTOLD or value in (None, False, [], 0) and not key.startswith(("time_", "spent")):
+        return []
+    if value is None:
+        return ["none"]
+    if key == "differences":
+        return [
+            it
+            for one in value
+            for name, amount in one.items()
+            for it in shown_of(name, amount, unit)
+        ]
+    if key.endswith("_bytes"):
+        return [f"{value:,}"]
+    if key.endswith(f"_{unit}"):
+        # Of the two round-trip times that a loss delay goes by the greater is told.
+        is_one_of_two = key in (f"latest_rtt_{unit}", f"smoothed_rtt_{unit}")
+        return [] if is_one_of_two else [milliseconds(value, unit)]
+    if isinstance(value, list):
+        return [runs(value)]
+    words = {"pto": "probe timeout", "loss": "loss timer"} if key.endswith("kind") else {}
+    return [words.get(str(value), str(value))]
+
+
+class Corpus(unittest.TestCase):
+    """The pages of the corpus."""
+
+    def test_each_rule_and_fault_names_its_amounts_and_its_line(self) -> None:
+        met = set()
+        for path in sorted(TRACES.glob("*.trace")):
+            report = report_of(path)
+            if report.startswith("accepted"):
+                continue
+            trace, verdict = seen(path.read_bytes(), report)
+            page = Page(made(path.read_bytes(), report, trace=path))
+            met.add(verdict.rule)
+            with self.subTest(path.stem):
+                self.assertEqual(missing(verdict.said, trace.unit, told(page)), [])
+                self.assertIn(f"line {verdict.line:,}", page.by_id["p"])
+                self.assertIn(f"{verdict.rule} {verdict.name}", page.by_id["p"])
+                meaning = (RULES | FAULTS)[verdict.rule]
+                self.assertIn(meaning.sentence, page.by_id["p"])
+                self.assertIn(meaning.source, page.by_id["p"])
+        self.assertEqual(met, (RULES.keys() | FAULTS.keys()) - {"F11"})
+
+    def test_names_are_those_of_the_rows_of_the_pages(self) -> None:
+        names = {
+            **{rule: it.name for rule, it in RULES.items()},
+            **{fault: it.name for fault, it in FAULTS.items()},
+        }
+        machine = (PAGE.parent / "docs" / "machine.md").read_text()
+        form = (PAGE.parent / "docs" / "format.md").read_text()
+        for number, name in names.items():
+            with self.subTest(number):
+                page = machine if number.startswith("V") else form
+                self.assertRegex(page, rf"{number}\b[^\n]*{name}")
+
+    def test_a_window_that_is_passed(self) -> None:
+        data = joined(HEADER, *(sent(n) for n in range(10)), sent(10, 0, size=1252))
+        page = Page(made(data))
+        self.assertIn("12,000 + 1,252 = 13,252 B", told(page))
+        self.assertIn("past it by 1,252 B", told(page))
+        self.assertIn('"number":10', page.by_id["quote"])
+
+    def test_the_verdict_stands_without_script(self) -> None:
+        path = TRACES / "quinn-growth-before-the-loss.trace"
+        text = made(path.read_bytes(), report_of(path))
+        plain = re.sub(r"<script.*?</script>", "", text, flags=re.DOTALL)
+        page = Page(plain)
+        self.assertIn("Refused at line 84: V16 metric window.", page.by_id["p"])
+        self.assertIn("14,560 B", told(page))
+        self.assertIn('"window":14560', page.by_id["quote"])
+        self.assertIn("max_ack_delay", page.by_id["options"])
+
+    def test_accepted_and_empty(self) -> None:
+        page = Page(made(joined(HEADER, sent(0))))
+        self.assertIn("Accepted.", page.by_id["p"])
+        self.assertNotIn("quote", page.by_id)
+        page = Page(made(b"", EMPTY))
+        self.assertEqual(page.data()["count"], 0)
+        self.assertIn("F7 header-place", page.by_id["p"])
+
+
+class Safety(unittest.TestCase):
+    """Traces that mean harm, in the HTML."""
+
+    def test_policy(self) -> None:
+        text = made(joined(HEADER, sent(0)))
+        page = Page(text)
+        policy = page.policy()
+        self.assertTrue(policy.startswith("default-src 'none'; "))
+        self.assertNotIn("unsafe", policy)
+        scripts = re.findall(r"<script>(.*?)</script>", text, flags=re.DOTALL)
+        styles = re.findall(r"<style>(.*?)</style>", text, flags=re.DOTALL)
+        self.assertEqual((len(scripts), len(styles)), (2, 1))
+        for inline in scripts + styles:
+            digest = hashlib.sha256(inline.encode()).digest()
+            self.assertIn(f"'sha256-{base64.b64encode(digest).decode()}'", policy)
+        for _, attributes in page.tags:
+            self.assertFalse({"style", "onclick", "onload", "src"} & attributes.keys())
+
+    def test_nothing_of_a_trace_is_markup(self) -> None:
+        quiet = Page(made(joined(HEADER, sent(0))))
+        line = json.dumps({"event": "sent", "note": EVIL}, ensure_ascii=False)
+        evil = Page(
+            made(joined(HEADER, line, f"<b>{EVIL}"), title=EVIL, trace=Path(f"a{EVIL[9:20]}"))
+        )
+        tags = [
+            tag for tag, _ in evil.tags if tag not in ("div", "dt", "dd", "a", "code", "span", "p")
+        ]
+        wanted = [
+            tag for tag, _ in quiet.tags if tag not in ("div", "dt", "dd", "a", "code", "span", "p")
+        ]
+        self.assertEqual(tags, wanted)
+        self.assertIn("\\u{202e}", evil.by_id["h1"])
+        self.assertIn(EVIL.splitlines()[0][:40], evil.by_id["quote"])
+
+    def test_what_is_not_seen_is_escaped(self) -> None:
+        data = (
+            joined(HEADER) + b'{"a":"\xff\xe2\x80\xae\x00\xe2\x80\xa8\xe3\x85\xa4\xed\xa0\x80"}\n'
+        )
+        text = made(data)
+        quote = Page(text).by_id["quote"]
+        for shown in ("\\xff", "\\u{202e}", "\\u{0}", "\\u{2028}", "\\u{3164}", "\\xed\\xa0\\x80"):
+            self.assertIn(shown, quote)
+        for char in "\x00\u202e\u2028\u3164":
+            self.assertNotIn(char, text)
+
+    def test_a_name_put_in_as_it_is_would_be_seen(self) -> None:
+        with mock.patch("qaudit_page.page.html", str):
+            page = Page(made(joined(HEADER), title=EVIL))
+        self.assertIn("img", [tag for tag, _ in page.tags])
+
+    def test_a_long_line_is_cut(self) -> None:
+        data = joined(HEADER) + b"x" * 10_000_000 + b"\n"
+        text = made(data)
+        self.assertLess(len(text), 400_000)
+        self.assertIn("10,000,000 bytes, cut here", Page(text).by_id["quote"])
+
+    def test_acknowledgments_of_all_numbers_cost_little(self) -> None:
+        every = acked(5, *[(0, 2**62 - 1)] * 2000)
+        data = joined(HEADER, *(sent(n, n) for n in range(400)), *[every] * 400)
+        packets = Page(made(data)).data()["packets"]
+        self.assertEqual(len(packets["acked"]), 400)
+
+
+class Limits(unittest.TestCase):
+    """What a page takes."""
+
+    def part(self, data: bytes, first: int | None = None, last: int | None = None) -> Any:
+        """The part of a trace that is shown."""
+        return payload.part_of(*seen(data), first, last)
+
+    def test_parts(self) -> None:
+        data = joined(HEADER, *(sent(n) for n in range(5)))
+        self.assertEqual(self.part(data), payload.Part(1, 6))
+        self.assertEqual(self.part(data, 2, 99), payload.Part(2, 6))
+        with self.assertRaisesRegex(Failure, "no line from 7"):
+            self.part(data, 7)
+
+    def test_too_many_lines(self) -> None:
+        data = joined(
+            HEADER, *(sent(n) for n in range(10)), sent(10), *(sent(n) for n in range(40))
+        )
+        with mock.patch("qaudit_page.payload.MAX_LINES", 10):
+            with self.assertRaisesRegex(Failure, r"--from 7 --to 16 would do") as caught:
+                self.part(data)
+            self.assertEqual(caught.exception.status, 2)
+            self.assertEqual(self.part(data, 7, 16), payload.Part(7, 16))
+
+    def test_too_many_bytes(self) -> None:
+        data = joined(HEADER, *(sent(n, n) for n in range(9)))
+        with mock.patch("qaudit_page.payload.MAX_BYTES", 350):
+            with self.assertRaisesRegex(Failure, "--from 1 --to 3 would do"):
+                self.part(data)
+
+
+@unittest.skipIf(NO_LIBRARY, NO_LIBRARY)
+class Commands(unittest.TestCase):
+    """The command."""
+
+    def setUp(self) -> None:
+        self.folder = tempfile.TemporaryDirectory()
+        self.addCleanup(self.folder.cleanup)
+        self.page = Path(self.folder.name, "page.html")
+
+    def run_command(self, *words: object, program: object = PROGRAM, data: bytes = b"") -> Any:
+        """How the command ends."""
+        arguments = [sys.executable, str(COMMAND), "--program", str(program), *map(str, words)]
+        return subprocess.run(arguments, input=data, capture_output=True, timeout=60, check=False)
+
+    def fails(self, status: int, text: str, *words: object, **more: Any) -> None:
+        """The command fails with a line that has a text, and writes nothing."""
+        ended = self.run_command(*words, **more)
+        self.assertEqual(ended.returncode, status, ended.stderr)
+        self.assertIn(text, ended.stderr.decode())
+        self.assertEqual(ended.stderr.count(b"\n"), 1)
+        self.assertEqual(ended.stdout, b"")
+        self.assertFalse(self.page.exists())
+
+    def test_a_file_is_written(self) -> None:
+        ended = self.run_command("--output", self.page, TRACES / "timer-late.trace")
+        self.assertEqual((ended.returncode, ended.stdout, ended.stderr), (0, b"", b""))
+        page = Page(self.page.read_text())
+        self.assertIn("V18 timer-late", page.by_id["p"])
+        self.assertEqual(page.by_id["h1"], "timer-late.trace")
+        self.assertIn("Permission is hereby granted", page.by_id["pre"])
+        self.assertEqual([it.name for it in self.page.parent.iterdir()], ["page.html"])
+
+    def test_standard_input(self) -> None:
+        data = (TRACES / "timer-late.trace").read_bytes()
+        ended = self.run_command("--title", "A <title>", data=data)
+        self.assertEqual(ended.returncode, 0, ended.stderr)
+        page = Page(ended.stdout.decode())
+        self.assertEqual(page.by_id["h1"], "A <title>")
+        self.assertIn("standard input", page.by_id["overview"])
+
+    def test_what_is_missing(self) -> None:
+        trace = TRACES / "timer-late.trace"
+        self.fails(3, "there is no program /nowhere", trace, program="/nowhere")
+        self.fails(3, "no program /no\\u{a}\\u{1b}where", trace, program="/no\n\x1bwhere")
+        self.fails(3, "cannot read missing.trace", "--output", self.page, "missing.trace")
+        self.fails(3, "libjs-dygraphs", "--dygraphs", "/nowhere.js", trace)
+        self.fails(3, "cannot write page.html", "--output", "/nowhere/page.html", trace)
+        self.fails(2, "there is no line from 100", "--from", 100, trace)
+
+    def test_more_than_a_page_takes(self) -> None:
+        for data, told_of in (
+            (joined(HEADER) + b"\n" * 600_000, "--from 1 --to 500000 would do"),
+            (joined(HEADER) + (b" " * 60_000 + b"\n") * 1_800, "--from 1 --to 1667 would do"),
+        ):
+            trace = Path(self.folder.name, "long.trace")
+            trace.write_bytes(data)
+            self.fails(2, told_of, "--output", self.page, trace)
+            trace.unlink()
+
+    def test_another_library(self) -> None:
+        other = Path(self.folder.name, "other.js")
+        for text, told_of in (
+            ("var a;", "is not dygraphs"),
+            ('D.VERSION="2.1.0";', "is dygraphs 2.1"),
+            ('D.VERSION="2.2.1";"</script>"', "an end of a script"),
+        ):
+            other.write_text(text)
+            self.fails(3, told_of, "--dygraphs", other, TRACES / "timer-late.trace")
+
+    def test_a_program_without_rows(self) -> None:
+        old = Path(self.folder.name, "old")
+        old.write_text(
+            '#!/bin/sh\n[ "$1" = --json ] && echo \'{"file":"-","verdict":"accepted",'
+            '"events":1}\' && exit 0\necho usage >&2\nexit 64\n'
+        )
+        old.chmod(0o755)
+        self.fails(3, f"{old} has no --rows", TRACES / "timer-late.trace", program=old)
+
+    def test_a_program_that_fails(self) -> None:
+        broken = Path(self.folder.name, "broken")
+        for text, told_of in (
+            ("exit 3", "ended with status 3"),
+            ("kill -9 $$", "was killed by 9"),
+            ("echo 5", "wrote no verdict"),
+        ):
+            broken.write_text(f"#!/bin/sh\n{text}\n")
+            broken.chmod(0o755)
+            self.fails(3, told_of, TRACES / "timer-late.trace", program=broken)
+        said = '{"file":"-","verdict":"refused","line":2,"rule":"V7","name":"past-window"}'
+        broken.write_text(f"#!/bin/sh\n[ $1 = --json ] && echo '{said}'\nexit 1\n")
+        self.fails(3, "an unknown object", TRACES / "timer-late.trace", program=broken)
+        broken.write_text(
+            '#!/bin/sh\n[ "$1" = --rows ] && echo \'{"line":1}\' && exit 0\n'
+            'echo \'{"verdict":"accepted","events":1}\'\n'
+        )
+        self.fails(3, "wrote an unknown row", TRACES / "timer-late.trace", program=broken)
+
+    def test_no_half_page_is_left(self) -> None:
+        self.page.write_text("the page of yesterday")
+        trace = TRACES / "timer-late.trace"
+        words = f"ulimit -f 20; exec '{sys.executable}' '{COMMAND}' --program '{PROGRAM}'"
+        line = f"{words} --output '{self.page}' '{trace}'"
+        ended = subprocess.run(["bash", "-c", line], capture_output=True, timeout=60, check=False)
+        self.assertNotEqual(ended.returncode, 0)
+        self.assertEqual(self.page.read_text(), "the page of yesterday")
+        self.assertEqual([it.name for it in self.page.parent.iterdir()], ["page.html"])
+
+    def test_a_full_device(self) -> None:
+        self.fails(3, "cannot write", "--output", "/dev/full", TRACES / "timer-late.trace")
+
+    def test_wrong_arguments(self) -> None:
+        for words in (("--from", "0"), ("--to", "x"), ("--nothing",), ("a", "b")):
+            ended = self.run_command(*words)
+            self.assertEqual(ended.returncode, 64)
+            self.assertEqual(ended.stdout, b"")
+
+    def test_the_version_of_the_library_is_2_2(self) -> None:
+        self.assertRegex(LIBRARY, r'VERSION="2\.2\.')
+
+
+if __name__ == "__main__":
+    unittest.main()

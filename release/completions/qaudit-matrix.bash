@@ -1,0 +1,16 @@
+# Completion of qaudit-matrix for bash.
+
+_qaudit_matrix() {
+    local current=${COMP_WORDS[COMP_CWORD]} before=${COMP_WORDS[COMP_CWORD - 1]}
+    case $before in
+        --pattern | --jobs) return ;;
+    esac
+    if [[ $current == -* ]]; then
+        local words='--pattern --pages --json --against --output --jobs --dygraphs --program --help'
+        mapfile -t COMPREPLY < <(compgen -W "$words" -- "$current")
+    else
+        compopt -o filenames
+        mapfile -t COMPREPLY < <(compgen -f -- "$current")
+    fi
+}
+complete -F _qaudit_matrix qaudit-matrix
