@@ -43,13 +43,13 @@ python_of_bench := $(addprefix bench/,instructions library peers run trace) $(wi
 
 # The programs of conformance/ over what the gate built, the longest first. None waits for another.
 conformance := conformance-cuts conformance-failing conformance-refusals conformance-simulate conformance-mutations \
-	conformance-malicious conformance-large conformance-run conformance-reasons conformance-allocations \
+	conformance-malicious conformance-large conformance-run conformance-reasons conformance-rows conformance-allocations \
 	conformance-memory
 
 # What is handed to the library for C, in each language.
 bindings := conformance-library bindings-rust bindings-go bindings-python
 
-.PHONY: help build run lib one_byte lines test test_library gate conformance $(bindings) $(conformance) conformance-rows links made_up $(runner_tests) test_qlog test_page lint \
+.PHONY: help build run lib one_byte lines test test_library gate conformance $(bindings) $(conformance) links made_up $(runner_tests) test_qlog test_page lint \
 	bench install dist clean
 
 help:
@@ -102,6 +102,7 @@ lines:
 test:
 	$(MAKE) --no-print-directory -j 2 gate links made_up $(runner_tests) test_qlog
 	$(MAKE) --no-print-directory -j 4 --output-sync=target $(conformance)
+	QAUDIT_WHY='$(abspath $(program_why))' $(MAKE) --no-print-directory test_page
 	if [ -f $(library) ]; then $(MAKE) --no-print-directory test_library; else \
 		echo '$(library) is not built, so what C is handed is not tried: `make test_library` builds it first'; fi
 
