@@ -1,5 +1,5 @@
 //! How the lines of pieces are taken: each goes to the checker, and a good one to the observer.
-ghost use Rattle.std.specs.Prelude.{◌≡◌, ◌++◌, ℕ, List, [], ◌∷◌, Option, false, true, Ok, OnOk, OnErr};
+ghost use Rattle.std.specs.Prelude.{◌≡◌, ◌++◌, ℕ, List, [], ◌∷◌, Option, false, true, Ok, Err, OnOk, OnErr, IfErr, IsOk};
 ghost use Rattle.std.specs.Io.KnownBytes.{Appends};
 ghost use Rattle.qa_base.specs.declared.event.Event.{Event as AnEvent};
 ghost use Rattle.qa_base.specs.values.Settings.{Settings};
@@ -117,6 +117,9 @@ fn take_line<L: Ledger + Drop, T: LineText<L>, O: Observer>(
         → Begins start (O.shown observer.new) (explanation.told_of T.text reading (ls ++ line.now ∷ []))) }
     ensures failures { CountsFailure (O.failures observer.old) (O.failures observer.new) result }
 {
+    if !observer.looks() {
+        return taken(checker.push_line(line));
+    }
     let said = match checker.push_line_said(line) {
         Ok(said) => said,
         Err(stop) => return stopped(stop),
@@ -154,6 +157,19 @@ fn show_line<L: Ledger + Drop, T: LineText<L>, O: Observer>(
         return Ok(());
     };
     observer.see::<L, T>(alloc, checker.line_count(), said, ledger)
+}
+
+/// What a checker says of a line that nobody looks at.
+fn taken(pushed: Result<(), Stop>) -> Result<Lines, AuditFault>
+    ensures good { result ≡ Ok Lines.Good → IsOk pushed }
+    ensures bad { result ≡ Ok Lines.Bad → pushed ≡ Err Stop.Decided }
+    ensures memory { IfErr result (λ fault. (fault ≡ AuditFault.OutOfMemory)
+        × (pushed ≡ Err Stop.OutOfMemory)) }
+{
+    match pushed {
+        Ok(()) => Ok(Lines::Good),
+        Err(stop) => stopped(stop),
+    }
 }
 
 /// What a checker's stop says of the lines.
