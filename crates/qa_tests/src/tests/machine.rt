@@ -159,7 +159,10 @@ fn a_probe_without_a_timeout_is_borne(rt: HostRuntime) -> Result<(), Fail> {
     assert_eq!(rt; borne(&mut ledger, probe(0)), Some(Ok(())));
     assert_eq!(rt; ledger.totals().bytes_in_flight, 1200);
     let answer = borne(&mut ledger, probe(0));
-    assert_eq!(rt; answer, Some(Err(LedgerFault::Broken(Rule::NumberNotHigher))));
+    assert_eq!(rt;
+        answer,
+        Some(Err(LedgerFault::Broken(Rule::NumberNotHigher)))
+    );
     Ok(())
 }
 
