@@ -13,6 +13,7 @@
  *
  * The exit status is 0, 1 where an answer was not as wanted, and 2 where the input was none.
  */
+#include "commands.h"
 #include "qaudit.h"
 
 #include <inttypes.h>
@@ -163,68 +164,15 @@ static int run_pieces(size_t piece) {
 
 /* ---- commands */
 
-static const char *place;
-
-static uint64_t number(void) {
-    char *end;
-    uint64_t value = strtoull(place, &end, 10);
-    if (end == place) exit(2);
-    place = end;
-    return value;
-}
-
-static uint32_t small(void) { return (uint32_t)number(); }
-
-static bool flag(void) { return number() != 0; }
-
-static qaudit_range *ranges(size_t *count) {
-    qaudit_range *all;
-    size_t i;
-    *count = (size_t)number();
-    all = (qaudit_range *)__real_malloc((*count + 1) * sizeof *all);
-    if (!all) exit(2);
-    for (i = 0; i < *count; i++) {
-        all[i].least = number();
-        all[i].greatest = number();
-    }
-    return all;
-}
-
 static qaudit_status_t hand_header(qaudit *q) {
     qaudit_trace_header h;
-    h.max_datagram_size = number();
-    h.max_ack_delay = number();
-    h.initial_rtt = number();
-    h.initial_window = number();
-    h.timer_late_us = number();
-    h.timer_early_us = number();
-    h.report_slack_us = number();
-    h.report_slack_bytes = number();
-    h.packet_threshold = number();
-    h.role = small();
-    h.unit = small();
-    h.window = small();
-    h.loss_by_number = small();
-    h.has_max_ack_delay = flag();
-    h.has_initial_rtt = flag();
-    h.has_initial_window = flag();
-    h.has_timer_late_us = flag();
-    h.has_packet_threshold = flag();
-    h.refresh_min_rtt = flag();
-    h.window_overshoot = flag();
-    h.sample_eliciting_only = flag();
+    read_header(&h);
     return qaudit_header(q, &h);
 }
 
 static qaudit_status_t hand_sent(qaudit *q) {
     qaudit_packet p;
-    p.time = number();
-    p.number = number();
-    p.size = number();
-    p.space = small();
-    p.leave = small();
-    p.eliciting = flag();
-    p.in_flight = flag();
+    read_packet(&p);
     return qaudit_sent(q, &p);
 }
 
@@ -233,13 +181,10 @@ static qaudit_status_t hand_ack(qaudit *q) {
     qaudit_range *all;
     size_t count;
     qaudit_status_t status;
-    a.time = number();
-    a.delay = number();
-    a.space = small();
-    a.app_limited = flag();
-    all = ranges(&count);
+    read_ack(&a);
+    all = read_ranges(&count);
     status = qaudit_ack(q, &a, all, count);
-    __real_free(all);
+    free(all);
     return status;
 }
 
@@ -247,45 +192,22 @@ static qaudit_status_t hand_lost(qaudit *q) {
     uint64_t time = number();
     uint32_t space = small();
     size_t count;
-    qaudit_range *all = ranges(&count);
+    qaudit_range *all = read_ranges(&count);
     qaudit_status_t status = qaudit_lost(q, time, space, all, count);
-    __real_free(all);
+    free(all);
     return status;
 }
 
 static qaudit_status_t hand_timer(qaudit *q) {
     qaudit_fired_timer t;
-    t.time = number();
-    t.kind = small();
-    t.space = small();
+    read_timer(&t);
     return qaudit_timer(q, &t);
 }
 
 static qaudit_status_t hand_metrics(qaudit *q) {
     qaudit_metrics_report m;
-    m.time = number();
-    m.window = number();
-    m.ssthresh = number();
-    m.bytes_in_flight = number();
-    m.latest_rtt = number();
-    m.min_rtt = number();
-    m.smoothed_rtt = number();
-    m.rttvar = number();
-    m.has_window = flag();
-    m.has_ssthresh = flag();
-    m.has_bytes_in_flight = flag();
-    m.has_latest_rtt = flag();
-    m.has_min_rtt = flag();
-    m.has_smoothed_rtt = flag();
-    m.has_rttvar = flag();
+    read_metrics(&m);
     return qaudit_metrics(q, &m);
-}
-
-static int is_word(const char *word) {
-    size_t length = strlen(word);
-    if (strncmp(place, word, length) != 0 || place[length] != ' ') return 0;
-    place += length;
-    return 1;
 }
 
 /* Hands in the next command, and moves behind it. */

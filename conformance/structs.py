@@ -7,26 +7,17 @@ and bench/programs/events.c read them. What no struct says is fed as text.
 import json
 from collections.abc import Callable, Iterator, Mapping
 
+from constants import MAX_PACKET_NUMBER, MAX_PACKET_SIZE, MAX_TIME, METRICS, SPACES
+
 MAX_LINE = 65536
 MAX_WORD = 2**64 - 1
-MAX_TIME = 10**15
-MAX_NUMBER = 2**62 - 1
-SPACES = {"initial": 0, "handshake": 1, "app": 2}
+SPACE_NUMBERS = {name: number for number, name in enumerate(SPACES)}
 LEAVES = {"window": 0, "probe": 1, "recovery": 2}
 KINDS = {"loss": 0, "pto": 1}
 ROLES = {"client": 0, "server": 1}
 UNITS = {"us": 0, "ns": 1}
 WINDOWS = {"newreno": 0, "reported": 1}
 LOSSES = {"must": 0, "may": 1}
-METRICS = (
-    "window",
-    "ssthresh",
-    "bytes_in_flight",
-    "latest_rtt",
-    "min_rtt",
-    "smoothed_rtt",
-    "rttvar",
-)
 FIRST_KEYS = {
     *("event", "version", "role", "max_datagram_size"),
     *("max_ack_delay", "initial_rtt", "initial_window"),
@@ -116,7 +107,7 @@ class Fields:
             for number in pair:
                 if isinstance(number, bool) or not isinstance(number, int):
                     raise NoStructError
-            if not pair[0] <= pair[1] <= MAX_NUMBER:
+            if not pair[0] <= pair[1] <= MAX_PACKET_NUMBER:
                 raise NoStructError
             numbers += pair
         return numbers
@@ -130,7 +121,7 @@ def header(said: Said) -> list[int]:
     fields = Fields(said, HEADER_KEYS[version])
     unit = fields.choice("unit", UNITS, "us")
     scale = 1000 if unit else 1
-    size = fields.integer("max_datagram_size", 65527, 1200)
+    size = fields.integer("max_datagram_size", MAX_PACKET_SIZE, 1200)
     delay = fields.given("max_ack_delay", 16383000 * scale)
     rtt = fields.given("initial_rtt", 10**9 * scale, 1)
     window = fields.given("initial_window", 2**32 - 1, 2 * size)
@@ -162,9 +153,9 @@ def sent(said: Said) -> list[int]:
         raise NoStructError
     return [
         fields.integer("time", MAX_TIME),
-        fields.integer("number", MAX_NUMBER),
-        fields.integer("size", 65527, 1),
-        fields.choice("space", SPACES),
+        fields.integer("number", MAX_PACKET_NUMBER),
+        fields.integer("size", MAX_PACKET_SIZE, 1),
+        fields.choice("space", SPACE_NUMBERS),
         fields.choice("leave", LEAVES, "window"),
         *(eliciting, in_flight),
     ]
@@ -176,7 +167,7 @@ def ack(said: Said) -> list[int]:
     return [
         fields.integer("time", MAX_TIME),
         fields.integer("delay", MAX_WORD, default=0),
-        fields.choice("space", SPACES),
+        fields.choice("space", SPACE_NUMBERS),
         fields.flag("limited"),
         *fields.ranges(),
     ]
@@ -185,7 +176,7 @@ def ack(said: Said) -> list[int]:
 def lost(said: Said) -> list[int]:
     """The arguments for packets that were declared lost."""
     fields = Fields(said, {"event", "time", "space", "ranges"})
-    return [fields.integer("time", MAX_TIME), fields.choice("space", SPACES), *fields.ranges()]
+    return [fields.integer("time", MAX_TIME), fields.choice("space", SPACE_NUMBERS), *fields.ranges()]
 
 
 def timer(said: Said) -> list[int]:
@@ -194,14 +185,14 @@ def timer(said: Said) -> list[int]:
     return [
         fields.integer("time", MAX_TIME),
         fields.choice("kind", KINDS),
-        fields.choice("space", SPACES),
+        fields.choice("space", SPACE_NUMBERS),
     ]
 
 
 def discard(said: Said) -> list[int]:
     """The arguments for keys that were discarded."""
     fields = Fields(said, {"event", "time", "space"})
-    spaces = {name: number for name, number in SPACES.items() if name != "app"}
+    spaces = {name: number for name, number in SPACE_NUMBERS.items() if name != "app"}
     return [fields.integer("time", MAX_TIME), fields.choice("space", spaces)]
 
 

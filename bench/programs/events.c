@@ -9,6 +9,7 @@
  * The exit status is 0, 1 where a verdict was not as wanted, and 2 where the input was none.
  */
 #define _POSIX_C_SOURCE 199309L
+#include "commands.h"
 #include "qaudit.h"
 
 #include <inttypes.h>
@@ -31,62 +32,13 @@ typedef struct event {
     size_t count;
 } event;
 
-static const char *place;
-
-static uint64_t number(void) {
-    char *end;
-    uint64_t value = strtoull(place, &end, 10);
-    if (end == place) exit(2);
-    place = end;
-    return value;
-}
-
-static uint32_t small(void) { return (uint32_t)number(); }
-
-static bool flag(void) { return number() != 0; }
-
 static void *room_for(size_t bytes) {
     void *room = malloc(bytes);
     if (!room) exit(2);
     return room;
 }
 
-static void read_ranges(event *e) {
-    size_t i;
-    e->count = (size_t)number();
-    e->ranges = (qaudit_range *)room_for(e->count * sizeof *e->ranges);
-    for (i = 0; i < e->count; i++) {
-        e->ranges[i].least = number();
-        e->ranges[i].greatest = number();
-    }
-}
-
-static int is_word(const char *word) {
-    size_t length = strlen(word);
-    if (strncmp(place, word, length) != 0 || place[length] != ' ') return 0;
-    place += length;
-    return 1;
-}
-
-static void read_metrics(qaudit_metrics_report *m) {
-    m->time = number();
-    m->window = number();
-    m->ssthresh = number();
-    m->bytes_in_flight = number();
-    m->latest_rtt = number();
-    m->min_rtt = number();
-    m->smoothed_rtt = number();
-    m->rttvar = number();
-    m->has_window = flag();
-    m->has_ssthresh = flag();
-    m->has_bytes_in_flight = flag();
-    m->has_latest_rtt = flag();
-    m->has_min_rtt = flag();
-    m->has_smoothed_rtt = flag();
-    m->has_rttvar = flag();
-}
-
-/* An event that is a time alone. */
+/* What begins with its time. */
 static void read_moment(event *e, enum kind kind) {
     e->kind = kind;
     e->time = number();
@@ -96,30 +48,18 @@ static void read_event(event *e) {
     memset(e, 0, sizeof *e);
     if (is_word("sent")) {
         e->kind = SENT;
-        e->packet.time = number();
-        e->packet.number = number();
-        e->packet.size = number();
-        e->packet.space = small();
-        e->packet.leave = small();
-        e->packet.eliciting = flag();
-        e->packet.in_flight = flag();
+        read_packet(&e->packet);
     } else if (is_word("ack")) {
         e->kind = ACK;
-        e->ack.time = number();
-        e->ack.delay = number();
-        e->ack.space = small();
-        e->ack.app_limited = flag();
-        read_ranges(e);
+        read_ack(&e->ack);
+        e->ranges = read_ranges(&e->count);
     } else if (is_word("lost")) {
-        e->kind = LOST;
-        e->time = number();
+        read_moment(e, LOST);
         e->space = small();
-        read_ranges(e);
+        e->ranges = read_ranges(&e->count);
     } else if (is_word("timer")) {
         e->kind = TIMER;
-        e->timer.time = number();
-        e->timer.kind = small();
-        e->timer.space = small();
+        read_timer(&e->timer);
     } else if (is_word("discard")) {
         read_moment(e, DISCARD);
         e->space = small();
@@ -131,20 +71,6 @@ static void read_event(event *e) {
         e->kind = METRICS;
         read_metrics(&e->metrics);
     } else exit(2);
-    place++;
-}
-
-static void read_header(qaudit_trace_header *h) {
-    memset(h, 0, sizeof *h);
-    if (!is_word("header")) exit(2);
-    h->max_datagram_size = number();
-    h->max_ack_delay = number();
-    h->initial_rtt = number();
-    h->initial_window = number();
-    /* What versions 2 and 3 add stays as it is in version 1. */
-    while (*place != '\n') number();
-    h->role = QAUDIT_SERVER;
-    h->has_initial_window = h->initial_window != 0;
     place++;
 }
 
@@ -206,7 +132,9 @@ int main(int argc, char **argv) {
     if (rounds < 1) return 2;
     place = text_of(argv[2]);
     for (at = place; *at; at++) lines += *at == '\n';
+    if (!is_word("header")) return 2;
     read_header(&header);
+    place++;
     events = (event *)room_for((lines + 1) * sizeof *events);
     while (*place) read_event(&events[count++]);
     for (round = 0; round < rounds; round++) {
