@@ -20,7 +20,7 @@ use Rattle.qa_base.specs.machine.Packets.{history_of, is_some_packet}
 use Rattle.qa_base.specs.machine.Rules.{first_broken, IsRun}
 use Rattle.qa_base.specs.values.Settings.{Settings}
 use Rattle.qa_base.specs.machine.State.{totals}
-use Rattle.qa_format.specs.verdicts.Verdict.{Reading, header_said, event_said, header_in, events_in, said, stop_at, stop_after, first_stop, last_event_line, verdict_of, verdict, is_saying, sayings, event_line, trace_of, opening, IsWithinLimit, IsTraceOfRun}
+use Rattle.qa_format.specs.verdicts.Verdict.{Reading, strict, header_said, event_said, header_in, events_in, said, stop_at, stop_after, first_stop, last_event_line, verdict_of, verdict, is_saying, sayings, event_line, trace_of, opening, IsWithinLimit, IsTraceOfRun}
 use Rattle.qa_format.proofs.verdicts.Accepted.{good_run, accepted_is_run}
 use Rattle.qa_base.proofs.machine.Histories.{history_of-snoc}
 use Rattle.qa_base.proofs.machine.RunLaws.{prefix_of_run}
@@ -55,7 +55,7 @@ next_of_run c before after e run =
 -- it is good, and the lines behind it say the events that it does not
 abbrev GoesOn : ℕ → Settings → List Event → List Event → Result Line Fault → List (Result Line Fault) → Type 0
 GoesOn n c before events s rest =
-    (stop_at n (Some c) (history_of before) s ≡ None)
+    (stop_at first_broken n (Some c) (history_of before) s ≡ None)
     × (more : List Event) × (filter is_saying rest ≡ map event_line more) × (events ≡ filter_map event_said (s ∷ []) ++ more)
 
 goes_on : (n : ℕ) (c : Settings) (before events : List Event) (s : Result Line Fault) (rest : List (Result Line Fault))
@@ -92,7 +92,7 @@ events_in-snoc reading ls l = filter_map-append (λ m. event_said (reading m)) l
 
 pub stop_of_reading : (reading : Reading) (before : List (List ℕ)) (l : List ℕ) (header : Option Settings) (events : List Event) (s : Result Line Fault)
     → length before < max_lines → length l ≤ line_limit → header_in reading before ≡ header → events_in reading before ≡ events → reading l ≡ s
-    → stop_after reading before l ≡ stop_at (length before + 1) header (history_of events) s
+    → stop_after (strict reading) before l ≡ stop_at first_broken (length before + 1) header (history_of events) s
 unfolding stop_after
 stop_of_reading reading before l header events s few short is_header are_events is =
     let says : said reading (length before) l ≡ s = read_as_said reading (length before) l few short ∙ is in
@@ -104,11 +104,11 @@ longer before l ls few = let more : length (before ++ l ∷ []) ≡ length befor
 -- behind a header
 no_stop : (reading : Reading) (before ls : List (List ℕ)) (c : Settings) (events : List Event) → header_in reading before ≡ Some c
     → sayings reading ls ≡ map event_line events → IsRun c (history_of (events_in reading before ++ events))
-    → length before + length ls ≤ max_lines → AllByRecursion IsWithinLimit ls → first_stop reading before ls ≡ None
+    → length before + length ls ≤ max_lines → AllByRecursion IsWithinLimit ls → first_stop (strict reading) before ls ≡ None
 no_stop reading before [] c events header says run few short = refl
 no_stop reading before (l ∷ ls) c events header says run few short =
     let step = goes_on (length before + 1) c (events_in reading before) events (reading l) (map reading ls) says run in
-    let stop : stop_after reading before l ≡ None =
+    let stop : stop_after (strict reading) before l ≡ None =
     stop_of_reading reading before l (Some c) (events_in reading before) (reading l) (omega arith) short.0 header refl refl ∙ step.0 in
     let header_after : header_in reading (before ++ l ∷ []) ≡ Some c = header_in-snoc reading before l ∙ ap (λ o. option_or o (header_said (reading l))) header in
     let same : events_in reading before ++ events ≡ events_in reading (before ++ l ∷ []) ++ step.1 =
@@ -119,22 +119,22 @@ no_stop reading before (l ∷ ls) c events header says run few short =
 -- where no header came yet
 pub no_stop_yet : (reading : Reading) (before ls : List (List ℕ)) (c : Settings) (events : List Event) → header_in reading before ≡ None → events_in reading before ≡ []
     → sayings reading ls ≡ trace_of c events → IsRun c (history_of events)
-    → length before + length ls ≤ max_lines → AllByRecursion IsWithinLimit ls → first_stop reading before ls ≡ None
+    → length before + length ls ≤ max_lines → AllByRecursion IsWithinLimit ls → first_stop (strict reading) before ls ≡ None
 no_stop_yet reading before [] c events no_header no_events says run few short = refl
 no_stop_yet reading before (l ∷ ls) c events no_header no_events says run few short =
     split (begins c events (reading l) (map reading ls) says)
     (λ header_after events_after rest. no_stop_yet reading (before ++ l ∷ []) ls c events header_after events_after rest run (longer before l ls few) short.1)
   where
     split : Begins c events (reading l) (map reading ls)
-        → (header_in reading (before ++ l ∷ []) ≡ None → events_in reading (before ++ l ∷ []) ≡ [] → sayings reading ls ≡ trace_of c events → first_stop reading (before ++ l ∷ []) ls ≡ None)
-        → first_stop reading before (l ∷ ls) ≡ None
+        → (header_in reading (before ++ l ∷ []) ≡ None → events_in reading (before ++ l ∷ []) ≡ [] → sayings reading ls ≡ trace_of c events → first_stop (strict reading) (before ++ l ∷ []) ls ≡ None)
+        → first_stop (strict reading) before (l ∷ ls) ≡ None
     split (inl (blank, rest)) further =
-        let stop : stop_after reading before l ≡ None = stop_of_reading reading before l None [] (Ok line.Blank) (omega arith) short.0 no_header no_events blank in
+        let stop : stop_after (strict reading) before l ≡ None = stop_of_reading reading before l None [] (Ok line.Blank) (omega arith) short.0 no_header no_events blank in
         let header_after : header_in reading (before ++ l ∷ []) ≡ None = header_in-snoc reading before l ∙ rw (no_header, blank) refl in
         let events_after : events_in reading (before ++ l ∷ []) ≡ [] = events_in-snoc reading before l ∙ rw (no_events, blank) refl in
         rw stop (further header_after events_after rest)
     split (inr (header, rest)) further =
-        let stop : stop_after reading before l ≡ None = stop_of_reading reading before l None [] (Ok (line.Header c)) (omega arith) short.0 no_header no_events header in
+        let stop : stop_after (strict reading) before l ≡ None = stop_of_reading reading before l None [] (Ok (line.Header c)) (omega arith) short.0 no_header no_events header in
         let header_after : header_in reading (before ++ l ∷ []) ≡ Some c = header_in-snoc reading before l ∙ rw (no_header, header) refl in
         let events_after : events_in reading (before ++ l ∷ []) ≡ [] = events_in-snoc reading before l ∙ rw (no_events, header) refl in
         rw stop (no_stop reading (before ++ l ∷ []) ls c events header_after rest (rw events_after run) (longer before l ls few) short.1)
@@ -158,16 +158,16 @@ nothing_owed : (some : Bool) (last : ℕ) (u : Totals) → some ≡ false → (i
 nothing_owed true last u none = cc
 nothing_owed false last u none = refl
 
-run_is_accepted : (reading : Reading) (bytes : List ℕ) (t : Totals) → IsTraceOfRun reading (lines bytes) t → verdict reading bytes ≡ Accepted t
+run_is_accepted : (reading : Reading) (bytes : List ℕ) (t : Totals) → IsTraceOfRun reading (lines bytes) t → verdict (strict reading) bytes ≡ Accepted t
 unfolding verdict_of
 run_is_accepted reading bytes t (few, short, c, events, says, run, complete, is) =
     let ls = lines bytes in
     let h = history_of events in
     let within : 0 + length ls ≤ 4294967295 = omega (arith, few) in
-    let good : first_stop reading [] ls ≡ None = no_stop_yet reading [] ls c events refl refl says run within short in
+    let good : first_stop (strict reading) [] ls ≡ None = no_stop_yet reading [] ls c events refl refl says run within short in
     let so = (good_run reading [] ls good (refl, refl)).1 in
     let known = known_trace (header_in reading ls) (events_in reading ls) c events (sym so ∙ says) in
     rw good (rw (known.0, known.1) (nothing_owed (is_some_packet (owed c h)) (last_event_line reading ls) (totals c h) (ap is_some_packet complete) ∙ ap Accepted (sym is)))
 
-pub accepted_exactly_runs : (reading : Reading) (bytes : List ℕ) (t : Totals) → (verdict reading bytes ≡ Accepted t) ↔ IsTraceOfRun reading (lines bytes) t
+pub accepted_exactly_runs : (reading : Reading) (bytes : List ℕ) (t : Totals) → (verdict (strict reading) bytes ≡ Accepted t) ↔ IsTraceOfRun reading (lines bytes) t
 accepted_exactly_runs reading bytes t = (accepted_is_run reading bytes t, run_is_accepted reading bytes t)

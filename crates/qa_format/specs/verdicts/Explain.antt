@@ -12,7 +12,7 @@ use Rattle.qa_format.specs.format.LineKinds.{line_kind}
 use Rattle.qa_base.specs.values.Names.{line_kind_name}
 use Rattle.qa_base.specs.values.Settings.{Settings}
 use Rattle.qa_format.specs.verdicts.Report.{report}
-use Rattle.qa_format.specs.verdicts.Verdict.{Reading, header_in, events_in, stop_after, verdict}
+use Rattle.qa_format.specs.verdicts.Verdict.{Judging, header_in, events_in, stop_after, verdict}
 
 -- ---- one row
 
@@ -45,22 +45,22 @@ told_said tell n (Ok l) (Some c) h = if is_some (line_kind l) then tell n l c h 
 told_said tell n _ _ h = []
 
 -- a good line with these before it
-abbrev pub told_line : Telling → Reading → List (List ℕ) → List ℕ → List ℕ
-told_line tell reading before l =
-    told_said tell (length before + 1) (reading l) (header_in reading (before ++ l ∷ [])) (history_of (events_in reading (before ++ l ∷ [])))
+abbrev pub told_line : Telling → Judging → List (List ℕ) → List ℕ → List ℕ
+told_line tell judging before l =
+    told_said tell (length before + 1) (judging.says l) (header_in judging.says (before ++ l ∷ [])) (history_of (events_in judging.says (before ++ l ∷ [])))
 
 -- the lines before the first that is not good, where those before them are
-abbrev pub told_after : Telling → Reading → List (List ℕ) → List (List ℕ) → List ℕ
-told_after tell reading before [] = []
-told_after tell reading before (l ∷ ls) =
-    if is_some (stop_after reading before l) then [] else told_line tell reading before l ++ told_after tell reading (before ++ l ∷ []) ls
+abbrev pub told_after : Telling → Judging → List (List ℕ) → List (List ℕ) → List ℕ
+told_after tell judging before [] = []
+told_after tell judging before (l ∷ ls) =
+    if is_some (stop_after judging before l) then [] else told_line tell judging before l ++ told_after tell judging (before ++ l ∷ []) ls
 
-unfoldable pub told_of : Telling → Reading → List (List ℕ) → List ℕ
-told_of tell reading ls = told_after tell reading [] ls
+unfoldable pub told_of : Telling → Judging → List (List ℕ) → List ℕ
+told_of tell judging ls = told_after tell judging [] ls
 
 -- the lines of bytes
-abbrev pub told : Telling → Reading → List ℕ → List ℕ
-told tell reading bytes = told_of tell reading (lines bytes)
+abbrev pub told : Telling → Judging → List ℕ → List ℕ
+told tell judging bytes = told_of tell judging (lines bytes)
 
 -- nothing is told of any line
 abbrev pub told_nothing : Telling
@@ -78,8 +78,8 @@ row_said n l c h = row_of n (line_kind l) c h
 
 -- ---- of bytes
 
-abbrev pub rows : Reading → List ℕ → List ℕ
-rows reading bytes = told row_said reading bytes
+abbrev pub rows : Judging → List ℕ → List ℕ
+rows judging bytes = told row_said judging bytes
 
-abbrev pub explain : Reading → List ℕ → List ℕ
-explain reading bytes = rows reading bytes ++ report (verdict reading bytes)
+abbrev pub explain : Judging → List ℕ → List ℕ
+explain judging bytes = rows judging bytes ++ report (verdict judging bytes)

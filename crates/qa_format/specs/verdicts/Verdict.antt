@@ -1,4 +1,4 @@
--- What is said of a trace, by any reading of its lines.
+-- What is said of a trace, by any reading of its lines and any rules.
 use Rattle.std.specs.Prelude.{◌≡◌, ℕ, ◌+◌, ◌⊎◌, ◌<◌, ◌≤◌, nat_lt, nat_le, Bool, true, false, is_some, List, [], ◌∷◌, ◌++◌, length, map, filter_map, Option, Some, None, option_map, unwrap_or, IsSome, Result, Ok, Err, if◌then◌else◌}
 use Rattle.std.specs.List.{filter, AllByRecursion}
 use Rattle.std.specs.Option.{option_or}
@@ -14,6 +14,7 @@ use Rattle.qa_base.specs.values.Limits.{max_lines}
 use Rattle.qa_format.specs.format.Lines.{line_limit, lines, ended_lines, unended}
 use Rattle.qa_base.specs.machine.Packets.{history_of, is_some_packet}
 use Rattle.qa_base.specs.machine.Rules.{first_broken, IsRun, IsComplete}
+use Rattle.qa_base.specs.declared.rule.Rule.{Rule}
 use Rattle.qa_base.specs.declared.rule.Rule.TheVariants.{OwedAtEnd}
 use Rattle.qa_base.specs.machine.Loss.{owed}
 use Rattle.qa_base.specs.values.Settings.{Settings}
@@ -22,6 +23,19 @@ use Rattle.qa_base.specs.machine.State.{totals}
 -- what the bytes of a line say, or the fault of the line
 abbrev pub Reading : Type 0
 Reading = List ℕ → Result Line Fault
+
+-- the rule by which an event ends a trace, after a header and a history
+abbrev pub Breaking : Type 0
+Breaking = Settings → List Event → Event → Option Rule
+
+-- how a trace is judged: what its lines say, and which events end it
+pub record Judging : Type 0 where
+  pub says : Reading
+  pub breaks : Breaking
+
+-- an event ends a trace that breaks a rule, by the first that it breaks
+abbrev pub strict : Reading → Judging
+strict reading = record { says = reading; breaks = first_broken }
 
 -- ---- what lines say
 
@@ -53,30 +67,30 @@ abbrev pub unreadable : ℕ → Option Settings → List Event → Fault → Ver
 unreadable n header h f = Unreadable n f (option_map (λ c. totals c h) header)
 
 -- the verdict where line n, which says this after a header and a history, is not good
-abbrev pub stop_at : ℕ → Option Settings → List Event → Result Line Fault → Option Verdict
-stop_at n header h (Err f) = Some (unreadable n header h f)
-stop_at n header h (Ok line.Blank) = None
-stop_at n None h (Ok (line.Header c)) = None
-stop_at n (Some d) h (Ok (line.Header c)) = Some (unreadable n (Some d) h HeaderPlace)
-stop_at n None h (Ok (line.Event e)) = Some (unreadable n None h HeaderPlace)
-stop_at n (Some c) h (Ok (line.Event e)) = option_map (λ r. Refused n r (totals c h)) (first_broken c h e)
+abbrev pub stop_at : Breaking → ℕ → Option Settings → List Event → Result Line Fault → Option Verdict
+stop_at breaks n header h (Err f) = Some (unreadable n header h f)
+stop_at breaks n header h (Ok line.Blank) = None
+stop_at breaks n None h (Ok (line.Header c)) = None
+stop_at breaks n (Some d) h (Ok (line.Header c)) = Some (unreadable n (Some d) h HeaderPlace)
+stop_at breaks n None h (Ok (line.Event e)) = Some (unreadable n None h HeaderPlace)
+stop_at breaks n (Some c) h (Ok (line.Event e)) = option_map (λ r. Refused n r (totals c h)) (breaks c h e)
 
 -- the verdict where the line is not good that comes after these, which are
-unfoldable pub stop_after : Reading → List (List ℕ) → List ℕ → Option Verdict
-stop_after reading before l = stop_at (length before + 1) (header_in reading before) (history_of (events_in reading before)) (said reading (length before) l)
+unfoldable pub stop_after : Judging → List (List ℕ) → List ℕ → Option Verdict
+stop_after judging before l = stop_at judging.breaks (length before + 1) (header_in judging.says before) (history_of (events_in judging.says before)) (said judging.says (length before) l)
 
 -- the verdict at the first of the lines that is not good, where those before them are
-abbrev pub first_stop : Reading → List (List ℕ) → List (List ℕ) → Option Verdict
-first_stop reading before [] = None
-first_stop reading before (l ∷ ls) = option_or (stop_after reading before l) (first_stop reading (before ++ l ∷ []) ls)
+abbrev pub first_stop : Judging → List (List ℕ) → List (List ℕ) → Option Verdict
+first_stop judging before [] = None
+first_stop judging before (l ∷ ls) = option_or (stop_after judging before l) (first_stop judging (before ++ l ∷ []) ls)
 
 -- each of the lines is good
-abbrev pub AreGood : Reading → List (List ℕ) → Type 0
-AreGood reading ls = first_stop reading [] ls ≡ None
+abbrev pub AreGood : Judging → List (List ℕ) → Type 0
+AreGood judging ls = first_stop judging [] ls ≡ None
 
 -- one of the lines is not good, so that they have their verdict, whatever follows
-abbrev pub AreDecided : Reading → List (List ℕ) → Type 0
-AreDecided reading ls = IsSome (first_stop reading [] ls)
+abbrev pub AreDecided : Judging → List (List ℕ) → Type 0
+AreDecided judging ls = IsSome (first_stop judging [] ls)
 
 -- ---- the verdict
 
@@ -98,16 +112,16 @@ abbrev pub end_of : Reading → List (List ℕ) → Verdict
 end_of reading ls = end_at (length ls + 1) (last_event_line reading ls) (header_in reading ls) (history_of (events_in reading ls))
 
 -- what is said of lines
-unfoldable pub verdict_of : Reading → List (List ℕ) → Verdict
-verdict_of reading ls = unwrap_or (first_stop reading [] ls) (end_of reading ls)
+unfoldable pub verdict_of : Judging → List (List ℕ) → Verdict
+verdict_of judging ls = unwrap_or (first_stop judging [] ls) (end_of judging.says ls)
 
 -- what is said of bytes
-abbrev pub verdict : Reading → List ℕ → Verdict
-verdict reading bytes = verdict_of reading (lines bytes)
+abbrev pub verdict : Judging → List ℕ → Verdict
+verdict judging bytes = verdict_of judging (lines bytes)
 
 -- a line that an LF ended is not good, or too many bytes stand after the last LF: no byte that follows changes the verdict
-abbrev pub IsFixed : Reading → List ℕ → Type 0
-IsFixed reading bytes = AreDecided reading (ended_lines bytes) ⊎ (line_limit < length (unended bytes))
+abbrev pub IsFixed : Judging → List ℕ → Type 0
+IsFixed judging bytes = AreDecided judging (ended_lines bytes) ⊎ (line_limit < length (unended bytes))
 
 -- ---- accepted traces
 
