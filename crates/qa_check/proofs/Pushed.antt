@@ -3,7 +3,6 @@ use Rattle.std.proofs.Common.{◌≡◌, inl, ℕ, List, [], ◌∷◌, ◌++◌
 use Rattle.std.proofs.lemmas.Bool.{eqb-true}
 use Rattle.std.specs.Prelude.{◌==◌}
 use Rattle.qa_format.specs.format.Lines.{with_lf, IsShortLine}
-use Rattle.qa_format.specs.format.Reading.{reading}
 use Rattle.qa_format.specs.verdicts.Explain.{told_nothing}
 use Rattle.qa_format.specs.verdicts.Verdict.{AreGood, AreDecided, IsFixed}
 use Rattle.qa_split.specs.Stream.{Stream}
@@ -11,7 +10,7 @@ use Rattle.qa_check.specs.declared.auditing.AuditFault.{AuditFault}
 use Rattle.qa_check.specs.declared.auditor.Progress.TheVariants.{Open}
 use Rattle.qa_check.specs.Auditor.{BringsTo}
 use Rattle.qa_check.specs.Following.{FollowsBy, AnswersBy}
-use Rattle.qa_check.specs.Standing.{Held, Stands, AddsGood, AddsBad}
+use Rattle.qa_check.specs.Standing.{by, Held, Judges, AddsGood, AddsBad}
 use Rattle.qa_check.specs.Writing.{Shows, Shown, told_ended}
 use Rattle.qa_check.proofs.Fed.{open_from}
 use Rattle.qa_check.proofs.Following.{follow_line, follow_piece, decide_line}
@@ -21,38 +20,38 @@ pub none_of : (bytes : List ℕ) → (length bytes == 0) ≡ true → bytes ≡ 
 none_of [] is = refl
 none_of (b ∷ bs) is = let zero : length (b ∷ bs) ≡ 0 = eqb-true _ _ is in absurd (omega (arith, zero))
 
-good_unseen : {L : Type 0} (stands : Stands L) (old new : Held L) (l : List ℕ) → AddsGood stands old new l
-    → (ls : List (List ℕ)) → Shows stands told_nothing old None None ls → Shows stands told_nothing new None None (ls ++ l ∷ []) × AreGood reading (ls ++ l ∷ [])
-good_unseen stands old new l adds ls shows = let added = adds.1 ls shows.0 in ((added.0, tt), added.1)
+good_unseen : {L : Type 0} (judges : Judges L) (old new : Held L) (l : List ℕ) → AddsGood judges old new l
+    → (ls : List (List ℕ)) → Shows judges told_nothing old None None ls → Shows judges told_nothing new None None (ls ++ l ∷ []) × AreGood (by judges) (ls ++ l ∷ [])
+good_unseen judges old new l adds ls shows = let added = adds.1 ls shows.0 in ((added.0, tt), added.1)
 
-bad_unseen : {L : Type 0} (stands : Stands L) (old new : Held L) (l : List ℕ) → AddsBad stands old new l
-    → (ls : List (List ℕ)) → Shows stands told_nothing old None None ls → Shows stands told_nothing new None None (ls ++ l ∷ []) × AreDecided reading (ls ++ l ∷ [])
-bad_unseen stands old new l adds ls shows = let added = adds.1 ls shows.0 in ((added.0, tt), added.1)
+bad_unseen : {L : Type 0} (judges : Judges L) (old new : Held L) (l : List ℕ) → AddsBad judges old new l
+    → (ls : List (List ℕ)) → Shows judges told_nothing old None None ls → Shows judges told_nothing new None None (ls ++ l ∷ []) × AreDecided (by judges) (ls ++ l ∷ [])
+bad_unseen judges old new l adds ls shows = let added = adds.1 ls shows.0 in ((added.0, tt), added.1)
 
 -- the line stands ready behind the others
-line_ready : {L : Type 0} (stands : Stands L) (old : Held L) (bytes l : List ℕ) → Shown stands told_nothing [] old None None bytes
-    → FollowsBy (Shows stands told_nothing old None None) (with_lf l) (bytes ++ with_lf l)
-line_ready stands old bytes l f = follow_piece (Shows stands told_nothing old None None) [] (with_lf l) bytes f
+line_ready : {L : Type 0} (judges : Judges L) (old : Held L) (bytes l : List ℕ) → Shown judges told_nothing [] old None None bytes
+    → FollowsBy (by judges) (Shows judges told_nothing old None None) (with_lf l) (bytes ++ with_lf l)
+line_ready judges old bytes l f = follow_piece (by judges) (Shows judges told_nothing old None None) [] (with_lf l) bytes f
 
 -- a good line
-pub pushed_good : {L : Type 0} (stands : Stands L) (old new : Held L) (stream : Stream) (bytes l : List ℕ)
-    → stream.bytes ≡ [] → IsShortLine l → AddsGood stands old new l → Shown stands told_nothing [] old None None bytes
-    → BringsTo stands told_nothing (Ok Open) stream new None None (bytes ++ with_lf l)
-pushed_good stands old new stream bytes l empty short adds f =
-    let next : Shown stands told_nothing [] new None None (bytes ++ with_lf l) =
-    follow_line (Shows stands told_nothing old None None) (Shows stands told_nothing new None None) (with_lf l) [] l false short (inl refl) refl
-    (good_unseen stands old new l adds) (bytes ++ with_lf l) (line_ready stands old bytes l f) in
-    open_from stands told_nothing stream new None None (bytes ++ with_lf l) (rw empty (refl, omega arith)) (rw empty next)
+pub pushed_good : {L : Type 0} (judges : Judges L) (old new : Held L) (stream : Stream) (bytes l : List ℕ)
+    → stream.bytes ≡ [] → IsShortLine l → AddsGood judges old new l → Shown judges told_nothing [] old None None bytes
+    → BringsTo judges told_nothing (Ok Open) stream new None None (bytes ++ with_lf l)
+pushed_good judges old new stream bytes l empty short adds f =
+    let next : Shown judges told_nothing [] new None None (bytes ++ with_lf l) =
+    follow_line (by judges) (Shows judges told_nothing old None None) (Shows judges told_nothing new None None) (with_lf l) [] l false short (inl refl) refl
+    (good_unseen judges old new l adds) (bytes ++ with_lf l) (line_ready judges old bytes l f) in
+    open_from judges told_nothing stream new None None (bytes ++ with_lf l) (rw empty (refl, omega arith)) (rw empty next)
 
 -- a line that is not good
-pub pushed_bad : {L : Type 0} (stands : Stands L) (old new : Held L) (bytes l : List ℕ)
-    → IsShortLine l → AddsBad stands old new l → Shown stands told_nothing [] old None None bytes
-    → IsFixed reading (bytes ++ with_lf l) × AnswersBy (Shows stands told_nothing new None None) (bytes ++ with_lf l)
-pushed_bad stands old new bytes l short adds f =
-    decide_line (Shows stands told_nothing old None None) (Shows stands told_nothing new None None) (with_lf l) [] l false short (inl refl) refl
-    (bad_unseen stands old new l adds) (bytes ++ with_lf l) (line_ready stands old bytes l f)
+pub pushed_bad : {L : Type 0} (judges : Judges L) (old new : Held L) (bytes l : List ℕ)
+    → IsShortLine l → AddsBad judges old new l → Shown judges told_nothing [] old None None bytes
+    → IsFixed (by judges) (bytes ++ with_lf l) × AnswersBy (by judges) (Shows judges told_nothing new None None) (bytes ++ with_lf l)
+pushed_bad judges old new bytes l short adds f =
+    decide_line (by judges) (Shows judges told_nothing old None None) (Shows judges told_nothing new None None) (with_lf l) [] l false short (inl refl) refl
+    (bad_unseen judges old new l adds) (bytes ++ with_lf l) (line_ready judges old bytes l f)
 
 -- where the audit failed nothing is said
-pub pushed_failed : {L : Type 0} (stands : Stands L) (new : Held L) (stream : Stream) (bytes : List ℕ) (fault : AuditFault)
-    → BringsTo stands told_nothing (Err fault) stream new None None bytes
-pushed_failed stands new stream bytes fault = ([], told_ended told_nothing bytes, refl, tt)
+pub pushed_failed : {L : Type 0} (judges : Judges L) (new : Held L) (stream : Stream) (bytes : List ℕ) (fault : AuditFault)
+    → BringsTo judges told_nothing (Err fault) stream new None None bytes
+pushed_failed judges new stream bytes fault = ([], told_ended (by judges) told_nothing bytes, refl, tt)

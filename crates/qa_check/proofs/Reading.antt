@@ -5,9 +5,9 @@ use Rattle.std.proofs.lemmas.List.{append-nil, take_rest, take-take, drop-take}
 use Rattle.std.proofs.KnownBytes.{Appends-trans, Consumes-trans}
 use Rattle.std.specs.Io.KnownBytes.{Appends, Consumes, Keeps}
 use Rattle.qa_format.specs.format.Reading.{reading}
-use Rattle.qa_format.specs.verdicts.Verdict.{verdict, IsFixed}
+use Rattle.qa_format.specs.verdicts.Verdict.{Judging, strict, verdict, IsFixed}
 use Rattle.qa_format.proofs.verdicts.Fixed.{fixed_stays}
-use Rattle.qa_check.specs.Audit.{Reads, ReadsEnough, IsReadNoFurther}
+use Rattle.qa_check.specs.Audit.{ReadsBy, ReadsEnough, IsReadNoFurtherBy}
 use Rattle.qa_check.specs.Failures.{failures_after, write_failed}
 
 -- ---- reading
@@ -27,18 +27,18 @@ consume_none (Some xs) (Some ys) None bytes h k = elim k [ ]
 consume_none (Some xs) (Some ys) (Some zs) bytes h k = h ∙ ap (λ rest. bytes ++ rest) (sym k)
 
 -- the last read gave no byte of bytes that are not fixed
-pub open_read : (last : ℕ) (bytes : List ℕ) → last ≡ 0 → (IsFixed reading bytes → ⊥) → IsReadNoFurther last bytes
-open_read last bytes none open_yet = (bytes, [], sym (append-nil bytes), sym none, omega (arith, none), open_yet)
+pub open_read : (judging : Judging) (last : ℕ) (bytes : List ℕ) → last ≡ 0 → (IsFixed judging bytes → ⊥) → IsReadNoFurtherBy judging last bytes
+open_read judging last bytes none open_yet = (bytes, [], sym (append-nil bytes), sym none, omega (arith, none), open_yet)
 
 -- a read failed
-pub reads_failed : (a b c : Option (List ℕ)) (last : ℕ) (bytes : List ℕ) → Consumes a b bytes → Keeps b c → last ≡ 0 → (IsFixed reading bytes → ⊥)
-    → Reads a c last
-reads_failed a b c last bytes h k none open_yet = (bytes, consume_none a b c bytes h k, open_read last bytes none open_yet)
+pub reads_failed : (judging : Judging) (a b c : Option (List ℕ)) (last : ℕ) (bytes : List ℕ) → Consumes a b bytes → Keeps b c → last ≡ 0 → (IsFixed judging bytes → ⊥)
+    → ReadsBy judging a c last
+reads_failed judging a b c last bytes h k none open_yet = (bytes, consume_none a b c bytes h k, open_read judging last bytes none open_yet)
 
 -- a piece more was read
-pub reads_piece : (a b c : Option (List ℕ)) (last : ℕ) (bytes piece : List ℕ) → Consumes a b bytes → Consumes b c piece
-    → (length piece ≡ last) × (last ≤ 4096) → (IsFixed reading bytes → ⊥) → Reads a c last
-reads_piece a b c last bytes piece h k short open_yet = (bytes ++ piece, Consumes-trans a b c bytes piece h k, (bytes, piece, refl, short.0, short.1, open_yet))
+pub reads_piece : (judging : Judging) (a b c : Option (List ℕ)) (last : ℕ) (bytes piece : List ℕ) → Consumes a b bytes → Consumes b c piece
+    → (length piece ≡ last) × (last ≤ 4096) → (IsFixed judging bytes → ⊥) → ReadsBy judging a c last
+reads_piece judging a b c last bytes piece h k short open_yet = (bytes ++ piece, Consumes-trans a b c bytes piece h k, (bytes, piece, refl, short.0, short.1, open_yet))
 
 -- nothing more was there
 pub reads_nothing : (a b c : Option (List ℕ)) (bytes piece : List ℕ) (n : ℕ) → Consumes a b bytes → Consumes b c (take n piece) → n ≡ 0 → Consumes a c bytes
@@ -48,12 +48,12 @@ reads_nothing a b c bytes piece n h k zero =
     rw append-nil at (Consumes-trans a b c bytes [] h rest)
 
 -- what was read has the verdict of all the bytes that a reader tells
-pub told_verdict : {last : ℕ} (old new : Option (List ℕ)) (read bytes : List ℕ) → old ≡ Some bytes → ReadsEnough old new last read → verdict reading bytes ≡ verdict reading read
+pub told_verdict : {last : ℕ} (old new : Option (List ℕ)) (read bytes : List ℕ) → old ≡ Some bytes → ReadsEnough old new last read → verdict (strict reading) bytes ≡ verdict (strict reading) read
 told_verdict (Some xs) (Some ys) read bytes tells enough =
     let all : bytes ≡ read ++ ys = cc in
     elim enough.1 [
-      | inl end ↦ ap (verdict reading) (all ∙ (ap (λ k. read ++ k) end ∙ append-nil read))
-      | inr fixed ↦ ap (verdict reading) all ∙ fixed_stays reading read ys fixed
+      | inl end ↦ ap (verdict (strict reading)) (all ∙ (ap (λ k. read ++ k) end ∙ append-nil read))
+      | inr fixed ↦ ap (verdict (strict reading)) all ∙ fixed_stays (strict reading) read ys fixed
     ]
 told_verdict (Some xs) None read bytes tells enough = elim enough.0 [ ]
 told_verdict None new read bytes tells enough = cc

@@ -3,7 +3,6 @@ use Rattle.std.specs.Prelude.{◌≡◌, ◌==◌, ℕ, Bool, false, List, lengt
 use Rattle.std.specs.Io.KnownBytes.{Appends}
 use Rattle.qa_format.specs.declared.verdict.Verdict.{Verdict}
 use Rattle.qa_format.specs.format.Lines.{IsShortLine}
-use Rattle.qa_format.specs.format.Reading.{reading}
 use Rattle.qa_format.specs.verdicts.Explain.{Telling, told, told_nothing}
 use Rattle.qa_format.specs.verdicts.Verdict.{verdict, IsFixed}
 use Rattle.qa_split.specs.Stream.{Stream, HasNoLine}
@@ -11,7 +10,7 @@ use Rattle.qa_check.specs.declared.auditing.AuditFault.{AuditFault}
 use Rattle.qa_check.specs.declared.auditor.Progress.{Progress}
 use Rattle.qa_check.specs.declared.auditor.Progress.TheVariants.{Open, Fixed}
 use Rattle.qa_check.specs.Following.{IsReady}
-use Rattle.qa_check.specs.Standing.{Held, Stands}
+use Rattle.qa_check.specs.Standing.{Held, Judges, by}
 use Rattle.qa_check.specs.Writing.{Begins, Shown, told_ended}
 
 -- the bytes of the unfinished line, what is held of the lines before it, and how far the audit is, or why it has failed
@@ -32,20 +31,20 @@ pub record TakesMore {L : Type 0} (stream : Stream) (held : Held L) : Type 0 whe
 
 -- these bytes bring an audit so far, and its observer from the first text to the second. While it is open they do not fix the verdict,
 -- and all was shown that is told of the lines that an LF ends; once it is fixed all of them; and where the audit failed the beginning
-abbrev pub BringsTo : {L : Type 0} → Stands L → Telling → Result Progress AuditFault → Stream → Held L → Option (List ℕ) → Option (List ℕ) → List ℕ → Type 0
-BringsTo stands tell (Ok Open) stream held start now bytes =
-    (IsFixed reading bytes → ⊥) × IsShortLine stream.bytes × Shown stands tell stream.bytes held start now bytes
-BringsTo stands tell (Ok (Fixed v)) stream held start now bytes =
-    IsFixed reading bytes × (v ≡ verdict reading bytes) × Appends start now (told tell reading bytes)
-BringsTo stands tell (Err f) stream held start now bytes = Begins start now (told_ended tell bytes)
+abbrev pub BringsTo : {L : Type 0} → Judges L → Telling → Result Progress AuditFault → Stream → Held L → Option (List ℕ) → Option (List ℕ) → List ℕ → Type 0
+BringsTo judges tell (Ok Open) stream held start now bytes =
+    (IsFixed (by judges) bytes → ⊥) × IsShortLine stream.bytes × Shown judges tell stream.bytes held start now bytes
+BringsTo judges tell (Ok (Fixed v)) stream held start now bytes =
+    IsFixed (by judges) bytes × (v ≡ verdict (by judges) bytes) × Appends start now (told tell (by judges) bytes)
+BringsTo judges tell (Err f) stream held start now bytes = Begins start now (told_ended (by judges) tell bytes)
 
 -- these bytes were fed to it, since its observer had the first text, which has the second now
-abbrev pub Observes : {L : Type 0} → Stands L → Telling → Audit L → Option (List ℕ) → Option (List ℕ) → List ℕ → Type 0
-Observes stands tell audit start now bytes = BringsTo stands tell audit.progress audit.stream audit.held start now bytes
+abbrev pub Observes : {L : Type 0} → Judges L → Telling → Audit L → Option (List ℕ) → Option (List ℕ) → List ℕ → Type 0
+Observes judges tell audit start now bytes = BringsTo judges tell audit.progress audit.stream audit.held start now bytes
 
 -- these bytes were fed to it, and nothing is told
-abbrev pub Audits : {L : Type 0} → Stands L → Audit L → List ℕ → Type 0
-Audits stands audit bytes = Observes stands told_nothing audit None None bytes
+abbrev pub Audits : {L : Type 0} → Judges L → Audit L → List ℕ → Type 0
+Audits judges audit bytes = Observes judges told_nothing audit None None bytes
 
 -- how far an audit is that ended with this result
 abbrev pub progress_of : Result Verdict AuditFault → Result Progress AuditFault

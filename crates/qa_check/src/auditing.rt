@@ -5,11 +5,13 @@ ghost use Rattle.qa_format.specs.format.Reading.{reading};
 ghost use Rattle.qa_format.specs.verdicts.Report as text;
 ghost use Rattle.qa_format.specs.verdicts.Explain as explanation;
 ghost use Rattle.qa_format.specs.verdicts.Verdict.{verdict};
-ghost use Rattle.qa_check.specs.Audit.{outcome_of, Reads, ReadsEnough, Reports, BeginsReport, is_read_fault, is_write_fault};
+ghost use Rattle.qa_check.specs.Audit.{outcome_of, Reads, ReadsBy, ReadsEnough, Reports, BeginsReport, is_read_fault, is_write_fault};
+ghost use Rattle.qa_check.specs.Standing.{by};
 ghost use Rattle.qa_check.specs.Failures.{failures_after};
 ghost use Rattle.qa_check.specs.Writing.{BeginsToldRead, JudgesShown, ShowsToldRead};
 
 use crate::auditor::{Auditor, Progress};
+use crate::judges::Judge;
 use crate::observer::{LineText, NoText, Observer, Unobserved};
 use crate::streams::{Sink, Source};
 use crate::text::report;
@@ -105,17 +107,17 @@ pub fn audit<L: Ledger + Drop, R: Source, W: Sink>(
 
 /// The verdict of what is read, once the observer was shown its lines: those of each piece before the
 /// next is asked for.
-pub fn judge<L: Ledger + Drop, T: LineText<L>, R: Source, O: Observer>(
+pub fn judge<L: Judge + Drop, T: LineText<L>, R: Source, O: Observer>(
     alloc: Global,
     reader: &mut R,
     observer: &mut O,
 ) -> Result<Verdict, AuditFault>
-    ensures verdict { IfOk result (JudgesShown T.text (R.left reader.old) (R.left reader.new) (R.last_read reader.new) (O.shown observer.old) (O.shown observer.new)) }
-    ensures reads { Reads (R.left reader.old) (R.left reader.new) (R.last_read reader.new) }
+    ensures verdict { IfOk result (JudgesShown (by L.judges) T.text (R.left reader.old) (R.left reader.new) (R.last_read reader.new) (O.shown observer.old) (O.shown observer.new)) }
+    ensures reads { ReadsBy (by L.judges) (R.left reader.old) (R.left reader.new) (R.last_read reader.new) }
     ensures rows { result ≡ Err AuditFault.Read
-        → ShowsToldRead T.text (R.left reader.old) (R.left reader.new) (O.shown observer.old) (O.shown observer.new) }
+        → ShowsToldRead (by L.judges) T.text (R.left reader.old) (R.left reader.new) (O.shown observer.old) (O.shown observer.new) }
     ensures begun { is_read_fault result ≡ false → OnErr result
-        (BeginsToldRead T.text (R.left reader.old) (R.left reader.new) (R.last_read reader.new) (O.shown observer.old) (O.shown observer.new) (explanation.told T.text reading)) }
+        (BeginsToldRead (by L.judges) T.text (R.left reader.old) (R.left reader.new) (R.last_read reader.new) (O.shown observer.old) (O.shown observer.new) (explanation.told T.text (by L.judges))) }
     ensures read_failures { R.read_failures reader.new
         ≡ failures_after (is_read_fault result) (R.read_failures reader.old) }
     ensures failures { O.failures observer.new

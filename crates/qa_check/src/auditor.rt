@@ -11,15 +11,15 @@ ghost use Rattle.qa_split.specs.Stream.{Stream, HasNoLine};
 ghost use Rattle.qa_check.specs.Audit.{CountsFailure};
 ghost use Rattle.qa_check.specs.Auditor.{BringsTo, TakesMore};
 ghost use Rattle.qa_check.specs.Following.{Answers, IsReady};
-ghost use Rattle.qa_check.specs.Standing.{IsLineOf};
+ghost use Rattle.qa_check.specs.Standing.{IsLineOf, by};
 ghost use Rattle.qa_check.specs.Writing.{Begins, Shown};
 
 use crate::auditing::AuditFault;
 use crate::checker::{Checker, Stop};
+use crate::judges::Judge;
 use crate::observer::{LineText, NoText, Observer, Unobserved};
 use crate::taking::{Lines, take_last, take_lines};
 use qa_format::{Line, Verdict};
-use qa_ledger::Ledger;
 use qa_split::Splitter;
 use std::alloc::Global;
 use std::marker::Model;
@@ -39,14 +39,14 @@ pub enum Progress {
 /// However the bytes are cut, the verdict is that of all of them. An observer may be shown the lines
 /// as they are taken: the same one at each call.
 #[derive(Drop)]
-pub struct Auditor<L: Ledger> {
+pub struct Auditor<L: Judge> {
     alloc: Global,
     splitter: Splitter,
     checker: Checker<L>,
     progress: Result<Progress, AuditFault>,
 }
 
-impl<L: Ledger> Model for Auditor<L> {
+impl<L: Judge> Model for Auditor<L> {
     ghost use Rattle.std.specs.Prelude.{◌≡◌, Ok};
     ghost use Rattle.qa_check.specs.Auditor.{Audit, TakesMore};
     ghost use Rattle.qa_check.specs.declared.auditor.Progress.TheVariants.{Open};
@@ -58,7 +58,7 @@ impl<L: Ledger> Model for Auditor<L> {
     ghost invariant = { λ a. a.progress ≡ Ok Open → TakesMore a.splitter a.checker };
 }
 
-impl<L: Ledger + Drop> Auditor<L> {
+impl<L: Judge + Drop> Auditor<L> {
     ghost use Rattle.std.specs.Prelude.{◌≢◌};
     ghost use Rattle.qa_check.specs.Auditor.{Audits, Observes, is_between, progress_of};
 
@@ -66,7 +66,7 @@ impl<L: Ledger + Drop> Auditor<L> {
     pub fn new(alloc: Global) -> Auditor<L>
         ensures open { result.progress ≡ Ok Progress.Open }
         ensures fed { (tell : Telling) (text : Option (List ℕ))
-            → Observes L.stands tell result text text [] }
+            → Observes L.judges tell result text text [] }
     {
         Auditor {
             alloc,
@@ -82,8 +82,8 @@ impl<L: Ledger + Drop> Auditor<L> {
     /// `AuditFault::OutOfMemory` comes where it is out of memory, and from then on.
     pub fn feed(&mut self, piece: &[u8]) -> Result<Progress, AuditFault>
         ensures progress { result ≡ self.new.progress }
-        ensures fed { (bytes : List ℕ) → Audits L.stands self.old bytes
-            → Audits L.stands self.new (bytes ++ piece.now) }
+        ensures fed { (bytes : List ℕ) → Audits L.judges self.old bytes
+            → Audits L.judges self.new (bytes ++ piece.now) }
         ensures kept { self.old.progress ≢ Ok Progress.Open → self.new ≡ self.old }
         ensures memory { self.old.progress ≡ Ok Progress.Open
             → IfErr result (λ fault. fault ≡ AuditFault.OutOfMemory) }
@@ -101,8 +101,8 @@ impl<L: Ledger + Drop> Auditor<L> {
     ) -> Result<Progress, AuditFault>
         ensures progress { result ≡ self.new.progress }
         ensures fed { (start : Option (List ℕ)) (bytes : List ℕ)
-            → Observes L.stands T.text self.old start (O.shown observer.old) bytes
-            → Observes L.stands T.text self.new start (O.shown observer.new) (bytes ++ piece.now) }
+            → Observes L.judges T.text self.old start (O.shown observer.old) bytes
+            → Observes L.judges T.text self.new start (O.shown observer.new) (bytes ++ piece.now) }
         ensures kept { self.old.progress ≢ Ok Progress.Open
             → (self.new ≡ self.old) × (observer.new ≡ observer.old) }
         ensures failures { self.old.progress ≡ Ok Progress.Open
@@ -151,7 +151,7 @@ impl<L: Ledger + Drop> Auditor<L> {
         requires between { is_between self.old ≡ true }
         ensures progress { result ≡ self.new.progress }
         ensures fed { (bytes : List ℕ) (l : List ℕ) → IsLineOf line.now l
-            → Audits L.stands self.old bytes → Audits L.stands self.new (bytes ++ with_lf l) }
+            → Audits L.judges self.old bytes → Audits L.judges self.new (bytes ++ with_lf l) }
         ensures between { is_between self.new ≡ true }
         ensures kept { self.old.progress ≢ Ok Progress.Open → self.new ≡ self.old }
         ensures memory { self.old.progress ≡ Ok Progress.Open
@@ -173,8 +173,8 @@ impl<L: Ledger + Drop> Auditor<L> {
     /// `AuditFault::OutOfMemory` comes where it is out of memory, here or before.
     pub fn finish(&mut self) -> Result<Verdict, AuditFault>
         ensures finished { self.new.progress ≡ progress_of result }
-        ensures verdict { IfOk result (λ v. (bytes : List ℕ) → Audits L.stands self.old bytes
-            → v ≡ verdict reading bytes) }
+        ensures verdict { IfOk result (λ v. (bytes : List ℕ) → Audits L.judges self.old bytes
+            → v ≡ verdict (by L.judges) bytes) }
         ensures kept { self.old.progress ≢ Ok Progress.Open → self.new ≡ self.old }
         ensures memory { self.old.progress ≡ Ok Progress.Open
             → IfErr result (λ fault. fault ≡ AuditFault.OutOfMemory) }
@@ -192,12 +192,12 @@ impl<L: Ledger + Drop> Auditor<L> {
     ) -> Result<Verdict, AuditFault>
         ensures finished { self.new.progress ≡ progress_of result }
         ensures verdict { IfOk result (λ v. (start : Option (List ℕ)) (bytes : List ℕ)
-            → Observes L.stands T.text self.old start (O.shown observer.old) bytes
-            → (v ≡ verdict reading bytes)
-            × Appends start (O.shown observer.new) (explanation.told T.text reading bytes)) }
+            → Observes L.judges T.text self.old start (O.shown observer.old) bytes
+            → (v ≡ verdict (by L.judges) bytes)
+            × Appends start (O.shown observer.new) (explanation.told T.text (by L.judges) bytes)) }
         ensures begun { OnErr result ((start : Option (List ℕ)) (bytes : List ℕ)
-            → Observes L.stands T.text self.old start (O.shown observer.old) bytes
-            → Begins start (O.shown observer.new) (explanation.told T.text reading bytes)) }
+            → Observes L.judges T.text self.old start (O.shown observer.old) bytes
+            → Begins start (O.shown observer.new) (explanation.told T.text (by L.judges) bytes)) }
         ensures kept { self.old.progress ≢ Ok Progress.Open
             → (self.new ≡ self.old) × (observer.new ≡ observer.old) }
         ensures failures { self.old.progress ≡ Ok Progress.Open
@@ -221,7 +221,7 @@ impl<L: Ledger + Drop> Auditor<L> {
 }
 
 /// Takes the next piece, and returns how far the audit is then.
-fn take_piece<L: Ledger + Drop, T: LineText<L>, O: Observer>(
+fn take_piece<L: Judge + Drop, T: LineText<L>, O: Observer>(
     alloc: Global,
     splitter: &mut Splitter,
     checker: &mut Checker<L>,
@@ -232,8 +232,8 @@ fn take_piece<L: Ledger + Drop, T: LineText<L>, O: Observer>(
     requires whole { checker.old.failed ≡ false }
     ensures more { result ≡ Ok Progress.Open → TakesMore splitter.new checker.new }
     ensures fed { (start : Option (List ℕ)) (bytes : List ℕ)
-        → Shown L.stands T.text splitter.old.bytes checker.old start (O.shown observer.old) bytes
-        → BringsTo L.stands T.text result splitter.new checker.new start (O.shown observer.new) (bytes
+        → Shown L.judges T.text splitter.old.bytes checker.old start (O.shown observer.old) bytes
+        → BringsTo L.judges T.text result splitter.new checker.new start (O.shown observer.new) (bytes
         ++ piece.now) }
     ensures failures { CountsFailure (O.failures observer.old) (O.failures observer.new) result }
 {
@@ -251,15 +251,12 @@ fn take_piece<L: Ledger + Drop, T: LineText<L>, O: Observer>(
 }
 
 /// Takes the line that says this, and returns how far the audit is then, whose next byte begins a line.
-fn take_said<L: Ledger + Drop>(
-    checker: &mut Checker<L>,
-    line: &Line,
-) -> Result<Progress, AuditFault>
+fn take_said<L: Judge + Drop>(checker: &mut Checker<L>, line: &Line) -> Result<Progress, AuditFault>
     requires fitting { line_fits line.now ≡ true }
     ensures whole { result ≡ Ok Progress.Open → checker.new.failed ≡ false }
     ensures fed { (stream : Stream) (bytes : List ℕ) (l : List ℕ) → stream.bytes ≡ []
-        → IsLineOf line.now l → Shown L.stands told_nothing [] checker.old None None bytes
-        → BringsTo L.stands told_nothing result stream checker.new None None (bytes ++ with_lf l) }
+        → IsLineOf line.now l → Shown L.judges told_nothing [] checker.old None None bytes
+        → BringsTo L.judges told_nothing result stream checker.new None None (bytes ++ with_lf l) }
     ensures memory { IfErr result (λ fault. fault ≡ AuditFault.OutOfMemory) }
 {
     match checker.push_said(line) {
@@ -273,7 +270,7 @@ fn take_said<L: Ledger + Drop>(
 }
 
 /// The verdict where nothing more comes.
-fn conclude<L: Ledger + Drop, T: LineText<L>, O: Observer>(
+fn conclude<L: Judge + Drop, T: LineText<L>, O: Observer>(
     alloc: Global,
     splitter: &mut Splitter,
     checker: &mut Checker<L>,
@@ -283,12 +280,12 @@ fn conclude<L: Ledger + Drop, T: LineText<L>, O: Observer>(
     requires empty { HasNoLine splitter.old }
     requires whole { checker.old.failed ≡ false }
     ensures ok { IfOk result (λ v. (start : Option (List ℕ)) (bytes : List ℕ)
-        → Shown L.stands T.text splitter.old.bytes checker.old start (O.shown observer.old) bytes
-        → (v ≡ verdict reading bytes)
-        × Appends start (O.shown observer.new) (explanation.told T.text reading bytes)) }
+        → Shown L.judges T.text splitter.old.bytes checker.old start (O.shown observer.old) bytes
+        → (v ≡ verdict (by L.judges) bytes)
+        × Appends start (O.shown observer.new) (explanation.told T.text (by L.judges) bytes)) }
     ensures begun { OnErr result ((start : Option (List ℕ)) (bytes : List ℕ)
-        → Shown L.stands T.text splitter.old.bytes checker.old start (O.shown observer.old) bytes
-        → Begins start (O.shown observer.new) (explanation.told T.text reading bytes)) }
+        → Shown L.judges T.text splitter.old.bytes checker.old start (O.shown observer.old) bytes
+        → Begins start (O.shown observer.new) (explanation.told T.text (by L.judges) bytes)) }
     ensures failures { CountsFailure (O.failures observer.old) (O.failures observer.new) result }
 {
     match take_last::<L, T, O>(alloc, splitter, checker, observer) {
@@ -298,9 +295,9 @@ fn conclude<L: Ledger + Drop, T: LineText<L>, O: Observer>(
 }
 
 /// The verdict that a checker has come to.
-fn verdict_of<L: Ledger + Drop>(checker: &Checker<L>) -> Result<Verdict, AuditFault>
-    ensures ok { IfOk result (λ v. (bytes : List ℕ) → Answers L.stands checker.now bytes
-        → v ≡ verdict reading bytes) }
+fn verdict_of<L: Judge + Drop>(checker: &Checker<L>) -> Result<Verdict, AuditFault>
+    ensures ok { IfOk result (λ v. (bytes : List ℕ) → Answers L.judges checker.now bytes
+        → v ≡ verdict (by L.judges) bytes) }
     ensures err { IfErr result (λ fault. fault ≡ AuditFault.OutOfMemory) }
 {
     checker.verdict().ok_or(AuditFault::OutOfMemory)

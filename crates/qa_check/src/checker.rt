@@ -11,12 +11,13 @@ ghost use Rattle.qa_base.specs.values.Settings.{Settings};
 ghost use Rattle.qa_base.specs.machine.State as state;
 ghost use Rattle.qa_format.specs.verdicts.Verdict as verdicts;
 ghost use Rattle.qa_read.specs.Gives.{Gives};
-ghost use Rattle.qa_check.specs.Standing.{StandsFor, HoldsRun, AddsGood, AddsBad, IsLineOf, TakesIn, StopsAt};
+ghost use Rattle.qa_check.specs.Standing.{StandsFor, by, HoldsRun, AddsGood, AddsBad, IsLineOf, TakesIn, StopsAt};
 
+use crate::judges::Judge;
 use qa_base::limits::{MAX_LINE_LENGTH, MAX_LINES};
 use qa_base::{Event, Header, Rule, Totals};
 use qa_format::{Fault, Line, Verdict};
-use qa_ledger::{Ledger, LedgerFault};
+use qa_ledger::LedgerFault;
 use qa_read::{LineFault, read_line};
 use std::alloc::Global;
 use std::marker::Model;
@@ -37,7 +38,7 @@ pub enum Stop {
 ///
 /// A ledger judges their events, and stands for those before.
 #[derive(Drop)]
-pub struct Checker<L: Ledger> {
+pub struct Checker<L: Judge> {
     alloc: Global,
     ledger: Option<L>,
     lines: u64,
@@ -46,7 +47,7 @@ pub struct Checker<L: Ledger> {
     failed: bool,
 }
 
-impl<L: Ledger> Model for Checker<L> {
+impl<L: Judge> Model for Checker<L> {
     ghost use Rattle.std.specs.Option.{ForSome};
     ghost use Rattle.std.specs.Prelude.{◌≡◌, ◌≤◌, None, false};
     ghost use Rattle.qa_base.specs.values.Limits.{max_lines};
@@ -61,11 +62,11 @@ impl<L: Ledger> Model for Checker<L> {
         × (c.failed ≡ false → ForSome c.ledger (λ l. L.has_failed l ≡ false)) };
 }
 
-impl<L: Ledger + Drop> Checker<L> {
+impl<L: Judge + Drop> Checker<L> {
     /// A checker that stands for no lines. Takes no memory.
     pub fn new(alloc: Global) -> Checker<L>
         ensures whole { result.failed ≡ false }
-        ensures lines { StandsFor L.stands result [] }
+        ensures lines { StandsFor L.judges result [] }
     {
         Checker {
             alloc,
@@ -85,9 +86,9 @@ impl<L: Ledger + Drop> Checker<L> {
     pub fn push_line(&mut self, bytes: &[u8]) -> Result<(), Stop>
         ensures failed { self.old.failed ≡ true → result ≡ Err Stop.OutOfMemory }
         ensures fails { (result ≡ Err Stop.OutOfMemory) → self.new.failed ≡ true }
-        ensures good { OnOk result (AddsGood L.stands self.old self.new bytes.now) }
+        ensures good { OnOk result (AddsGood L.judges self.old self.new bytes.now) }
         ensures decided { (result ≡ Err Stop.Decided)
-            → AddsBad L.stands self.old self.new bytes.now }
+            → AddsBad L.judges self.old self.new bytes.now }
         ensures kept { (result ≡ Err Stop.Decided) → self.new.ledger ≡ self.old.ledger }
     {
         if let Err(stop) = self.expect_bytes(bytes) {
@@ -102,9 +103,9 @@ impl<L: Ledger + Drop> Checker<L> {
         ensures said { IfOk result (λ said. (reading bytes.now ≡ Ok said) × (line_fits said ≡ true)) }
         ensures failed { self.old.failed ≡ true → result ≡ Err Stop.OutOfMemory }
         ensures fails { (result ≡ Err Stop.OutOfMemory) → self.new.failed ≡ true }
-        ensures good { OnOk result (AddsGood L.stands self.old self.new bytes.now) }
+        ensures good { OnOk result (AddsGood L.judges self.old self.new bytes.now) }
         ensures decided { (result ≡ Err Stop.Decided)
-            → AddsBad L.stands self.old self.new bytes.now }
+            → AddsBad L.judges self.old self.new bytes.now }
         ensures kept { (result ≡ Err Stop.Decided) → self.new.ledger ≡ self.old.ledger }
     {
         if let Err(stop) = self.expect_bytes(bytes) {
@@ -125,9 +126,9 @@ impl<L: Ledger + Drop> Checker<L> {
         ensures failed { self.old.failed ≡ true → result ≡ Err Stop.OutOfMemory }
         ensures fails { (result ≡ Err Stop.OutOfMemory) → self.new.failed ≡ true }
         ensures good { OnOk result ((self.new.failed ≡ false)
-            × ((l : List ℕ) → IsLineOf line.now l → AddsGood L.stands self.old self.new l)) }
+            × ((l : List ℕ) → IsLineOf line.now l → AddsGood L.judges self.old self.new l)) }
         ensures decided { (result ≡ Err Stop.Decided) → (self.new.failed ≡ false)
-            × ((l : List ℕ) → IsLineOf line.now l → AddsBad L.stands self.old self.new l) }
+            × ((l : List ℕ) → IsLineOf line.now l → AddsBad L.judges self.old self.new l) }
         ensures kept { (result ≡ Err Stop.Decided) → self.new.ledger ≡ self.old.ledger }
     {
         if let Err(stop) = self.expect_line() {
@@ -144,7 +145,7 @@ impl<L: Ledger + Drop> Checker<L> {
         ensures whole { self.old.failed ≡ false → result ≡ Stop.Decided }
         ensures fails { result ≡ Stop.OutOfMemory → self.new.failed ≡ true }
         ensures decided { result ≡ Stop.Decided → (l : List ℕ) → line_limit < length l
-            → AddsBad L.stands self.old self.new l }
+            → AddsBad L.judges self.old self.new l }
         ensures kept { result ≡ Stop.Decided → self.new.ledger ≡ self.old.ledger }
     {
         match self.expect_line() {
@@ -157,8 +158,8 @@ impl<L: Ledger + Drop> Checker<L> {
     pub fn verdict(&self) -> Option<Verdict>
         ensures answers { is_some result ≡ not self.now.failed }
         ensures verdict { self.now.failed ≡ false → (ls : List (List ℕ))
-            → StandsFor L.stands self.now ls
-            → result ≡ Some (verdicts.verdict_of reading ls) }
+            → StandsFor L.judges self.now ls
+            → result ≡ Some (verdicts.verdict_of (by L.judges) ls) }
     {
         if self.failed {
             return None;
@@ -169,10 +170,10 @@ impl<L: Ledger + Drop> Checker<L> {
         match &self.ledger {
             None => Some(Verdict::Unreadable(self.lines + 1, Fault::HeaderPlace, None)),
             Some(ledger) => {
-                if ledger.owes() {
-                    Some(Verdict::Refused(self.last_event, Rule::OwedAtEnd, ledger.totals()))
+                if ledger.is_owing() {
+                    Some(Verdict::Refused(self.last_event, Rule::OwedAtEnd, ledger.state()))
                 } else {
-                    Some(Verdict::Accepted(ledger.totals()))
+                    Some(Verdict::Accepted(ledger.state()))
                 }
             }
         }
@@ -188,10 +189,10 @@ impl<L: Ledger + Drop> Checker<L> {
     /// The state of the machine after the good lines; None before a header. Takes no memory.
     pub fn totals(&self) -> Option<Totals>
         ensures { (header : Option Settings) (h : List AnEvent)
-            → HoldsRun L.stands self.now.ledger header h
+            → HoldsRun L.judges self.now.ledger header h
             → result ≡ option_map (λ c. state.totals c h) header }
     {
-        Some(self.ledger.as_ref()?.totals())
+        Some(self.ledger.as_ref()?.state())
     }
 
     /// The ledger after the good lines; None before a header. Of a checker that works it has not
@@ -213,7 +214,7 @@ impl<L: Ledger + Drop> Checker<L> {
         ensures ok { OnOk result ((self.new ≡ self.old) × (self.new.failed ≡ false)
             × (self.new.verdict ≡ None) × (self.new.lines < max_lines)) }
         ensures decided { (result ≡ Err Stop.Decided) → (l : List ℕ)
-            → AddsBad L.stands self.old self.new l }
+            → AddsBad L.judges self.old self.new l }
         ensures kept { (result ≡ Err Stop.Decided) → self.new.ledger ≡ self.old.ledger }
     {
         if self.failed {
@@ -237,7 +238,7 @@ impl<L: Ledger + Drop> Checker<L> {
             × (self.new.verdict ≡ None) × (self.new.lines < max_lines)
             × (length bytes.now ≤ line_limit)) }
         ensures decided { (result ≡ Err Stop.Decided)
-            → AddsBad L.stands self.old self.new bytes.now }
+            → AddsBad L.judges self.old self.new bytes.now }
         ensures kept { (result ≡ Err Stop.Decided) → self.new.ledger ≡ self.old.ledger }
     {
         if let Err(stop) = self.expect_line() {
@@ -259,10 +260,10 @@ impl<L: Ledger + Drop> Checker<L> {
         ensures fails { (result ≡ Err Stop.OutOfMemory) → self.new.failed ≡ true }
         ensures good { OnOk result ((l : List ℕ) → length l ≤ line_limit
             → Gives (λ line. line) read.now (reading l)
-            → AddsGood L.stands self.old self.new l) }
+            → AddsGood L.judges self.old self.new l) }
         ensures decided { (result ≡ Err Stop.Decided) → (l : List ℕ) → length l ≤ line_limit
             → Gives (λ line. line) read.now (reading l)
-            → AddsBad L.stands self.old self.new l }
+            → AddsBad L.judges self.old self.new l }
         ensures kept { (result ≡ Err Stop.Decided) → self.new.ledger ≡ self.old.ledger }
     {
         match read {
@@ -284,8 +285,8 @@ impl<L: Ledger + Drop> Checker<L> {
         ensures failed { (result ≡ Err Stop.OutOfMemory) → self.new.failed ≡ true }
         ensures whole { (result ≢ Err Stop.OutOfMemory) → self.new.failed ≡ false }
         ensures ok { OnOk result ((self.new.failed ≡ false)
-            × TakesIn L.stands self.old self.new line.now) }
-        ensures decided { result ≡ Err Stop.Decided → StopsAt L.stands self.old self.new line.now }
+            × TakesIn L.judges self.old self.new line.now) }
+        ensures decided { result ≡ Err Stop.Decided → StopsAt L.judges self.old self.new line.now }
         ensures kept { (result ≡ Err Stop.Decided) → self.new.ledger ≡ self.old.ledger }
     {
         match line {
@@ -306,15 +307,15 @@ impl<L: Ledger + Drop> Checker<L> {
         ensures whole { self.new.failed ≡ false }
         ensures memory { (result ≡ Err Stop.OutOfMemory) → ⊥ }
         ensures ok { OnOk result ((self.new.failed ≡ false)
-            × TakesIn L.stands self.old self.new (Line.Header header)) }
+            × TakesIn L.judges self.old self.new (Line.Header header)) }
         ensures decided { result ≡ Err Stop.Decided
-            → StopsAt L.stands self.old self.new (Line.Header header) }
+            → StopsAt L.judges self.old self.new (Line.Header header) }
         ensures kept { (result ≡ Err Stop.Decided) → self.new.ledger ≡ self.old.ledger }
     {
         if self.ledger.is_some() {
             return Err(self.stop(Fault::HeaderPlace));
         }
-        self.ledger = Some(L::start(self.alloc, header));
+        self.ledger = Some(L::under(self.alloc, header));
         self.lines += 1;
         Ok(())
     }
@@ -328,22 +329,22 @@ impl<L: Ledger + Drop> Checker<L> {
         ensures failed { (result ≡ Err Stop.OutOfMemory) → self.new.failed ≡ true }
         ensures whole { (result ≢ Err Stop.OutOfMemory) → self.new.failed ≡ false }
         ensures ok { OnOk result ((self.new.failed ≡ false)
-            × TakesIn L.stands self.old self.new (Line.Event event.now)) }
+            × TakesIn L.judges self.old self.new (Line.Event event.now)) }
         ensures decided { result ≡ Err Stop.Decided
-            → StopsAt L.stands self.old self.new (Line.Event event.now) }
+            → StopsAt L.judges self.old self.new (Line.Event event.now) }
         ensures kept { (result ≡ Err Stop.Decided) → self.new.ledger ≡ self.old.ledger }
     {
         let Some(ledger) = &mut self.ledger else {
             return Err(self.stop(Fault::HeaderPlace));
         };
-        match ledger.admit(event) {
+        match ledger.judge(event) {
             Ok(()) => {
                 self.lines += 1;
                 self.last_event = self.lines;
                 Ok(())
             }
             Err(LedgerFault::Broken(rule)) => {
-                let totals = ledger.totals();
+                let totals = ledger.state();
                 self.verdict = Some(Verdict::Refused(self.lines + 1, rule, totals));
                 Err(Stop::Decided)
             }
@@ -362,7 +363,7 @@ impl<L: Ledger + Drop> Checker<L> {
         ensures whole { self.new.failed ≡ false }
         ensures decided { IsSome self.new.verdict }
         ensures verdict { (header : Option Settings) (h : List AnEvent)
-            → HoldsRun L.stands self.old.ledger header h
+            → HoldsRun L.judges self.old.ledger header h
             → self.new.verdict ≡ Some (verdicts.unreadable (self.old.lines + 1) header h fault) }
         ensures kept { self.new.ledger ≡ self.old.ledger }
     {

@@ -2,6 +2,7 @@
 ghost use Rattle.std.specs.Prelude.{◌≡◌, ℕ, List, Some, Err, IfOk};
 ghost use Rattle.qa_format.specs.format.Reading.{reading};
 ghost use Rattle.qa_format.specs.verdicts.Explain as explanation;
+ghost use Rattle.qa_format.specs.verdicts.Verdict.{strict};
 ghost use Rattle.qa_check.specs.Audit.{Reads, ReadsEnough, is_read_fault, is_write_fault};
 ghost use Rattle.qa_check.specs.Failures.{failures_after};
 ghost use Rattle.qa_check.specs.Writing.{Begins, BeginsRead, Explains, ShowsRead};
@@ -40,14 +41,14 @@ pub fn explain<L: Ledger + Drop, R: Source, W: Sink>(
 
     // Out of memory, the beginning of the rows was written.
     ensures out_of_memory { result ≡ Err AuditFault.OutOfMemory
-        → BeginsRead (R.left reader.old) (R.left reader.new) (R.last_read reader.new) (W.held writer.old) (W.held writer.new) (explanation.rows reading) }
+        → BeginsRead (R.left reader.old) (R.left reader.new) (R.last_read reader.new) (W.held writer.old) (W.held writer.new) (explanation.rows (strict reading)) }
 
     // After a failed write the beginning of the rows and the report was written.
     ensures told_beginning { (bytes : List ℕ) → R.left reader.old ≡ Some bytes
         → result ≡ Err AuditFault.Write
-        → Begins (W.held writer.old) (W.held writer.new) (explanation.explain reading bytes) }
+        → Begins (W.held writer.old) (W.held writer.new) (explanation.explain (strict reading) bytes) }
     ensures beginning { result ≡ Err AuditFault.Write
-        → BeginsRead (R.left reader.old) (R.left reader.new) (R.last_read reader.new) (W.held writer.old) (W.held writer.new) (explanation.explain reading) }
+        → BeginsRead (R.left reader.old) (R.left reader.new) (R.last_read reader.new) (W.held writer.old) (W.held writer.new) (explanation.explain (strict reading)) }
 
     // A fault of the reader or the writer is returned exactly where it failed, once.
     ensures read_failures { R.read_failures reader.new

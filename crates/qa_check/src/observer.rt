@@ -10,14 +10,14 @@ ghost use Rattle.qa_check.specs.Audit.{CountsFailure};
 ghost use Rattle.qa_check.specs.Writing.{Begins};
 
 use crate::auditing::{AuditFault, write_whole};
+use crate::judges::Judge;
 use crate::streams::Sink;
 use crate::text::row;
 use qa_format::Line;
-use qa_ledger::Ledger;
 use std::alloc::{AllocError, Global};
 
 /// What is told of a line of a header or an event that the machine admits.
-pub trait LineText<L: Ledger> {
+pub trait LineText<L: Judge> {
     // The text of a line: by its number, what it says, and the header and the history with it.
     ghost text: { ℕ → ALine → Settings → List AnEvent → List ℕ };
 
@@ -28,14 +28,14 @@ pub trait LineText<L: Ledger> {
     fn of_line(alloc: Global, line: u64, said: &Line, ledger: &L) -> Result<Vec<u8>, AllocError>
         requires fitting { line_fits said.now ≡ true }
         requires works { L.has_failed ledger.now ≡ false }
-        ensures { IfOk result (λ bytes. (c : Settings) (h : List AnEvent) → L.stands ledger.now c h
+        ensures { IfOk result (λ bytes. (c : Settings) (h : List AnEvent) → L.judges.stands ledger.now c h
             → bytes.items ≡ text line said.now c h) };
 }
 
 /// Nothing is told of a line.
 pub struct NoText;
 
-impl<L: Ledger> LineText<L> for NoText {
+impl<L: Judge> LineText<L> for NoText {
     ghost use Rattle.qa_format.specs.verdicts.Explain.{told_nothing};
 
     ghost text = { told_nothing };
@@ -53,7 +53,7 @@ impl<L: Ledger> LineText<L> for NoText {
 /// A row: the number and the kind of the line, and the state after it.
 pub struct Row;
 
-impl<L: Ledger> LineText<L> for Row {
+impl<L: Judge> LineText<L> for Row {
     ghost use Rattle.qa_format.specs.verdicts.Explain.{row_said};
 
     ghost text = { row_said };
@@ -62,7 +62,7 @@ impl<L: Ledger> LineText<L> for Row {
         let Some(kind) = said.kind() else {
             return Ok(Vec::new(alloc));
         };
-        let text = row(alloc, line, kind, &ledger.totals())?;
+        let text = row(alloc, line, kind, &ledger.state())?;
         Ok(text.into_bytes())
     }
 }
@@ -86,7 +86,7 @@ pub trait Observer {
     ///
     /// Asks for what `LineText::of_line` asks for. `AuditFault::Write` is a failure, which is counted, after a part of the text.
     /// `AuditFault::OutOfMemory` is none.
-    fn see<L: Ledger, T: LineText<L>>(
+    fn see<L: Judge, T: LineText<L>>(
         &mut self,
         alloc: Global,
         line: u64,
@@ -95,9 +95,9 @@ pub trait Observer {
     ) -> Result<(), AuditFault>
         requires fitting { line_fits said.now ≡ true }
         requires works { L.has_failed ledger.now ≡ false }
-        ensures ok { OnOk result ((c : Settings) (h : List AnEvent) → L.stands ledger.now c h
+        ensures ok { OnOk result ((c : Settings) (h : List AnEvent) → L.judges.stands ledger.now c h
             → Appends (shown self.old) (shown self.new) (T.text line said.now c h)) }
-        ensures begun { OnErr result ((c : Settings) (h : List AnEvent) → L.stands ledger.now c h
+        ensures begun { OnErr result ((c : Settings) (h : List AnEvent) → L.judges.stands ledger.now c h
             → Begins (shown self.old) (shown self.new) (T.text line said.now c h)) }
         ensures failures { CountsFailure (failures self.old) (failures self.new) result };
 }
@@ -117,7 +117,7 @@ impl Observer for Unobserved {
         false
     }
 
-    fn see<L: Ledger, T: LineText<L>>(
+    fn see<L: Judge, T: LineText<L>>(
         &mut self,
         _alloc: Global,
         _line: u64,
@@ -138,7 +138,7 @@ impl<W: Sink> Observer for W {
         true
     }
 
-    fn see<L: Ledger, T: LineText<L>>(
+    fn see<L: Judge, T: LineText<L>>(
         &mut self,
         alloc: Global,
         line: u64,

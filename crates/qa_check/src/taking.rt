@@ -11,14 +11,14 @@ ghost use Rattle.qa_split.specs.Stream.{HasNoLine};
 ghost use Rattle.qa_check.specs.Audit.{CountsFailure};
 ghost use Rattle.qa_check.specs.Auditor.{TakesMore};
 ghost use Rattle.qa_check.specs.Following.{AnswersBy, IsReady};
-ghost use Rattle.qa_check.specs.Standing.{HoldsRun};
+ghost use Rattle.qa_check.specs.Standing.{HoldsRun, by};
 ghost use Rattle.qa_check.specs.Writing.{Begins, Shows, Shown, told_ended};
 
 use crate::auditing::AuditFault;
 use crate::checker::{Checker, Stop};
+use crate::judges::Judge;
 use crate::observer::{LineText, Observer};
 use qa_format::Line;
-use qa_ledger::Ledger;
 use qa_split::{SplitFault, Splitter};
 use std::alloc::Global;
 
@@ -32,7 +32,7 @@ pub enum Lines {
 }
 
 /// Takes each line that stands ready.
-pub fn take_lines<L: Ledger + Drop, T: LineText<L>, O: Observer>(
+pub fn take_lines<L: Judge + Drop, T: LineText<L>, O: Observer>(
     alloc: Global,
     splitter: &mut Splitter,
     checker: &mut Checker<L>,
@@ -42,16 +42,16 @@ pub fn take_lines<L: Ledger + Drop, T: LineText<L>, O: Observer>(
     requires whole { checker.old.failed ≡ false }
     ensures more { result ≡ Ok Lines.Good → TakesMore splitter.new checker.new }
     ensures good { result ≡ Ok Lines.Good → (start : Option (List ℕ)) (bytes : List ℕ)
-        → Shown L.stands T.text splitter.old.bytes checker.old start (O.shown observer.old) bytes
-        → Shown L.stands T.text splitter.new.bytes checker.new start (O.shown observer.new) bytes }
+        → Shown L.judges T.text splitter.old.bytes checker.old start (O.shown observer.old) bytes
+        → Shown L.judges T.text splitter.new.bytes checker.new start (O.shown observer.new) bytes }
     ensures bad { result ≡ Ok Lines.Bad
         → (checker.new.failed ≡ false) × ((start : Option (List ℕ)) (bytes : List ℕ)
-        → Shown L.stands T.text splitter.old.bytes checker.old start (O.shown observer.old) bytes
-        → IsFixed reading bytes
-        × AnswersBy (Shows L.stands T.text checker.new start (O.shown observer.new)) bytes) }
+        → Shown L.judges T.text splitter.old.bytes checker.old start (O.shown observer.old) bytes
+        → IsFixed (by L.judges) bytes
+        × AnswersBy (by L.judges) (Shows L.judges T.text checker.new start (O.shown observer.new)) bytes) }
     ensures begun { OnErr result ((start : Option (List ℕ)) (bytes : List ℕ)
-        → Shown L.stands T.text splitter.old.bytes checker.old start (O.shown observer.old) bytes
-        → Begins start (O.shown observer.new) (told_ended T.text bytes)) }
+        → Shown L.judges T.text splitter.old.bytes checker.old start (O.shown observer.old) bytes
+        → Begins start (O.shown observer.new) (told_ended (by L.judges) T.text bytes)) }
     ensures failures { CountsFailure (O.failures observer.old) (O.failures observer.new) result }
 {
     'lines: loop {
@@ -69,7 +69,7 @@ pub fn take_lines<L: Ledger + Drop, T: LineText<L>, O: Observer>(
 }
 
 /// Takes what stands after the last LF, where nothing more comes.
-pub fn take_last<L: Ledger + Drop, T: LineText<L>, O: Observer>(
+pub fn take_last<L: Judge + Drop, T: LineText<L>, O: Observer>(
     alloc: Global,
     splitter: &mut Splitter,
     checker: &mut Checker<L>,
@@ -80,11 +80,11 @@ pub fn take_last<L: Ledger + Drop, T: LineText<L>, O: Observer>(
     requires whole { checker.old.failed ≡ false }
     ensures ok { OnOk result ((checker.new.failed ≡ false)
         × ((start : Option (List ℕ)) (bytes : List ℕ)
-        → Shown L.stands T.text splitter.old.bytes checker.old start (O.shown observer.old) bytes
-        → AnswersBy (Shows L.stands T.text checker.new start (O.shown observer.new)) bytes)) }
+        → Shown L.judges T.text splitter.old.bytes checker.old start (O.shown observer.old) bytes
+        → AnswersBy (by L.judges) (Shows L.judges T.text checker.new start (O.shown observer.new)) bytes)) }
     ensures begun { OnErr result ((start : Option (List ℕ)) (bytes : List ℕ)
-        → Shown L.stands T.text splitter.old.bytes checker.old start (O.shown observer.old) bytes
-        → Begins start (O.shown observer.new) (explanation.told T.text reading bytes)) }
+        → Shown L.judges T.text splitter.old.bytes checker.old start (O.shown observer.old) bytes
+        → Begins start (O.shown observer.new) (explanation.told T.text (by L.judges) bytes)) }
     ensures failures { CountsFailure (O.failures observer.old) (O.failures observer.new) result }
 {
     splitter.close();
@@ -97,7 +97,7 @@ pub fn take_last<L: Ledger + Drop, T: LineText<L>, O: Observer>(
 }
 
 /// Hands the checker the next line, and shows it where it is good.
-fn take_line<L: Ledger + Drop, T: LineText<L>, O: Observer>(
+fn take_line<L: Judge + Drop, T: LineText<L>, O: Observer>(
     alloc: Global,
     checker: &mut Checker<L>,
     observer: &mut O,
@@ -105,16 +105,16 @@ fn take_line<L: Ledger + Drop, T: LineText<L>, O: Observer>(
 ) -> Result<Lines, AuditFault>
     ensures whole { OnOk result (checker.new.failed ≡ false) }
     ensures good { result ≡ Ok Lines.Good → (start : Option (List ℕ)) (ls : List (List ℕ))
-        → Shows L.stands T.text checker.old start (O.shown observer.old) ls
-        → Shows L.stands T.text checker.new start (O.shown observer.new) (ls ++ line.now ∷ [])
-        × AreGood reading (ls ++ line.now ∷ []) }
+        → Shows L.judges T.text checker.old start (O.shown observer.old) ls
+        → Shows L.judges T.text checker.new start (O.shown observer.new) (ls ++ line.now ∷ [])
+        × AreGood (by L.judges) (ls ++ line.now ∷ []) }
     ensures bad { result ≡ Ok Lines.Bad → (start : Option (List ℕ)) (ls : List (List ℕ))
-        → Shows L.stands T.text checker.old start (O.shown observer.old) ls
-        → Shows L.stands T.text checker.new start (O.shown observer.new) (ls ++ line.now ∷ [])
-        × AreDecided reading (ls ++ line.now ∷ []) }
+        → Shows L.judges T.text checker.old start (O.shown observer.old) ls
+        → Shows L.judges T.text checker.new start (O.shown observer.new) (ls ++ line.now ∷ [])
+        × AreDecided (by L.judges) (ls ++ line.now ∷ []) }
     ensures begun { OnErr result ((start : Option (List ℕ)) (ls : List (List ℕ))
-        → Shows L.stands T.text checker.old start (O.shown observer.old) ls
-        → Begins start (O.shown observer.new) (explanation.told_of T.text reading (ls ++ line.now ∷ []))) }
+        → Shows L.judges T.text checker.old start (O.shown observer.old) ls
+        → Begins start (O.shown observer.new) (explanation.told_of T.text (by L.judges) (ls ++ line.now ∷ []))) }
     ensures failures { CountsFailure (O.failures observer.old) (O.failures observer.new) result }
 {
     if !observer.looks() {
@@ -130,8 +130,8 @@ fn take_line<L: Ledger + Drop, T: LineText<L>, O: Observer>(
     }
 }
 
-/// Shows the line that says this and that the checker took last, where it looks and a header was read.
-fn show_line<L: Ledger + Drop, T: LineText<L>, O: Observer>(
+/// Shows the line that says this and that the checker took last, where a header was read.
+fn show_line<L: Judge + Drop, T: LineText<L>, O: Observer>(
     alloc: Global,
     checker: &Checker<L>,
     observer: &mut O,
@@ -140,16 +140,13 @@ fn show_line<L: Ledger + Drop, T: LineText<L>, O: Observer>(
     requires fitting { line_fits said.now ≡ true }
     requires whole { checker.now.failed ≡ false }
     ensures ok { OnOk result ((header : Option Settings) (h : List AnEvent)
-        → HoldsRun L.stands checker.now.ledger header h
+        → HoldsRun L.judges checker.now.ledger header h
         → Appends (O.shown observer.old) (O.shown observer.new) (explanation.told_said T.text checker.now.lines (Ok said.now) header h)) }
     ensures begun { OnErr result ((header : Option Settings) (h : List AnEvent)
-        → HoldsRun L.stands checker.now.ledger header h
+        → HoldsRun L.judges checker.now.ledger header h
         → Begins (O.shown observer.old) (O.shown observer.new) (explanation.told_said T.text checker.now.lines (Ok said.now) header h)) }
     ensures failures { CountsFailure (O.failures observer.old) (O.failures observer.new) result }
 {
-    if !observer.looks() {
-        return Ok(());
-    }
     if said.kind().is_none() {
         return Ok(());
     }

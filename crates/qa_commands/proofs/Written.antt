@@ -2,6 +2,7 @@
 use Rattle.std.proofs.Common.{◌≡◌, inl, inr, Bool, true, false, ℕ, List, [], ◌++◌, Option, Some, None, Result, Ok, Err, refl}
 use Rattle.std.specs.Borrow.{Bor}
 use Rattle.std.specs.Io.KnownBytes.{Appends}
+use Rattle.qa_format.specs.verdicts.Verdict.{strict}
 use Rattle.qa_format.specs.format.Lines.{ended_lines, unended, last_line}
 use Rattle.qa_format.specs.format.Reading.{reading}
 use Rattle.qa_format.specs.verdicts.Explain as explanation
@@ -67,16 +68,16 @@ audited_untold left held held' origin (Err OutOfMemory) a = a
 -- ---- an explanation
 
 -- a beginning of the rows
-begun_rows : {last : ℕ} (left left' held held' : Option (List ℕ)) → BeginsRead left left' last held held' (explanation.rows reading)
-    → (bytes : List ℕ) × Begins held held' (explanation.rows reading bytes)
+begun_rows : {last : ℕ} (left left' held held' : Option (List ℕ)) → BeginsRead left left' last held held' (explanation.rows (strict reading))
+    → (bytes : List ℕ) × Begins held held' (explanation.rows (strict reading) bytes)
 begun_rows left left' held held' (bytes, consumes, further, begun) = elim begun [
   | inl ended ↦ let more = told_begin explanation.row_said reading (ended_lines bytes) (last_line (unended bytes)) in (bytes, begins_longer held held' _ _ more.0 more.1 ended)
   | inr all ↦ (bytes, all.1)
 ]
 
 -- a beginning of the rows and the report
-begun_all : {last : ℕ} (left left' held held' : Option (List ℕ)) → BeginsRead left left' last held held' (explanation.explain reading)
-    → (bytes : List ℕ) × Begins held held' (explanation.explain reading bytes)
+begun_all : {last : ℕ} (left left' held held' : Option (List ℕ)) → BeginsRead left left' last held held' (explanation.explain (strict reading))
+    → (bytes : List ℕ) × Begins held held' (explanation.explain (strict reading) bytes)
 begun_all left left' held held' (bytes, consumes, further, begun) = elim begun [
   | inl ended ↦ let more = explanation_begins reading bytes [] in (bytes ++ [], begins_longer held held' _ _ more.0 more.1 ended)
   | inr all ↦ (bytes, all.1)
@@ -90,14 +91,14 @@ explained_ok left left' held held' outcome origin told (bytes, read, explains) =
 
 pub explained_err : {last : ℕ} (left left' held held' : Option (List ℕ)) (origin : Origin) (fault : AuditFault) (failure : Failure) → failure ≡ failure_of origin fault
     → (fault ≡ faults.Read → ShowsRead left left' held held')
-    → (fault ≡ faults.OutOfMemory → BeginsRead left left' last held held' (explanation.rows reading))
-    → ((bytes : List ℕ) → left ≡ Some bytes → fault ≡ faults.Write → Begins held held' (explanation.explain reading bytes))
-    → (fault ≡ faults.Write → BeginsRead left left' last held held' (explanation.explain reading))
+    → (fault ≡ faults.OutOfMemory → BeginsRead left left' last held held' (explanation.rows (strict reading)))
+    → ((bytes : List ℕ) → left ≡ Some bytes → fault ≡ faults.Write → Begins held held' (explanation.explain (strict reading) bytes))
+    → (fault ≡ faults.Write → BeginsRead left left' last held held' (explanation.explain (strict reading)))
     → Explained left origin (Err failure) held held'
 explained_err left left' held held' origin faults.Read failure is rows memory told begun = let shown = rows refl in rw is (refl, (shown.0, shown.3))
 explained_err left left' held held' origin faults.Write failure is rows memory told begun =
     let some = begun_all left left' held held' (begun refl) in
-    rw is (of_told (λ bytes. Begins held held' (explanation.explain reading bytes)) left (λ bytes tells. told bytes tells refl) some.0 some.1)
+    rw is (of_told (λ bytes. Begins held held' (explanation.explain (strict reading) bytes)) left (λ bytes tells. told bytes tells refl) some.0 some.1)
 explained_err left left' held held' origin faults.OutOfMemory failure is rows memory told begun = rw is (begun_rows left left' held held' (memory refl))
 
 -- of an origin that tells no bytes

@@ -2,6 +2,7 @@
 use Rattle.std.specs.Prelude.{◌≡◌, ◌⊎◌, ℕ, List, Option, Some, None, Result, Ok, Err}
 use Rattle.std.specs.Borrow.{Bor}
 use Rattle.std.specs.Io.KnownBytes.{Appends}
+use Rattle.qa_format.specs.verdicts.Verdict.{strict}
 use Rattle.qa_format.specs.format.Reading.{reading}
 use Rattle.qa_format.specs.verdicts.Explain as explanation
 use Rattle.qa_check.specs.Writing as writing
@@ -20,8 +21,8 @@ Explained left origin (Ok outcome) old new = (bytes : List ℕ) × AreOf left by
 Explained left origin (Err Arguments) old new = ⊥
 Explained left origin (Err (Open name)) old new = ⊥
 Explained left origin (Err (Read failed)) old new = (failed ≡ origin) × ((bytes : List ℕ) × Appends old new (told_ended explanation.row_said bytes))
-Explained left origin (Err Write) old new = (bytes : List ℕ) × AreOf left bytes × Begins old new (explanation.explain reading bytes)
-Explained left origin (Err OutOfMemory) old new = (bytes : List ℕ) × Begins old new (explanation.rows reading bytes)
+Explained left origin (Err Write) old new = (bytes : List ℕ) × AreOf left bytes × Begins old new (explanation.explain (strict reading) bytes)
+Explained left origin (Err OutOfMemory) old new = (bytes : List ℕ) × Begins old new (explanation.rows (strict reading) bytes)
 
 -- the same of a file, which may not open
 abbrev pub ExplainsFile : Bor (List ℕ) → Result Outcome Failure → Option (List ℕ) → Option (List ℕ) → Type 0

@@ -26,7 +26,7 @@ ghost use Rattle.qa_base.specs.values.Constants.{minimum_window, probe_datagrams
 ghost use Rattle.qa_base.specs.values.Events.{is_named, time_of};
 ghost use Rattle.qa_format.specs.format.Proper.{IsProperEvent};
 ghost use Rattle.qa_base.specs.values.Settings.{Settings, AreInRange, granularity, is_may, is_reported};
-ghost use Rattle.qa_format.specs.verdicts.Verdict.{sayings, trace_of, verdict};
+ghost use Rattle.qa_format.specs.verdicts.Verdict.{strict, sayings, trace_of, verdict};
 ghost use Rattle.qa_history.specs.machine.Declared.{IsFarBelow, named_free};
 ghost use Rattle.qa_history.specs.machine.Oldest.{is_flying};
 ghost use Rattle.qa_laws.specs.machine.Conduct.{is_entered_by, HasMoment, IsAmong, IsConduct, IsLostRightly, IsSentAfter, NoCollapse, is_probe, is_pto_event, is_recovery, probe_bytes};
@@ -213,7 +213,7 @@ pub fn own_window_shows_collapses()
 pub fn accepted_conduct()
     ensures runs { (c : Settings) (h : List Event) → IsRun c h → AllByRecursion IsProperEvent h
         → IsConduct c h }
-    ensures accepted { (bytes : List ℕ) (t : Totals) → verdict reading bytes ≡ verdicts.Accepted t
+    ensures accepted { (bytes : List ℕ) (t : Totals) → verdict (strict reading) bytes ≡ verdicts.Accepted t
         → (c : Settings) × (events : List Event)
         × (sayings reading (lines bytes) ≡ trace_of c events) × IsConduct c (history_of events) }
 {}

@@ -36,7 +36,7 @@ ghost use Rattle.qa_base.specs.values.Constants.{minimum_window, time_threshold_
 ghost use Rattle.qa_base.specs.values.Limits.{max_packet_size};
 ghost use Rattle.qa_base.specs.values.Settings.{Settings, AreInRange, choosing_options, granularity, is_may, is_reported, no_options};
 ghost use Rattle.qa_base.specs.machine.Timer.{deadline, pto_count};
-ghost use Rattle.qa_format.specs.verdicts.Verdict.{Reading, IsFixed, IsTraceOfRun, verdict};
+ghost use Rattle.qa_format.specs.verdicts.Verdict.{strict, Reading, IsFixed, IsTraceOfRun, verdict};
 ghost use Rattle.qa_format.specs.format.Written.{Pairs, written};
 ghost use Rattle.qa_base.specs.machine.Widths.{Fits, IsTimely, acknowledged_count};
 ghost use Rattle.qa_base.specs.machine.Window.{window};
@@ -46,8 +46,8 @@ ghost use Rattle.std.specs.List.{AllByRecursion};
 
 /// No byte that follows changes a verdict that is fixed, whatever the reading of lines.
 pub fn fixed_stays()
-    ensures { (reading : Reading) (f g : List ℕ) → IsFixed reading f
-        → verdict reading (f ++ g) ≡ verdict reading f }
+    ensures { (reading : Reading) (f g : List ℕ) → IsFixed (strict reading) f
+        → verdict (strict reading) (f ++ g) ≡ verdict (strict reading) f }
 {}
 
 /// What a line is read as is in the ranges of its format: a header's values are, and so are an
@@ -78,7 +78,7 @@ pub fn any_order_is_read()
 /// complete run with those totals, whatever the reading of lines.
 pub fn accepted_is_run()
     ensures { (reading : Reading) (bytes : List ℕ) (t : Totals)
-        → (verdict reading bytes ≡ verdicts.Accepted t) ↔ IsTraceOfRun reading (lines bytes) t }
+        → (verdict (strict reading) bytes ≡ verdicts.Accepted t) ↔ IsTraceOfRun reading (lines bytes) t }
 {}
 
 /// A prefix of a run is a run.

@@ -10,7 +10,7 @@ ghost use Rattle.qa_format.specs.declared.verdict.Verdict.TheVariants as verdict
 ghost use Rattle.qa_format.specs.format.Lines.{lines};
 ghost use Rattle.qa_base.specs.machine.Rules.{first_broken};
 ghost use Rattle.qa_base.specs.values.Settings.{Settings};
-ghost use Rattle.qa_format.specs.verdicts.Verdict.{Reading, verdict};
+ghost use Rattle.qa_format.specs.verdicts.Verdict.{strict, Reading, verdict};
 ghost use Rattle.qa_laws.specs.verdicts.Grounds.{BreaksAt, FailsAt, IsGround, OwesAtEnd, SaysNothing};
 
 /// Bytes are refused at a line by a rule with some totals exactly where the lines before it are good,
@@ -21,12 +21,12 @@ ghost use Rattle.qa_laws.specs.verdicts.Grounds.{BreaksAt, FailsAt, IsGround, Ow
 /// no other verdict of the bytes has one. All of it holds for any reading of lines.
 pub fn verdicts_have_grounds()
     ensures refused { (reading : Reading) (bytes : List ℕ) (n : ℕ) (r : Rule) (t : Totals)
-        → (verdict reading bytes ≡ verdicts.Refused n r t)
+        → (verdict (strict reading) bytes ≡ verdicts.Refused n r t)
         ↔ (BreaksAt reading (lines bytes) n r t ⊎ OwesAtEnd reading (lines bytes) n r t) }
     ensures unreadable { (reading : Reading) (bytes : List ℕ) (n : ℕ) (f : Fault) (t : Option Totals)
-        → (verdict reading bytes ≡ verdicts.Unreadable n f t)
+        → (verdict (strict reading) bytes ≡ verdicts.Unreadable n f t)
         ↔ (FailsAt reading (lines bytes) n f t ⊎ SaysNothing reading (lines bytes) n f t) }
-    ensures each { (reading : Reading) (bytes : List ℕ) (v : Verdict) → (verdict reading bytes ≡ v)
+    ensures each { (reading : Reading) (bytes : List ℕ) (v : Verdict) → (verdict (strict reading) bytes ≡ v)
         ↔ IsGround reading (lines bytes) v }
     ensures of_event { (c : Settings) (h : List Event) (e : Event)
         → first_broken c h e ≢ Some rules.OwedAtEnd }

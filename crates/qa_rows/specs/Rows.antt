@@ -10,7 +10,7 @@ use Rattle.qa_check.specs.declared.auditing.Outcome.{Outcome}
 use Rattle.qa_format.specs.format.Reading.{reading}
 use Rattle.qa_format.specs.format.Written.{written}
 use Rattle.qa_format.specs.verdicts.Explain.{told}
-use Rattle.qa_format.specs.verdicts.Verdict.{verdict}
+use Rattle.qa_format.specs.verdicts.Verdict.{strict, verdict}
 use Rattle.qa_rows.specs.State.{state_text}
 
 -- ---- the pieces of the text
@@ -44,4 +44,4 @@ row_of n (line.Event e) c h = row n (line.Event e) c h
 
 -- the rows of the bytes were written, and the kind of their verdict is returned
 abbrev pub WritesRows : Option (List ℕ) → Option (List ℕ) → Outcome → List ℕ → Type 0
-WritesRows held held' outcome bytes = Appends held held' (told row_of reading bytes) × (outcome ≡ outcome_of (verdict reading bytes))
+WritesRows held held' outcome bytes = Appends held held' (told row_of (strict reading) bytes) × (outcome ≡ outcome_of (verdict (strict reading) bytes))

@@ -1,5 +1,6 @@
 //! The rows of a trace, from a reader of bytes to a writer.
 ghost use Rattle.std.specs.Prelude.{◌≡◌, ℕ, List, false, Some, Err, IfOk, OnErr};
+ghost use Rattle.qa_format.specs.verdicts.Verdict.{strict};
 ghost use Rattle.qa_check.specs.Audit.{Reads, ReadsEnough, is_read_fault, is_write_fault};
 ghost use Rattle.qa_check.specs.Failures.{failures_after};
 ghost use Rattle.qa_check.specs.Writing.{BeginsToldRead, ShowsToldRead};
@@ -50,11 +51,11 @@ pub fn rows<L: Explains + Drop, R: Source, W: Sink>(
 
     // After a failed read all rows of the lines that an LF ended were written, and nothing else.
     ensures rows { result ≡ Err AuditFault.Read
-        → ShowsToldRead row_of (R.left reader.old) (R.left reader.new) (W.held writer.old) (W.held writer.new) }
+        → ShowsToldRead (strict reading) row_of (R.left reader.old) (R.left reader.new) (W.held writer.old) (W.held writer.new) }
 
     // After another failure the beginning of the rows was written.
     ensures begun { is_read_fault result ≡ false → OnErr result
-        (BeginsToldRead row_of (R.left reader.old) (R.left reader.new) (R.last_read reader.new) (W.held writer.old) (W.held writer.new) (told row_of reading)) }
+        (BeginsToldRead (strict reading) row_of (R.left reader.old) (R.left reader.new) (R.last_read reader.new) (W.held writer.old) (W.held writer.new) (told row_of (strict reading))) }
 
     // A fault of the reader or the writer is returned exactly where it failed, once.
     ensures read_failures { R.read_failures reader.new

@@ -1,12 +1,13 @@
 -- What a session holds, and which bytes it was handed.
 use Rattle.std.specs.Prelude.{◌≡◌, ℕ, Bool, true, false, List, Option, Some, None, Result, Ok, Err}
 use Rattle.qa_check.specs.Auditor.{Audit, Audits}
+use Rattle.qa_check.specs.Standing.{of_ledger}
 use Rattle.qa_check.specs.declared.auditing.AuditFault.{AuditFault}
 use Rattle.qa_check.specs.declared.auditor.Progress.{Progress}
 use Rattle.qa_check.specs.declared.auditor.Progress.TheVariants as progress
 use Rattle.qa_format.specs.declared.verdict.Verdict.{Verdict}
 use Rattle.qa_format.specs.format.Reading.{reading}
-use Rattle.qa_format.specs.verdicts.Verdict.{verdict}
+use Rattle.qa_format.specs.verdicts.Verdict.{strict, verdict}
 use Rattle.qa_running.specs.Running.{State, IsAfter}
 use Rattle.qa_session.specs.declared.Phase.{Phase}
 use Rattle.qa_session.specs.declared.Phase.TheVariants.{Open, Fixed, Finished, OutOfMemory}
@@ -46,11 +47,11 @@ verdict_in OutOfMemory = None
 -- an audit that came so far has the verdict of these bytes
 abbrev pub Concludes : Result Progress AuditFault → List ℕ → Type 0
 Concludes (Ok progress.Open) bytes = ⊥
-Concludes (Ok (progress.Fixed v)) bytes = v ≡ verdict reading bytes
+Concludes (Ok (progress.Fixed v)) bytes = v ≡ verdict (strict reading) bytes
 Concludes (Err f) bytes = Unit {0}
 
 abbrev pub IsFedBy : Bool → Audit State → List ℕ → Type 0
-IsFedBy false audit bytes = Audits IsAfter audit bytes
+IsFedBy false audit bytes = Audits (of_ledger IsAfter) audit bytes
 IsFedBy true audit bytes = Concludes audit.progress bytes
 
 -- these bytes were handed to it, as bytes or by what their lines say; of one that is out of memory nothing is said

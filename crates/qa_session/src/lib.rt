@@ -2,6 +2,7 @@
 #![tactic(auto)]
 
 ghost use Rattle.std.specs.Prelude.{◌≡◌, ◌≢◌, ◌++◌, [], List, ℕ, IfSome, true, false};
+ghost use Rattle.qa_format.specs.verdicts.Verdict.{strict};
 ghost use Rattle.qa_check.specs.Auditor.{is_between};
 ghost use Rattle.qa_check.specs.Standing.{IsLineOf};
 ghost use Rattle.qa_format.specs.format.Lines.{with_lf};
@@ -77,7 +78,7 @@ impl Session {
     pub fn verdict(&self) -> Option<Verdict>
         ensures known { result ≡ verdict_in (phase_of self.now) }
         ensures verdict { IfSome result (λ v. (bytes : List ℕ) → IsFed self.now bytes
-            → v ≡ verdicts.verdict reading bytes) }
+            → v ≡ verdicts.verdict (strict reading) bytes) }
     {
         match self.auditor.progress() {
             Ok(Progress::Open) => None,

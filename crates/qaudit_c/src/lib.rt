@@ -6,7 +6,7 @@
 ghost use Rattle.std.specs.Prelude.{◌≡◌, ◌≢◌, ◌⊎◌, [], List, ℕ, None, IfSome, is_some, length};
 ghost use Rattle.qa_format.specs.format.Reading.{reading};
 ghost use Rattle.qa_format.specs.verdicts.Report as text;
-ghost use Rattle.qa_format.specs.verdicts.Verdict.{verdict};
+ghost use Rattle.qa_format.specs.verdicts.Verdict.{strict, verdict};
 ghost use Rattle.qaudit_c.specs.Calls.{Feeds, Finishes, Hands, HoldsFed, Tells, status, verdict_known};
 ghost use Rattle.qaudit_c.specs.Events as said;
 ghost use Rattle.qaudit_c.specs.Numbers as numbers;
@@ -212,7 +212,7 @@ fn known(alloc: Global, qaudit: &mut Qaudit) -> Option<Verdict>
     ensures kept { qaudit.new.handle.held ≡ qaudit.old.handle.held }
     ensures known { result ≡ verdict_known qaudit.old.handle.held }
     ensures verdict { IfSome result (λ v. (bytes : List ℕ) → HoldsFed qaudit.old.handle.held bytes
-        → v ≡ verdict reading bytes) }
+        → v ≡ verdict (strict reading) bytes) }
 {
     let session = take(alloc, qaudit)?;
     let verdict = session.verdict();
@@ -227,7 +227,7 @@ pub extern "C" fn qaudit_verdict(alloc: Global, qaudit: &mut Qaudit, out: &mut T
     ensures known { result ≡ is_some (verdict_known qaudit.old.handle.held) }
     ensures kept { qaudit.new.handle.held ≡ qaudit.old.handle.held }
     ensures told { IfSome (verdict_known qaudit.old.handle.held) (λ v. (out.new ≡ telling.told v)
-        × ((bytes : List ℕ) → HoldsFed qaudit.old.handle.held bytes → v ≡ verdict reading bytes)) }
+        × ((bytes : List ℕ) → HoldsFed qaudit.old.handle.held bytes → v ≡ verdict (strict reading) bytes)) }
     ensures untold { verdict_known qaudit.old.handle.held ≡ None → out.new ≡ out.old }
 {
     match known(alloc, qaudit) {
@@ -248,7 +248,7 @@ pub extern "C" fn qaudit_report(alloc: Global, qaudit: &mut Qaudit, out: &mut [u
     ensures none { result ≡ 0 → out.new ≡ out.old }
     ensures unknown { verdict_known qaudit.old.handle.held ≡ None → result ≡ 0 }
     ensures told { result ≢ 0 → (bytes : List ℕ) → HoldsFed qaudit.old.handle.held bytes
-        → Tells result out.old out.new (text.report (verdict reading bytes)) }
+        → Tells result out.old out.new (text.report (verdict (strict reading) bytes)) }
 {
     match known(alloc, qaudit) {
         Some(verdict) => put_report(alloc, &verdict, out),
@@ -264,7 +264,7 @@ pub extern "C" fn qaudit_first_line(alloc: Global, qaudit: &mut Qaudit, out: &mu
     ensures none { result ≡ 0 → out.new ≡ out.old }
     ensures unknown { verdict_known qaudit.old.handle.held ≡ None → result ≡ 0 }
     ensures told { result ≢ 0 → (bytes : List ℕ) → HoldsFed qaudit.old.handle.held bytes
-        → Tells result out.old out.new (text.verdict_text (verdict reading bytes)) }
+        → Tells result out.old out.new (text.verdict_text (verdict (strict reading) bytes)) }
 {
     match known(alloc, qaudit) {
         Some(verdict) => put_line(alloc, &verdict, out),

@@ -14,7 +14,7 @@ use Rattle.qa_base.specs.machine.Packets.{history_of}
 use Rattle.qa_format.specs.format.Proper.{IsProperEvent, IsProperLine}
 use Rattle.qa_base.specs.machine.Rules.{IsRun}
 use Rattle.qa_base.specs.values.Settings.{Settings}
-use Rattle.qa_format.specs.verdicts.Verdict.{Reading, verdict, is_saying, sayings, event_line, trace_of}
+use Rattle.qa_format.specs.verdicts.Verdict.{strict, Reading, verdict, is_saying, sayings, event_line, trace_of}
 use Rattle.qa_format.proofs.verdicts.Accepted.{accepted_is_run}
 use Rattle.qa_laws.proofs.machine.ConductOfLosses.{lost_rightly}
 use Rattle.qa_laws.proofs.machine.ConductOfSends.{past_window_by_leave}
@@ -72,7 +72,7 @@ conduct_of_run c h run proper = record {
 -- ---- and of bytes that are accepted
 
 pub accepted_conduct : (reading : Reading) (bytes : List ℕ) (t : Totals) → ((l : List ℕ) (x : Line) → reading l ≡ Ok x → IsProperLine x)
-    → verdict reading bytes ≡ Accepted t
+    → verdict (strict reading) bytes ≡ Accepted t
     → (c : Settings) × (events : List Event) × (sayings reading (lines bytes) ≡ trace_of c events) × IsConduct c (history_of events)
 accepted_conduct reading bytes t proper is =
     let trace = accepted_is_run reading bytes t is in

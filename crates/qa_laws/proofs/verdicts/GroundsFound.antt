@@ -27,7 +27,7 @@ use Rattle.qa_base.specs.machine.Metrics.{metric_tests}
 use Rattle.qa_base.specs.machine.Rules.{broken, first_of, first_broken}
 use Rattle.qa_base.specs.values.Settings.{Settings}
 use Rattle.qa_base.specs.machine.State.{totals}
-use Rattle.qa_format.specs.verdicts.Verdict.{Reading, IsWithinLimit, AreGood, event_said, header_in, events_in, said, stop_at, stop_after, first_stop, line_behind, last_event_line, end_at, end_of, verdict_of, verdict, is_saying, sayings, event_line, opening, IsRunBy}
+use Rattle.qa_format.specs.verdicts.Verdict.{strict, Reading, IsWithinLimit, AreGood, event_said, header_in, events_in, said, stop_at, stop_after, first_stop, line_behind, last_event_line, end_at, end_of, verdict_of, verdict, is_saying, sayings, event_line, opening, IsRunBy}
 use Rattle.qa_format.proofs.verdicts.Accepted.{good_run}
 use Rattle.qa_format.proofs.verdicts.Fixed.{long_verdict}
 use Rattle.qa_format.proofs.verdicts.RunsAccepted.{read_as_said, events_in-snoc, stop_of_reading, longer, no_stop_yet, events_of_lines, accepted_exactly_runs}
@@ -35,7 +35,7 @@ use Rattle.qa_format.proofs.verdicts.Stops.{header_in-snoc, good_are_few, good_a
 
 -- ---- good lines, by what they say and by the first that is not
 
-pub good_lines : (reading : Reading) (ls : List (List ℕ)) → AreGood reading ls → AreGoodLines reading ls (header_in reading ls) (events_in reading ls)
+pub good_lines : (reading : Reading) (ls : List (List ℕ)) → AreGood (strict reading) ls → AreGoodLines reading ls (header_in reading ls) (events_in reading ls)
 good_lines reading ls good =
     let run = good_run reading [] ls good (refl, refl) in
     let few : 0 + length ls ≤ 4294967295 = good_are_few reading [] ls good (omega arith) in
@@ -48,16 +48,16 @@ blank_first (Ok (line.Header c)) rest none = cc
 blank_first (Ok (line.Event e)) rest none = cc
 
 no_stop_in_blank : (reading : Reading) (before ls : List (List ℕ)) → header_in reading before ≡ None → events_in reading before ≡ []
-    → sayings reading ls ≡ [] → length before + length ls ≤ max_lines → AllByRecursion IsWithinLimit ls → first_stop reading before ls ≡ None
+    → sayings reading ls ≡ [] → length before + length ls ≤ max_lines → AllByRecursion IsWithinLimit ls → first_stop (strict reading) before ls ≡ None
 no_stop_in_blank reading before [] no_header no_events none few short = refl
 no_stop_in_blank reading before (l ∷ ls) no_header no_events none few short =
     let blank = blank_first (reading l) (map reading ls) none in
-    let stop : stop_after reading before l ≡ None = stop_of_reading reading before l None [] (Ok line.Blank) (omega arith) short.0 no_header no_events blank.0 in
+    let stop : stop_after (strict reading) before l ≡ None = stop_of_reading reading before l None [] (Ok line.Blank) (omega arith) short.0 no_header no_events blank.0 in
     let header_after : header_in reading (before ++ l ∷ []) ≡ None = header_in-snoc reading before l ∙ rw (no_header, blank.0) refl in
     let events_after : events_in reading (before ++ l ∷ []) ≡ [] = events_in-snoc reading before l ∙ rw (no_events, blank.0) refl in
     rw stop (no_stop_in_blank reading (before ++ l ∷ []) ls header_after events_after blank.1 (longer before l ls few) short.1)
 
-pub are_good : (reading : Reading) (ls : List (List ℕ)) (header : Option Settings) (events : List Event) → AreGoodLines reading ls header events → AreGood reading ls
+pub are_good : (reading : Reading) (ls : List (List ℕ)) (header : Option Settings) (events : List Event) → AreGoodLines reading ls header events → AreGood (strict reading) ls
 are_good reading ls None events good =
     no_stop_in_blank reading [] ls refl refl good.says (omega (arith, good.few)) good.short
 are_good reading ls (Some c) events good =
@@ -82,20 +82,20 @@ are_known reading ls header events good =
 abbrev StopsIn : Reading → List (List ℕ) → List (List ℕ) → Verdict → Type 0
 StopsIn reading front ls v =
     (before : List (List ℕ)) × (l : List ℕ) × (behind : List (List ℕ)) × (ls ≡ before ++ l ∷ behind)
-    × (first_stop reading front before ≡ None) × (stop_after reading (front ++ before) l ≡ Some v)
+    × (first_stop (strict reading) front before ≡ None) × (stop_after (strict reading) (front ++ before) l ≡ Some v)
 
-here_or_later : (reading : Reading) (front : List (List ℕ)) (l : List ℕ) (ls : List (List ℕ)) (v : Verdict) (o : Option Verdict) → stop_after reading front l ≡ o
-    → option_or o (first_stop reading (front ++ l ∷ []) ls) ≡ Some v
-    → (first_stop reading (front ++ l ∷ []) ls ≡ Some v → StopsIn reading (front ++ l ∷ []) ls v) → StopsIn reading front (l ∷ ls) v
+here_or_later : (reading : Reading) (front : List (List ℕ)) (l : List ℕ) (ls : List (List ℕ)) (v : Verdict) (o : Option Verdict) → stop_after (strict reading) front l ≡ o
+    → option_or o (first_stop (strict reading) (front ++ l ∷ []) ls) ≡ Some v
+    → (first_stop (strict reading) (front ++ l ∷ []) ls ≡ Some v → StopsIn reading (front ++ l ∷ []) ls v) → StopsIn reading front (l ∷ ls) v
 here_or_later reading front l ls v None none is further =
     let found = further is in
     (l ∷ found.0, found.1, found.2, ap (λ k. l ∷ k) found.3, rw none found.4, rw append_assoc at found.5)
 here_or_later reading front l ls v (Some w) some is further = ([], l, ls, refl, refl, rw append-nil (some ∙ is))
 
-stops_in : (reading : Reading) (front ls : List (List ℕ)) (v : Verdict) → first_stop reading front ls ≡ Some v → StopsIn reading front ls v
+stops_in : (reading : Reading) (front ls : List (List ℕ)) (v : Verdict) → first_stop (strict reading) front ls ≡ Some v → StopsIn reading front ls v
 stops_in reading front [] v is = cc
 stops_in reading front (l ∷ ls) v is =
-    here_or_later reading front l ls v (stop_after reading front l) refl is (λ rest. stops_in reading (front ++ l ∷ []) ls v rest)
+    here_or_later reading front l ls v (stop_after (strict reading) front l) refl is (λ rest. stops_in reading (front ++ l ∷ []) ls v rest)
 
 -- ---- what a line says within the limits
 
@@ -202,7 +202,7 @@ misplaced reading n (Some d) l s is (c, says) =
 
 -- ---- refused at an event
 
-refused_at : (reading : Reading) (ls : List (List ℕ)) (n : ℕ) (r : Rule) (t : Totals) → first_stop reading [] ls ≡ Some (Refused n r t) → BreaksAt reading ls n r t
+refused_at : (reading : Reading) (ls : List (List ℕ)) (n : ℕ) (r : Rule) (t : Totals) → first_stop (strict reading) [] ls ≡ Some (Refused n r t) → BreaksAt reading ls n r t
 unfolding stop_after
 refused_at reading ls n r t is =
     let found = stops_in reading [] ls (Refused n r t) is in
@@ -231,20 +231,20 @@ refused_at reading ls n r t is =
 stop_of_break : (n : ℕ) (c : Settings) (h : List Event) (e : Event) (r : Rule) → first_broken c h e ≡ Some r → stop_at n (Some c) h (event_line e) ≡ Some (Refused n r (totals c h))
 stop_of_break n c h e r breaks = rw breaks refl
 
-break_refused : (reading : Reading) (ls : List (List ℕ)) (n : ℕ) (r : Rule) (t : Totals) → BreaksAt reading ls n r t → verdict_of reading ls ≡ Refused n r t
+break_refused : (reading : Reading) (ls : List (List ℕ)) (n : ℕ) (r : Rule) (t : Totals) → BreaksAt reading ls n r t → verdict_of (strict reading) ls ≡ Refused n r t
 break_refused reading ls n r t b =
     let known = are_known reading b.before (Some b.header) b.events b.good in
     let good = are_good reading b.before (Some b.header) b.events b.good in
-    let stop : stop_after reading b.before b.here ≡ Some (Refused (length b.before + 1) r (totals b.header (history_of b.events))) =
+    let stop : stop_after (strict reading) b.before b.here ≡ Some (Refused (length b.before + 1) r (totals b.header (history_of b.events))) =
     stop_of_reading reading b.before b.here (Some b.header) b.events (event_line b.event) (omega (arith, b.number, b.in_limits.0)) b.in_limits.1 known.0 known.1 b.says
     ∙ stop_of_break (length b.before + 1) b.header (history_of b.events) b.event r b.breaks in
-    ap (verdict_of reading) b.stands
+    ap (verdict_of (strict reading)) b.stands
     ∙ (long_verdict reading b.before b.behind b.here (Refused (length b.before + 1) r (totals b.header (history_of b.events))) good stop
     ∙ rw (b.number, b.held) refl)
 
 -- ---- a line that cannot be read
 
-unreadable_at : (reading : Reading) (ls : List (List ℕ)) (n : ℕ) (f : Fault) (t : Option Totals) → first_stop reading [] ls ≡ Some (Unreadable n f t) → FailsAt reading ls n f t
+unreadable_at : (reading : Reading) (ls : List (List ℕ)) (n : ℕ) (f : Fault) (t : Option Totals) → first_stop (strict reading) [] ls ≡ Some (Unreadable n f t) → FailsAt reading ls n f t
 unfolding stop_after
 unreadable_at reading ls n f t is =
     let found = stops_in reading [] ls (Unreadable n f t) is in
@@ -273,13 +273,13 @@ unreadable_at reading ls n f t is =
 
 stop_of_fault : (reading : Reading) (before : List (List ℕ)) (l : List ℕ) (header : Option Settings) (events : List Event) (f : Fault)
     → header_in reading before ≡ header → events_in reading before ≡ events → said reading (length before) l ≡ Err f
-    → stop_after reading before l ≡ Some (Unreadable (length before + 1) f (held_by header (history_of events)))
+    → stop_after (strict reading) before l ≡ Some (Unreadable (length before + 1) f (held_by header (history_of events)))
 unfolding stop_after
 stop_of_fault reading before l header events f is_header are_events says = rw (is_header, are_events, says) refl
 
 stop_of_failing : (reading : Reading) (before : List (List ℕ)) (l : List ℕ) (header : Option Settings) (events : List Event) (f : Fault)
     → header_in reading before ≡ header → events_in reading before ≡ events → HasFault reading (length before + 1) header l f
-    → stop_after reading before l ≡ Some (Unreadable (length before + 1) f (held_by header (history_of events)))
+    → stop_after (strict reading) before l ≡ Some (Unreadable (length before + 1) f (held_by header (history_of events)))
 stop_of_failing reading before l header events f is_header are_events (inl (past, fault)) =
     stop_of_fault reading before l header events f is_header are_events (says_so reading (length before) l (Err f) (inl (past, ap Err fault)))
 stop_of_failing reading before l header events f is_header are_events (inr (inl (few, long, fault))) =
@@ -291,13 +291,13 @@ stop_of_failing reading before l header events f is_header are_events (inr (inr 
     ∙ (out_of_place_stops (length before + 1) header (history_of events) (reading l) place
     ∙ ap (λ (g : Fault). Some (Unreadable (length before + 1) g (held_by header (history_of events)))) (sym fault))
 
-fault_unreadable : (reading : Reading) (ls : List (List ℕ)) (n : ℕ) (f : Fault) (t : Option Totals) → FailsAt reading ls n f t → verdict_of reading ls ≡ Unreadable n f t
+fault_unreadable : (reading : Reading) (ls : List (List ℕ)) (n : ℕ) (f : Fault) (t : Option Totals) → FailsAt reading ls n f t → verdict_of (strict reading) ls ≡ Unreadable n f t
 fault_unreadable reading ls n f t b =
     let known = are_known reading b.before b.header b.events b.good in
     let good = are_good reading b.before b.header b.events b.good in
     let fails : HasFault reading (length b.before + 1) b.header b.here f = rw (sym b.number) b.fails in
     let stop = stop_of_failing reading b.before b.here b.header b.events f known.0 known.1 fails in
-    ap (verdict_of reading) b.stands
+    ap (verdict_of (strict reading)) b.stands
     ∙ (long_verdict reading b.before b.behind b.here (Unreadable (length b.before + 1) f (held_by b.header (history_of b.events))) good stop
     ∙ rw (b.number, b.held) refl)
 
@@ -415,7 +415,7 @@ owes_nothing : (c : Settings) (events : List Event) → events ≡ [] → is_som
 owes_nothing c [] none some = cc
 owes_nothing c (e ∷ events) none some = cc
 
-owes_at_end : (reading : Reading) (ls : List (List ℕ)) (n : ℕ) (r : Rule) (t : Totals) → AreGood reading ls → end_of reading ls ≡ Refused n r t
+owes_at_end : (reading : Reading) (ls : List (List ℕ)) (n : ℕ) (r : Rule) (t : Totals) → AreGood (strict reading) ls → end_of reading ls ≡ Refused n r t
     → OwesAtEnd reading ls n r t
 owes_at_end reading ls n r t are is = elim (last_event reading ls) [
   | inl none ↦ absurd (owes_nothing why.0 (events_in reading ls) none.1 why.2)
@@ -440,7 +440,7 @@ owes_at_end reading ls n r t are is = elim (last_event reading ls) [
     why : EndOwes (last_event_line reading ls) (header_in reading ls) (history_of (events_in reading ls)) n r t
     why = end_refuses (length ls + 1) (last_event_line reading ls) (header_in reading ls) (history_of (events_in reading ls)) n r t is
 
-says_nothing : (reading : Reading) (ls : List (List ℕ)) (n : ℕ) (f : Fault) (t : Option Totals) → AreGood reading ls → end_of reading ls ≡ Unreadable n f t
+says_nothing : (reading : Reading) (ls : List (List ℕ)) (n : ℕ) (f : Fault) (t : Option Totals) → AreGood (strict reading) ls → end_of reading ls ≡ Unreadable n f t
     → SaysNothing reading ls n f t
 says_nothing reading ls n f t are is =
     let why = end_fails (length ls + 1) (last_event_line reading ls) (header_in reading ls) (history_of (events_in reading ls)) n f t is in
@@ -448,7 +448,7 @@ says_nothing reading ls n f t are is =
     let good : AreGoodLines reading ls None [] = rw (← own.run) own in
     record { good = good; number = why.1; fault = why.2; held = why.3 }
 
-owing_refused : (reading : Reading) (ls : List (List ℕ)) (n : ℕ) (r : Rule) (t : Totals) → OwesAtEnd reading ls n r t → verdict_of reading ls ≡ Refused n r t
+owing_refused : (reading : Reading) (ls : List (List ℕ)) (n : ℕ) (r : Rule) (t : Totals) → OwesAtEnd reading ls n r t → verdict_of (strict reading) ls ≡ Refused n r t
 unfolding verdict_of
 owing_refused reading ls n r t b =
     let known = are_known reading ls (Some b.header) b.events b.good in
@@ -456,7 +456,7 @@ owing_refused reading ls n r t b =
     let last : last_event_line reading ls ≡ n = ap (last_event_line reading) b.stands ∙ (last_is reading b.before b.here b.behind b.event b.says b.last ∙ sym b.number) in
     rw (good, known.0, known.1, none_or_some (owed b.header (history_of b.events)) b.owing, last, b.rule, b.held) refl
 
-nothing_unreadable : (reading : Reading) (ls : List (List ℕ)) (n : ℕ) (f : Fault) (t : Option Totals) → SaysNothing reading ls n f t → verdict_of reading ls ≡ Unreadable n f t
+nothing_unreadable : (reading : Reading) (ls : List (List ℕ)) (n : ℕ) (f : Fault) (t : Option Totals) → SaysNothing reading ls n f t → verdict_of (strict reading) ls ≡ Unreadable n f t
 unfolding verdict_of
 nothing_unreadable reading ls n f t b =
     let known = are_known reading ls None [] b.good in
@@ -465,24 +465,24 @@ nothing_unreadable reading ls n f t b =
 
 -- ---- any verdict
 
-pub refused_ground : (reading : Reading) (bytes : List ℕ) (n : ℕ) (r : Rule) (t : Totals) → verdict reading bytes ≡ Refused n r t
+pub refused_ground : (reading : Reading) (bytes : List ℕ) (n : ℕ) (r : Rule) (t : Totals) → verdict (strict reading) bytes ≡ Refused n r t
     → BreaksAt reading (lines bytes) n r t ⊎ OwesAtEnd reading (lines bytes) n r t
 unfolding verdict_of
-refused_ground reading bytes n r t is = elim (by_stop (first_stop reading [] (lines bytes)) (end_of reading (lines bytes)) (Refused n r t) is) [
+refused_ground reading bytes n r t is = elim (by_stop (first_stop (strict reading) [] (lines bytes)) (end_of reading (lines bytes)) (Refused n r t) is) [
   | inl stop ↦ inl (refused_at reading (lines bytes) n r t stop)
   | inr (good, end) ↦ inr (owes_at_end reading (lines bytes) n r t good end)
 ]
 
-pub unreadable_ground : (reading : Reading) (bytes : List ℕ) (n : ℕ) (f : Fault) (t : Option Totals) → verdict reading bytes ≡ Unreadable n f t
+pub unreadable_ground : (reading : Reading) (bytes : List ℕ) (n : ℕ) (f : Fault) (t : Option Totals) → verdict (strict reading) bytes ≡ Unreadable n f t
     → FailsAt reading (lines bytes) n f t ⊎ SaysNothing reading (lines bytes) n f t
 unfolding verdict_of
-unreadable_ground reading bytes n f t is = elim (by_stop (first_stop reading [] (lines bytes)) (end_of reading (lines bytes)) (Unreadable n f t) is) [
+unreadable_ground reading bytes n f t is = elim (by_stop (first_stop (strict reading) [] (lines bytes)) (end_of reading (lines bytes)) (Unreadable n f t) is) [
   | inl stop ↦ inl (unreadable_at reading (lines bytes) n f t stop)
   | inr (good, end) ↦ inr (says_nothing reading (lines bytes) n f t good end)
 ]
 
 pub refused_exactly : (reading : Reading) (bytes : List ℕ) (n : ℕ) (r : Rule) (t : Totals)
-    → (verdict reading bytes ≡ Refused n r t) ↔ (BreaksAt reading (lines bytes) n r t ⊎ OwesAtEnd reading (lines bytes) n r t)
+    → (verdict (strict reading) bytes ≡ Refused n r t) ↔ (BreaksAt reading (lines bytes) n r t ⊎ OwesAtEnd reading (lines bytes) n r t)
 refused_exactly reading bytes n r t = (
   refused_ground reading bytes n r t,
   λ ground. elim ground [
@@ -492,7 +492,7 @@ refused_exactly reading bytes n r t = (
 )
 
 pub unreadable_exactly : (reading : Reading) (bytes : List ℕ) (n : ℕ) (f : Fault) (t : Option Totals)
-    → (verdict reading bytes ≡ Unreadable n f t) ↔ (FailsAt reading (lines bytes) n f t ⊎ SaysNothing reading (lines bytes) n f t)
+    → (verdict (strict reading) bytes ≡ Unreadable n f t) ↔ (FailsAt reading (lines bytes) n f t ⊎ SaysNothing reading (lines bytes) n f t)
 unreadable_exactly reading bytes n f t = (
   unreadable_ground reading bytes n f t,
   λ ground. elim ground [
@@ -502,19 +502,19 @@ unreadable_exactly reading bytes n f t = (
 )
 
 -- a verdict has its ground, and no other verdict has one
-pub exactly_its_ground : (reading : Reading) (bytes : List ℕ) (v : Verdict) → (verdict reading bytes ≡ v) ↔ IsGround reading (lines bytes) v
+pub exactly_its_ground : (reading : Reading) (bytes : List ℕ) (v : Verdict) → (verdict (strict reading) bytes ≡ v) ↔ IsGround reading (lines bytes) v
 exactly_its_ground reading bytes (Accepted t) = accepted_exactly_runs reading bytes t
 exactly_its_ground reading bytes (Refused n r t) = refused_exactly reading bytes n r t
 exactly_its_ground reading bytes (Unreadable n f t) = unreadable_exactly reading bytes n f t
 
 -- ---- no verdict has two grounds
 
-good_to_the_end : (reading : Reading) (before behind : List (List ℕ)) (l : List ℕ) (v : Verdict) → AreGood reading before → stop_after reading before l ≡ Some v
-    → AreGood reading (before ++ l ∷ behind) → ⊥
+good_to_the_end : (reading : Reading) (before behind : List (List ℕ)) (l : List ℕ) (v : Verdict) → AreGood (strict reading) before → stop_after (strict reading) before l ≡ Some v
+    → AreGood (strict reading) (before ++ l ∷ behind) → ⊥
 good_to_the_end reading before behind l v good stop all =
-    let one : first_stop reading [] (before ++ l ∷ []) ≡ Some v = first_stop-snoc reading [] before l good ∙ stop in
-    let stops : first_stop reading [] (before ++ l ∷ behind) ≡ Some v =
-    ap (first_stop reading []) (sym (append_assoc before (l ∷ []) behind)) ∙ first_stop-append reading [] (before ++ l ∷ []) behind one in
+    let one : first_stop (strict reading) [] (before ++ l ∷ []) ≡ Some v = first_stop-snoc reading [] before l good ∙ stop in
+    let stops : first_stop (strict reading) [] (before ++ l ∷ behind) ≡ Some v =
+    ap (first_stop (strict reading) []) (sym (append_assoc before (l ∷ []) behind)) ∙ first_stop-append reading [] (before ++ l ∷ []) behind one in
     none_is_some v (sym all ∙ stops)
   where
     none_is_some : (v : Verdict) → None ≡ Some v → ⊥
@@ -526,7 +526,7 @@ breaks_or_owes reading ls n r t b owes =
     let good = are_good reading b.before (Some b.header) b.events b.good in
     let stop = stop_of_reading reading b.before b.here (Some b.header) b.events (event_line b.event) (omega (arith, b.number, b.in_limits.0)) b.in_limits.1 known.0 known.1 b.says
     ∙ stop_of_break (length b.before + 1) b.header (history_of b.events) b.event r b.breaks in
-    let all : AreGood reading (b.before ++ b.here ∷ b.behind) = rw (sym b.stands) (are_good reading ls (Some owes.header) owes.events owes.good) in
+    let all : AreGood (strict reading) (b.before ++ b.here ∷ b.behind) = rw (sym b.stands) (are_good reading ls (Some owes.header) owes.events owes.good) in
     good_to_the_end reading b.before b.behind b.here (Refused (length b.before + 1) r (totals b.header (history_of b.events))) good stop all
 
 pub fails_or_says_nothing : (reading : Reading) (ls : List (List ℕ)) (n : ℕ) (f : Fault) (t : Option Totals) → FailsAt reading ls n f t → SaysNothing reading ls n f t → ⊥

@@ -3,6 +3,7 @@ use Rattle.std.proofs.lemmas.Bool.{false≢true}
 use Rattle.std.proofs.lemmas.Result.{IfOk-weaker, on_err_weaker}
 use Rattle.std.proofs.KnownBytes.{Consumes-nil, Consumes-kept, Consumes-trans}
 use Rattle.qa_format.specs.declared.verdict.Verdict.{Verdict}
+use Rattle.qa_check.specs.Standing.{by}
 use Rattle.qa_check.specs.declared.auditor.Progress.{Progress}
 use Rattle.qa_check.specs.Writing.{Shows}
 use Rattle.qa_check.proofs.Faults.{ok_is_no_err, not_read}
@@ -28,11 +29,11 @@ returns-in_default g c =
     let i = c.pieces.invariant in
     let r = i.read in
     let before = c.pieces.auditor in
-    let b = brings_open g.L.Ledger.stands g.T.LineText.text before.progress before.stream before.held _ _ r.0 i.is_open r.2 in
+    let b = brings_open g.L.Judge.judges g.T.LineText.text before.progress before.stream before.held _ _ r.0 i.is_open r.2 in
     record {
       verdict = tt;
-      reads = reads_failed _ _ _ _ r.0 r.1 c.in_default.ensures.bytes c.in_default.ensures.last b.0;
-      rows = λ is. (r.0, Consumes-kept _ _ _ r.0 r.1 c.in_default.ensures.bytes, b.0, show_follows g.L.Ledger.stands g.T.LineText.text before.held _ _ _ r.0 b.1 b.2);
+      reads = reads_failed (by g.L.Judge.judges) _ _ _ _ r.0 r.1 c.in_default.ensures.bytes c.in_default.ensures.last b.0;
+      rows = λ is. (r.0, Consumes-kept _ _ _ r.0 r.1 c.in_default.ensures.bytes, b.0, show_follows g.L.Judge.judges g.T.LineText.text before.held _ _ _ r.0 b.1 b.2);
       begun = λ other. absurd (false≢true (sym other));
       read_failures = rw i.unfailed_read at c.in_default.ensures.failures;
       failures = i.unfailed;
@@ -44,12 +45,12 @@ returns-then-n-eq0 g c =
     let r = i.read in
     let start = g.O.Observer.shown c.args.observer.now in
     let before = c.pieces.auditor in
-    let b = brings_open g.L.Ledger.stands g.T.LineText.text before.progress before.stream before.held _ _ r.0 i.is_open r.2 in
+    let b = brings_open g.L.Judge.judges g.T.LineText.text before.progress before.stream before.held _ _ r.0 i.is_open r.2 in
     let ended = c.finish_to.ensures in
     let counts = ended.failures i.is_open in
     let end = c.in-Ok.ensures.bytes.1 c.if-n-eq0.true (omega arith) in
     let read = reads_nothing _ _ _ r.0 _ _ r.1 c.in-Ok.ensures.bytes.0 c.if-n-eq0.true in
-    let further = open_read _ r.0 (c.in-Ok.ensures.last ∙ c.if-n-eq0.true) b.0 in
+    let further = open_read (by g.L.Judge.judges) _ r.0 (c.in-Ok.ensures.last ∙ c.if-n-eq0.true) b.0 in
     record {
       verdict = IfOk-weaker c.finish_to.result _ _
           (λ v k. let judged = k start r.0 r.2 in (r.0, (read, inl end, further), judged.0, judged.1)) ended.verdict;
@@ -66,15 +67,15 @@ returns-in-Ok-Fixed g c =
     let r = i.read in
     let start = g.O.Observer.shown c.args.observer.now in
     let before = c.pieces.auditor in
-    let b = brings_open g.L.Ledger.stands g.T.LineText.text before.progress before.stream before.held _ _ r.0 i.is_open r.2 in
+    let b = brings_open g.L.Judge.judges g.T.LineText.text before.progress before.stream before.held _ _ r.0 i.is_open r.2 in
     let short = read_piece _ c.in-Ok.n c.read_piece.new.piece c.in-Ok.ensures.last c.in-Ok.ensures.bound (omega arith) in
     let after = c.feed_to.new.self in
     let is = sym c.feed_to.ensures.progress ∙ (rw c.in-Ok-Fixed.field-0-is at c.in-Ok-Fixed.is) in
-    let d = brings_fixed g.L.Ledger.stands g.T.LineText.text after.progress after.stream after.held start _ _ _ is (c.feed_to.ensures.fed start r.0 r.2) in
+    let d = brings_fixed g.L.Judge.judges g.T.LineText.text after.progress after.stream after.held start _ _ _ is (c.feed_to.ensures.fed start r.0 r.2) in
     let counts = c.in-Ok-Fixed.ensures.failures i.is_open in
     record {
       verdict = (_, (Consumes-trans _ _ _ r.0 _ r.1 c.in-Ok.ensures.bytes.0, inr d.0, (r.0, _, refl, short.0, short.1, b.0)), d.1, d.2);
-      reads = reads_piece _ _ _ _ r.0 _ r.1 c.in-Ok.ensures.bytes.0 short b.0;
+      reads = reads_piece (by g.L.Judge.judges) _ _ _ _ r.0 _ r.1 c.in-Ok.ensures.bytes.0 short b.0;
       rows = λ is. absurd (ok_is_no_err is);
       begun = λ is. tt;
       read_failures = c.in-Ok.ensures.failures ∙ i.unfailed_read;
@@ -87,15 +88,15 @@ returns-in-Err g c =
     let r = i.read in
     let start = g.O.Observer.shown c.args.observer.now in
     let before = c.pieces.auditor in
-    let b = brings_open g.L.Ledger.stands g.T.LineText.text before.progress before.stream before.held _ _ r.0 i.is_open r.2 in
+    let b = brings_open g.L.Judge.judges g.T.LineText.text before.progress before.stream before.held _ _ r.0 i.is_open r.2 in
     let short = read_piece _ c.in-Ok.n c.read_piece.new.piece c.in-Ok.ensures.last c.in-Ok.ensures.bound (omega arith) in
     let fault = c.in-Err.fault in
     let after = c.feed_to.new.self in
-    let failed = brings_failed g.L.Ledger.stands g.T.LineText.text after.progress after.stream after.held start _ _ fault (sym c.feed_to.ensures.progress ∙ c.in-Err.is) (c.feed_to.ensures.fed start r.0 r.2) in
+    let failed = brings_failed g.L.Judge.judges g.T.LineText.text after.progress after.stream after.held start _ _ fault (sym c.feed_to.ensures.progress ∙ c.in-Err.is) (c.feed_to.ensures.fed start r.0 r.2) in
     let counts = counts_same Progress Verdict _ _ fault (c.in-Err.ensures.failures i.is_open) in
     record {
       verdict = tt;
-      reads = reads_piece _ _ _ _ r.0 _ r.1 c.in-Ok.ensures.bytes.0 short b.0;
+      reads = reads_piece (by g.L.Judge.judges) _ _ _ _ r.0 _ r.1 c.in-Ok.ensures.bytes.0 short b.0;
       rows = λ is. absurd (not_read {A = Verdict} (Err fault) counts.0 is);
       begun = λ is. (_, Consumes-trans _ _ _ r.0 _ r.1 c.in-Ok.ensures.bytes.0, (r.0, _, refl, short.0, short.1, b.0), inl failed);
       read_failures = rw counts.0 (c.in-Ok.ensures.failures ∙ i.unfailed_read);
@@ -126,6 +127,6 @@ unreachable-requires g c =
     let before = c.pieces.auditor in
     let start = g.O.Observer.shown c.args.observer.now in
     let now = g.O.Observer.shown c.pieces.observer in
-    let b = brings_open g.L.Ledger.stands g.T.LineText.text before.progress before.stream before.held start now r.0 c.pieces.invariant.is_open r.2 in
-    let few = follow_few (Shows g.L.Ledger.stands g.T.LineText.text before.held start now) _ r.0 b.2 b.1.1 in
+    let b = brings_open g.L.Judge.judges g.T.LineText.text before.progress before.stream before.held start now r.0 c.pieces.invariant.is_open r.2 in
+    let few = follow_few (by g.L.Judge.judges) (Shows g.L.Judge.judges g.T.LineText.text before.held start now) _ r.0 b.2 b.1.1 in
     omega (arith, few, r.3)

@@ -10,5 +10,5 @@ invariant-pieces g l = record {
   unfailed_read : g.R.Source.read_failures l.reader ≡ g.R.Source.read_failures l.fn.reader;
   unfailed : g.O.Observer.failures l.observer ≡ g.O.Observer.failures l.fn.observer;
   read : (bytes : List ℕ) × Consumes (g.R.Source.left l.fn.reader) (g.R.Source.left l.reader) bytes
-      × Observes g.L.Ledger.stands g.T.LineText.text l.auditor (g.O.Observer.shown l.fn.observer) (g.O.Observer.shown l.observer) bytes × (l._i ≤ length bytes);
+      × Observes g.L.Judge.judges g.T.LineText.text l.auditor (g.O.Observer.shown l.fn.observer) (g.O.Observer.shown l.observer) bytes × (l._i ≤ length bytes);
 }

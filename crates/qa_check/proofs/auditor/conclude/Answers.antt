@@ -12,9 +12,9 @@ returns-in-Ok g c =
       ok = IfOk-weaker c.verdict_of.result _ _
           (λ v k start bytes f.
           let all = last.1 start bytes f in
-          (k bytes (answer_verdict g.L.Ledger.stands g.T.LineText.text c.take_last.new.checker start _ bytes last.0 all), answer_told g.L.Ledger.stands g.T.LineText.text c.take_last.new.checker start _ bytes all))
+          (k bytes (answer_verdict g.L.Judge.judges g.T.LineText.text c.take_last.new.checker start _ bytes last.0 all), answer_told g.L.Judge.judges g.T.LineText.text c.take_last.new.checker start _ bytes all))
           c.verdict_of.ensures.ok;
-      begun = on_err_of c.verdict_of.result (λ start bytes f. begins_all start _ _ (answer_told g.L.Ledger.stands g.T.LineText.text c.take_last.new.checker start _ bytes (last.1 start bytes f)));
+      begun = on_err_of c.verdict_of.result (λ start bytes f. begins_all start _ _ (answer_told g.L.Judge.judges g.T.LineText.text c.take_last.new.checker start _ bytes (last.1 start bytes f)));
       failures = counts_memory_after _ _ c.verdict_of.result c.in-Ok.ensures.failures.1 c.verdict_of.ensures.err;
     }
 

@@ -1,4 +1,5 @@
 use Rattle.std.proofs.Common.{◌++◌, refl}
+use Rattle.qa_check.specs.Standing.{by}
 use Rattle.qa_check.specs.declared.auditor.Progress.{Progress}
 use Rattle.qa_check.specs.declared.taking.Lines.{Lines}
 use Rattle.qa_check.specs.Writing.{Shows}
@@ -12,8 +13,8 @@ pub returns-in_default : goal.returns-in_default
 returns-in_default g c = record {
   more = λ is. cc;
   fed = λ start bytes f.
-      begin_follows g.L.Ledger.stands g.T.LineText.text c.args.checker.now start _ _ (bytes ++ c.args.piece.now)
-      (follow_piece (Shows g.L.Ledger.stands g.T.LineText.text c.args.checker.now start (g.O.Observer.shown c.args.observer.now)) _ c.args.piece.now bytes f);
+      begin_follows g.L.Judge.judges g.T.LineText.text c.args.checker.now start _ _ (bytes ++ c.args.piece.now)
+      (follow_piece (by g.L.Judge.judges) (Shows g.L.Judge.judges g.T.LineText.text c.args.checker.now start (g.O.Observer.shown c.args.observer.now)) _ c.args.piece.now bytes f);
   failures = (refl, refl);
 }
 
@@ -23,9 +24,9 @@ returns-in-Ok-Good g c =
     record {
       more = λ _. c.take_lines.ensures.more is;
       fed = λ start bytes f.
-          open_from g.L.Ledger.stands g.T.LineText.text c.take_lines.new.splitter c.take_lines.new.checker start _ _ (c.take_lines.ensures.more is).empty.0
+          open_from g.L.Judge.judges g.T.LineText.text c.take_lines.new.splitter c.take_lines.new.checker start _ _ (c.take_lines.ensures.more is).empty.0
           (c.take_lines.ensures.good is start (bytes ++ c.args.piece.now)
-          (follow_fed (Shows g.L.Ledger.stands g.T.LineText.text c.args.checker.now start (g.O.Observer.shown c.args.observer.now)) _ _ c.args.piece.now bytes c.in-Ok.ensures.ok f));
+          (follow_fed (by g.L.Judge.judges) (Shows g.L.Judge.judges g.T.LineText.text c.args.checker.now start (g.O.Observer.shown c.args.observer.now)) _ _ c.args.piece.now bytes c.in-Ok.ensures.ok f));
       failures = c.in-Ok-Good.ensures.failures;
     }
 
@@ -37,10 +38,10 @@ returns-in-Ok-verdict_of g c =
       more = λ is. cc;
       fed = λ start bytes f.
           let all = bytes ++ c.args.piece.now in
-          let follows = follow_fed (Shows g.L.Ledger.stands g.T.LineText.text c.args.checker.now start (g.O.Observer.shown c.args.observer.now)) _ _ c.args.piece.now bytes c.in-Ok.ensures.ok f in
+          let follows = follow_fed (by g.L.Judge.judges) (Shows g.L.Judge.judges g.T.LineText.text c.args.checker.now start (g.O.Observer.shown c.args.observer.now)) _ _ c.args.piece.now bytes c.in-Ok.ensures.ok f in
           let d = bad.1 start all follows in
-          let verdict = c.in-Ok-verdict_of.ensures.ok all (answer_verdict g.L.Ledger.stands g.T.LineText.text c.take_lines.new.checker start _ all bad.0 d.1) in
-          (d.0, verdict, answer_told g.L.Ledger.stands g.T.LineText.text c.take_lines.new.checker start _ all d.1);
+          let verdict = c.in-Ok-verdict_of.ensures.ok all (answer_verdict g.L.Judge.judges g.T.LineText.text c.take_lines.new.checker start _ all bad.0 d.1) in
+          (d.0, verdict, answer_told g.L.Judge.judges g.T.LineText.text c.take_lines.new.checker start _ all d.1);
       failures = c.in-Ok-Bad.ensures.failures;
     }
 
@@ -53,9 +54,9 @@ returns-in-Err-verdict_of g c =
       more = λ is. cc;
       fed = λ start bytes f.
           let all = bytes ++ c.args.piece.now in
-          let follows = follow_fed (Shows g.L.Ledger.stands g.T.LineText.text c.args.checker.now start (g.O.Observer.shown c.args.observer.now)) _ _ c.args.piece.now bytes c.in-Ok.ensures.ok f in
+          let follows = follow_fed (by g.L.Judge.judges) (Shows g.L.Judge.judges g.T.LineText.text c.args.checker.now start (g.O.Observer.shown c.args.observer.now)) _ _ c.args.piece.now bytes c.in-Ok.ensures.ok f in
           let d = bad.1 start all follows in
-          told_fixed g.T.LineText.text all start _ d.0 (answer_told g.L.Ledger.stands g.T.LineText.text c.take_lines.new.checker start _ all d.1);
+          told_fixed (by g.L.Judge.judges) g.T.LineText.text all start _ d.0 (answer_told g.L.Judge.judges g.T.LineText.text c.take_lines.new.checker start _ all d.1);
       failures = rw memory c.in-Ok-Bad.ensures.failures;
     }
 
@@ -63,7 +64,7 @@ pub returns-in-Err : goal.returns-in-Err
 returns-in-Err g c = record {
   more = λ is. cc;
   fed = λ start bytes f.
-      let follows = follow_fed (Shows g.L.Ledger.stands g.T.LineText.text c.args.checker.now start (g.O.Observer.shown c.args.observer.now)) _ _ c.args.piece.now bytes c.in-Ok.ensures.ok f in
+      let follows = follow_fed (by g.L.Judge.judges) (Shows g.L.Judge.judges g.T.LineText.text c.args.checker.now start (g.O.Observer.shown c.args.observer.now)) _ _ c.args.piece.now bytes c.in-Ok.ensures.ok f in
       c.in-Err.ensures.begun start (bytes ++ c.args.piece.now) follows;
   failures = counts_same Lines Progress _ _ c.in-Err.fault c.in-Err.ensures.failures;
 }

@@ -11,7 +11,7 @@ returns-in-Ok g c =
     let good = c.in-Ok.ensures.good in
     record {
       whole = λ _. good.0;
-      fed = λ stream bytes l empty line f. pushed_good g.L.Ledger.stands c.args.checker.now c.push_said.new.self stream bytes l empty line.0 (good.1 l line) f;
+      fed = λ stream bytes l empty line f. pushed_good g.L.Judge.judges c.args.checker.now c.push_said.new.self stream bytes l empty line.0 (good.1 l line) f;
       memory = tt;
     }
 
@@ -22,22 +22,22 @@ returns-in-Ok-verdict_of g c =
       whole = λ is. cc;
       fed = λ stream bytes l empty line f.
           let all = bytes ++ with_lf l in
-          let d = pushed_bad g.L.Ledger.stands c.args.checker.now c.push_said.new.self bytes l line.0 (bad.1 l line) f in
-          let verdict = c.in-Ok-verdict_of.ensures.ok all (answer_verdict g.L.Ledger.stands told_nothing c.push_said.new.self None None all bad.0 d.1) in
-          (d.0, verdict, answer_told g.L.Ledger.stands told_nothing c.push_said.new.self None None all d.1);
+          let d = pushed_bad g.L.Judge.judges c.args.checker.now c.push_said.new.self bytes l line.0 (bad.1 l line) f in
+          let verdict = c.in-Ok-verdict_of.ensures.ok all (answer_verdict g.L.Judge.judges told_nothing c.push_said.new.self None None all bad.0 d.1) in
+          (d.0, verdict, answer_told g.L.Judge.judges told_nothing c.push_said.new.self None None all d.1);
       memory = tt;
     }
 
 pub returns-in-Err : goal.returns-in-Err
 returns-in-Err g c = record {
   whole = λ is. cc;
-  fed = λ stream bytes l empty line f. pushed_failed g.L.Ledger.stands c.push_said.new.self stream (bytes ++ with_lf l) c.in-Err.fault;
+  fed = λ stream bytes l empty line f. pushed_failed g.L.Judge.judges c.push_said.new.self stream (bytes ++ with_lf l) c.in-Err.fault;
   memory = c.in-Err.ensures.err;
 }
 
 pub returns-in-Err-OutOfMemory : goal.returns-in-Err-OutOfMemory
 returns-in-Err-OutOfMemory g c = record {
   whole = λ is. cc;
-  fed = λ stream bytes l empty line f. pushed_failed g.L.Ledger.stands c.push_said.new.self stream (bytes ++ with_lf l) faults.OutOfMemory;
+  fed = λ stream bytes l empty line f. pushed_failed g.L.Judge.judges c.push_said.new.self stream (bytes ++ with_lf l) faults.OutOfMemory;
   memory = refl;
 }

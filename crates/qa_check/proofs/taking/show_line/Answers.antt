@@ -6,18 +6,18 @@ use Rattle.qa_base.specs.values.Settings.{Settings}
 use Rattle.qa_format.specs.declared.line.Line.{Line}
 use Rattle.qa_format.specs.format.LineKinds.{line_kind}
 use Rattle.qa_format.specs.verdicts.Explain.{Telling, told_said}
-use Rattle.qa_check.specs.Standing.{HoldsRun, Stands}
+use Rattle.qa_check.specs.Standing.{HoldsRun, Judges}
 use Rattle.qa_check.specs.Writing.{Begins}
 use Rattle.qa_check.proofs.taking.show_line.Goals as goal
 
 there : (some none : Bool) → some ≡ not none → none ≡ false → some ≡ true
 there some none is not_none = is ∙ ap not not_none
 
-of_header : {L : Type 0} (stands : Stands L) (tell : Telling) (n : ℕ) (said : Line) (held : Option L) (ledger : L) (header : Option Settings) (h : List Event) (T : List ℕ → Type 0)
-    → is_some (line_kind said) ≡ true → held ≡ Some ledger → ((c : Settings) (h : List Event) → stands ledger c h → T (tell n said c h))
-    → HoldsRun stands held header h → T (told_said tell n (Ok said) header h)
-of_header stands tell n said None ledger header h T some is shown holds = cc
-of_header stands tell n said (Some l) ledger header h T some is shown (c, headed, after) =
+of_header : {L : Type 0} (judges : Judges L) (tell : Telling) (n : ℕ) (said : Line) (held : Option L) (ledger : L) (header : Option Settings) (h : List Event) (T : List ℕ → Type 0)
+    → is_some (line_kind said) ≡ true → held ≡ Some ledger → ((c : Settings) (h : List Event) → judges.stands ledger c h → T (tell n said c h))
+    → HoldsRun judges held header h → T (told_said tell n (Ok said) header h)
+of_header judges tell n said None ledger header h T some is shown holds = cc
+of_header judges tell n said (Some l) ledger header h T some is shown (c, headed, after) =
     let same : l ≡ ledger = cc in
     let told : T (tell n said c h) = shown c h (rw same at after) in
     rw headed (rw some told)
@@ -31,12 +31,12 @@ returns g c =
     record {
       ok = on_ok_weaker c.see.result
           (λ shown header h holds.
-          of_header g.L.Ledger.stands g.T.LineText.text _ c.args.said.now c.args.checker.now.ledger c.in-Some.ledger.now header h (Appends before after) some is
+          of_header g.L.Judge.judges g.T.LineText.text _ c.args.said.now c.args.checker.now.ledger c.in-Some.ledger.now header h (Appends before after) some is
           (rw c.line_count.ensures at shown) holds)
           c.see.ensures.ok;
       begun = on_err_weaker c.see.result
           (λ begun header h holds.
-          of_header g.L.Ledger.stands g.T.LineText.text _ c.args.said.now c.args.checker.now.ledger c.in-Some.ledger.now header h (Begins before after) some is
+          of_header g.L.Judge.judges g.T.LineText.text _ c.args.said.now c.args.checker.now.ledger c.in-Some.ledger.now header h (Begins before after) some is
           (rw c.line_count.ensures at begun) holds)
           c.see.ensures.begun;
       failures = c.see.ensures.failures;

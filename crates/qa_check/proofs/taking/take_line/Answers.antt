@@ -12,8 +12,8 @@ returns-in-Err g c =
       good = λ is. absurd (stopped_is_not_good stop c.stopped.result of_stop is);
       bad = λ is start ls shows.
           let decided = stopped_decided stop c.stopped.result of_stop is in
-          show_bad g.L.Ledger.stands g.T.LineText.text c.args.checker.now c.push_line_said.new.self start _ _ (c.push_line_said.ensures.decided (c.in-Err.is ∙ ap Err decided)) ls shows;
-      begun = on_err_of c.stopped.result (λ start ls shows. show_none g.L.Ledger.stands g.T.LineText.text c.args.checker.now start _ _ ls shows);
+          show_bad g.L.Judge.judges g.T.LineText.text c.args.checker.now c.push_line_said.new.self start _ _ (c.push_line_said.ensures.decided (c.in-Err.is ∙ ap Err decided)) ls shows;
+      begun = on_err_of c.stopped.result (λ start ls shows. show_none g.L.Judge.judges g.T.LineText.text c.args.checker.now start _ _ ls shows);
       failures = stopped_counts _ stop c.stopped.result of_stop;
     }
 
@@ -23,7 +23,7 @@ returns-in-Ok-show_line g c =
     record {
       whole = c.in-Ok.ensures.good.0;
       good = λ is start ls shows.
-          show_good g.L.Ledger.stands g.T.LineText.text c.args.checker.now c.push_line_said.new.self start _ _ _ _ c.in-Ok.ensures.good c.in-Ok.ensures.said.0 row.ok ls shows;
+          show_good g.L.Judge.judges g.T.LineText.text c.args.checker.now c.push_line_said.new.self start _ _ _ _ c.in-Ok.ensures.good c.in-Ok.ensures.said.0 row.ok ls shows;
       bad = λ is. absurd (good_is_not_bad is);
       begun = tt;
       failures = row.failures;
@@ -31,4 +31,4 @@ returns-in-Ok-show_line g c =
 
 pub returns-clause-begun : goal.returns-clause-begun
 returns-clause-begun g c = λ start ls shows.
-    show_begun g.L.Ledger.stands g.T.LineText.text c.args.checker.now c.push_line_said.new.self start _ _ _ _ c.in-Ok.ensures.good c.in-Ok.ensures.said.0 c.in-Err-show_line.ensures.begun ls shows
+    show_begun g.L.Judge.judges g.T.LineText.text c.args.checker.now c.push_line_said.new.self start _ _ _ _ c.in-Ok.ensures.good c.in-Ok.ensures.said.0 c.in-Err-show_line.ensures.begun ls shows

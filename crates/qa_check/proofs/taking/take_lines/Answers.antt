@@ -1,4 +1,5 @@
 use Rattle.std.proofs.Common.{◌∙◌, refl}
+use Rattle.qa_check.specs.Standing.{by}
 use Rattle.qa_check.specs.Writing.{Shows}
 use Rattle.qa_check.proofs.Faults.{err_is_no_ok}
 use Rattle.qa_check.proofs.LinesTaken.{StoppedAs, bad_is_not_good, good_is_not_bad, stopped_is_not_good, stopped_decided, stopped_counts}
@@ -19,7 +20,7 @@ returns-in-Ok-Bad g c =
       bad = λ h. (
         c.in-Ok-Bad.ensures.whole,
         λ start bytes f.
-            decide_line (Shows g.L.Ledger.stands g.T.LineText.text c.lines.checker start (g.O.Observer.shown c.lines.observer)) (Shows g.L.Ledger.stands g.T.LineText.text c.take_line.new.checker start (g.O.Observer.shown c.take_line.new.observer)) _ _ _ _
+            decide_line (by g.L.Judge.judges) (Shows g.L.Judge.judges g.T.LineText.text c.lines.checker start (g.O.Observer.shown c.lines.observer)) (Shows g.L.Judge.judges g.T.LineText.text c.take_line.new.checker start (g.O.Observer.shown c.take_line.new.observer)) _ _ _ _
             t.is_line t.taken c.lines.invariant.ready.0 (λ ls s. c.take_line.ensures.bad is start ls s) bytes (c.lines.invariant.shown start bytes f),
       );
       begun = tt;
@@ -34,7 +35,7 @@ returns-in-Err g c =
       good = λ is. absurd (err_is_no_ok is);
       bad = λ is. absurd (err_is_no_ok is);
       begun = λ start bytes f.
-          begin_line g.T.LineText.text (Shows g.L.Ledger.stands g.T.LineText.text c.lines.checker start (g.O.Observer.shown c.lines.observer)) start (g.O.Observer.shown c.take_line.new.observer) _ _ _ _
+          begin_line (by g.L.Judge.judges) g.T.LineText.text (Shows g.L.Judge.judges g.T.LineText.text c.lines.checker start (g.O.Observer.shown c.lines.observer)) start (g.O.Observer.shown c.take_line.new.observer) _ _ _ _
           t.is_line t.taken c.lines.invariant.ready.0 (λ ls s. c.in-Err.ensures.begun start ls s) bytes (c.lines.invariant.shown start bytes f);
       failures = rw c.lines.invariant.unfailed at c.in-Err.ensures.failures;
     }
@@ -48,7 +49,7 @@ lines-preserved g c =
       whole = c.in-Ok-Good.ensures.whole;
       unfailed = c.in-Ok-Good.ensures.failures.1 ∙ c.lines.invariant.unfailed;
       shown = λ start bytes f.
-          follow_line (Shows g.L.Ledger.stands g.T.LineText.text c.lines.checker start (g.O.Observer.shown c.lines.observer)) (Shows g.L.Ledger.stands g.T.LineText.text c.take_line.new.checker start (g.O.Observer.shown c.take_line.new.observer)) _ _ _ _
+          follow_line (by g.L.Judge.judges) (Shows g.L.Judge.judges g.T.LineText.text c.lines.checker start (g.O.Observer.shown c.lines.observer)) (Shows g.L.Judge.judges g.T.LineText.text c.take_line.new.checker start (g.O.Observer.shown c.take_line.new.observer)) _ _ _ _
           t.is_line t.taken c.lines.invariant.ready.0 (λ ls s. c.take_line.ensures.good is start ls s) bytes (c.lines.invariant.shown start bytes f);
     }
 
@@ -76,10 +77,10 @@ returns-in-Err-TooLong g c =
           let decided = stopped_decided stop c.stopped.result of_stop is in (
             (c.too_long.ensures.decided decided _ long.3).0,
             λ start bytes f.
-                decide_long (Shows g.L.Ledger.stands g.T.LineText.text c.lines.checker start (g.O.Observer.shown c.lines.observer)) (Shows g.L.Ledger.stands g.T.LineText.text c.too_long.new.self start (g.O.Observer.shown c.lines.observer)) _ long
-                (λ l over ls s. show_bad g.L.Ledger.stands g.T.LineText.text c.lines.checker c.too_long.new.self start _ l (c.too_long.ensures.decided decided l over) ls s) bytes (c.lines.invariant.shown start bytes f),
+                decide_long (by g.L.Judge.judges) (Shows g.L.Judge.judges g.T.LineText.text c.lines.checker start (g.O.Observer.shown c.lines.observer)) (Shows g.L.Judge.judges g.T.LineText.text c.too_long.new.self start (g.O.Observer.shown c.lines.observer)) _ long
+                (λ l over ls s. show_bad g.L.Judge.judges g.T.LineText.text c.lines.checker c.too_long.new.self start _ l (c.too_long.ensures.decided decided l over) ls s) bytes (c.lines.invariant.shown start bytes f),
           );
-      begun = on_err_of c.stopped.result (λ start bytes f. begin_follows g.L.Ledger.stands g.T.LineText.text c.lines.checker start _ _ bytes (c.lines.invariant.shown start bytes f));
+      begun = on_err_of c.stopped.result (λ start bytes f. begin_follows g.L.Judge.judges g.T.LineText.text c.lines.checker start _ _ bytes (c.lines.invariant.shown start bytes f));
       failures = (counts.0, c.lines.invariant.unfailed ∙ counts.1);
     }
 
@@ -88,6 +89,6 @@ returns-in-Err-OutOfMemory g c = record {
   more = λ is. absurd (err_is_no_ok is);
   good = λ is. absurd (err_is_no_ok is);
   bad = λ is. absurd (err_is_no_ok is);
-  begun = λ start bytes f. begin_follows g.L.Ledger.stands g.T.LineText.text c.lines.checker start _ _ bytes (c.lines.invariant.shown start bytes f);
+  begun = λ start bytes f. begin_follows g.L.Judge.judges g.T.LineText.text c.lines.checker start _ _ bytes (c.lines.invariant.shown start bytes f);
   failures = (refl, c.lines.invariant.unfailed);
 }

@@ -14,10 +14,10 @@ returns-in-Ok-Fixed-clause-fed g c =
     let fixed : c.in-Ok-Fixed.field-0 ≡ Fixed c.in-Ok-Fixed.verdict = rw c.in-Ok-Fixed.is at c.in-Ok-Fixed.field-0-is in
     let is = c.in-Ok-Fixed.is ∙ ap Ok fixed in
     rw (← c.self.view_is) (λ start bytes f.
-    brings_on g.L.Ledger.stands g.T.LineText.text c.self.inside.progress c.self.inside.splitter c.self.inside.checker start _ bytes c.args.piece.now
+    brings_on g.L.Judge.judges g.T.LineText.text c.self.inside.progress c.self.inside.splitter c.self.inside.checker start _ bytes c.args.piece.now
     (fixed_is_over c.self.inside.progress c.in-Ok-Fixed.verdict is) f)
 
 pub returns-in-Err-clause-fed : goal.returns-in-Err-clause-fed
 returns-in-Err-clause-fed g c = rw (← c.self.view_is) (λ start bytes f.
-    brings_on g.L.Ledger.stands g.T.LineText.text c.self.inside.progress c.self.inside.splitter c.self.inside.checker start _ bytes c.args.piece.now
+    brings_on g.L.Judge.judges g.T.LineText.text c.self.inside.progress c.self.inside.splitter c.self.inside.checker start _ bytes c.args.piece.now
     (failed_is_over c.self.inside.progress c.in-Err.fault c.in-Err.is) f)

@@ -5,5 +5,5 @@ use Rattle.qa_check.proofs.auditor.Auditor.new.Goals as goal
 
 pub returns-clause-fed : goal.returns-clause-fed
 returns-clause-fed g c = λ tell text.
-    open_from g.L.Ledger.stands tell c.new.result c.new-2.result text text _ (rw c.new.ensures (refl, omega arith))
-    (rw c.new.ensures (nothing_shown g.L.Ledger.stands tell c.new-2.result text c.new-2.ensures.lines))
+    open_from g.L.Judge.judges tell c.new.result c.new-2.result text text _ (rw c.new.ensures (refl, omega arith))
+    (rw c.new.ensures (nothing_shown g.L.Judge.judges tell c.new-2.result text c.new-2.ensures.lines))

@@ -12,7 +12,7 @@ returns-in-Ok-Open-clause-fed g c =
     let is = c.in-Ok-Open.is ∙ ap Ok opened in
     let empty = none_of c.self.inside.splitter.bytes (rw (← c.self.view_is) at c.requires.between) in
     rw (← c.self.view_is) (λ bytes l line f.
-    let shown = (brings_open g.L.Ledger.stands told_nothing c.self.inside.progress c.self.inside.splitter c.self.inside.checker None None bytes is f).2 in
+    let shown = (brings_open g.L.Judge.judges told_nothing c.self.inside.progress c.self.inside.splitter c.self.inside.checker None None bytes is f).2 in
     c.take_said-progress.ensures.fed c.self.inside.splitter bytes l empty line (rw empty at shown))
 
 -- Written out, so that a wrong body is refused at this line.
@@ -26,10 +26,10 @@ returns-in-Ok-Fixed-clause-fed g c =
     let fixed : c.in-Ok-Fixed.field-0 ≡ Fixed c.in-Ok-Fixed.known = rw c.in-Ok-Fixed.is at c.in-Ok-Fixed.field-0-is in
     let is = c.in-Ok-Fixed.is ∙ ap Ok fixed in
     rw (← c.self.view_is) (λ bytes l line f.
-    brings_on g.L.Ledger.stands told_nothing c.self.inside.progress c.self.inside.splitter c.self.inside.checker None None bytes (with_lf l)
+    brings_on g.L.Judge.judges told_nothing c.self.inside.progress c.self.inside.splitter c.self.inside.checker None None bytes (with_lf l)
     (fixed_is_over c.self.inside.progress c.in-Ok-Fixed.known is) f)
 
 pub returns-in-Err-clause-fed : goal.returns-in-Err-clause-fed
 returns-in-Err-clause-fed g c = rw (← c.self.view_is) (λ bytes l line f.
-    brings_on g.L.Ledger.stands told_nothing c.self.inside.progress c.self.inside.splitter c.self.inside.checker None None bytes (with_lf l)
+    brings_on g.L.Judge.judges told_nothing c.self.inside.progress c.self.inside.splitter c.self.inside.checker None None bytes (with_lf l)
     (failed_is_over c.self.inside.progress c.in-Err.fault c.in-Err.is) f)
