@@ -1,5 +1,5 @@
 -- The text that explains a trace: a row for each line that the machine admits, and then the report.
-use Rattle.std.specs.Prelude.{ℕ, ◌+◌, List, [], ◌∷◌, ◌++◌, codes, decimal, length, is_some, Option, Some, None, Result, Ok, Err, if◌then◌else◌}
+use Rattle.std.specs.Prelude.{ℕ, ◌+◌, List, [], ◌∷◌, ◌++◌, codes, decimal, length, is_some, Option, Some, None, Result, Ok, if◌then◌else◌}
 use Rattle.qa_base.specs.declared.event.Event.{Event}
 use Rattle.qa_format.specs.declared.fault.Fault.{Fault}
 use Rattle.qa_format.specs.declared.line.Line.{Line}
