@@ -71,7 +71,7 @@ audited_untold left held held' origin (Err OutOfMemory) a = a
 begun_rows : {last : ℕ} (left left' held held' : Option (List ℕ)) → BeginsRead left left' last held held' (explanation.rows (strict reading))
     → (bytes : List ℕ) × Begins held held' (explanation.rows (strict reading) bytes)
 begun_rows left left' held held' (bytes, consumes, further, begun) = elim begun [
-  | inl ended ↦ let more = told_begin explanation.row_said reading (ended_lines bytes) (last_line (unended bytes)) in (bytes, begins_longer held held' _ _ more.0 more.1 ended)
+  | inl ended ↦ let more = told_begin explanation.row_said (strict reading) (ended_lines bytes) (last_line (unended bytes)) in (bytes, begins_longer held held' _ _ more.0 more.1 ended)
   | inr all ↦ (bytes, all.1)
 ]
 
@@ -79,7 +79,7 @@ begun_rows left left' held held' (bytes, consumes, further, begun) = elim begun 
 begun_all : {last : ℕ} (left left' held held' : Option (List ℕ)) → BeginsRead left left' last held held' (explanation.explain (strict reading))
     → (bytes : List ℕ) × Begins held held' (explanation.explain (strict reading) bytes)
 begun_all left left' held held' (bytes, consumes, further, begun) = elim begun [
-  | inl ended ↦ let more = explanation_begins reading bytes [] in (bytes ++ [], begins_longer held held' _ _ more.0 more.1 ended)
+  | inl ended ↦ let more = explanation_begins (strict reading) bytes [] in (bytes ++ [], begins_longer held held' _ _ more.0 more.1 ended)
   | inr all ↦ (bytes, all.1)
 ]
 

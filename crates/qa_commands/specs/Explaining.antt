@@ -20,7 +20,7 @@ abbrev pub Explained : Option (List ℕ) → Origin → Result Outcome Failure �
 Explained left origin (Ok outcome) old new = (bytes : List ℕ) × AreOf left bytes × writing.Explains old new outcome bytes
 Explained left origin (Err Arguments) old new = ⊥
 Explained left origin (Err (Open name)) old new = ⊥
-Explained left origin (Err (Read failed)) old new = (failed ≡ origin) × ((bytes : List ℕ) × Appends old new (told_ended explanation.row_said bytes))
+Explained left origin (Err (Read failed)) old new = (failed ≡ origin) × ((bytes : List ℕ) × Appends old new (told_ended (strict reading) explanation.row_said bytes))
 Explained left origin (Err Write) old new = (bytes : List ℕ) × AreOf left bytes × Begins old new (explanation.explain (strict reading) bytes)
 Explained left origin (Err OutOfMemory) old new = (bytes : List ℕ) × Begins old new (explanation.rows (strict reading) bytes)
 

@@ -38,8 +38,8 @@ use Rattle.qa_format.proofs.verdicts.Stops.{header_in-snoc, good_are_few, good_a
 pub good_lines : (reading : Reading) (ls : List (List ℕ)) → AreGood (strict reading) ls → AreGoodLines reading ls (header_in reading ls) (events_in reading ls)
 good_lines reading ls good =
     let run = good_run reading [] ls good (refl, refl) in
-    let few : 0 + length ls ≤ 4294967295 = good_are_few reading [] ls good (omega arith) in
-    record { few = omega (arith, few); short = good_are_short reading [] ls good; says = run.1; run = run.0 }
+    let few : 0 + length ls ≤ 4294967295 = good_are_few (strict reading) [] ls good (omega arith) in
+    record { few = omega (arith, few); short = good_are_short (strict reading) [] ls good; says = run.1; run = run.0 }
 
 blank_first : (s : Result Line Fault) (rest : List (Result Line Fault)) → filter is_saying (s ∷ rest) ≡ [] → (s ≡ Ok line.Blank) × (filter is_saying rest ≡ [])
 blank_first (Err f) rest none = cc
@@ -148,7 +148,7 @@ Refuses n header h s m r t =
     (c : Settings) × (e : Event) × (header ≡ Some c) × (s ≡ event_line e) × (first_broken c h e ≡ Some r) × (m ≡ n) × (t ≡ totals c h)
 
 stop_refuses : (n : ℕ) (header : Option Settings) (h : List Event) (s : Result Line Fault) (m : ℕ) (r : Rule) (t : Totals)
-    → stop_at n header h s ≡ Some (Refused m r t) → Refuses n header h s m r t
+    → stop_at first_broken n header h s ≡ Some (Refused m r t) → Refuses n header h s m r t
 stop_refuses n header h (Err f) m r t is = cc
 stop_refuses n header h (Ok line.Blank) m r t is = cc
 stop_refuses n None h (Ok (line.Header c)) m r t is = cc
@@ -165,7 +165,7 @@ abbrev Fails : ℕ → Option Settings → List Event → Result Line Fault → 
 Fails n header h s m f t = ((s ≡ Err f) ⊎ (IsOutOfPlace header s × (f ≡ HeaderPlace))) × (m ≡ n) × (t ≡ held_by header h)
 
 stop_fails : (n : ℕ) (header : Option Settings) (h : List Event) (s : Result Line Fault) (m : ℕ) (f : Fault) (t : Option Totals)
-    → stop_at n header h s ≡ Some (Unreadable m f t) → Fails n header h s m f t
+    → stop_at first_broken n header h s ≡ Some (Unreadable m f t) → Fails n header h s m f t
 stop_fails n header h (Err g) m f t is = (inl cc, cc, cc)
 stop_fails n header h (Ok line.Blank) m f t is = cc
 stop_fails n None h (Ok (line.Header c)) m f t is = cc
@@ -174,7 +174,7 @@ stop_fails n None h (Ok (line.Event e)) m f t is = (inr ((e, refl), cc), cc, cc)
 stop_fails n (Some c) h (Ok (line.Event e)) m f t is = absurd (not_unreadable (first_broken c h e) n m f (totals c h) t is)
 
 out_of_place_stops : (n : ℕ) (header : Option Settings) (h : List Event) (s : Result Line Fault) → IsOutOfPlace header s
-    → stop_at n header h s ≡ Some (Unreadable n HeaderPlace (held_by header h))
+    → stop_at first_broken n header h s ≡ Some (Unreadable n HeaderPlace (held_by header h))
 out_of_place_stops n None h s (e, is) = rw is refl
 out_of_place_stops n (Some d) h s (c, is) = rw is refl
 
@@ -228,7 +228,7 @@ refused_at reading ls n r t is =
       held = why.6;
     }
 
-stop_of_break : (n : ℕ) (c : Settings) (h : List Event) (e : Event) (r : Rule) → first_broken c h e ≡ Some r → stop_at n (Some c) h (event_line e) ≡ Some (Refused n r (totals c h))
+stop_of_break : (n : ℕ) (c : Settings) (h : List Event) (e : Event) (r : Rule) → first_broken c h e ≡ Some r → stop_at first_broken n (Some c) h (event_line e) ≡ Some (Refused n r (totals c h))
 stop_of_break n c h e r breaks = rw breaks refl
 
 break_refused : (reading : Reading) (ls : List (List ℕ)) (n : ℕ) (r : Rule) (t : Totals) → BreaksAt reading ls n r t → verdict_of (strict reading) ls ≡ Refused n r t
@@ -239,7 +239,7 @@ break_refused reading ls n r t b =
     stop_of_reading reading b.before b.here (Some b.header) b.events (event_line b.event) (omega (arith, b.number, b.in_limits.0)) b.in_limits.1 known.0 known.1 b.says
     ∙ stop_of_break (length b.before + 1) b.header (history_of b.events) b.event r b.breaks in
     ap (verdict_of (strict reading)) b.stands
-    ∙ (long_verdict reading b.before b.behind b.here (Refused (length b.before + 1) r (totals b.header (history_of b.events))) good stop
+    ∙ (long_verdict (strict reading) b.before b.behind b.here (Refused (length b.before + 1) r (totals b.header (history_of b.events))) good stop
     ∙ rw (b.number, b.held) refl)
 
 -- ---- a line that cannot be read
@@ -298,7 +298,7 @@ fault_unreadable reading ls n f t b =
     let fails : HasFault reading (length b.before + 1) b.header b.here f = rw (sym b.number) b.fails in
     let stop = stop_of_failing reading b.before b.here b.header b.events f known.0 known.1 fails in
     ap (verdict_of (strict reading)) b.stands
-    ∙ (long_verdict reading b.before b.behind b.here (Unreadable (length b.before + 1) f (held_by b.header (history_of b.events))) good stop
+    ∙ (long_verdict (strict reading) b.before b.behind b.here (Unreadable (length b.before + 1) f (held_by b.header (history_of b.events))) good stop
     ∙ rw (b.number, b.held) refl)
 
 -- ---- the last event
@@ -512,9 +512,9 @@ exactly_its_ground reading bytes (Unreadable n f t) = unreadable_exactly reading
 good_to_the_end : (reading : Reading) (before behind : List (List ℕ)) (l : List ℕ) (v : Verdict) → AreGood (strict reading) before → stop_after (strict reading) before l ≡ Some v
     → AreGood (strict reading) (before ++ l ∷ behind) → ⊥
 good_to_the_end reading before behind l v good stop all =
-    let one : first_stop (strict reading) [] (before ++ l ∷ []) ≡ Some v = first_stop-snoc reading [] before l good ∙ stop in
+    let one : first_stop (strict reading) [] (before ++ l ∷ []) ≡ Some v = first_stop-snoc (strict reading) [] before l good ∙ stop in
     let stops : first_stop (strict reading) [] (before ++ l ∷ behind) ≡ Some v =
-    ap (first_stop (strict reading) []) (sym (append_assoc before (l ∷ []) behind)) ∙ first_stop-append reading [] (before ++ l ∷ []) behind one in
+    ap (first_stop (strict reading) []) (sym (append_assoc before (l ∷ []) behind)) ∙ first_stop-append (strict reading) [] (before ++ l ∷ []) behind one in
     none_is_some v (sym all ∙ stops)
   where
     none_is_some : (v : Verdict) → None ≡ Some v → ⊥

@@ -14,7 +14,7 @@ returns-in-Ok g c =
     record {
       told = λ bytes tells.
           let same : verdict (strict reading) bytes ≡ verdict (strict reading) judged.0 = told_verdict _ _ judged.0 bytes tells judged.1 in
-          (rw (told_all row_of _ _ judged.0 bytes tells judged.1.0 judged.1.1) judged.3, outcome ∙ ap outcome_of (sym same));
+          (rw (told_all (strict reading) row_of _ _ judged.0 bytes tells judged.1.0 judged.1.1) judged.3, outcome ∙ ap outcome_of (sym same));
       ok = (judged.0, judged.1, (judged.3, outcome));
       reads = c.in-Ok.ensures.reads;
       rows = λ is. cc;
