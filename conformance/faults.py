@@ -28,7 +28,7 @@ class UndecidedError(Exception):
 
 
 class Key(NamedTuple):
-    """A key of an event: whether a value is of its kind, and whether one of that kind is in range."""
+    """A key of an event: whether a value is of its kind, and one of that kind in range."""
 
     name: str
     is_of_kind: Callable[[object], bool]

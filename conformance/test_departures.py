@@ -4,7 +4,7 @@ fails what writes others, and that departures and faults are told as they have t
 
 import unittest
 
-import departures
+from constants import MOST_DOUBLINGS
 from departures import KINDS, STORED, Course, Departure, course_of, is_borne, table_of, text_of
 from faults import UndecidedError, fault_of
 from runners import FOLDER
@@ -128,7 +128,7 @@ class Texts(unittest.TestCase):
 
     def test_early_timers_are_borne_up_to_a_bound(self) -> None:
         sender = Sender(HEADER)
-        sender.pto_count = departures.MOST_DOUBLINGS - 1
+        sender.pto_count = MOST_DOUBLINGS - 1
         self.assertTrue(is_borne(sender, "V13 timer-early"))
         sender.pto_count += 1
         self.assertFalse(is_borne(sender, "V13 timer-early"))
