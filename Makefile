@@ -25,7 +25,7 @@ library := bin/libqaudit.a
 library_shared := bin/libqaudit.so
 example := examples/ten-packets.trace
 # The tests of the programs of conformance/, which mostly wait for one another's processes.
-runner_tests := test_run test_trials test_mutations test_rows test_simulate test_links test_made_up
+runner_tests := test_run test_trials test_mutations test_rows test_departures test_simulate test_links test_made_up
 
 # All programs in Python, by the places where their names are unlike each other.
 python := $(addprefix conformance/,allocations cuts failing large library links made_up malicious memory mutations reasons \
@@ -43,8 +43,8 @@ python_of_bench := $(addprefix bench/,instructions library peers run trace) $(wi
 
 # The programs of conformance/ over what the gate built, the longest first. None waits for another.
 conformance := conformance-cuts conformance-failing conformance-refusals conformance-simulate conformance-mutations \
-	conformance-malicious conformance-large conformance-run conformance-reasons conformance-rows conformance-allocations \
-	conformance-memory
+	conformance-malicious conformance-large conformance-run conformance-reasons conformance-rows conformance-departures \
+	conformance-allocations conformance-memory
 
 # What is handed to the library for C, in each language.
 bindings := conformance-library bindings-rust bindings-go bindings-python
@@ -157,6 +157,10 @@ conformance-reasons:
 conformance-rows:
 	conformance/rows $(program_why)
 
+# All departures from the rules of conduct.
+conformance-departures:
+	conformance/departures $(program_why)
+
 conformance-allocations:
 	conformance/allocations $(program)
 
@@ -212,11 +216,12 @@ lint:
 	MYPYPATH=page mypy $(python_of_page)
 	MYPYPATH=page mypy $(python_of_page_tests)
 	MYPYPATH=conformance mypy --config-file= --strict conformance/rows
+	MYPYPATH=conformance mypy --config-file= --strict conformance/departures
 	if command -v ruff > /dev/null; then ruff check; else \
 		flake8 --max-line-length 100 --extend-ignore E203,W503 \
 			--per-file-ignores '*/test_*.py:N802' $(python) $(python_of_fuzz) $(python_of_bench) \
 			$(python_of_qlog) $(python_of_captures) captures/transfer.py \
-			$(python_of_page) $(python_of_page_tests) conformance/rows; fi
+			$(python_of_page) $(python_of_page_tests) conformance/rows conformance/departures; fi
 
 # No part of `test`, for no number of seconds is right on every machine.
 bench: build

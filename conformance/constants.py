@@ -71,3 +71,18 @@ class Rule(StrEnum):
     OWED_AT_END = "V17 owed-at-end"
     TIMER_LATE = "V18 timer-late"
     COLLAPSE_MISSING = "V19 collapse-missing"
+
+
+# Rules of conduct: what a sender should have done. `--all` goes on past them.
+OF_CONDUCT = (
+    Rule.PAST_WINDOW,
+    Rule.PAST_PROBE,
+    Rule.PAST_RECOVERY,
+    Rule.TIMER_EARLY,
+    Rule.PROBE_OWED,
+    Rule.METRIC,
+    Rule.TIMER_LATE,
+    Rule.COLLAPSE_MISSING,
+)
+# Past early timers only as long as so many probe timeouts have not doubled the timeout.
+MOST_DOUBLINGS = 40

@@ -2,15 +2,21 @@
 end."""
 
 import argparse
+import importlib.machinery
+import importlib.util
 import os
+import subprocess
 import sys
 from collections.abc import Callable, Iterable, Iterator
 from pathlib import Path
+from types import ModuleType
 from typing import NamedTuple, NoReturn
 
 from processes import is_program
 
 FOLDER = Path(__file__).resolve().parent
+# A program has so long for a trace, or for all traces of the corpus.
+SECONDS = 60
 ENDING = """\
 A line is printed for each failure, and last how many passed and failed. The exit status is 0 where
 all passed, 1 where something failed or nothing was tried, and 64 where the arguments are wrong."""
@@ -90,3 +96,56 @@ def tell_of(programs: Iterable[str], results: Callable[[], Iterable[Result]]) ->
     if missing:
         return tell(Result(program, "is no program that can be run") for program in missing)
     return tell(results())
+
+
+# What programs are run over.
+
+
+def traces_of(corpus: Path) -> list[Path]:
+    """The traces of the corpus, those of real stacks among them."""
+    folders = (corpus / "traces", corpus / "real" / "traces")
+    return [trace for folder in folders for trace in sorted(folder.glob("*.trace"))]
+
+
+def simulate() -> ModuleType:
+    """The program `simulate` as a module."""
+    if "simulate" in sys.modules:
+        return sys.modules["simulate"]
+    loader = importlib.machinery.SourceFileLoader("simulate", str(FOLDER / "simulate"))
+    spec = importlib.util.spec_from_loader("simulate", loader)
+    if spec is None:
+        raise ImportError("there is no simulate")
+    module = importlib.util.module_from_spec(spec)
+    sys.modules["simulate"] = module
+    loader.exec_module(module)
+    return module
+
+
+def result_of_run(
+    name: str, command: list[str], folder: Path, text: bytes, status: int | None
+) -> Result:
+    """Whether a command that is run in a folder writes this text, nothing on standard error, and
+    ends with this status."""
+    ended = subprocess.run(
+        command,
+        cwd=folder,
+        stdin=subprocess.DEVNULL,
+        capture_output=True,
+        timeout=SECONDS,
+        check=False,
+    )
+    if ended.stdout != text:
+        return Result(name, difference(ended.stdout, text))
+    if ended.stderr:
+        return Result(name, f"{ended.stderr!r} on standard error")
+    is_right = ended.returncode == status
+    return Result(name, "" if is_right else f"the exit status is {ended.returncode}")
+
+
+def difference(written: bytes, text: bytes) -> str:
+    """The first line in which two texts differ."""
+    lines, others = written.split(b"\n"), text.split(b"\n")
+    for place, (line, other) in enumerate(zip(lines, others, strict=False), 1):
+        if line != other:
+            return f"line {place} is {line!r} and not {other!r}"
+    return f"{len(lines) - 1} lines were written, and not {len(others) - 1}"

@@ -10,7 +10,7 @@ docs/format.md.
 """
 
 import math
-from collections.abc import Iterable
+from collections.abc import Iterable, Iterator
 from dataclasses import dataclass, field
 from typing import Any, NamedTuple
 
@@ -306,64 +306,67 @@ class Sender:
 
     def first_broken(self, event: Event) -> str | None:
         """The first rule that the event breaks, as a report names it."""
-        broken = self.broken_by_any(event)
-        if broken is not None:
-            return broken
-        if self.is_timer_late(event["time"]):
-            return Rule.TIMER_LATE
-        return Rule.COLLAPSE_MISSING if self.is_collapse_missing(event) else None
+        return next(self.broken(event), None)
 
-    def broken_by_any(self, event: Event) -> str | None:
-        """The first rule that the event breaks, but for those about late timers and collapses."""
+    def broken(self, event: Event) -> Iterator[str]:
+        """All rules that the event breaks, in their order, as a report names them: V16 once for
+        each value that differs."""
+        yield from self.broken_by_any(event)
+        if self.is_timer_late(event["time"]):
+            yield Rule.TIMER_LATE
+        if self.is_collapse_missing(event):
+            yield Rule.COLLAPSE_MISSING
+
+    def broken_by_any(self, event: Event) -> Iterator[str]:
+        """The rules that the event breaks, but for those about late timers and collapses."""
         kind = event["event"]
         if event["time"] < self.last_time:
-            return Rule.TIME_BACK
+            yield Rule.TIME_BACK
         if self.owed and kind != "lost":
-            return Rule.LOSS_OWED
+            yield Rule.LOSS_OWED
         if kind in KINDS_OF_A_SPACE and self.spaces[event["space"]].is_discarded:
-            return Rule.SPACE_GONE
-        return self.broken_by_kind(kind, event)
+            yield Rule.SPACE_GONE
+        yield from self.broken_by_kind(kind, event)
 
-    def broken_by_kind(self, kind: str, event: Event) -> str | None:
-        """The first of the rules about one kind of event that the event breaks."""
+    def broken_by_kind(self, kind: str, event: Event) -> Iterator[str]:
+        """The rules about one kind of event that the event breaks."""
         match kind:
             case "sent":
-                return self.broken_by_sent(event)
+                yield from self.broken_by_sent(event)
             case "ack":
-                return self.broken_by_ack(event)
+                yield from self.broken_by_ack(event)
             case "lost":
-                return self.broken_by_lost(event)
+                yield from self.broken_by_lost(event)
             case "timer":
-                return self.broken_by_timer(event)
+                yield from self.broken_by_timer(event)
             case "discard":
-                return self.broken_by_discard(event)
+                yield from self.broken_by_discard(event)
             case "metrics":
-                return self.broken_by_metrics(event)
-        return None
+                yield from self.broken_by_metrics(event)
 
-    def broken_by_lost(self, event: Event) -> str | None:
-        """The first rule about losses that a Lost line breaks."""
+    def broken_by_lost(self, event: Event) -> Iterator[str]:
+        """The rules about losses that a Lost line breaks."""
         may_name = self.owed_numbers | {it.number for it in self.free}
         if self.detection is None or not may_name or event["space"] != self.detection.space:
-            return Rule.LOSS_NOT_OWED
+            yield Rule.LOSS_NOT_OWED
         ranges = event["ranges"]
         names_each = named(ranges, self.owed_numbers) == self.owed_numbers
-        return None if names_each and are_all(ranges, may_name) else Rule.LOSS_SET
+        if not names_each or not are_all(ranges, may_name):
+            yield Rule.LOSS_SET
 
-    def broken_by_sent(self, event: Event) -> str | None:
-        """The first rule about packets that are sent that this one breaks."""
+    def broken_by_sent(self, event: Event) -> Iterator[str]:
+        """The rules about packets that are sent that this one breaks."""
         if any(number >= event["number"] for number in self.spaces[event["space"]].by_number):
-            return Rule.NUMBER_NOT_HIGHER
+            yield Rule.NUMBER_NOT_HIGHER
         leave, size = event.get("leave", "window"), event["size"]
         if not event["in_flight"]:
-            return None
+            return
         if leave == "window" and self.is_past_window(size):
-            return Rule.PAST_WINDOW
+            yield Rule.PAST_WINDOW
         if leave == "probe" and not self.may_probe(size):
-            return Rule.PAST_PROBE
+            yield Rule.PAST_PROBE
         if leave == "recovery" and self.recovery_spent != 0:
-            return Rule.PAST_RECOVERY
-        return None
+            yield Rule.PAST_RECOVERY
 
     def is_past_window(self, size: int) -> bool:
         """Whether there is no room for a packet of this size (section 7)."""
@@ -376,35 +379,35 @@ class Sender:
         spent = self.probe_spent
         return spent is not None and spent + size <= self.settings.probe_allowance
 
-    def broken_by_ack(self, event: Event) -> str | None:
+    def broken_by_ack(self, event: Event) -> Iterator[str]:
         """Whether an acknowledgment names a number that was never sent."""
-        is_sent = are_all(event["ranges"], self.spaces[event["space"]].by_number)
-        return None if is_sent else Rule.ACK_UNSENT
+        if not are_all(event["ranges"], self.spaces[event["space"]].by_number):
+            yield Rule.ACK_UNSENT
 
-    def broken_by_timer(self, event: Event) -> str | None:
-        """The first rule about timers that this one breaks."""
+    def broken_by_timer(self, event: Event) -> Iterator[str]:
+        """The rules about timers that this one breaks."""
         due = self.deadline()
         if due is None:
-            return Rule.TIMER_NOT_SET
-        if (event["kind"], event["space"]) != (due.kind, due.space):
-            return Rule.TIMER_OTHER
-        if event["time"] + self.settings.timer_early < due.time:
-            return Rule.TIMER_EARLY
-        return Rule.PROBE_OWED if event["kind"] == "pto" and self.probe_due else None
+            yield Rule.TIMER_NOT_SET
+        elif (event["kind"], event["space"]) != (due.kind, due.space):
+            yield Rule.TIMER_OTHER
+        if due is not None and event["time"] + self.settings.timer_early < due.time:
+            yield Rule.TIMER_EARLY
+        if event["kind"] == "pto" and self.probe_due:
+            yield Rule.PROBE_OWED
 
-    def broken_by_discard(self, event: Event) -> str | None:
+    def broken_by_discard(self, event: Event) -> Iterator[str]:
         """Whether the Handshake space is discarded too early."""
-        is_early = event["space"] == "handshake" and not self.is_confirmed
-        return Rule.NOT_CONFIRMED if is_early else None
+        if event["space"] == "handshake" and not self.is_confirmed:
+            yield Rule.NOT_CONFIRMED
 
-    def broken_by_metrics(self, event: Event) -> str | None:
-        """The first reported value that is not the sender's."""
+    def broken_by_metrics(self, event: Event) -> Iterator[str]:
+        """The reported values that are not the sender's."""
         for name in METRICS:
             is_chosen = self.settings.is_window_reported and name in OF_THE_CONTROLLER
             is_compared = event.get(name) is not None and not is_chosen
             if is_compared and self.differs(name, event[name]):
-                return f"{Rule.METRIC} {name}"
-        return None
+                yield f"{Rule.METRIC} {name}"
 
     def differs(self, name: str, reported: int) -> bool:
         """Whether a reported value differs from the sender's by more than the header allows."""

@@ -62,9 +62,9 @@ class Rows(RunnerCase):
         self.assertEqual(len(self.failures(status=1)), 1)
         self.assertEqual(len(self.failures(error="x")), 1)
 
-    def test_a_row_is_named(self) -> None:
+    def test_a_line_is_named(self) -> None:
         change = "rows.replace('\"pto_count\":1', '\"pto_count\":2', 1)"
-        self.assertTrue(self.failures(change)[0].startswith("row 7 is "))
+        self.assertTrue(self.failures(change)[0].startswith("line 7 is "))
 
 
 class Written(unittest.TestCase):

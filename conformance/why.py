@@ -146,13 +146,28 @@ def why(name: str, trace: bytes, report: str) -> bytes:
     lines = trace.split(b"\n")
     if verdict.word == "accepted":
         events = next(it for it in report.splitlines() if it.startswith("events "))
-        return f"{name}: accepted, {events.split()[1]} events\n".encode()
-    head = f"{name}:{verdict.line}: {verdict.word} {verdict.what}: "
+        return accepted(name, int(events.split()[1]))
     if verdict.word == "unreadable":
-        is_there = verdict.line <= len(lines) and lines[verdict.line - 1] != b""
-        line = lines[verdict.line - 1] if is_there else None
-        return head.encode() + unreadable(verdict, line)
-    return head.encode() + refused(verdict, lines)
+        return not_read(name, verdict, lines)
+    return head_of(name, verdict.line, verdict.word, verdict.what) + refused(verdict, lines)
+
+
+def accepted(name: str, events: int) -> bytes:
+    """What is written of a trace that is accepted with so many events."""
+    return f"{name}: accepted, {events} events\n".encode()
+
+
+def not_read(name: str, verdict: Verdict, lines: list[bytes]) -> bytes:
+    """What is written of a trace one of whose lines cannot be read."""
+    is_there = verdict.line <= len(lines) and lines[verdict.line - 1] != b""
+    line = lines[verdict.line - 1] if is_there else None
+    head = head_of(name, verdict.line, verdict.word, verdict.what)
+    return head + unreadable(verdict, line)
+
+
+def head_of(name: str, line: int, word: str, what: str) -> bytes:
+    """What a text begins with that is about a line of a trace."""
+    return f"{name}:{line}: {word} {what}: ".encode()
 
 
 def shown(number: int, line: bytes) -> bytes:
@@ -258,22 +273,36 @@ def refused(verdict: Verdict, lines: list[bytes]) -> bytes:
     """Why an event is refused, or the end of a trace."""
     said = ((number, said_by(line)) for number, line in enumerate(lines, 1) if line.strip())
     sender = Sender(next(said)[1])
-    rule = Rule(" ".join(verdict.what.split(" ")[:2]))
-    source = f"  {SOURCES[rule]}\n"
-    if rule == Rule.OWED_AT_END:
+    if verdict.what == Rule.OWED_AT_END:
         for _, event in said:
             sender.follow(event)
-        text = "the trace ends while a loss is owed\n" + owed_of(sender) + source
-        return text.encode()
+        return refused_end(sender)
     for number, event in said:
         if number == verdict.line:
-            field = verdict.what.partition(" metric ")[2]
-            deed = deed_of(sender, event, rule, field)
-            facts = facts_of(sender, event, rule, field)
-            front = f"{subject_of(event)} {deed}\n".encode()
-            return front + shown(number, lines[number - 1]) + (facts + source).encode()
+            return breaks(sender, event, verdict.what, shown(number, lines[number - 1]))
         sender.follow(event)
     raise ValueError("the report names no line of an event")
+
+
+def refused_end(sender: Sender) -> bytes:
+    """Why a trace is refused that ends after what a sender followed."""
+    source = SOURCES[Rule.OWED_AT_END]
+    return f"the trace ends while a loss is owed\n{owed_of(sender)}  {source}\n".encode()
+
+
+def breaks(sender: Sender, event: Event, what: str, line: bytes) -> bytes:
+    """How an event breaks a rule that a report names so, its line as it is shown, the facts of the
+    sender before it, and the source."""
+    rule, field = rule_of(what)
+    front = f"{subject_of(event)} {deed_of(sender, event, rule, field)}\n"
+    facts_and_source = facts_of(sender, event, rule, field) + f"  {SOURCES[rule]}\n"
+    return front.encode() + line + facts_and_source.encode()
+
+
+def rule_of(what: str) -> tuple[Rule, str]:
+    """The rule that a report names so, and its field; empty where it has none."""
+    number, name, *field = what.split(" ")
+    return Rule(f"{number} {name}"), "".join(field)
 
 
 def said_by(line: bytes) -> Event:

@@ -1,0 +1,185 @@
+#!/usr/bin/env python3
+"""Shows that conformance/departures passes a program that writes the texts of departures.py, and
+fails what writes others, and that departures and faults are told as they have to be."""
+
+import unittest
+
+from constants import MOST_DOUBLINGS
+from departures import KINDS, STORED, Course, Departure, course_of, is_borne, table_of, text_of
+from faults import UndecidedError, fault_of
+from runners import FOLDER
+from sender import Event, Sender
+from testing import RunnerCase, script
+
+TRACES = FOLDER / "traces"
+# Writes the text beside a trace, but for what is changed in it.
+TELLS = """
+import sys
+assert sys.argv[1] == "--all"
+text = open(sys.argv[-1].replace(".trace", ".all")).read()
+if "--quiet" in sys.argv:
+    text += "1 traces: 0 accepted, 1 refused, 0 unreadable\\n"
+sys.stdout.write({change})
+sys.stderr.write({error!r})
+sys.exit({status})
+"""
+HEADER: Event = {"event": "header", "version": 1, "role": "client", "max_datagram_size": 1200}
+
+
+class Departures(RunnerCase):
+    """The runner over a corpus of one trace, and over no simulated sender."""
+
+    runner = "departures"
+
+    def setUp(self) -> None:
+        super().setUp()
+        name = "several-departures"
+        data = (TRACES / f"{name}.trace").read_bytes()
+        report = (TRACES / f"{name}.report").read_bytes()
+        text = text_of(f"{name}.trace", data, report.decode())
+        self.write_files("traces", name, {"trace": data, "report": report, "all": text})
+        self.name = f"{name}.trace"
+
+    def failures(self, change: str = "text", error: str = "", status: int = 1) -> list[str]:
+        """What fails of a program that writes a text with a change."""
+        self.write_program(TELLS.format(change=change, error=error, status=status))
+        runner, folder = script(FOLDER / "departures"), self.corpus / "traces"
+        found = [
+            runner.result_of_trace(str(self.program), folder / self.name),
+            runner.result_of_all(str(self.program), folder),
+        ]
+        return [it.failure for it in found if it.failure]
+
+    def test_right_text_passes(self) -> None:
+        self.assertEqual(self.failures(), [])
+
+    def test_other_text_fails(self) -> None:
+        for change in (
+            "''",
+            "text + text[-1]",
+            "text[:text.rindex('  V13')]",
+            "text.replace(': departure V13', ': refused V13', 1)",
+            "text.replace('departs 5 times', 'departs 6 times', 1)",
+            "text.replace('lines 13 to 22', 'lines 13 to 17', 1)",
+            "text.replace('by at most 1740 bytes', 'by at most 1200 bytes', 1)",
+            "text.replace('by 200 us', 'by at most 200 us', 1)",
+        ):
+            with self.subTest(change):
+                self.assertEqual(len(self.failures(change)), 2)
+
+    def test_another_end_fails(self) -> None:
+        self.assertEqual(len(self.failures(status=0)), 2)
+        self.assertEqual(len(self.failures(status=2)), 2)
+        self.assertEqual(len(self.failures(error="x")), 2)
+
+    def test_a_line_is_named(self) -> None:
+        change = "text.replace('departs 5 times', 'departs 6 times', 1)"
+        self.assertTrue(self.failures(change)[0].startswith("line 9 is "))
+
+    def test_a_text_that_nobody_names_fails(self) -> None:
+        result = script(FOLDER / "departures").result_of_stored(self.corpus / "traces" / self.name)
+        self.assertIn("does not name it", result.failure)
+
+
+class Texts(unittest.TestCase):
+    """What is written of a trace."""
+
+    def test_each_kind_stands_in_a_text(self) -> None:
+        texts = "".join((TRACES / f"{name}.all").read_text() for name in STORED)
+        for what in KINDS:
+            with self.subTest(what):
+                self.assertTrue(f" departure {what}: " in texts, "there is none")
+                self.assertTrue(f"\n  {what}: " in texts, "there is no row")
+
+    def test_first_departures_are_what_why_says(self) -> None:
+        """Up to the first departure a trace is told as without `--all`."""
+        for name in STORED:
+            report = (TRACES / f"{name}.report").read_text()
+            course = course_of(f"{name}.trace", (TRACES / f"{name}.trace").read_bytes(), report)
+            why = TRACES / f"{name}.why"
+            text = why.read_bytes() if why.exists() else course.end
+            with self.subTest(name):
+                told = (*course.firsts, course.end)[0]
+                self.assertEqual(told.replace(b": departure ", b": refused ", 1), text)
+
+    def test_words(self) -> None:
+        departure = Departure(2, KINDS[0], 1)
+        for verdict in ("refused", "unreadable"):
+            self.assertEqual(Course(verdict, [departure]).word, verdict)
+        self.assertEqual(Course("accepted", [departure]).word, "refused")
+        self.assertEqual(Course("accepted").word, "accepted")
+
+    def test_a_table_goes_by_the_rules(self) -> None:
+        found = [
+            Departure(2, "V18 timer-late", 3),
+            Departure(2, "V16 metric ssthresh", None),
+            Departure(4, "V16 metric ssthresh", 5),
+            Departure(4, "V14 probe-owed", None),
+        ]
+        self.assertEqual(
+            "".join(table_of("x", Course(departures=found, events=7, unit="ns"))),
+            "x: departs 4 times in 7 events\n"
+            "  V14 probe-owed: once, line 4\n"
+            "  V16 metric ssthresh: 2 times, lines 2 to 4, by at most 5 bytes\n"
+            "  V18 timer-late: once, line 2, by 3 ns\n",
+        )
+        once = "".join(table_of("x", Course(departures=found[:1], events=1)))
+        self.assertTrue(once.startswith("x: departs once in 1 events\n"), once)
+
+    def test_early_timers_are_borne_up_to_a_bound(self) -> None:
+        sender = Sender(HEADER)
+        sender.pto_count = MOST_DOUBLINGS - 1
+        self.assertTrue(is_borne(sender, "V13 timer-early"))
+        sender.pto_count += 1
+        self.assertFalse(is_borne(sender, "V13 timer-early"))
+        self.assertTrue(is_borne(sender, "V16 metric rttvar"))
+        self.assertFalse(is_borne(sender, "V11 timer-not-set"))
+
+
+class Rules(unittest.TestCase):
+    """All rules that an event breaks."""
+
+    def test_a_timer_breaks_several(self) -> None:
+        sender = Sender(HEADER)
+        timer: Event = {"event": "timer", "time": 5, "kind": "pto", "space": "initial"}
+        self.assertEqual(list(sender.broken(timer)), ["V11 timer-not-set"])
+        packet = {"number": 0, "size": 1200, "eliciting": True, "in_flight": True}
+        sender.follow({"event": "sent", "time": 5, "space": "initial", **packet})
+        sender.follow(timer)
+        wrong = ["V12 timer-other", "V13 timer-early", "V14 probe-owed"]
+        self.assertEqual(list(sender.broken({**timer, "space": "app"})), wrong)
+        early = {**timer, "time": 4}
+        self.assertEqual(list(sender.broken(early)), ["V1 time-back", *wrong[1:]])
+
+    def test_a_lost_line_breaks_both(self) -> None:
+        lost: Event = {"event": "lost", "time": 0, "space": "app", "ranges": [[0, 0]]}
+        broken = list(Sender(HEADER).broken(lost))
+        self.assertEqual(broken, ["V3 loss-not-owed", "V4 loss-set"])
+
+
+class Faults(unittest.TestCase):
+    """The faults of lines behind a header are those of the corpus of lines."""
+
+    def test_lines(self) -> None:
+        tried = 0
+        for lines in sorted((FOLDER / "lines").glob("*.lines")):
+            answers = lines.with_suffix(".said").read_bytes().split(b"\n")
+            for line, answer in zip(lines.read_bytes().split(b"\n"), answers, strict=False):
+                try:
+                    fault = fault_of(line)
+                except UndecidedError:
+                    continue
+                tried += 1
+                if fault != self.wanted(answer):
+                    self.fail(f"{lines.name}: {line[:200]!r}: {fault} and not {answer[:200]!r}")
+        self.assertGreater(tried, 10000)
+
+    def wanted(self, answer: bytes) -> str | None:
+        """The fault of a line behind a header that has this answer."""
+        if b'"event":"header"' in answer:
+            return "F7 header-place"
+        return None if answer[:1] in (b"", b"{") else answer.decode()
+
+
+if __name__ == "__main__":
+    unittest.main()
