@@ -7,7 +7,7 @@ use Rattle.qa_check.proofs.Following.{Taken, taken_last, taken_open}
 use Rattle.qa_check.specs.Audit.{outcome_of}
 use Rattle.qa_check.specs.declared.auditing.Outcome.{Outcome}
 use Rattle.qa_check.specs.Following.{Follows}
-use Rattle.qa_check.specs.Standing.{AddsBad, AddsGood, Held, HoldsRun, Stands, StandsFor}
+use Rattle.qa_check.specs.Standing.{by, AddsBad, AddsGood, Held, HoldsRun, Judges, StandsFor}
 use Rattle.qa_format.proofs.verdicts.Cuts.{ended_snoc, first_line, first_line_is_long, lines_at_end, lines_at_lf, short_snoc}
 use Rattle.qa_format.proofs.verdicts.Fixed.{fixed_by_line}
 use Rattle.qa_format.specs.format.Lines.{cut, ended, has_lf, line_limit, lines, IsShortLine}
@@ -16,7 +16,7 @@ use Rattle.qa_format.specs.verdicts.Verdict.{events_in, header_in, verdict, verd
 use Rattle.qa_base.specs.declared.event.Event.{Event}
 use Rattle.qa_base.specs.values.Settings.{Settings}
 use Rattle.qa_split.specs.Stream.{BeginsTooLong}
-use Rattle.qa_why_trace.specs.Why.{Tells, told}
+use Rattle.qa_why_trace.specs.Why.{TellsBy, told}
 use Rattle.qa_why_trace.specs.declared.form.Form.{Form}
 use Rattle.qa_why_trace.proofs.Told.{holds_of_good, why_at_end, why_at_line, why_at_long}
 
@@ -32,38 +32,38 @@ if_both (Ok x) P Q R p q more = more x p q
 if_both (Err e) P Q R p q more = tt
 
 -- what is told by a checker, of a line or of none
-abbrev pub IsOutcome : {L : Type 0} → Stands L → Held L → Outcome → Type 0
-IsOutcome stands held outcome = (ls : List (List ℕ)) → StandsFor stands held ls → outcome ≡ outcome_of (verdict_of reading ls)
+abbrev pub IsOutcome : {L : Type 0} → Judges L → Held L → Outcome → Type 0
+IsOutcome judges held outcome = (ls : List (List ℕ)) → StandsFor judges held ls → outcome ≡ outcome_of (verdict_of (by judges) ls)
 
-abbrev pub IsText : {L : Type 0} → Stands L → Held L → Form → List ℕ → Option (List ℕ) → List ℕ → Type 0
-IsText stands held form name line text = (ls : List (List ℕ)) (header : Option Settings) (h : List Event) → StandsFor stands held ls
-    → HoldsRun stands held.ledger header h → text ≡ told form name (verdict_of reading ls) header h line
+abbrev pub IsText : {L : Type 0} → Judges L → Held L → Form → List ℕ → Option (List ℕ) → List ℕ → Type 0
+IsText judges held form name line text = (ls : List (List ℕ)) (header : Option Settings) (h : List Event) → StandsFor judges held ls
+    → HoldsRun judges held.ledger header h → text ≡ told form name (verdict_of (by judges) ls) header h line
 
 -- ---- before the end
 
 -- a line that is not good
-pub told_line : {L : Type 0} (stands : Stands L) (old new : Held L) (form : Form) (name rest rest' l text : List ℕ) (outcome : Outcome) (closed : Bool) → IsShortLine l → Taken rest l rest' closed → closed ≡ false
-    → AddsBad stands old new l → new.ledger ≡ old.ledger → IsOutcome stands new outcome → IsText stands new form name (Some l) text
-    → (bytes : List ℕ) → Follows stands rest old bytes → IsFixed reading bytes × Tells form name outcome text bytes
-told_line {L = L} stands old new form name rest rest' l text outcome closed is_line t open_yet bad kept is_outcome is_text bytes f =
+pub told_line : {L : Type 0} (judges : Judges L) (old new : Held L) (form : Form) (name rest rest' l text : List ℕ) (outcome : Outcome) (closed : Bool) → IsShortLine l → Taken rest l rest' closed → closed ≡ false
+    → AddsBad judges old new l → new.ledger ≡ old.ledger → IsOutcome judges new outcome → IsText judges new form name (Some l) text
+    → (bytes : List ℕ) → Follows judges rest old bytes → IsFixed (by judges) bytes × TellsBy (by judges) form name outcome text bytes
+told_line {L = L} judges old new form name rest rest' l text outcome closed is_line t open_yet bad kept is_outcome is_text bytes f =
     let q = bad.1 f.0 f.1 in
-    let fixed = fixed_by_line reading (f.0 ++ l ∷ []) rest' bytes (short_snoc f.0 l f.3 is_line) q.1 (ended_snoc f.0 l rest' bytes (f.4 ∙ ap (λ k. ended f.0 ++ k) (taken_open rest l rest' closed t open_yet))) in
+    let fixed = fixed_by_line (by judges) (f.0 ++ l ∷ []) rest' bytes (short_snoc f.0 l f.3 is_line) q.1 (ended_snoc f.0 l rest' bytes (f.4 ∙ ap (λ k. ended f.0 ++ k) (taken_open rest l rest' closed t open_yet))) in
     let h = history_of (events_in reading f.0) in
-    let held = subst (λ (ledger : Option L). HoldsRun stands ledger (header_in reading f.0) h) (sym kept) (holds_of_good stands old f.0 f.1 f.2) in (
+    let held = subst (λ (ledger : Option L). HoldsRun judges ledger (header_in reading f.0) h) (sym kept) (holds_of_good judges old f.0 f.1 f.2) in (
       fixed.0,
-      (is_text (f.0 ++ l ∷ []) (header_in reading f.0) h q.0 held ∙ sym (why_at_line form name bytes f.0 fixed.2 l f.2 q.1 fixed.3 fixed.1), is_outcome (f.0 ++ l ∷ []) q.0 ∙ ap outcome_of fixed.1),
+      (is_text (f.0 ++ l ∷ []) (header_in reading f.0) h q.0 held ∙ sym (why_at_line (by judges) form name bytes f.0 fixed.2 l f.2 q.1 fixed.3 fixed.1), is_outcome (f.0 ++ l ∷ []) q.0 ∙ ap outcome_of fixed.1),
     )
 
 -- a line that is too long
-pub told_too_long : {L : Type 0} (stands : Stands L) (old new : Held L) (form : Form) (name rest text : List ℕ) (outcome : Outcome) (b : BeginsTooLong rest)
-    → ((l : List ℕ) → line_limit < length l → AddsBad stands old new l) → new.ledger ≡ old.ledger → IsOutcome stands new outcome → IsText stands new form name None text
-    → (bytes : List ℕ) → Follows stands rest old bytes → IsFixed reading bytes × Tells form name outcome text bytes
-told_too_long {L = L} stands old new form name rest text outcome b bad kept is_outcome is_text bytes f =
+pub told_too_long : {L : Type 0} (judges : Judges L) (old new : Held L) (form : Form) (name rest text : List ℕ) (outcome : Outcome) (b : BeginsTooLong rest)
+    → ((l : List ℕ) → line_limit < length l → AddsBad judges old new l) → new.ledger ≡ old.ledger → IsOutcome judges new outcome → IsText judges new form name None text
+    → (bytes : List ℕ) → Follows judges rest old bytes → IsFixed (by judges) bytes × TellsBy (by judges) form name outcome text bytes
+told_too_long {L = L} judges old new form name rest text outcome b bad kept is_outcome is_text bytes f =
     let l = first_line b.0 (cut b.1) in
     let q = (bad l (first_line_is_long b.0 (cut b.1) b.3)).1 f.0 f.1 in
-    let there = why_at_long form name bytes rest f.0 b f.3 f.2 f.4 q.1 in
+    let there = why_at_long (by judges) form name bytes rest f.0 b f.3 f.2 f.4 q.1 in
     let h = history_of (events_in reading f.0) in
-    let held = subst (λ (ledger : Option L). HoldsRun stands ledger (header_in reading f.0) h) (sym kept) (holds_of_good stands old f.0 f.1 f.2) in (
+    let held = subst (λ (ledger : Option L). HoldsRun judges ledger (header_in reading f.0) h) (sym kept) (holds_of_good judges old f.0 f.1 f.2) in (
       there.0,
       (is_text (f.0 ++ l ∷ []) (header_in reading f.0) h q.0 held ∙ sym there.2, is_outcome (f.0 ++ l ∷ []) q.0 ∙ ap outcome_of there.1),
     )
@@ -71,38 +71,38 @@ told_too_long {L = L} stands old new form name rest text outcome b bad kept is_o
 -- ---- at the end
 
 -- the last line, which no LF ends, is not good
-pub told_last_bad : {L : Type 0} (stands : Stands L) (old new : Held L) (form : Form) (name rest rest' l text : List ℕ) (outcome : Outcome) (closed : Bool) → IsShortLine l → Taken rest l rest' closed → has_lf rest ≡ false
-    → AddsBad stands old new l → new.ledger ≡ old.ledger → IsOutcome stands new outcome → IsText stands new form name (Some l) text
-    → (bytes : List ℕ) → Follows stands rest old bytes → Tells form name outcome text bytes
-told_last_bad {L = L} stands old new form name rest rest' l text outcome closed is_line t none bad kept is_outcome is_text bytes f =
+pub told_last_bad : {L : Type 0} (judges : Judges L) (old new : Held L) (form : Form) (name rest rest' l text : List ℕ) (outcome : Outcome) (closed : Bool) → IsShortLine l → Taken rest l rest' closed → has_lf rest ≡ false
+    → AddsBad judges old new l → new.ledger ≡ old.ledger → IsOutcome judges new outcome → IsText judges new form name (Some l) text
+    → (bytes : List ℕ) → Follows judges rest old bytes → TellsBy (by judges) form name outcome text bytes
+told_last_bad {L = L} judges old new form name rest rest' l text outcome closed is_line t none bad kept is_outcome is_text bytes f =
     let last = taken_last rest l rest' closed t none in
     let q = bad.1 f.0 f.1 in
     let all : lines bytes ≡ f.0 ++ l ∷ [] = lines_at_end f.0 l bytes f.3 (f.4 ∙ ap (λ k. ended f.0 ++ k) last.1) is_line.0 last.0 in
-    let same : verdict_of reading (f.0 ++ l ∷ []) ≡ verdict reading bytes = ap (verdict_of reading) (sym all) in
+    let same : verdict_of (by judges) (f.0 ++ l ∷ []) ≡ verdict (by judges) bytes = ap (verdict_of (by judges)) (sym all) in
     let h = history_of (events_in reading f.0) in
-    let held = subst (λ (ledger : Option L). HoldsRun stands ledger (header_in reading f.0) h) (sym kept) (holds_of_good stands old f.0 f.1 f.2) in (
-      is_text (f.0 ++ l ∷ []) (header_in reading f.0) h q.0 held ∙ sym (why_at_line form name bytes f.0 [] l f.2 q.1 (all ∙ sym (append-nil (f.0 ++ l ∷ []))) same),
+    let held = subst (λ (ledger : Option L). HoldsRun judges ledger (header_in reading f.0) h) (sym kept) (holds_of_good judges old f.0 f.1 f.2) in (
+      is_text (f.0 ++ l ∷ []) (header_in reading f.0) h q.0 held ∙ sym (why_at_line (by judges) form name bytes f.0 [] l f.2 q.1 (all ∙ sym (append-nil (f.0 ++ l ∷ []))) same),
       is_outcome (f.0 ++ l ∷ []) q.0 ∙ ap outcome_of same,
     )
 
 -- it is good
-pub told_last_good : {L : Type 0} (stands : Stands L) (old new : Held L) (form : Form) (name rest rest' l text : List ℕ) (outcome : Outcome) (closed : Bool) → IsShortLine l → Taken rest l rest' closed → has_lf rest ≡ false
-    → AddsGood stands old new l → IsOutcome stands new outcome → IsText stands new form name None text
-    → (bytes : List ℕ) → Follows stands rest old bytes → Tells form name outcome text bytes
-told_last_good stands old new form name rest rest' l text outcome closed is_line t none good is_outcome is_text bytes f =
+pub told_last_good : {L : Type 0} (judges : Judges L) (old new : Held L) (form : Form) (name rest rest' l text : List ℕ) (outcome : Outcome) (closed : Bool) → IsShortLine l → Taken rest l rest' closed → has_lf rest ≡ false
+    → AddsGood judges old new l → IsOutcome judges new outcome → IsText judges new form name None text
+    → (bytes : List ℕ) → Follows judges rest old bytes → TellsBy (by judges) form name outcome text bytes
+told_last_good judges old new form name rest rest' l text outcome closed is_line t none good is_outcome is_text bytes f =
     let last = taken_last rest l rest' closed t none in
     let q = good.1 f.0 f.1 in
     let ls = f.0 ++ l ∷ [] in
     let all : lines bytes ≡ ls = lines_at_end f.0 l bytes f.3 (f.4 ∙ ap (λ k. ended f.0 ++ k) last.1) is_line.0 last.0 in (
-      is_text ls _ _ q.0 (holds_of_good stands new ls q.0 q.1) ∙ sym (why_at_end form name bytes ls q.1 all),
-      is_outcome ls q.0 ∙ ap (λ (k : List (List ℕ)). outcome_of (verdict_of reading k)) (sym all),
+      is_text ls _ _ q.0 (holds_of_good judges new ls q.0 q.1) ∙ sym (why_at_end (by judges) form name bytes ls q.1 all),
+      is_outcome ls q.0 ∙ ap (λ (k : List (List ℕ)). outcome_of (verdict_of (by judges) k)) (sym all),
     )
 
 -- nothing stands behind the last LF
-pub told_at_end : {L : Type 0} (stands : Stands L) (held : Held L) (form : Form) (name rest text : List ℕ) (outcome : Outcome) → rest ≡ [] → IsOutcome stands held outcome → IsText stands held form name None text
-    → (bytes : List ℕ) → Follows stands rest held bytes → Tells form name outcome text bytes
-told_at_end stands held form name rest text outcome none is_outcome is_text bytes f =
+pub told_at_end : {L : Type 0} (judges : Judges L) (held : Held L) (form : Form) (name rest text : List ℕ) (outcome : Outcome) → rest ≡ [] → IsOutcome judges held outcome → IsText judges held form name None text
+    → (bytes : List ℕ) → Follows judges rest held bytes → TellsBy (by judges) form name outcome text bytes
+told_at_end judges held form name rest text outcome none is_outcome is_text bytes f =
     let all : lines bytes ≡ f.0 = lines_at_lf f.0 rest bytes f.3 f.4 none in (
-      is_text f.0 _ _ f.1 (holds_of_good stands held f.0 f.1 f.2) ∙ sym (why_at_end form name bytes f.0 f.2 all),
-      is_outcome f.0 f.1 ∙ ap (λ (k : List (List ℕ)). outcome_of (verdict_of reading k)) (sym all),
+      is_text f.0 _ _ f.1 (holds_of_good judges held f.0 f.1 f.2) ∙ sym (why_at_end (by judges) form name bytes f.0 f.2 all),
+      is_outcome f.0 f.1 ∙ ap (λ (k : List (List ℕ)). outcome_of (verdict_of (by judges) k)) (sym all),
     )

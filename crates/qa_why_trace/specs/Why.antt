@@ -18,7 +18,7 @@ use Rattle.qa_format.specs.declared.verdict.Verdict.{Verdict}
 use Rattle.qa_format.specs.declared.verdict.Verdict.TheVariants.{Accepted, Refused, Unreadable}
 use Rattle.qa_format.specs.format.Lines.{lines}
 use Rattle.qa_format.specs.format.Reading.{reading}
-use Rattle.qa_format.specs.verdicts.Verdict.{event_said, events_in, header_in, stop_after, verdict}
+use Rattle.qa_format.specs.verdicts.Verdict.{Judging, strict, event_said, events_in, header_in, stop_after, verdict}
 use Rattle.qa_why_trace.specs.Objects.{accepted_object, owed_at_end_object, refused_object, unreadable_object}
 use Rattle.qa_why_trace.specs.Texts.{accepted_text, owed_at_end_text, refused_text, unreadable_text}
 use Rattle.qa_why_trace.specs.declared.form.Form.{Form}
@@ -68,22 +68,30 @@ told form name (Unreadable n f t) header h line = unreadable_in form name n f (i
 -- ---- where lines are judged
 
 -- the lines before the first that is not good, and that line; or all of them
-abbrev pub judged_at : List (List ℕ) → List (List ℕ) → List (List ℕ) × Option (List ℕ)
-judged_at before [] = (before, None)
-judged_at before (l ∷ ls) = if is_some (stop_after reading before l) then (before, Some l) else judged_at (before ++ l ∷ []) ls
+abbrev pub judged_at : Judging → List (List ℕ) → List (List ℕ) → List (List ℕ) × Option (List ℕ)
+judged_at judging before [] = (before, None)
+judged_at judging before (l ∷ ls) =
+    if is_some (stop_after judging before l) then (before, Some l) else judged_at judging (before ++ l ∷ []) ls
 
-abbrev pub told_at : Form → List ℕ → Verdict → List (List ℕ) × Option (List ℕ) → List ℕ
-told_at form name v place = told form name v (header_in reading place.0) (history_of (events_in reading place.0)) place.1
+abbrev pub told_at : Judging → Form → List ℕ → Verdict → List (List ℕ) × Option (List ℕ) → List ℕ
+told_at judging form name v place = told form name v (header_in judging.says place.0) (history_of (events_in judging.says place.0)) place.1
 
 -- ---- the bytes
 
--- what is told of bytes in a form, under the name of their file
-unfoldable pub why : Form → List ℕ → List ℕ → List ℕ
-why form name bytes = told_at form name (verdict reading bytes) (judged_at [] (lines bytes))
+-- what is told of bytes in a form, under the name of their file, where they are judged so
+unfoldable pub why_by : Judging → Form → List ℕ → List ℕ → List ℕ
+why_by judging form name bytes = told_at judging form name (verdict judging bytes) (judged_at judging [] (lines bytes))
+
+-- the same where an event ends a trace that breaks a rule
+abbrev pub why : Form → List ℕ → List ℕ → List ℕ
+why form name bytes = why_by (strict reading) form name bytes
 
 -- it is this text, and the kind of their verdict is this
+abbrev pub TellsBy : Judging → Form → List ℕ → Outcome → List ℕ → List ℕ → Type 0
+TellsBy judging form name outcome text bytes = (text ≡ why_by judging form name bytes) × (outcome ≡ outcome_of (verdict judging bytes))
+
 abbrev pub Tells : Form → List ℕ → Outcome → List ℕ → List ℕ → Type 0
-Tells form name outcome text bytes = (text ≡ why form name bytes) × (outcome ≡ outcome_of (verdict reading bytes))
+Tells form name outcome text bytes = TellsBy (strict reading) form name outcome text bytes
 
 -- what is written: where it is to be quiet, nothing of accepted bytes
 abbrev pub unless_accepted : Bool → Outcome → List ℕ → List ℕ
@@ -91,8 +99,8 @@ unless_accepted true outcomes.Accepted text = []
 unless_accepted quiet outcome text = text
 
 abbrev pub written : Form → Bool → List ℕ → List ℕ → List ℕ
-written form quiet name bytes = unless_accepted quiet (outcome_of (verdict reading bytes)) (why form name bytes)
+written form quiet name bytes = unless_accepted quiet (outcome_of (verdict (strict reading) bytes)) (why form name bytes)
 
 -- it was written, and the kind of their verdict is returned
 abbrev pub Writes : Option (List ℕ) → Option (List ℕ) → Form → Bool → List ℕ → Outcome → List ℕ → Type 0
-Writes held held' form quiet name outcome bytes = Appends held held' (written form quiet name bytes) × (outcome ≡ outcome_of (verdict reading bytes))
+Writes held held' form quiet name outcome bytes = Appends held held' (written form quiet name bytes) × (outcome ≡ outcome_of (verdict (strict reading) bytes))

@@ -4,9 +4,9 @@ ghost use Rattle.std.specs.Option.{option_copied};
 ghost use Rattle.qa_base.specs.declared.event.Event.{Event as AnEvent};
 ghost use Rattle.qa_base.specs.values.Settings.{Settings};
 ghost use Rattle.qa_check.specs.Audit.{outcome_of};
-ghost use Rattle.qa_check.specs.Standing.{HoldsRun, StandsFor};
+ghost use Rattle.qa_check.specs.Standing.{of_ledger, HoldsRun, StandsFor};
 ghost use Rattle.qa_format.specs.format.Reading.{reading};
-ghost use Rattle.qa_format.specs.verdicts.Verdict.{event_said, verdict_of};
+ghost use Rattle.qa_format.specs.verdicts.Verdict.{strict, event_said, verdict_of};
 ghost use Rattle.qa_why_trace.specs.Why as defined;
 
 use crate::form::Form;
@@ -122,7 +122,7 @@ fn of_held_refusal<L: Explains + Drop>(
 ) -> Result<Vec<u8>, AllocError>
     requires whole { checker.now.failed ≡ false }
     ensures { IfOk result (λ text. (header : Option Settings) (h : List AnEvent)
-        → HoldsRun L.stands checker.now.ledger header h
+        → HoldsRun (of_ledger L.stands) checker.now.ledger header h
         → text.items ≡ defined.refusal_text form name.now n rule header h (option_copied line.entry)) }
 {
     match checker.ledger() {
@@ -176,7 +176,7 @@ fn of_verdict<L: Explains + Drop>(
 ) -> Result<Vec<u8>, AllocError>
     requires whole { checker.now.failed ≡ false }
     ensures { IfOk result (λ text. (header : Option Settings) (h : List AnEvent)
-        → HoldsRun L.stands checker.now.ledger header h
+        → HoldsRun (of_ledger L.stands) checker.now.ledger header h
         → text.items ≡ defined.told form name.now verdict.now header h (option_copied line.entry)) }
 {
     match verdict {
@@ -202,12 +202,12 @@ pub fn why_of<L: Explains + Drop>(
     line: Option<&[u8]>,
 ) -> Result<Why, AuditFault>
     requires whole { checker.now.failed ≡ false }
-    ensures outcome { IfOk result (λ why. (ls : List (List ℕ)) → StandsFor L.stands checker.now ls
-        → why.outcome ≡ outcome_of (verdict_of reading ls)) }
+    ensures outcome { IfOk result (λ why. (ls : List (List ℕ)) → StandsFor (of_ledger L.stands) checker.now ls
+        → why.outcome ≡ outcome_of (verdict_of (strict reading) ls)) }
     ensures text { IfOk result (λ why. (ls : List (List ℕ)) (header : Option Settings)
-        (h : List AnEvent) → StandsFor L.stands checker.now ls
-        → HoldsRun L.stands checker.now.ledger header h
-        → why.text.items ≡ defined.told form name.now (verdict_of reading ls) header h (option_copied line.entry)) }
+        (h : List AnEvent) → StandsFor (of_ledger L.stands) checker.now ls
+        → HoldsRun (of_ledger L.stands) checker.now.ledger header h
+        → why.text.items ≡ defined.told form name.now (verdict_of (strict reading) ls) header h (option_copied line.entry)) }
     ensures memory { IfErr result (λ fault. fault ≡ AuditFault.OutOfMemory) }
 {
     let Some(verdict) = checker.verdict() else {

@@ -5,8 +5,9 @@ ghost use Rattle.qa_check.specs.Audit.{Reads, ReadsEnough, is_read_fault, is_wri
 ghost use Rattle.qa_check.specs.Auditor.{TakesMore};
 ghost use Rattle.qa_check.specs.Failures.{failures_after};
 ghost use Rattle.qa_check.specs.Following.{Follows, IsReady};
+ghost use Rattle.qa_check.specs.Standing.{of_ledger};
 ghost use Rattle.qa_format.specs.format.Reading.{reading};
-ghost use Rattle.qa_format.specs.verdicts.Verdict.{IsFixed};
+ghost use Rattle.qa_format.specs.verdicts.Verdict.{strict, IsFixed};
 ghost use Rattle.qa_split.specs.Stream.{HasNoLine};
 ghost use Rattle.qa_why_trace.specs.Why as defined;
 ghost use Rattle.qa_why_trace.specs.Why.{Tells, Writes, written};
@@ -105,7 +106,7 @@ fn take_pieces<L: Explains + Drop, R: Source>(
     checker: &mut Checker<L>,
 ) -> Result<Why, AuditFault>
     requires more { TakesMore splitter.old checker.old }
-    requires first { Follows L.stands splitter.old.bytes checker.old [] }
+    requires first { Follows (of_ledger L.stands) splitter.old.bytes checker.old [] }
     ensures told { IfOk result (λ why. (bytes : List ℕ)
         × ReadsEnough (R.left reader.old) (R.left reader.new) (R.last_read reader.new) bytes
         × Tells form name.now why.outcome why.text.items bytes) }
@@ -145,11 +146,11 @@ fn take_piece<L: Explains + Drop>(
     requires whole { checker.old.failed ≡ false }
     ensures more { IfOk result (λ found. IfNone found (TakesMore splitter.new checker.new)) }
     ensures good { IfOk result (λ found. IfNone found ((bytes : List ℕ)
-        → Follows L.stands splitter.old.bytes checker.old bytes
-        → Follows L.stands splitter.new.bytes checker.new (bytes ++ piece.now))) }
+        → Follows (of_ledger L.stands) splitter.old.bytes checker.old bytes
+        → Follows (of_ledger L.stands) splitter.new.bytes checker.new (bytes ++ piece.now))) }
     ensures bad { IfOk result (λ found. IfSome found (λ why. (bytes : List ℕ)
-        → Follows L.stands splitter.old.bytes checker.old bytes
-        → IsFixed reading (bytes ++ piece.now)
+        → Follows (of_ledger L.stands) splitter.old.bytes checker.old bytes
+        → IsFixed (strict reading) (bytes ++ piece.now)
         × Tells form name.now why.outcome why.text.items (bytes ++ piece.now))) }
     ensures memory { IfErr result (λ fault. fault ≡ AuditFault.OutOfMemory) }
 {
@@ -171,11 +172,11 @@ fn take_lines<L: Explains + Drop>(
     requires whole { checker.old.failed ≡ false }
     ensures more { IfOk result (λ found. IfNone found (TakesMore splitter.new checker.new)) }
     ensures good { IfOk result (λ found. IfNone found ((bytes : List ℕ)
-        → Follows L.stands splitter.old.bytes checker.old bytes
-        → Follows L.stands splitter.new.bytes checker.new bytes)) }
+        → Follows (of_ledger L.stands) splitter.old.bytes checker.old bytes
+        → Follows (of_ledger L.stands) splitter.new.bytes checker.new bytes)) }
     ensures bad { IfOk result (λ found. IfSome found (λ why. (bytes : List ℕ)
-        → Follows L.stands splitter.old.bytes checker.old bytes
-        → IsFixed reading bytes × Tells form name.now why.outcome why.text.items bytes)) }
+        → Follows (of_ledger L.stands) splitter.old.bytes checker.old bytes
+        → IsFixed (strict reading) bytes × Tells form name.now why.outcome why.text.items bytes)) }
     ensures memory { IfErr result (λ fault. fault ≡ AuditFault.OutOfMemory) }
 {
     'lines: loop {
@@ -219,7 +220,7 @@ fn conclude<L: Explains + Drop>(
     requires empty { HasNoLine splitter.old }
     requires whole { checker.old.failed ≡ false }
     ensures told { IfOk result (λ why. (bytes : List ℕ)
-        → Follows L.stands splitter.old.bytes checker.old bytes
+        → Follows (of_ledger L.stands) splitter.old.bytes checker.old bytes
         → Tells form name.now why.outcome why.text.items bytes) }
     ensures memory { IfErr result (λ fault. fault ≡ AuditFault.OutOfMemory) }
 {
