@@ -7,7 +7,7 @@ use Rattle.qa_check.proofs.Following.{Taken, taken_last, taken_open}
 use Rattle.qa_check.specs.Audit.{outcome_of}
 use Rattle.qa_check.specs.declared.auditing.Outcome.{Outcome}
 use Rattle.qa_check.specs.Following.{Follows}
-use Rattle.qa_check.specs.Standing.{by, AddsBad, AddsGood, Held, HoldsRun, Judges, StandsFor}
+use Rattle.qa_check.specs.Standing.{AddsBad, AddsGood, Held, HoldsRun, Judges, StandsFor, by}
 use Rattle.qa_format.proofs.verdicts.Cuts.{ended_snoc, first_line, first_line_is_long, lines_at_end, lines_at_lf, short_snoc}
 use Rattle.qa_format.proofs.verdicts.Fixed.{fixed_by_line}
 use Rattle.qa_format.specs.format.Lines.{cut, ended, has_lf, line_limit, lines, IsShortLine}
@@ -98,7 +98,7 @@ told_last_good judges old new form name rest rest' l text outcome closed is_line
       is_outcome ls q.0 ∙ ap (λ (k : List (List ℕ)). outcome_of (verdict_of (by judges) k)) (sym all),
     )
 
--- nothing stands behind the last LF
+-- nothing judges behind the last LF
 pub told_at_end : {L : Type 0} (judges : Judges L) (held : Held L) (form : Form) (name rest text : List ℕ) (outcome : Outcome) → rest ≡ [] → IsOutcome judges held outcome → IsText judges held form name None text
     → (bytes : List ℕ) → Follows judges rest held bytes → TellsBy (by judges) form name outcome text bytes
 told_at_end judges held form name rest text outcome none is_outcome is_text bytes f =

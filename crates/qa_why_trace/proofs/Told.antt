@@ -9,20 +9,20 @@ use Rattle.qa_base.specs.machine.Packets.{history_of}
 use Rattle.qa_base.specs.machine.State.{totals}
 use Rattle.qa_base.specs.values.Settings.{Settings}
 use Rattle.qa_check.specs.Audit.{ReadsEnough}
-use Rattle.qa_check.specs.Standing.{by, Held, HoldsRun, Judges, StandsBy, StandsFor}
+use Rattle.qa_check.specs.Standing.{Held, HoldsRun, Judges, StandsBy, StandsFor, by}
 use Rattle.qa_format.specs.declared.fault.Fault.{Fault}
 use Rattle.qa_format.specs.declared.fault.Fault.TheVariants.{LineTooLong, TooManyLines}
 use Rattle.qa_format.specs.declared.line.Line.{Line}
 use Rattle.qa_format.specs.declared.verdict.Verdict.{Verdict}
 use Rattle.qa_format.specs.format.Lines.{line_limit, cut, ended_lines, unended, last_line, lines, ended, IsShortLine}
 use Rattle.qa_format.specs.format.Reading.{reading}
-use Rattle.qa_format.specs.verdicts.Verdict.{Judging, strict, header_in, events_in, said, stop_after, first_stop, verdict_of, verdict, unreadable, AreGood, AreDecided, IsFixed}
+use Rattle.qa_format.specs.verdicts.Verdict.{Judging, Reading, strict, header_in, events_in, said, stop_after, first_stop, verdict_of, verdict, unreadable, AreGood, AreDecided, IsFixed}
 use Rattle.qa_format.proofs.verdicts.Cuts.{lines_append, last_line_at, first_line, first_line_is_long, first_line_stands}
 use Rattle.qa_format.proofs.verdicts.Fixed.{fixed_by_length, fixed_stays}
 use Rattle.qa_format.proofs.verdicts.Stops.{first_stop-snoc, no_stop_or_stop, verdict_at_stop, verdict_stays}
 use Rattle.qa_split.specs.Stream.{BeginsTooLong}
 use Rattle.qa_why_trace.specs.Texts.{seen, unreadable_text}
-use Rattle.qa_why_trace.specs.Why.{judged_at, told, told_at, unreadable_in, why, why_by}
+use Rattle.qa_why_trace.specs.Why.{judged_at, told, told_at, unreadable_in, why_by}
 use Rattle.qa_why_trace.specs.declared.form.Form.{Form}
 use Rattle.qa_why_trace.specs.declared.form.Form.TheVariants as forms
 use Rattle.qa_why_trace.proofs.Judged.{judged_bad, judged_good, judged_stays}
@@ -73,16 +73,16 @@ hidden_either : (many : Bool) → (f : Fault) × (cond {A = Result Line Fault} m
 hidden_either true = (TooManyLines, refl, λ line. refl)
 hidden_either false = (LineTooLong, refl, λ line. refl)
 
-hidden_said : (judging : Judging) (n : ℕ) (l : List ℕ) → line_limit < length l → (f : Fault) × (said judging.says n l ≡ Err f) × ((line : Option (List ℕ)) → seen f line ≡ None)
+hidden_said : (reading : Reading) (n : ℕ) (l : List ℕ) → line_limit < length l → (f : Fault) × (said reading n l ≡ Err f) × ((line : Option (List ℕ)) → seen f line ≡ None)
 unfolding said
-hidden_said judging n l long =
+hidden_said reading n l long =
     let is : nat_lt 65536 (length l) ≡ true = lt-ltb 65536 (length l) long in
     rw is (hidden_either (nat_le 4294967295 n))
 
 hidden_stop : (judging : Judging) (ls : List (List ℕ)) (l : List ℕ) → line_limit < length l
     → (f : Fault) × (stop_after judging ls l ≡ Some (unreadable (length ls + 1) (header_in judging.says ls) (history_of (events_in judging.says ls)) f)) × ((line : Option (List ℕ)) → seen f line ≡ None)
 unfolding stop_after
-hidden_stop judging ls l long = let said_so = hidden_said judging (length ls) l long in (said_so.0, rw said_so.1 refl, said_so.2)
+hidden_stop judging ls l long = let said_so = hidden_said judging.says (length ls) l long in (said_so.0, rw said_so.1 refl, said_so.2)
 
 same_hidden : (form : Form) (name : List ℕ) (n : ℕ) (f : Fault) (headed : Bool) (line : Option (List ℕ)) → ((line : Option (List ℕ)) → seen f line ≡ None)
     → unreadable_in form name n f headed line ≡ unreadable_in form name n f headed None
@@ -168,12 +168,12 @@ pub why_stays : (judging : Judging) (form : Form) (name f g : List ℕ) → IsFi
 why_stays judging form name f g fixed = stays judging form name f g fixed fixed
 
 -- what was read is told of as all the bytes that a reader tells
-pub told_why : {last : ℕ} (form : Form) (name : List ℕ) (old new : Option (List ℕ)) (read bytes : List ℕ) → old ≡ Some bytes → ReadsEnough old new last read → why form name bytes ≡ why form name read
+pub told_why : {last : ℕ} (form : Form) (name : List ℕ) (old new : Option (List ℕ)) (read bytes : List ℕ) → old ≡ Some bytes → ReadsEnough old new last read → why_by (strict reading) form name bytes ≡ why_by (strict reading) form name read
 told_why form name (Some xs) (Some ys) read bytes tells enough =
     let all : bytes ≡ read ++ ys = cc in
     elim enough.1 [
-      | inl end ↦ ap (why form name) (all ∙ (ap (λ k. read ++ k) end ∙ append-nil read))
-      | inr fixed ↦ ap (why form name) all ∙ why_stays (strict reading) form name read ys fixed
+      | inl end ↦ ap (why_by (strict reading) form name) (all ∙ (ap (λ k. read ++ k) end ∙ append-nil read))
+      | inr fixed ↦ ap (why_by (strict reading) form name) all ∙ why_stays (strict reading) form name read ys fixed
     ]
 told_why form name (Some xs) None read bytes tells enough = elim enough.0 [ ]
 told_why form name None new read bytes tells enough = cc

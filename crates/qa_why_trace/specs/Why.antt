@@ -18,7 +18,7 @@ use Rattle.qa_format.specs.declared.verdict.Verdict.{Verdict}
 use Rattle.qa_format.specs.declared.verdict.Verdict.TheVariants.{Accepted, Refused, Unreadable}
 use Rattle.qa_format.specs.format.Lines.{lines}
 use Rattle.qa_format.specs.format.Reading.{reading}
-use Rattle.qa_format.specs.verdicts.Verdict.{Judging, strict, event_said, events_in, header_in, stop_after, verdict}
+use Rattle.qa_format.specs.verdicts.Verdict.{Judging, event_said, events_in, header_in, stop_after, strict, verdict}
 use Rattle.qa_why_trace.specs.Objects.{accepted_object, owed_at_end_object, refused_object, unreadable_object}
 use Rattle.qa_why_trace.specs.Texts.{accepted_text, owed_at_end_text, refused_text, unreadable_text}
 use Rattle.qa_why_trace.specs.declared.form.Form.{Form}
@@ -70,19 +70,22 @@ told form name (Unreadable n f t) header h line = unreadable_in form name n f (i
 -- the lines before the first that is not good, and that line; or all of them
 abbrev pub judged_at : Judging → List (List ℕ) → List (List ℕ) → List (List ℕ) × Option (List ℕ)
 judged_at judging before [] = (before, None)
-judged_at judging before (l ∷ ls) =
-    if is_some (stop_after judging before l) then (before, Some l) else judged_at judging (before ++ l ∷ []) ls
+judged_at judging before (l ∷ ls) = if is_some (stop_after judging before l) then (before, Some l) else judged_at judging (before ++ l ∷ []) ls
+
+-- the lines before the first that is not good, or all
+abbrev pub good_lines : Judging → List ℕ → List (List ℕ)
+good_lines judging bytes = (judged_at judging [] (lines bytes)).0
 
 abbrev pub told_at : Judging → Form → List ℕ → Verdict → List (List ℕ) × Option (List ℕ) → List ℕ
 told_at judging form name v place = told form name v (header_in judging.says place.0) (history_of (events_in judging.says place.0)) place.1
 
 -- ---- the bytes
 
--- what is told of bytes in a form, under the name of their file, where they are judged so
+-- what is told of bytes in a form, under the name of their file
 unfoldable pub why_by : Judging → Form → List ℕ → List ℕ → List ℕ
 why_by judging form name bytes = told_at judging form name (verdict judging bytes) (judged_at judging [] (lines bytes))
 
--- the same where an event ends a trace that breaks a rule
+-- the same where a trace ends at an event that breaks a rule
 abbrev pub why : Form → List ℕ → List ℕ → List ℕ
 why form name bytes = why_by (strict reading) form name bytes
 

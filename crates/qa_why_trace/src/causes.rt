@@ -1,19 +1,19 @@
-//! What is told of a verdict, by the ledger of the events before.
+//! What is told of a verdict, by the judge of the events before.
 ghost use Rattle.std.specs.Prelude.{◌≡◌, List, ℕ, false, Some, Option, IfOk, IfErr};
 ghost use Rattle.std.specs.Option.{option_copied};
 ghost use Rattle.qa_base.specs.declared.event.Event.{Event as AnEvent};
 ghost use Rattle.qa_base.specs.values.Settings.{Settings};
 ghost use Rattle.qa_check.specs.Audit.{outcome_of};
-ghost use Rattle.qa_check.specs.Standing.{of_ledger, HoldsRun, StandsFor};
+ghost use Rattle.qa_check.specs.Standing.{HoldsRun, StandsFor, by};
 ghost use Rattle.qa_format.specs.format.Reading.{reading};
-ghost use Rattle.qa_format.specs.verdicts.Verdict.{strict, event_said, verdict_of};
+ghost use Rattle.qa_format.specs.verdicts.Verdict.{event_said, verdict_of};
 ghost use Rattle.qa_why_trace.specs.Why as defined;
 
 use crate::form::Form;
 use crate::objects::{accepted_object, owed_at_end_object, refused_object, unreadable_object};
+use crate::reasons::Reasons;
 use crate::texts::{accepted, owed_at_end, refused, unreadable};
 use qa_base::{Event, Rule, Totals};
-use qa_causes::Explains;
 use qa_check::{AuditFault, Checker, Outcome};
 use qa_format::{Fault, Line, Verdict};
 use qa_read::read_line;
@@ -28,40 +28,40 @@ pub struct Why {
     pub text: Vec<u8>,
 }
 
-/// Why the ledger refuses the event, by the rule.
-fn of_event<L: Explains + Drop>(
+/// Why the judge refuses the event, by the rule.
+fn of_event<J: Reasons + Drop>(
     alloc: Global,
     form: Form,
     name: &str,
-    ledger: &L,
+    ledger: &J,
     n: u64,
     rule: Rule,
     event: &Event,
     line: &[u8],
 ) -> Result<Vec<u8>, AllocError>
-    ensures { L.has_failed ledger.now ≡ false → IfOk result (λ text. (c : Settings)
-        (h : List AnEvent) → L.stands ledger.now c h
+    ensures { J.has_failed ledger.now ≡ false → IfOk result (λ text. (c : Settings)
+        (h : List AnEvent) → J.judges.stands ledger.now c h
         → text.items ≡ defined.event_text form name.now n rule (Some c) h (Some event.now) line.now) }
 {
-    let cause = ledger.cause(event, rule)?;
+    let cause = ledger.reason(event, rule)?;
     match form {
         Form::Text => refused(alloc, name, n, rule, event, &cause, line),
-        Form::Json => refused_object(alloc, ledger.unit(), name, n, rule, event, &cause),
+        Form::Json => refused_object(alloc, ledger.time_unit(), name, n, rule, event, &cause),
     }
 }
 
-/// Why the ledger refuses the event that this line says.
-fn of_line<L: Explains + Drop>(
+/// Why the judge refuses the event that this line says.
+fn of_line<J: Reasons + Drop>(
     alloc: Global,
     form: Form,
     name: &str,
-    ledger: &L,
+    ledger: &J,
     n: u64,
     rule: Rule,
     line: &[u8],
 ) -> Result<Vec<u8>, AllocError>
-    ensures { L.has_failed ledger.now ≡ false → IfOk result (λ text. (c : Settings)
-        (h : List AnEvent) → L.stands ledger.now c h
+    ensures { J.has_failed ledger.now ≡ false → IfOk result (λ text. (c : Settings)
+        (h : List AnEvent) → J.judges.stands ledger.now c h
         → text.items ≡ defined.event_text form name.now n rule (Some c) h (event_said (reading line.now)) line.now) }
 {
     let read = read_line(alloc, line);
@@ -72,18 +72,18 @@ fn of_line<L: Explains + Drop>(
 }
 
 /// Why the end of the trace is refused.
-fn of_end<L: Explains + Drop>(
+fn of_end<J: Reasons + Drop>(
     alloc: Global,
     form: Form,
     name: &str,
-    ledger: &L,
+    ledger: &J,
     n: u64,
 ) -> Result<Vec<u8>, AllocError>
-    ensures { L.has_failed ledger.now ≡ false → IfOk result (λ text. (c : Settings)
-        (h : List AnEvent) → L.stands ledger.now c h
+    ensures { J.has_failed ledger.now ≡ false → IfOk result (λ text. (c : Settings)
+        (h : List AnEvent) → J.judges.stands ledger.now c h
         → text.items ≡ defined.end_text form name.now n (Some c) h) }
 {
-    let owed = ledger.owed()?;
+    let owed = ledger.debt()?;
     match form {
         Form::Text => owed_at_end(alloc, name, n, &owed),
         Form::Json => owed_at_end_object(alloc, name, n, &owed),
@@ -91,17 +91,17 @@ fn of_end<L: Explains + Drop>(
 }
 
 /// Why the event of this line is refused, or the end of the trace.
-fn of_refusal<L: Explains + Drop>(
+fn of_refusal<J: Reasons + Drop>(
     alloc: Global,
     form: Form,
     name: &str,
-    ledger: &L,
+    ledger: &J,
     n: u64,
     rule: Rule,
     line: Option<&[u8]>,
 ) -> Result<Vec<u8>, AllocError>
-    ensures { L.has_failed ledger.now ≡ false → IfOk result (λ text. (c : Settings)
-        (h : List AnEvent) → L.stands ledger.now c h
+    ensures { J.has_failed ledger.now ≡ false → IfOk result (λ text. (c : Settings)
+        (h : List AnEvent) → J.judges.stands ledger.now c h
         → text.items ≡ defined.refusal_text form name.now n rule (Some c) h (option_copied line.entry)) }
 {
     match line {
@@ -111,18 +111,18 @@ fn of_refusal<L: Explains + Drop>(
 }
 
 /// The same by the ledger of a checker, which has one where it refuses an event.
-fn of_held_refusal<L: Explains + Drop>(
+fn of_held_refusal<J: Reasons + Drop>(
     alloc: Global,
     form: Form,
     name: &str,
-    checker: &Checker<L>,
+    checker: &Checker<J>,
     n: u64,
     rule: Rule,
     line: Option<&[u8]>,
 ) -> Result<Vec<u8>, AllocError>
     requires whole { checker.now.failed ≡ false }
     ensures { IfOk result (λ text. (header : Option Settings) (h : List AnEvent)
-        → HoldsRun (of_ledger L.stands) checker.now.ledger header h
+        → HoldsRun J.judges checker.now.ledger header h
         → text.items ≡ defined.refusal_text form name.now n rule header h (option_copied line.entry)) }
 {
     match checker.ledger() {
@@ -166,17 +166,17 @@ fn of_fault(
 }
 
 /// What is told of this verdict, which is that of the line, or else of the end.
-fn of_verdict<L: Explains + Drop>(
+fn of_verdict<J: Reasons + Drop>(
     alloc: Global,
     form: Form,
     name: &str,
-    checker: &Checker<L>,
+    checker: &Checker<J>,
     verdict: &Verdict,
     line: Option<&[u8]>,
 ) -> Result<Vec<u8>, AllocError>
     requires whole { checker.now.failed ≡ false }
     ensures { IfOk result (λ text. (header : Option Settings) (h : List AnEvent)
-        → HoldsRun (of_ledger L.stands) checker.now.ledger header h
+        → HoldsRun J.judges checker.now.ledger header h
         → text.items ≡ defined.told form name.now verdict.now header h (option_copied line.entry)) }
 {
     match verdict {
@@ -194,20 +194,20 @@ fn of_verdict<L: Explains + Drop>(
 /// at the end, or at a line that is too long.
 ///
 /// `AuditFault::OutOfMemory` comes where it is out of memory.
-pub fn why_of<L: Explains + Drop>(
+pub fn why_of<J: Reasons + Drop>(
     alloc: Global,
     form: Form,
     name: &str,
-    checker: &Checker<L>,
+    checker: &Checker<J>,
     line: Option<&[u8]>,
 ) -> Result<Why, AuditFault>
     requires whole { checker.now.failed ≡ false }
-    ensures outcome { IfOk result (λ why. (ls : List (List ℕ)) → StandsFor (of_ledger L.stands) checker.now ls
-        → why.outcome ≡ outcome_of (verdict_of (strict reading) ls)) }
+    ensures outcome { IfOk result (λ why. (ls : List (List ℕ)) → StandsFor J.judges checker.now ls
+        → why.outcome ≡ outcome_of (verdict_of (by J.judges) ls)) }
     ensures text { IfOk result (λ why. (ls : List (List ℕ)) (header : Option Settings)
-        (h : List AnEvent) → StandsFor (of_ledger L.stands) checker.now ls
-        → HoldsRun (of_ledger L.stands) checker.now.ledger header h
-        → why.text.items ≡ defined.told form name.now (verdict_of (strict reading) ls) header h (option_copied line.entry)) }
+        (h : List AnEvent) → StandsFor J.judges checker.now ls
+        → HoldsRun J.judges checker.now.ledger header h
+        → why.text.items ≡ defined.told form name.now (verdict_of (by J.judges) ls) header h (option_copied line.entry)) }
     ensures memory { IfErr result (λ fault. fault ≡ AuditFault.OutOfMemory) }
 {
     let Some(verdict) = checker.verdict() else {

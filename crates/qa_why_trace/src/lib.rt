@@ -8,10 +8,12 @@ mod form;
 mod hints;
 mod lines;
 mod objects;
+mod reasons;
 mod telling;
 mod texts;
 mod values;
 
 pub use causes::{Why, why_of};
 pub use form::Form;
+pub use reasons::Reasons;
 pub use telling::why;

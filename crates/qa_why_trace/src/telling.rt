@@ -1,19 +1,19 @@
 //! From a reader of bytes to why they are refused, on a writer.
 ghost use Rattle.std.specs.Prelude.{[], ◌≡◌, ◌≢◌, ◌++◌, ℕ, List, false, Some, Err, Ok, OnErr, IfOk, IfErr, IfSome, IfNone, IsSome, take};
 ghost use Rattle.std.specs.Io.KnownBytes.{Appends};
-ghost use Rattle.qa_check.specs.Audit.{Reads, ReadsEnough, is_read_fault, is_write_fault};
+ghost use Rattle.qa_check.specs.Audit.{Reads, ReadsBy, ReadsEnough, ReadsEnoughBy, is_read_fault, is_write_fault};
 ghost use Rattle.qa_check.specs.Auditor.{TakesMore};
 ghost use Rattle.qa_check.specs.Failures.{failures_after};
 ghost use Rattle.qa_check.specs.Following.{Follows, IsReady};
-ghost use Rattle.qa_check.specs.Standing.{of_ledger};
-ghost use Rattle.qa_format.specs.format.Reading.{reading};
-ghost use Rattle.qa_format.specs.verdicts.Verdict.{strict, IsFixed};
+ghost use Rattle.qa_check.specs.Standing.{by};
+ghost use Rattle.qa_format.specs.verdicts.Verdict.{IsFixed};
 ghost use Rattle.qa_split.specs.Stream.{HasNoLine};
 ghost use Rattle.qa_why_trace.specs.Why as defined;
-ghost use Rattle.qa_why_trace.specs.Why.{Tells, Writes, written};
+ghost use Rattle.qa_why_trace.specs.Why.{TellsBy, Writes, written};
 
 use crate::causes::{Why, why_of};
 use crate::form::Form;
+use crate::reasons::Reasons;
 use qa_causes::Explains;
 use qa_check::{AuditFault, Checker, Outcome, Sink, Source, Stop, write_whole};
 use qa_split::{SplitFault, Splitter};
@@ -77,40 +77,40 @@ fn unless_accepted(quiet: bool, outcome: Outcome, text: &[u8]) -> &[u8]
 }
 
 /// What is told of what is read.
-fn find<L: Explains + Drop, R: Source>(
+fn find<J: Reasons + Drop, R: Source>(
     alloc: Global,
     form: Form,
     name: &str,
     reader: &mut R,
 ) -> Result<Why, AuditFault>
     ensures told { IfOk result (λ why. (bytes : List ℕ)
-        × ReadsEnough (R.left reader.old) (R.left reader.new) (R.last_read reader.new) bytes
-        × Tells form name.now why.outcome why.text.items bytes) }
-    ensures reads { Reads (R.left reader.old) (R.left reader.new) (R.last_read reader.new) }
+        × ReadsEnoughBy (by J.judges) (R.left reader.old) (R.left reader.new) (R.last_read reader.new) bytes
+        × TellsBy (by J.judges) form name.now why.outcome why.text.items bytes) }
+    ensures reads { ReadsBy (by J.judges) (R.left reader.old) (R.left reader.new) (R.last_read reader.new) }
     ensures read_failures { R.read_failures reader.new
         ≡ failures_after (is_read_fault result) (R.read_failures reader.old) }
     ensures written { is_write_fault result ≡ false }
 {
     let mut splitter = Splitter::new(alloc);
-    let mut checker = Checker::<L>::new(alloc);
+    let mut checker = Checker::<J>::new(alloc);
     take_pieces(alloc, form, name, reader, &mut splitter, &mut checker)
 }
 
 /// Takes piece after piece, from the first on, and tells why.
-fn take_pieces<L: Explains + Drop, R: Source>(
+fn take_pieces<J: Reasons + Drop, R: Source>(
     alloc: Global,
     form: Form,
     name: &str,
     reader: &mut R,
     splitter: &mut Splitter,
-    checker: &mut Checker<L>,
+    checker: &mut Checker<J>,
 ) -> Result<Why, AuditFault>
     requires more { TakesMore splitter.old checker.old }
-    requires first { Follows (of_ledger L.stands) splitter.old.bytes checker.old [] }
+    requires first { Follows J.judges splitter.old.bytes checker.old [] }
     ensures told { IfOk result (λ why. (bytes : List ℕ)
-        × ReadsEnough (R.left reader.old) (R.left reader.new) (R.last_read reader.new) bytes
-        × Tells form name.now why.outcome why.text.items bytes) }
-    ensures reads { Reads (R.left reader.old) (R.left reader.new) (R.last_read reader.new) }
+        × ReadsEnoughBy (by J.judges) (R.left reader.old) (R.left reader.new) (R.last_read reader.new) bytes
+        × TellsBy (by J.judges) form name.now why.outcome why.text.items bytes) }
+    ensures reads { ReadsBy (by J.judges) (R.left reader.old) (R.left reader.new) (R.last_read reader.new) }
     ensures read_failures { R.read_failures reader.new
         ≡ failures_after (is_read_fault result) (R.read_failures reader.old) }
     ensures written { is_write_fault result ≡ false }
@@ -134,24 +134,24 @@ fn take_pieces<L: Explains + Drop, R: Source>(
 }
 
 /// Takes the next piece, and tells why, where it fixes the verdict.
-fn take_piece<L: Explains + Drop>(
+fn take_piece<J: Reasons + Drop>(
     alloc: Global,
     form: Form,
     name: &str,
     splitter: &mut Splitter,
-    checker: &mut Checker<L>,
+    checker: &mut Checker<J>,
     piece: &[u8],
 ) -> Result<Option<Why>, AuditFault>
     requires ready { IsReady splitter.old }
     requires whole { checker.old.failed ≡ false }
     ensures more { IfOk result (λ found. IfNone found (TakesMore splitter.new checker.new)) }
     ensures good { IfOk result (λ found. IfNone found ((bytes : List ℕ)
-        → Follows (of_ledger L.stands) splitter.old.bytes checker.old bytes
-        → Follows (of_ledger L.stands) splitter.new.bytes checker.new (bytes ++ piece.now))) }
+        → Follows J.judges splitter.old.bytes checker.old bytes
+        → Follows J.judges splitter.new.bytes checker.new (bytes ++ piece.now))) }
     ensures bad { IfOk result (λ found. IfSome found (λ why. (bytes : List ℕ)
-        → Follows (of_ledger L.stands) splitter.old.bytes checker.old bytes
-        → IsFixed (strict reading) (bytes ++ piece.now)
-        × Tells form name.now why.outcome why.text.items (bytes ++ piece.now))) }
+        → Follows J.judges splitter.old.bytes checker.old bytes
+        → IsFixed (by J.judges) (bytes ++ piece.now)
+        × TellsBy (by J.judges) form name.now why.outcome why.text.items (bytes ++ piece.now))) }
     ensures memory { IfErr result (λ fault. fault ≡ AuditFault.OutOfMemory) }
 {
     let Ok(()) = splitter.feed(piece) else {
@@ -161,22 +161,22 @@ fn take_piece<L: Explains + Drop>(
 }
 
 /// Takes each line that stands ready, and tells why of the first that is not good.
-fn take_lines<L: Explains + Drop>(
+fn take_lines<J: Reasons + Drop>(
     alloc: Global,
     form: Form,
     name: &str,
     splitter: &mut Splitter,
-    checker: &mut Checker<L>,
+    checker: &mut Checker<J>,
 ) -> Result<Option<Why>, AuditFault>
     requires ready { IsReady splitter.old }
     requires whole { checker.old.failed ≡ false }
     ensures more { IfOk result (λ found. IfNone found (TakesMore splitter.new checker.new)) }
     ensures good { IfOk result (λ found. IfNone found ((bytes : List ℕ)
-        → Follows (of_ledger L.stands) splitter.old.bytes checker.old bytes
-        → Follows (of_ledger L.stands) splitter.new.bytes checker.new bytes)) }
+        → Follows J.judges splitter.old.bytes checker.old bytes
+        → Follows J.judges splitter.new.bytes checker.new bytes)) }
     ensures bad { IfOk result (λ found. IfSome found (λ why. (bytes : List ℕ)
-        → Follows (of_ledger L.stands) splitter.old.bytes checker.old bytes
-        → IsFixed (strict reading) bytes × Tells form name.now why.outcome why.text.items bytes)) }
+        → Follows J.judges splitter.old.bytes checker.old bytes
+        → IsFixed (by J.judges) bytes × TellsBy (by J.judges) form name.now why.outcome why.text.items bytes)) }
     ensures memory { IfErr result (λ fault. fault ≡ AuditFault.OutOfMemory) }
 {
     'lines: loop {
@@ -209,19 +209,19 @@ fn found(told: Result<Why, AuditFault>) -> Result<Option<Why>, AuditFault>
 }
 
 /// Tells why, where nothing more comes.
-fn conclude<L: Explains + Drop>(
+fn conclude<J: Reasons + Drop>(
     alloc: Global,
     form: Form,
     name: &str,
     splitter: &mut Splitter,
-    checker: &mut Checker<L>,
+    checker: &mut Checker<J>,
 ) -> Result<Why, AuditFault>
     requires ready { IsReady splitter.old }
     requires empty { HasNoLine splitter.old }
     requires whole { checker.old.failed ≡ false }
     ensures told { IfOk result (λ why. (bytes : List ℕ)
-        → Follows (of_ledger L.stands) splitter.old.bytes checker.old bytes
-        → Tells form name.now why.outcome why.text.items bytes) }
+        → Follows J.judges splitter.old.bytes checker.old bytes
+        → TellsBy (by J.judges) form name.now why.outcome why.text.items bytes) }
     ensures memory { IfErr result (λ fault. fault ≡ AuditFault.OutOfMemory) }
 {
     splitter.close();

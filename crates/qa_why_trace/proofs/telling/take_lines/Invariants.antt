@@ -1,5 +1,4 @@
 use Rattle.std.proofs.Common.{◌≡◌, ℕ, List, length, false}
-use Rattle.qa_check.specs.Standing.{of_ledger}
 use Rattle.qa_check.specs.Following.{Follows, IsReady}
 use Rattle.qa_why_trace.proofs.telling.take_lines.Given as goal
 
@@ -7,7 +6,7 @@ abbrev pub invariant-lines : goal.invariant-lines
 invariant-lines g l = record {
   ready : IsReady l.splitter;
   whole : l.checker.failed ≡ false;
-  follows : (bytes : List ℕ) → Follows (of_ledger g.L.Ledger.stands) l.fn.splitter.bytes l.fn.checker bytes → Follows (of_ledger g.L.Ledger.stands) l.splitter.bytes l.checker bytes;
+  follows : (bytes : List ℕ) → Follows g.J.Judge.judges l.fn.splitter.bytes l.fn.checker bytes → Follows g.J.Judge.judges l.splitter.bytes l.checker bytes;
 }
 
 abbrev pub decreases-lines : goal.decreases-lines

@@ -1,10 +1,9 @@
 use Rattle.std.proofs.Common.{◌≡◌, ◌∙◌, List, ℕ, sym, ap, ap₂, subst}
 use Rattle.std.specs.Io.KnownBytes.{Appends}
-use Rattle.qa_format.specs.verdicts.Verdict.{strict}
 use Rattle.qa_check.proofs.Reading.{told_verdict}
 use Rattle.qa_check.specs.Audit.{outcome_of}
 use Rattle.qa_format.specs.format.Reading.{reading}
-use Rattle.qa_format.specs.verdicts.Verdict.{verdict}
+use Rattle.qa_format.specs.verdicts.Verdict.{strict, verdict}
 use Rattle.qa_why_trace.specs.Why.{unless_accepted, written}
 use Rattle.qa_why_trace.proofs.Told.{told_why}
 use Rattle.qa_why_trace.proofs.telling.why.Goals as goal
