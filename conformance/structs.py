@@ -176,7 +176,8 @@ def ack(said: Said) -> list[int]:
 def lost(said: Said) -> list[int]:
     """The arguments for packets that were declared lost."""
     fields = Fields(said, {"event", "time", "space", "ranges"})
-    return [fields.integer("time", MAX_TIME), fields.choice("space", SPACE_NUMBERS), *fields.ranges()]
+    time, space = fields.integer("time", MAX_TIME), fields.choice("space", SPACE_NUMBERS)
+    return [time, space, *fields.ranges()]
 
 
 def timer(said: Said) -> list[int]:

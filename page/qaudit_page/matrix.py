@@ -11,19 +11,17 @@ from typing import Any
 from urllib.parse import quote
 
 from .failure import Failure
-from .files import name_of, write
+from .files import name_of, read, write
 from .library import resource
 from .page import MARKS, Wanted, filled, page_of, policy
-from .program import verdict_of
-from .files import read
-from .program import find
+from .program import find, verdict_of
 from .texts import count, html, plural
 
 OTHER = "other"
 FAILED = "failed"
 KINDS = ("accepted", "refused", "unreadable", FAILED)
 ENDING = ".trace"
-# What a job is told of: a trace of which anything but accepted is worse than before.
+# The form of the file of verdicts that later ones are compared with.
 VERSION = 1
 
 

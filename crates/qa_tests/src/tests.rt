@@ -2,6 +2,7 @@
 mod arithmetic;
 mod auditor;
 mod commands;
+mod departures;
 mod lines;
 mod machine;
 mod sets;
