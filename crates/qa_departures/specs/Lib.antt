@@ -1,0 +1,4 @@
+pub mod Amounts
+pub mod Table
+pub mod Steps
+pub mod Texts

@@ -1,0 +1,97 @@
+-- The table of departures: a row for each kind of them.
+use Rattle.std.specs.Prelude.{◌≡◌, ℕ, nat_lt, max, ◌==◌, Bool, true, false, length, map, filter, reverse, List, [], ◌∷◌, Option, Some, None}
+use Rattle.qa_base.specs.declared.rule.Field.{Field}
+use Rattle.qa_base.specs.declared.rule.Field.TheVariants as field
+use Rattle.qa_base.specs.declared.rule.Rule.{Rule}
+use Rattle.qa_base.specs.declared.rule.Rule.TheVariants as rule
+use Rattle.qa_base.specs.values.Names.{rule_number}
+use Rattle.qa_departures.specs.declared.finding.Finding.{Finding}
+use Rattle.qa_departures.specs.declared.row.Row.{Row}
+use Rattle.qa_departures.specs.declared.table.Table.{Table}
+
+-- ---- kinds
+
+abbrev pub is_field : Field → Field → Bool
+is_field field.Window field.Window = true
+is_field field.Ssthresh field.Ssthresh = true
+is_field field.BytesInFlight field.BytesInFlight = true
+is_field field.LatestRtt field.LatestRtt = true
+is_field field.MinRtt field.MinRtt = true
+is_field field.SmoothedRtt field.SmoothedRtt = true
+is_field field.Rttvar field.Rttvar = true
+is_field _ _ = false
+
+-- the two are one kind: the same rule, and for a metric the same value
+abbrev pub is_kind : Rule → Rule → Bool
+is_kind (rule.Metric f) (rule.Metric g) = is_field f g
+is_kind r s = rule_number r == rule_number s
+
+-- the rules of conduct, in their order
+abbrev pub kinds : List Rule
+kinds =
+    rule.PastWindow
+    ∷ rule.PastProbe
+    ∷ rule.PastRecovery
+    ∷ rule.TimerEarly
+    ∷ rule.ProbeOwed
+    ∷ rule.Metric field.Window
+    ∷ rule.Metric field.Ssthresh
+    ∷ rule.Metric field.BytesInFlight
+    ∷ rule.Metric field.LatestRtt
+    ∷ rule.Metric field.MinRtt
+    ∷ rule.Metric field.SmoothedRtt
+    ∷ rule.Metric field.Rttvar
+    ∷ rule.TimerLate
+    ∷ rule.CollapseMissing
+    ∷ []
+
+-- ---- a row
+
+abbrev pub is_found : Rule → Finding → Bool
+is_found r f = is_kind r f.rule
+
+-- the line of the first finding, in the order of the lines
+abbrev pub first_line : List Finding → ℕ
+first_line [] = 0
+first_line (f ∷ fs) = f.line
+
+abbrev pub last_line : List Finding → ℕ
+last_line fs = first_line (reverse fs)
+
+-- the greater of two amounts; the other where one is none
+abbrev pub greater : Option ℕ → Option ℕ → Option ℕ
+greater None b = b
+greater (Some a) None = Some a
+greater (Some a) (Some b) = Some (max a b)
+
+-- the greatest amount of the findings that have one
+abbrev pub greatest : List Finding → Option ℕ
+greatest [] = None
+greatest (f ∷ fs) = greater f.amount (greatest fs)
+
+-- how many findings these are, where, and by how much at most
+abbrev pub row_with : Rule → List Finding → Row
+row_with r fs = record { rule = r; count = length fs; first = first_line fs; last = last_line fs; greatest = greatest fs }
+
+-- the row of a rule: of the findings of its kind
+abbrev pub row_of : Rule → List Finding → Row
+row_of r fs = row_with r (filter (is_found r) fs)
+
+-- ---- the table
+
+abbrev pub has_findings : Row → Bool
+has_findings row = nat_lt 0 row.count
+
+-- the rows of all kinds
+unfoldable pub rows_of : List Finding → List Row
+rows_of fs = map (λ r. row_of r fs) kinds
+
+-- the rows of the kinds that were found
+abbrev pub table : List Finding → List Row
+table fs = filter has_findings (rows_of fs)
+
+-- ---- what is kept of it
+
+-- the table was told of these findings, in this order
+abbrev pub Holds : Table → List Finding → Type 0
+Holds t fs = (t.noted ≡ length fs) × (t.rows ≡ rows_of fs)

@@ -1,0 +1,14 @@
+//! The table of departures: how often the events of a trace broke each rule of conduct, on which lines
+//! and by how much.
+#![tactic(auto)]
+
+mod amounts;
+mod finding;
+mod row;
+mod table;
+mod texts;
+
+pub use amounts::{amount, is_in_bytes};
+pub use finding::Finding;
+pub use row::Row;
+pub use table::Table;

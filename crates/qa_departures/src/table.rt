@@ -1,0 +1,116 @@
+//! The table of departures.
+ghost use Rattle.std.specs.Prelude.{◌≡◌, ◌<◌, ◌+◌, ◌^◌, List, [], ◌∷◌, ◌++◌, IfOk, OnOk, nat_eq, string_bytes};
+ghost use Rattle.qa_departures.specs.declared.finding.Finding.{Finding as AFinding};
+ghost use Rattle.qa_departures.specs.Table.{Holds, rows_of};
+ghost use Rattle.qa_departures.specs.Texts.{table_text};
+
+use crate::finding::Finding;
+use crate::row::{Row, note_in};
+use crate::texts::{push_head, push_rows};
+use qa_base::{Field, Rule, TimeUnit};
+use std::alloc::{AllocError, Global};
+
+/// How many kinds of departures there are.
+const KINDS: usize = 14;
+
+/// The rows of all kinds, none of which was found.
+#[tactic(auto, unfolding(crate::specs::Table::rows_of))]
+fn no_rows() -> [Row; KINDS]
+    ensures { result ≡ rows_of [] }
+{
+    [
+        Row::of(Rule::PastWindow),
+        Row::of(Rule::PastProbe),
+        Row::of(Rule::PastRecovery),
+        Row::of(Rule::TimerEarly),
+        Row::of(Rule::ProbeOwed),
+        Row::of(Rule::Metric(Field::Window)),
+        Row::of(Rule::Metric(Field::Ssthresh)),
+        Row::of(Rule::Metric(Field::BytesInFlight)),
+        Row::of(Rule::Metric(Field::LatestRtt)),
+        Row::of(Rule::Metric(Field::MinRtt)),
+        Row::of(Rule::Metric(Field::SmoothedRtt)),
+        Row::of(Rule::Metric(Field::Rttvar)),
+        Row::of(Rule::TimerLate),
+        Row::of(Rule::CollapseMissing),
+    ]
+}
+
+/// The departures of a trace in sum, in memory that does not grow: a row for each rule of conduct.
+///
+/// `Holds` says which findings it was told of.
+#[derive(Drop)]
+pub struct Table {
+    /// A row for each kind, in the order of the rules.
+    rows: [Row; KINDS],
+    /// How many findings it was told of.
+    noted: u64,
+}
+
+impl Table {
+    /// A table that was told of no finding.
+    pub fn new() -> Table
+        ensures { Holds result [] }
+    {
+        Table {
+            rows: no_rows(),
+            noted: 0,
+        }
+    }
+
+    /// Tells it of one more finding. Asks for fewer than 2^64 - 1 findings so far. A rule that is not
+    /// one of conduct is in no row, and counts as a departure.
+    #[tactic(auto, using(crate::proofs::Noted::rows_noted))]
+    pub fn note(&mut self, finding: &Finding)
+        requires few { self.old.noted + 1 < 2 ^ 64 }
+        ensures noted { self.new.noted ≡ self.old.noted + 1 }
+        ensures holds { (fs : List AFinding) → Holds self.old fs
+            → Holds self.new (fs ++ finding.now ∷ []) }
+    {
+        note_in(&mut self.rows, finding);
+        self.noted += 1;
+    }
+
+    /// Whether it was told of no finding.
+    pub fn is_empty(&self) -> bool
+        ensures { result ≡ nat_eq self.now.noted 0 }
+    {
+        self.noted == 0
+    }
+
+    /// The text of the table for a trace of this name, as it is shown, whose times are in this unit and
+    /// so many of whose events were admitted. Empty where there was no finding. `AllocError` comes
+    /// where it is out of memory.
+    pub fn text(
+        &self,
+        alloc: Global,
+        unit: TimeUnit,
+        name: &str,
+        events: u64,
+    ) -> Result<String, AllocError>
+        ensures { IfOk result (λ text. (fs : List AFinding) → Holds self.now fs
+            → string_bytes text ≡ table_text unit name.now events fs) }
+    {
+        let mut out = String::new(alloc);
+        self.push_to(&mut out, unit, name, events)?;
+        Ok(out)
+    }
+
+    /// Appends the text of the table, as `text` has it.
+    pub fn push_to(
+        &self,
+        out: &mut String,
+        unit: TimeUnit,
+        name: &str,
+        events: u64,
+    ) -> Result<(), AllocError>
+        ensures { OnOk result ((fs : List AFinding) → Holds self.now fs
+            → string_bytes out.new ≡ string_bytes out.old ++ table_text unit name.now events fs) }
+    {
+        if self.is_empty() {
+            return Ok(());
+        }
+        push_head(out, name, self.noted, events)?;
+        push_rows(out, unit, &self.rows)
+    }
+}
