@@ -1,4 +1,5 @@
-//! What a judge that goes on past rules of conduct keeps of an event, worked out by hand from RFC 9002.
+//! What a judge that goes on past rules of conduct keeps of an event, and the table of what events
+//! departed from, worked out by hand from RFC 9002.
 ghost use Rattle.std.specs.Prelude.{◌<◌, ◌≤◌, ◌+◌};
 ghost use Rattle.qa_base.specs.values.Limits.{max_lines};
 
@@ -6,6 +7,7 @@ use qa_all::Bearing;
 use qa_base::{Event, Header, Leave, PacketNumber, Role, Rule, Space, Ticks, TimeUnit};
 use qa_causes::Cause;
 use qa_check::Judge;
+use qa_departures::{Finding, Table, amount, is_in_bytes};
 use qa_ledger::{Ledger, LedgerFault};
 use qa_running::Running;
 use std::test::Fail;
@@ -97,9 +99,53 @@ fn a_judge_answers_by_its_ledger(rt: HostRuntime) -> Result<(), Fail> {
     assert_eq!(rt; judged(&mut judge, probe(0)), Some(Ok(())));
     assert_eq!(rt; judge.ledger().totals().bytes_in_flight, 1200);
     assert_eq!(rt; judge.state().bytes_in_flight, 1200);
-    assert_eq!(rt; judge.is_owing(), false);
+    assert!(rt; !judge.is_owing());
     assert_eq!(rt; owes_a_space(&judge), Some(false));
-    assert_eq!(rt; judge.unit(), TimeUnit::Microseconds);
+    assert!(rt; matches!(judge.unit(), TimeUnit::Microseconds));
     assert_eq!(rt; due(&judge), Some(999_000));
+    Ok(())
+}
+
+/// By how much a probe departs for this cause.
+fn probe_amount(cause: &Cause) -> Option<u128> {
+    amount(&probe(0)?, Rule::PastProbe, cause)
+}
+
+/// A probe of 1,200 bytes where 2,400 are allowed and 1,500 were taken is 300 bytes past them.
+#[test]
+fn a_probe_departs_by_bytes(rt: HostRuntime) {
+    let cause = Cause::PastProbe {
+        allowance: 2400,
+        spent: Some(1500),
+    };
+    assert_eq!(rt; probe_amount(&cause), Some(300));
+    assert!(rt; is_in_bytes(Rule::PastProbe));
+}
+
+/// Two packets past the window, by 1,068 bytes at most, and a timer 200 microseconds early.
+#[test]
+fn the_table_has_a_row_for_each_kind(rt: HostRuntime) -> Result<(), Fail> {
+    let mut table = Table::new();
+    assert!(rt; table.is_empty());
+    table.note(&Finding {
+        line: 34,
+        rule: Rule::PastWindow,
+        amount: Some(1068),
+    });
+    table.note(&Finding {
+        line: 50,
+        rule: Rule::TimerEarly,
+        amount: Some(200),
+    });
+    table.note(&Finding {
+        line: 61,
+        rule: Rule::PastWindow,
+        amount: Some(132),
+    });
+    let text = table.text(rt.alloc(), TimeUnit::Microseconds, "a", 70)?;
+    assert_eq!(rt;
+        text.as_str(),
+        "a: departs 3 times in 70 events\n  V7 past-window: 2 times, lines 34 to 61, by at most 1068 bytes\n  V13 timer-early: once, line 50, by 200 us\n"
+    );
     Ok(())
 }
