@@ -2,7 +2,6 @@
 mod arithmetic;
 mod auditor;
 mod commands;
-mod departures;
 mod lines;
 mod machine;
 mod sets;
