@@ -1,1 +1,3 @@
 pub mod Bearing
+pub mod All
+pub mod Keeping

@@ -1,8 +1,13 @@
-//! The audit that goes on past rules of conduct, and keeps which rules the last event departed from.
+//! The audit that goes on past rules of conduct: which of them each event departed from, and what is told
+//! of all departures of a trace.
 //!
 //! A rule of conduct says what a sender should have done: V7, V8, V9, V13, V14, V16, V18 and V19.
 #![tactic(auto)]
 
 mod bearing;
+mod keeping;
+mod reasoning;
+mod trace;
 
 pub use bearing::{Bearing, Departure};
+pub use trace::why_all;

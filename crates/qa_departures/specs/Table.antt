@@ -1,5 +1,6 @@
 -- The table of departures: a row for each kind of them.
-use Rattle.std.specs.Prelude.{◌≡◌, ℕ, nat_lt, max, ◌==◌, Bool, true, false, length, map, filter, reverse, List, [], ◌∷◌, Option, Some, None}
+use Rattle.std.specs.Prelude.{◌≡◌, ℕ, nat_lt, max, min, ◌==◌, ◌&&◌, ◌-◌, ◌^◌, Bool, true, false, length, map, filter, reverse, List, [], ◌∷◌, Option, Some, None}
+use Rattle.std.specs.List.{list_any}
 use Rattle.qa_base.specs.declared.rule.Field.{Field}
 use Rattle.qa_base.specs.declared.rule.Field.TheVariants as field
 use Rattle.qa_base.specs.declared.rule.Rule.{Rule}
@@ -69,9 +70,13 @@ abbrev pub greatest : List Finding → Option ℕ
 greatest [] = None
 greatest (f ∷ fs) = greater f.amount (greatest fs)
 
+-- a count stays at the most that 64 bits hold
+abbrev pub counted : ℕ → ℕ
+counted n = min n (2 ^ 64 - 1)
+
 -- how many findings these are, where, and by how much at most
 abbrev pub row_with : Rule → List Finding → Row
-row_with r fs = record { rule = r; count = length fs; first = first_line fs; last = last_line fs; greatest = greatest fs }
+row_with r fs = record { rule = r; count = counted (length fs); first = first_line fs; last = last_line fs; greatest = greatest fs }
 
 -- the row of a rule: of the findings of its kind
 abbrev pub row_of : Rule → List Finding → Row
@@ -90,8 +95,16 @@ rows_of fs = map (λ r. row_of r fs) kinds
 abbrev pub table : List Finding → List Row
 table fs = filter has_findings (rows_of fs)
 
+-- the row is of this kind, which was found
+abbrev pub is_row : Rule → Row → Bool
+is_row r row = is_kind row.rule r && has_findings row
+
+-- a departure of this kind is among the findings
+abbrev pub is_known : Rule → List Finding → Bool
+is_known r fs = list_any (is_row r) (rows_of fs)
+
 -- ---- what is kept of it
 
 -- the table was told of these findings, in this order
 abbrev pub Holds : Table → List Finding → Type 0
-Holds t fs = (t.noted ≡ length fs) × (t.rows ≡ rows_of fs)
+Holds t fs = (t.noted ≡ counted (length fs)) × (t.rows ≡ rows_of fs)

@@ -4,7 +4,7 @@ use Rattle.qa_base.specs.declared.rule.Rule.{Rule}
 use Rattle.qa_base.specs.declared.space.TimeUnit.{TimeUnit}
 use Rattle.qa_base.specs.values.Names.{rule_text, unit_name}
 use Rattle.qa_departures.specs.Amounts.{is_in_bytes}
-use Rattle.qa_departures.specs.Table.{table}
+use Rattle.qa_departures.specs.Table.{counted, table}
 use Rattle.qa_departures.specs.declared.finding.Finding.{Finding}
 use Rattle.qa_departures.specs.declared.row.Row.{Row}
 use Rattle.qa_why.specs.Pieces.{named, numbered}
@@ -52,10 +52,10 @@ abbrev pub times_text : ℕ → List ℕ
 times_text count = if count == 1 then codes "once" else decimal count ++ codes " times"
 
 -- how many departures there were, in how many events
-unfoldable pub head_text : List ℕ → ℕ → ℕ → List ℕ
-head_text name count events = named name (codes ": departs ") ++ times_text count ++ numbered (codes " in ") events ++ codes " events\n"
+unfoldable pub head_text : ℕ → ℕ → List ℕ
+head_text count events = codes ": departs " ++ times_text count ++ numbered (codes " in ") events ++ codes " events\n"
 
--- nothing where there is no finding; the name of the trace as it is shown
-abbrev pub table_text : TimeUnit → List ℕ → ℕ → List Finding → List ℕ
-table_text unit name events [] = []
-table_text unit name events (f ∷ fs) = head_text name (length (f ∷ fs)) events ++ rows_text unit (table (f ∷ fs))
+-- what stands behind the name of the trace; nothing where there is no finding
+abbrev pub table_text : TimeUnit → ℕ → List Finding → List ℕ
+table_text unit events [] = []
+table_text unit events (f ∷ fs) = head_text (counted (length (f ∷ fs))) events ++ rows_text unit (table (f ∷ fs))

@@ -1,5 +1,6 @@
 //! A row of the table: what is kept of the findings of a rule.
 ghost use Rattle.std.specs.Prelude.{◌≡◌, [], map};
+ghost use Rattle.std.specs.List.{list_any};
 ghost use Rattle.qa_departures.specs.Steps as steps;
 ghost use Rattle.qa_departures.specs.Table as tables;
 
@@ -112,4 +113,12 @@ pub(crate) fn note_in(rows: &mut [Row], finding: &Finding)
     for row in rows.iter_mut() {
         *row = row.after(finding);
     }
+}
+
+/// Whether a row is of this kind, which was found.
+pub(crate) fn has_row(rows: &[Row], rule: Rule) -> bool
+    ensures { result ≡ list_any (tables.is_row rule) rows.now }
+{
+    rows.iter()
+        .any(|row| is_kind(row.rule, rule) && 0 < row.count)
 }

@@ -1,11 +1,12 @@
 //! The table of departures.
-ghost use Rattle.std.specs.Prelude.{◌≡◌, ◌<◌, ◌+◌, ◌^◌, List, [], ◌∷◌, ◌++◌, IfOk, OnOk, nat_eq, string_bytes};
+ghost use Rattle.std.specs.Prelude.{◌≡◌, List, [], ◌∷◌, ◌++◌, IfOk, OnOk, nat_eq, string_bytes};
 ghost use Rattle.qa_departures.specs.declared.finding.Finding.{Finding as AFinding};
-ghost use Rattle.qa_departures.specs.Table.{Holds, rows_of};
+ghost use Rattle.qa_departures.specs.Table.{Holds, is_known, rows_of};
+ghost use Rattle.qa_departures.specs.Steps.{one_more};
 ghost use Rattle.qa_departures.specs.Texts.{table_text};
 
 use crate::finding::Finding;
-use crate::row::{Row, note_in};
+use crate::row::{Row, has_row, note_in};
 use crate::texts::{push_head, push_rows};
 use qa_base::{Field, Rule, TimeUnit};
 use std::alloc::{AllocError, Global};
@@ -58,17 +59,15 @@ impl Table {
         }
     }
 
-    /// Tells it of one more finding. Asks for fewer than 2^64 - 1 findings so far. A rule that is not
-    /// one of conduct is in no row, and counts as a departure.
-    #[tactic(auto, using(crate::proofs::Noted::rows_noted))]
+    /// Tells it of one more finding. Counts stay at 2^64 - 1. A rule that is not one of conduct is in
+    /// no row, and counts as a departure.
     pub fn note(&mut self, finding: &Finding)
-        requires few { self.old.noted + 1 < 2 ^ 64 }
-        ensures noted { self.new.noted ≡ self.old.noted + 1 }
+        ensures noted { self.new.noted ≡ one_more self.old.noted }
         ensures holds { (fs : List AFinding) → Holds self.old fs
             → Holds self.new (fs ++ finding.now ∷ []) }
     {
         note_in(&mut self.rows, finding);
-        self.noted += 1;
+        self.noted = self.noted.saturating_add(1);
     }
 
     /// Whether it was told of no finding.
@@ -78,39 +77,34 @@ impl Table {
         self.noted == 0
     }
 
-    /// The text of the table for a trace of this name, as it is shown, whose times are in this unit and
-    /// so many of whose events were admitted. Empty where there was no finding. `AllocError` comes
-    /// where it is out of memory.
-    pub fn text(
-        &self,
-        alloc: Global,
-        unit: TimeUnit,
-        name: &str,
-        events: u64,
-    ) -> Result<String, AllocError>
+    /// Whether it was told of a departure from this rule of conduct, and for a metric of the same value.
+    pub fn has(&self, rule: Rule) -> bool
+        ensures { (fs : List AFinding) → Holds self.now fs → result ≡ is_known rule fs }
+    {
+        has_row(&self.rows, rule)
+    }
+
+    /// The text of the table behind the name of a trace whose times are in this unit and so many of
+    /// whose events were admitted. Empty where there was no finding. `AllocError` comes where it is out
+    /// of memory.
+    pub fn text(&self, alloc: Global, unit: TimeUnit, events: u64) -> Result<String, AllocError>
         ensures { IfOk result (λ text. (fs : List AFinding) → Holds self.now fs
-            → string_bytes text ≡ table_text unit name.now events fs) }
+            → string_bytes text ≡ table_text unit events fs) }
     {
         let mut out = String::new(alloc);
-        self.push_to(&mut out, unit, name, events)?;
+        self.push_to(&mut out, unit, events)?;
         Ok(out)
     }
 
     /// Appends the text of the table, as `text` has it.
-    pub fn push_to(
-        &self,
-        out: &mut String,
-        unit: TimeUnit,
-        name: &str,
-        events: u64,
-    ) -> Result<(), AllocError>
+    fn push_to(&self, out: &mut String, unit: TimeUnit, events: u64) -> Result<(), AllocError>
         ensures { OnOk result ((fs : List AFinding) → Holds self.now fs
-            → string_bytes out.new ≡ string_bytes out.old ++ table_text unit name.now events fs) }
+            → string_bytes out.new ≡ string_bytes out.old ++ table_text unit events fs) }
     {
         if self.is_empty() {
             return Ok(());
         }
-        push_head(out, name, self.noted, events)?;
+        push_head(out, self.noted, events)?;
         push_rows(out, unit, &self.rows)
     }
 }

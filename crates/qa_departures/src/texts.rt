@@ -125,16 +125,11 @@ fn push_times(out: &mut String, count: u64) -> Result<(), AllocError>
 
 /// How many departures there were, and in how many events.
 #[tactic(auto, unfolding(crate::specs::Texts::head_text))]
-pub(crate) fn push_head(
-    out: &mut String,
-    name: &str,
-    count: u64,
-    events: u64,
-) -> Result<(), AllocError>
+pub(crate) fn push_head(out: &mut String, count: u64, events: u64) -> Result<(), AllocError>
     ensures { OnOk result (string_bytes out.new
-        ≡ string_bytes out.old ++ text.head_text name.now count events) }
+        ≡ string_bytes out.old ++ text.head_text count events) }
 {
-    push_name(out, name, ": departs ")?;
+    push_words(out, ": departs ")?;
     push_times(out, count)?;
     push_number(out, " in ", events)?;
     push_words(out, " events\n")

@@ -8,7 +8,7 @@ use Rattle.qa_base.specs.declared.event.Event.{Event}
 use Rattle.qa_base.specs.machine.Packets.{history_of}
 use Rattle.qa_base.specs.machine.State.{totals}
 use Rattle.qa_base.specs.values.Settings.{Settings}
-use Rattle.qa_check.specs.Audit.{ReadsEnough}
+use Rattle.qa_check.specs.Audit.{ReadsEnoughBy}
 use Rattle.qa_check.specs.Standing.{Held, HoldsRun, Judges, StandsBy, StandsFor, by}
 use Rattle.qa_format.specs.declared.fault.Fault.{Fault}
 use Rattle.qa_format.specs.declared.fault.Fault.TheVariants.{LineTooLong, TooManyLines}
@@ -22,10 +22,10 @@ use Rattle.qa_format.proofs.verdicts.Fixed.{fixed_by_length, fixed_stays}
 use Rattle.qa_format.proofs.verdicts.Stops.{first_stop-snoc, no_stop_or_stop, verdict_at_stop, verdict_stays}
 use Rattle.qa_split.specs.Stream.{BeginsTooLong}
 use Rattle.qa_why_trace.specs.Texts.{seen, unreadable_text}
-use Rattle.qa_why_trace.specs.Why.{judged_at, told, told_at, unreadable_in, why_by}
+use Rattle.qa_why_trace.specs.Why.{good_lines, judged_at, told, told_at, unreadable_in, why_by}
 use Rattle.qa_why_trace.specs.declared.form.Form.{Form}
 use Rattle.qa_why_trace.specs.declared.form.Form.TheVariants as forms
-use Rattle.qa_why_trace.proofs.Judged.{judged_bad, judged_good, judged_stays}
+use Rattle.qa_why_trace.proofs.Judged.{Place, judged_bad, judged_good, judged_stays}
 
 -- ---- what a checker of good lines holds
 
@@ -47,6 +47,20 @@ holds_of_good judges held ls is good = open_by judges held.verdict held.ledger h
 
 stop_behind : (judging : Judging) (ls : List (List ℕ)) (l : List ℕ) → AreGood judging ls → AreDecided judging (ls ++ l ∷ []) → is_some (stop_after judging ls l) ≡ true
 stop_behind judging ls l good bad = ap is_some (sym (first_stop-snoc judging [] ls l good)) ∙ bad
+
+-- the good lines of bytes in which one is not good
+pub good_at_line : (judging : Judging) (bytes : List ℕ) (ls more : List (List ℕ)) (l : List ℕ) → AreGood judging ls → AreDecided judging (ls ++ l ∷ []) → lines bytes ≡ (ls ++ l ∷ []) ++ more
+    → good_lines judging bytes ≡ ls
+good_at_line judging bytes ls more l good bad are =
+    let place : judged_at judging [] (lines bytes) ≡ (ls, Some l) =
+    ap (judged_at judging []) (are ∙ append_assoc ls (l ∷ []) more) ∙ judged_bad judging [] ls more l good (stop_behind judging ls l good bad) in
+    ap (λ (p : Place). p.0) place
+
+-- and of bytes in which all are
+pub good_at_end : (judging : Judging) (bytes : List ℕ) (ls : List (List ℕ)) → AreGood judging ls → lines bytes ≡ ls → good_lines judging bytes ≡ ls
+good_at_end judging bytes ls good are =
+    let place : judged_at judging [] (lines bytes) ≡ (ls, None) = ap (judged_at judging []) are ∙ judged_good judging [] ls good in
+    ap (λ (p : Place). p.0) place
 
 -- a line that is not good, behind good ones
 pub why_at_line : (judging : Judging) (form : Form) (name bytes : List ℕ) (ls more : List (List ℕ)) (l : List ℕ) → AreGood judging ls → AreDecided judging (ls ++ l ∷ []) → lines bytes ≡ (ls ++ l ∷ []) ++ more
@@ -104,11 +118,12 @@ pub why_at_long : (judging : Judging) (form : Form) (name bytes rest : List ℕ)
     → AreDecided judging (ls ++ first_line b.0 (cut b.1) ∷ [])
     → IsFixed judging bytes × (verdict_of judging (ls ++ first_line b.0 (cut b.1) ∷ []) ≡ verdict judging bytes)
     × (why_by judging form name bytes ≡ told form name (verdict_of judging (ls ++ first_line b.0 (cut b.1) ∷ [])) (header_in judging.says ls) (history_of (events_in judging.says ls)) None)
+    × (good_lines judging bytes ≡ ls)
 why_at_long judging form name bytes rest ls b short good are bad =
     let l = first_line b.0 (cut b.1) in
     let fixed = fixed_by_length judging ls b.0 b.1 rest bytes short are b.4 b.2 b.3 bad in
     let long = first_line_is_long b.0 (cut b.1) b.3 in
-    (fixed.0, fixed.1, why_at_line judging form name bytes ls fixed.2 l good bad fixed.3 fixed.1 ∙ told_long judging form name ls l _ _ (Some l) good long)
+    (fixed.0, fixed.1, why_at_line judging form name bytes ls fixed.2 l good bad fixed.3 fixed.1 ∙ told_long judging form name ls l _ _ (Some l) good long, good_at_line judging bytes ls fixed.2 l good bad fixed.3)
 
 -- ---- bytes behind those that fix the verdict
 
@@ -167,13 +182,67 @@ stays judging form name f g fixed by = elim by [
 pub why_stays : (judging : Judging) (form : Form) (name f g : List ℕ) → IsFixed judging f → why_by judging form name (f ++ g) ≡ why_by judging form name f
 why_stays judging form name f g fixed = stays judging form name f g fixed fixed
 
--- what was read is told of as all the bytes that a reader tells
-pub told_why : {last : ℕ} (form : Form) (name : List ℕ) (old new : Option (List ℕ)) (read bytes : List ℕ) → old ≡ Some bytes → ReadsEnough old new last read → why_by (strict reading) form name bytes ≡ why_by (strict reading) form name read
-told_why form name (Some xs) (Some ys) read bytes tells enough =
+-- ---- good lines behind those that fix the verdict
+
+good_stays_by_line : (judging : Judging) (f g : List ℕ) → AreDecided judging (ended_lines f) → good_lines judging (f ++ g) ≡ good_lines judging f
+good_stays_by_line judging f g bad =
+    let more = ap (judged_at judging []) (lines_append f g) ∙ judged_stays judging [] (ended_lines f) _ bad in
+    let own = judged_stays judging [] (ended_lines f) (last_line (unended f)) bad in
+    ap (λ (p : Place). p.0) (more ∙ sym own)
+
+-- behind good lines one is too long
+decided_by_long : (judging : Judging) (ls : List (List ℕ)) (l : List ℕ) → AreGood judging ls → line_limit < length l → AreDecided judging (ls ++ l ∷ [])
+decided_by_long judging ls l good long =
+    let stop = hidden_stop judging ls l long in
+    let bad : first_stop judging [] (ls ++ l ∷ []) ≡ Some (unreadable (length ls + 1) (header_in judging.says ls) (history_of (events_in judging.says ls)) stop.0) = first_stop-snoc judging [] ls l good ∙ stop.1 in
+    rw bad refl
+
+good_stays_by_length : (judging : Judging) (f g : List ℕ) → line_limit < length (unended f) → AreGood judging (ended_lines f) → good_lines judging (f ++ g) ≡ good_lines judging f
+good_stays_by_length judging f g long good =
+    let ls = ended_lines f in
+    let next = first_line_stands (unended f) (cut g) long in
+    let l = first_line (unended f) (cut g) in
+    let longer : lines (f ++ g) ≡ (ls ++ l ∷ []) ++ next.0 = lines_append f g ∙ (ap (λ k. ls ++ k) next.1 ∙ sym (append_assoc ls (l ∷ []) next.0)) in
+    let own : lines f ≡ (ls ++ unended f ∷ []) ++ [] = ap (λ k. ls ++ k) (last_line_at (unended f) (omega arith)) ∙ sym (append-nil (ls ++ unended f ∷ [])) in
+    good_at_line judging (f ++ g) ls next.0 l good (decided_by_long judging ls l good (first_line_is_long (unended f) (cut g) long)) longer
+    ∙ sym (good_at_line judging f ls [] (unended f) good (decided_by_long judging ls (unended f) good long) own)
+
+-- they stay, whatever follows
+pub good_stays : (judging : Judging) (f g : List ℕ) → IsFixed judging f → good_lines judging (f ++ g) ≡ good_lines judging f
+good_stays judging f g fixed = elim fixed [
+  | inl bad ↦ good_stays_by_line judging f g bad
+  | inr long ↦ elim (no_stop_or_stop (first_stop judging [] (ended_lines f))) [
+    | inl good ↦ good_stays_by_length judging f g long good
+    | inr bad ↦ good_stays_by_line judging f g bad
+  ]
+]
+
+-- ---- what was read, and all the bytes that a reader tells
+
+-- what no byte changes that follows
+pub told_alike : {A : Type 0} {last : ℕ} (judging : Judging) (of : List ℕ → A) → ((f g : List ℕ) → IsFixed judging f → of (f ++ g) ≡ of f)
+    → (old new : Option (List ℕ)) (read bytes : List ℕ) → old ≡ Some bytes → ReadsEnoughBy judging old new last read → of bytes ≡ of read
+told_alike judging of stays (Some xs) (Some ys) read bytes tells enough =
     let all : bytes ≡ read ++ ys = cc in
     elim enough.1 [
-      | inl end ↦ ap (why_by (strict reading) form name) (all ∙ (ap (λ k. read ++ k) end ∙ append-nil read))
-      | inr fixed ↦ ap (why_by (strict reading) form name) all ∙ why_stays (strict reading) form name read ys fixed
+      | inl end ↦ ap of (all ∙ (ap (λ k. read ++ k) end ∙ append-nil read))
+      | inr fixed ↦ ap of all ∙ stays read ys fixed
     ]
-told_why form name (Some xs) None read bytes tells enough = elim enough.0 [ ]
-told_why form name None new read bytes tells enough = cc
+told_alike judging of stays (Some xs) None read bytes tells enough = elim enough.0 [ ]
+told_alike judging of stays None new read bytes tells enough = absurd cc
+
+-- what is told of them
+pub told_why : {last : ℕ} (judging : Judging) (form : Form) (name : List ℕ) (old new : Option (List ℕ)) (read bytes : List ℕ) → old ≡ Some bytes → ReadsEnoughBy judging old new last read
+    → why_by judging form name bytes ≡ why_by judging form name read
+told_why judging form name old new read bytes tells enough =
+    told_alike judging (why_by judging form name) (why_stays judging form name) old new read bytes tells enough
+
+-- their good lines
+pub told_good : {last : ℕ} (judging : Judging) (old new : Option (List ℕ)) (read bytes : List ℕ) → old ≡ Some bytes → ReadsEnoughBy judging old new last read
+    → good_lines judging bytes ≡ good_lines judging read
+told_good judging old new read bytes tells enough = told_alike judging (good_lines judging) (good_stays judging) old new read bytes tells enough
+
+-- and their verdict
+pub told_verdict : {last : ℕ} (judging : Judging) (old new : Option (List ℕ)) (read bytes : List ℕ) → old ≡ Some bytes → ReadsEnoughBy judging old new last read
+    → verdict judging bytes ≡ verdict judging read
+told_verdict judging old new read bytes tells enough = told_alike judging (verdict judging) (fixed_stays judging) old new read bytes tells enough

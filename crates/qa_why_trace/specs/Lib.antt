@@ -5,3 +5,4 @@ pub mod Values
 pub mod Texts
 pub mod Objects
 pub mod Why
+pub mod Noting

@@ -46,9 +46,13 @@ refused_sentence r e k = subject e ++ predicate e r k ++ codes "\n"
 unfoldable pub grounds : Rule → Event → Cause → List ℕ
 grounds r e k = facts_text e r k ++ source r
 
+-- of line n, which says an event that breaks a rule, with a word for what follows from that
+unfoldable pub broken_text : List ℕ → List ℕ → ℕ → Rule → Event → Cause → List ℕ → List ℕ
+broken_text word name n r e k l = head name n word (rule_text r) ++ refused_sentence r e k ++ line_text n l ++ grounds r e k
+
 -- why line n, which says an event that breaks a rule, is refused
-unfoldable pub refused_text : List ℕ → ℕ → Rule → Event → Cause → List ℕ → List ℕ
-refused_text name n r e k l = head name n (codes "refused") (rule_text r) ++ refused_sentence r e k ++ line_text n l ++ grounds r e k
+abbrev pub refused_text : List ℕ → ℕ → Rule → Event → Cause → List ℕ → List ℕ
+refused_text name n r e k l = broken_text (codes "refused") name n r e k l
 
 -- V17: why a trace is refused that ends while a loss is owed, with its last event on line n
 unfoldable pub debt_tail : Owed → List ℕ

@@ -12,7 +12,7 @@ ghost use Rattle.qa_why_trace.specs.Why as defined;
 use crate::form::Form;
 use crate::objects::{accepted_object, owed_at_end_object, refused_object, unreadable_object};
 use crate::reasons::Reasons;
-use crate::texts::{accepted, owed_at_end, refused, unreadable};
+use crate::texts::{accepted, broken, owed_at_end, unreadable};
 use qa_base::{Event, Rule, Totals};
 use qa_check::{AuditFault, Checker, Outcome};
 use qa_format::{Fault, Line, Verdict};
@@ -45,7 +45,7 @@ fn of_event<J: Reasons + Drop>(
 {
     let cause = ledger.reason(event, rule)?;
     match form {
-        Form::Text => refused(alloc, name, n, rule, event, &cause, line),
+        Form::Text => broken(alloc, "refused", name, n, rule, event, &cause, line),
         Form::Json => refused_object(alloc, ledger.time_unit(), name, n, rule, event, &cause),
     }
 }

@@ -7,6 +7,7 @@ mod faults;
 mod form;
 mod hints;
 mod lines;
+mod notes;
 mod objects;
 mod reasons;
 mod telling;
@@ -15,5 +16,8 @@ mod values;
 
 pub use causes::{Why, why_of};
 pub use form::Form;
+pub use lines::{extend, shown_name};
+pub use notes::{NoNotes, Notes};
 pub use reasons::Reasons;
-pub use telling::why;
+pub use telling::{find, unless_accepted, why};
+pub use texts::broken;

@@ -1,21 +1,25 @@
 //! From a reader of bytes to why they are refused, on a writer.
-ghost use Rattle.std.specs.Prelude.{[], ◌≡◌, ◌≢◌, ◌++◌, ℕ, List, false, Some, Err, Ok, OnErr, IfOk, IfErr, IfSome, IfNone, IsSome, take};
+ghost use Rattle.std.specs.Prelude.{[], ◌∷◌, ◌≡◌, ◌≢◌, ◌++◌, ℕ, List, false, Some, None, Err, Ok, OnErr, IfOk, IfErr, IfSome, IfNone, IsSome, take};
 ghost use Rattle.std.specs.Io.KnownBytes.{Appends};
 ghost use Rattle.qa_check.specs.Audit.{Reads, ReadsBy, ReadsEnough, ReadsEnoughBy, is_read_fault, is_write_fault};
 ghost use Rattle.qa_check.specs.Auditor.{TakesMore};
 ghost use Rattle.qa_check.specs.Failures.{failures_after};
-ghost use Rattle.qa_check.specs.Following.{Follows, IsReady};
-ghost use Rattle.qa_check.specs.Standing.{by};
-ghost use Rattle.qa_format.specs.verdicts.Verdict.{IsFixed};
+ghost use Rattle.qa_check.specs.Following.{IsReady};
+ghost use Rattle.qa_check.specs.Standing.{StandsFor, by};
+ghost use Rattle.qa_format.specs.format.Reading.{reading};
+ghost use Rattle.qa_format.specs.verdicts.Verdict.{AreGood, IsFixed};
 ghost use Rattle.qa_split.specs.Stream.{HasNoLine};
+ghost use Rattle.qa_why_trace.specs.Noting.{Follows, NotesGood, TellsBad, TellsNoted};
 ghost use Rattle.qa_why_trace.specs.Why as defined;
-ghost use Rattle.qa_why_trace.specs.Why.{TellsBy, Writes, written};
+ghost use Rattle.qa_why_trace.specs.Why.{Writes, written};
 
 use crate::causes::{Why, why_of};
 use crate::form::Form;
+use crate::notes::{NoNotes, Notes};
 use crate::reasons::Reasons;
 use qa_causes::Explains;
 use qa_check::{AuditFault, Checker, Outcome, Sink, Source, Stop, write_whole};
+use qa_format::Line;
 use qa_split::{SplitFault, Splitter};
 use std::alloc::Global;
 
@@ -61,13 +65,13 @@ pub fn why<L: Explains + Drop, R: Source, W: Sink>(
     ensures write_failures { W.write_failures writer.new
         ≡ failures_after (is_write_fault result) (W.write_failures writer.old) }
 {
-    let why = find::<L, R>(alloc, form, name, reader)?;
+    let why = find::<L, NoNotes, R>(alloc, form, name, reader, &mut NoNotes)?;
     write_whole(writer, unless_accepted(quiet, why.outcome, &why.text))?;
     Ok(why.outcome)
 }
 
 /// The text; where it is to be quiet, nothing of an accepted trace.
-fn unless_accepted(quiet: bool, outcome: Outcome, text: &[u8]) -> &[u8]
+pub fn unless_accepted(quiet: bool, outcome: Outcome, text: &[u8]) -> &[u8]
     ensures { result.now ≡ defined.unless_accepted quiet outcome text.now }
 {
     match outcome {
@@ -76,16 +80,21 @@ fn unless_accepted(quiet: bool, outcome: Outcome, text: &[u8]) -> &[u8]
     }
 }
 
-/// What is told of what is read.
-fn find<J: Reasons + Drop, R: Source>(
+/// What is told of what is read, by the judge of its events, with notes of its good lines.
+///
+/// It reads pieces of at most 4,096 bytes, and none once the verdict was fixed by those before.
+/// `AuditFault::Read` comes where a read fails, and `AuditFault::OutOfMemory` where it is out of memory.
+pub fn find<J: Reasons + Drop, N: Notes<J>, R: Source>(
     alloc: Global,
     form: Form,
     name: &str,
     reader: &mut R,
+    notes: &mut N,
 ) -> Result<Why, AuditFault>
+    requires fresh { N.covers notes.old [] }
     ensures told { IfOk result (λ why. (bytes : List ℕ)
         × ReadsEnoughBy (by J.judges) (R.left reader.old) (R.left reader.new) (R.last_read reader.new) bytes
-        × TellsBy (by J.judges) form name.now why.outcome why.text.items bytes) }
+        × TellsNoted (by J.judges) N.covers form name.now why.outcome why.text.items notes.new bytes) }
     ensures reads { ReadsBy (by J.judges) (R.left reader.old) (R.left reader.new) (R.last_read reader.new) }
     ensures read_failures { R.read_failures reader.new
         ≡ failures_after (is_read_fault result) (R.read_failures reader.old) }
@@ -93,23 +102,24 @@ fn find<J: Reasons + Drop, R: Source>(
 {
     let mut splitter = Splitter::new(alloc);
     let mut checker = Checker::<J>::new(alloc);
-    take_pieces(alloc, form, name, reader, &mut splitter, &mut checker)
+    take_pieces(alloc, form, name, reader, &mut splitter, &mut checker, notes)
 }
 
 /// Takes piece after piece, from the first on, and tells why.
-fn take_pieces<J: Reasons + Drop, R: Source>(
+fn take_pieces<J: Reasons + Drop, N: Notes<J>, R: Source>(
     alloc: Global,
     form: Form,
     name: &str,
     reader: &mut R,
     splitter: &mut Splitter,
     checker: &mut Checker<J>,
+    notes: &mut N,
 ) -> Result<Why, AuditFault>
     requires more { TakesMore splitter.old checker.old }
-    requires first { Follows J.judges splitter.old.bytes checker.old [] }
+    requires first { Follows J.judges N.covers splitter.old.bytes checker.old notes.old [] }
     ensures told { IfOk result (λ why. (bytes : List ℕ)
         × ReadsEnoughBy (by J.judges) (R.left reader.old) (R.left reader.new) (R.last_read reader.new) bytes
-        × TellsBy (by J.judges) form name.now why.outcome why.text.items bytes) }
+        × TellsNoted (by J.judges) N.covers form name.now why.outcome why.text.items notes.new bytes) }
     ensures reads { ReadsBy (by J.judges) (R.left reader.old) (R.left reader.new) (R.last_read reader.new) }
     ensures read_failures { R.read_failures reader.new
         ≡ failures_after (is_read_fault result) (R.read_failures reader.old) }
@@ -121,9 +131,9 @@ fn take_pieces<J: Reasons + Drop, R: Source>(
             return Err(AuditFault::Read);
         };
         if n == 0 {
-            return conclude(alloc, form, name, splitter, checker);
+            return conclude(alloc, form, name, splitter, checker, notes);
         }
-        match take_piece(alloc, form, name, splitter, checker, &piece[..n]) {
+        match take_piece(alloc, form, name, splitter, checker, notes, &piece[..n]) {
             Ok(None) => {}
             Ok(Some(why)) => return Ok(why),
             Err(fault) => return Err(fault),
@@ -134,57 +144,60 @@ fn take_pieces<J: Reasons + Drop, R: Source>(
 }
 
 /// Takes the next piece, and tells why, where it fixes the verdict.
-fn take_piece<J: Reasons + Drop>(
+fn take_piece<J: Reasons + Drop, N: Notes<J>>(
     alloc: Global,
     form: Form,
     name: &str,
     splitter: &mut Splitter,
     checker: &mut Checker<J>,
+    notes: &mut N,
     piece: &[u8],
 ) -> Result<Option<Why>, AuditFault>
     requires ready { IsReady splitter.old }
     requires whole { checker.old.failed ≡ false }
     ensures more { IfOk result (λ found. IfNone found (TakesMore splitter.new checker.new)) }
     ensures good { IfOk result (λ found. IfNone found ((bytes : List ℕ)
-        → Follows J.judges splitter.old.bytes checker.old bytes
-        → Follows J.judges splitter.new.bytes checker.new (bytes ++ piece.now))) }
+        → Follows J.judges N.covers splitter.old.bytes checker.old notes.old bytes
+        → Follows J.judges N.covers splitter.new.bytes checker.new notes.new (bytes ++ piece.now))) }
     ensures bad { IfOk result (λ found. IfSome found (λ why. (bytes : List ℕ)
-        → Follows J.judges splitter.old.bytes checker.old bytes
+        → Follows J.judges N.covers splitter.old.bytes checker.old notes.old bytes
         → IsFixed (by J.judges) (bytes ++ piece.now)
-        × TellsBy (by J.judges) form name.now why.outcome why.text.items (bytes ++ piece.now))) }
+        × TellsNoted (by J.judges) N.covers form name.now why.outcome why.text.items notes.new (bytes ++ piece.now))) }
     ensures memory { IfErr result (λ fault. fault ≡ AuditFault.OutOfMemory) }
 {
     let Ok(()) = splitter.feed(piece) else {
         return Err(AuditFault::OutOfMemory);
     };
-    take_lines(alloc, form, name, splitter, checker)
+    take_lines(alloc, form, name, splitter, checker, notes)
 }
 
 /// Takes each line that stands ready, and tells why of the first that is not good.
-fn take_lines<J: Reasons + Drop>(
+fn take_lines<J: Reasons + Drop, N: Notes<J>>(
     alloc: Global,
     form: Form,
     name: &str,
     splitter: &mut Splitter,
     checker: &mut Checker<J>,
+    notes: &mut N,
 ) -> Result<Option<Why>, AuditFault>
     requires ready { IsReady splitter.old }
     requires whole { checker.old.failed ≡ false }
     ensures more { IfOk result (λ found. IfNone found (TakesMore splitter.new checker.new)) }
     ensures good { IfOk result (λ found. IfNone found ((bytes : List ℕ)
-        → Follows J.judges splitter.old.bytes checker.old bytes
-        → Follows J.judges splitter.new.bytes checker.new bytes)) }
+        → Follows J.judges N.covers splitter.old.bytes checker.old notes.old bytes
+        → Follows J.judges N.covers splitter.new.bytes checker.new notes.new bytes)) }
     ensures bad { IfOk result (λ found. IfSome found (λ why. (bytes : List ℕ)
-        → Follows J.judges splitter.old.bytes checker.old bytes
-        → IsFixed (by J.judges) bytes × TellsBy (by J.judges) form name.now why.outcome why.text.items bytes)) }
+        → Follows J.judges N.covers splitter.old.bytes checker.old notes.old bytes
+        → IsFixed (by J.judges) bytes
+        × TellsNoted (by J.judges) N.covers form name.now why.outcome why.text.items notes.new bytes)) }
     ensures memory { IfErr result (λ fault. fault ≡ AuditFault.OutOfMemory) }
 {
     'lines: loop {
         match splitter.next_line() {
-            Ok(Some(line)) => match checker.push_line(line) {
-                Ok(()) => {}
-                Err(Stop::Decided) => return found(why_of(alloc, form, name, checker, Some(line))),
-                Err(Stop::OutOfMemory) => return Err(AuditFault::OutOfMemory),
+            Ok(Some(line)) => match take_line(alloc, form, name, checker, notes, line) {
+                Ok(None) => {}
+                Ok(Some(why)) => return Ok(Some(why)),
+                Err(fault) => return Err(fault),
             },
             Ok(None) => return Ok(None),
             Err(SplitFault::TooLong) => match checker.too_long() {
@@ -193,6 +206,51 @@ fn take_lines<J: Reasons + Drop>(
             },
             Err(SplitFault::OutOfMemory) => return Err(AuditFault::OutOfMemory),
         }
+    }
+}
+
+/// Takes a line: notes of it where it is good, and else tells why.
+fn take_line<J: Reasons + Drop, N: Notes<J>>(
+    alloc: Global,
+    form: Form,
+    name: &str,
+    checker: &mut Checker<J>,
+    notes: &mut N,
+    line: &[u8],
+) -> Result<Option<Why>, AuditFault>
+    ensures whole { IfOk result (λ found. checker.new.failed ≡ false) }
+    ensures good { IfOk result (λ found. IfNone found
+        (NotesGood J.judges N.covers checker.old checker.new notes.old notes.new line.now)) }
+    ensures bad { IfOk result (λ found. IfSome found (λ why.
+        TellsBad J.judges checker.old checker.new form name.now line.now why.outcome why.text.items
+        × (notes.new ≡ notes.old))) }
+    ensures memory { IfErr result (λ fault. fault ≡ AuditFault.OutOfMemory) }
+{
+    match checker.push_line_said(line) {
+        Ok(said) => note(checker, notes, line, &said),
+        Err(Stop::Decided) => found(why_of(alloc, form, name, checker, Some(line))),
+        Err(Stop::OutOfMemory) => Err(AuditFault::OutOfMemory),
+    }
+}
+
+/// Notes of the good line that the checker took last: nothing is told of it.
+fn note<J: Reasons + Drop, N: Notes<J>>(
+    checker: &Checker<J>,
+    notes: &mut N,
+    line: &[u8],
+    said: &Line,
+) -> Result<Option<Why>, AuditFault>
+    requires whole { checker.now.failed ≡ false }
+    requires says { reading line.now ≡ Ok said.now }
+    ensures noted { IfOk result (λ found. (found ≡ None) × ((ls : List (List ℕ)) → N.covers notes.old ls
+        → StandsFor J.judges checker.now (ls ++ line.now ∷ [])
+        → AreGood (by J.judges) (ls ++ line.now ∷ [])
+        → N.covers notes.new (ls ++ line.now ∷ []))) }
+    ensures memory { IfErr result (λ fault. fault ≡ AuditFault.OutOfMemory) }
+{
+    match notes.note(checker, line, said) {
+        Ok(()) => Ok(None),
+        Err(_) => Err(AuditFault::OutOfMemory),
     }
 }
 
@@ -209,27 +267,28 @@ fn found(told: Result<Why, AuditFault>) -> Result<Option<Why>, AuditFault>
 }
 
 /// Tells why, where nothing more comes.
-fn conclude<J: Reasons + Drop>(
+fn conclude<J: Reasons + Drop, N: Notes<J>>(
     alloc: Global,
     form: Form,
     name: &str,
     splitter: &mut Splitter,
     checker: &mut Checker<J>,
+    notes: &mut N,
 ) -> Result<Why, AuditFault>
     requires ready { IsReady splitter.old }
     requires empty { HasNoLine splitter.old }
     requires whole { checker.old.failed ≡ false }
     ensures told { IfOk result (λ why. (bytes : List ℕ)
-        → Follows J.judges splitter.old.bytes checker.old bytes
-        → TellsBy (by J.judges) form name.now why.outcome why.text.items bytes) }
+        → Follows J.judges N.covers splitter.old.bytes checker.old notes.old bytes
+        → TellsNoted (by J.judges) N.covers form name.now why.outcome why.text.items notes.new bytes) }
     ensures memory { IfErr result (λ fault. fault ≡ AuditFault.OutOfMemory) }
 {
     splitter.close();
     match splitter.next_line() {
-        Ok(Some(line)) => match checker.push_line(line) {
-            Ok(()) => why_of(alloc, form, name, checker, None),
-            Err(Stop::Decided) => why_of(alloc, form, name, checker, Some(line)),
-            Err(Stop::OutOfMemory) => Err(AuditFault::OutOfMemory),
+        Ok(Some(line)) => match take_line(alloc, form, name, checker, notes, line) {
+            Ok(None) => why_of(alloc, form, name, checker, None),
+            Ok(Some(why)) => Ok(why),
+            Err(fault) => Err(fault),
         },
         Ok(None) => why_of(alloc, form, name, checker, None),
         Err(_) => Err(AuditFault::OutOfMemory),

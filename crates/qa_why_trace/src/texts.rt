@@ -92,10 +92,12 @@ fn grounds(alloc: Global, rule: Rule, event: &Event, cause: &Cause) -> Result<St
     Ok(grounds)
 }
 
-/// Why line n is refused, which says an event that breaks a rule.
-#[tactic(auto, unfolding(crate::specs::Texts::refused_text))]
-pub fn refused(
+/// What is told of line n, which says an event that breaks a rule for this cause: with a word for what
+/// follows from it. `AllocError` comes where it is out of memory.
+#[tactic(auto, unfolding(crate::specs::Texts::broken_text))]
+pub fn broken(
     alloc: Global,
+    word: &str,
     name: &str,
     n: u64,
     rule: Rule,
@@ -104,12 +106,12 @@ pub fn refused(
     line: &[u8],
 ) -> Result<Vec<u8>, AllocError>
     ensures { IfOk result (λ told. told.items
-        ≡ text.refused_text name.now n rule event.now cause.now line.now) }
+        ≡ text.broken_text word.now name.now n rule event.now cause.now line.now) }
 {
     let what = format!(in alloc; "{rule}")?;
     let sentence = refused_sentence(alloc, rule, event, cause)?;
     let grounds = grounds(alloc, rule, event, cause)?;
-    let mut told = head(alloc, name, n, "refused", what.as_str())?;
+    let mut told = head(alloc, name, n, word, what.as_str())?;
     extend(&mut told, sentence.as_bytes())?;
     push_line(alloc, &mut told, n, line)?;
     extend(&mut told, grounds.as_bytes())?;

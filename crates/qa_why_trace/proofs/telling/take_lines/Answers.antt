@@ -1,37 +1,9 @@
 use Rattle.std.proofs.Common.{◌∙◌}
-use Rattle.qa_check.specs.Standing.{StandsFor, by}
+use Rattle.qa_check.specs.Standing.{by}
 use Rattle.qa_check.proofs.Following.{follow_line}
+use Rattle.qa_why_trace.specs.Noting.{Noted}
 use Rattle.qa_why_trace.proofs.Found.{tell, told_line, told_too_long}
 use Rattle.qa_why_trace.proofs.telling.take_lines.Goals as goal
 
 pub lines-preserved : goal.lines-preserved
-lines-preserved g c =
-    let t = rw (c.in-Ok-Some.is, c.in-Ok-Some.field-0-is) at c.next_line.follows.holds-at-none.line in
-    let good = c.in-Ok.ensures.good in
-    record {
-      ready = (t.closed ∙ c.lines.invariant.ready.0, t.whole);
-      whole = good.0;
-      follows = λ bytes f.
-          follow_line (by g.J.Judge.judges) (StandsFor g.J.Judge.judges c.lines.checker) (StandsFor g.J.Judge.judges c.push_line.new.self) _ _ _ _ t.is_line t.taken c.lines.invariant.ready.0 good.1 bytes
-          (c.lines.invariant.follows bytes f);
-    }
-
-pub returns-in-Err-Decided-clause-bad : goal.returns-in-Err-Decided-clause-bad
-returns-in-Err-Decided-clause-bad g c =
-    let t = rw (c.in-Ok-Some.is, c.in-Ok-Some.field-0-is) at c.next_line.follows.holds-at-none.line in
-    let stopped = rw c.in-Err-Decided.field-0-is at c.in-Err-Decided.is in
-    tell c.found.result c.why_of.result _ _ _ c.found.ensures.same c.why_of.ensures.outcome c.why_of.ensures.text (λ why outcome text bytes f.
-    told_line g.J.Judge.judges c.lines.checker c.push_line.new.self _ _ _ _ _ _ _ _ t.is_line t.taken c.lines.invariant.ready.0
-    (c.push_line.ensures.decided stopped) (c.push_line.ensures.kept stopped) outcome text bytes (c.lines.invariant.follows bytes f))
-
-pub returns-in-Ok-None-clause-good : goal.returns-in-Ok-None-clause-good
-returns-in-Ok-None-clause-good g c =
-    let n = rw (c.in-Ok-None.is, c.in-Ok-None.field-0-is) at c.next_line.follows.holds-at-none.none in
-    λ bytes f. rw n.1 (c.lines.invariant.follows bytes f)
-
-pub returns-in-Decided-clause-bad : goal.returns-in-Decided-clause-bad
-returns-in-Decided-clause-bad g c =
-    let long = c.next_line.ensures.too_long c.lines.invariant.ready.1 (rw c.in-Err-TooLong.field-0-is at c.in-Err-TooLong.is) in
-    tell c.found-in-Decided.result c.why_of-in-Decided.result _ _ _ c.found-in-Decided.ensures.same c.why_of-in-Decided.ensures.outcome c.why_of-in-Decided.ensures.text (λ why outcome text bytes f.
-    told_too_long g.J.Judge.judges c.lines.checker c.too_long.new.self _ _ _ _ _ long
-    (c.too_long.ensures.decided c.in-Decided.is) (c.too_long.ensures.kept c.in-Decided.is) outcome text bytes (c.lines.invariant.follows bytes f))
+lines-preserved g c = ?

@@ -1,12 +1,13 @@
 use Rattle.std.proofs.Common.{◌≡◌, ℕ, List, length, false}
-use Rattle.qa_check.specs.Following.{Follows, IsReady}
+use Rattle.qa_check.specs.Following.{IsReady}
+use Rattle.qa_why_trace.specs.Noting.{Follows}
 use Rattle.qa_why_trace.proofs.telling.take_lines.Given as goal
 
 abbrev pub invariant-lines : goal.invariant-lines
 invariant-lines g l = record {
   ready : IsReady l.splitter;
   whole : l.checker.failed ≡ false;
-  follows : (bytes : List ℕ) → Follows g.J.Judge.judges l.fn.splitter.bytes l.fn.checker bytes → Follows g.J.Judge.judges l.splitter.bytes l.checker bytes;
+  follows : (bytes : List ℕ) → Follows g.J.Judge.judges g.N.Notes.covers l.fn.splitter.bytes l.fn.checker l.fn.notes bytes → Follows g.J.Judge.judges g.N.Notes.covers l.splitter.bytes l.checker l.notes bytes;
 }
 
 abbrev pub decreases-lines : goal.decreases-lines

@@ -1,7 +1,7 @@
 use Rattle.std.proofs.Common.{◌≡◌, ◌≤◌, ℕ, List, length}
 use Rattle.std.specs.Io.KnownBytes.{Consumes}
 use Rattle.qa_check.specs.Auditor.{TakesMore}
-use Rattle.qa_check.specs.Following.{Follows}
+use Rattle.qa_why_trace.specs.Noting.{Follows}
 use Rattle.qa_why_trace.proofs.telling.take_pieces.Given as goal
 
 abbrev pub invariant-pieces : goal.invariant-pieces
@@ -9,5 +9,5 @@ invariant-pieces g l = record {
   more : TakesMore l.splitter l.checker;
   unfailed_read : g.R.Source.read_failures l.reader ≡ g.R.Source.read_failures l.fn.reader;
   read : (bytes : List ℕ) × Consumes (g.R.Source.left l.fn.reader) (g.R.Source.left l.reader) bytes
-      × Follows g.J.Judge.judges l.splitter.bytes l.checker bytes × (l._i ≤ length bytes);
+      × Follows g.J.Judge.judges g.N.Notes.covers l.splitter.bytes l.checker l.notes bytes × (l._i ≤ length bytes);
 }

@@ -1,0 +1,99 @@
+-- What is told of one more departure, and of those on one more line.
+use Rattle.std.proofs.Common.{◌≡◌, ◌∙◌, ◌+◌, ℕ, Bool, false, List, [], ◌∷◌, ◌++◌, Option, Some, None, Result, Ok, Err, append_assoc, length, map, refl, sym, ap, arith}
+use Rattle.std.proofs.lemmas.List.{append-nil, length-append}
+use Rattle.std.specs.Option.{option_or}
+use Rattle.std.specs.Prelude.{filter_map}
+use Rattle.qa_all.specs.All.{Departed, all_departed, departed, departed_after, departed_at, departed_on, finding_of, findings, first_text, firsts, firsts_after, history_in}
+use Rattle.qa_all.specs.Bearing.{latest_of}
+use Rattle.qa_all.specs.Keeping.{departed_by}
+use Rattle.qa_base.specs.declared.event.Event.{Event}
+use Rattle.qa_base.proofs.machine.Histories.{history_of-snoc}
+use Rattle.qa_base.specs.machine.Packets.{history_of}
+use Rattle.qa_base.specs.values.Settings.{Settings}
+use Rattle.qa_departures.specs.declared.finding.Finding.{Finding}
+use Rattle.qa_format.proofs.verdicts.RunsAccepted.{events_in-snoc}
+use Rattle.qa_format.proofs.verdicts.Stops.{header_in-snoc}
+use Rattle.qa_format.specs.declared.fault.Fault.{Fault}
+use Rattle.qa_format.specs.declared.line.Line.{Line}
+use Rattle.qa_format.specs.declared.line.Line.TheVariants as line
+use Rattle.qa_format.specs.format.Reading.{reading}
+use Rattle.qa_format.specs.verdicts.Verdict.{event_said, events_in, header_in, header_said}
+
+-- ---- one more departure
+
+pub findings-snoc : (ds : List Departed) (d : Departed) → findings (ds ++ d ∷ []) ≡ findings ds ++ finding_of d ∷ []
+findings-snoc [] d = refl
+findings-snoc (e ∷ ds) d = ap (λ fs. finding_of e ∷ fs) (findings-snoc ds d)
+
+firsts_after-snoc : (name : List ℕ) (before : List Finding) (ds : List Departed) (d : Departed)
+    → firsts_after name before (ds ++ d ∷ []) ≡ firsts_after name before ds ++ first_text name (before ++ findings ds) d
+firsts_after-snoc name before [] d = append-nil (first_text name before d) ∙ ap (λ fs. first_text name fs d) (sym (append-nil before))
+firsts_after-snoc name before (e ∷ ds) d =
+    ap (λ text. first_text name before e ++ text) (firsts_after-snoc name (before ++ finding_of e ∷ []) ds d)
+    ∙ (ap (λ fs. first_text name before e ++ (firsts_after name (before ++ finding_of e ∷ []) ds ++ first_text name fs d)) (append_assoc before (finding_of e ∷ []) (findings ds))
+    ∙ sym (append_assoc (first_text name before e) (firsts_after name (before ++ finding_of e ∷ []) ds) (first_text name (before ++ finding_of e ∷ findings ds) d)))
+
+pub firsts-snoc : (name : List ℕ) (ds : List Departed) (d : Departed) → firsts name (ds ++ d ∷ []) ≡ firsts name ds ++ first_text name (findings ds) d
+firsts-snoc name ds d = firsts_after-snoc name [] ds d
+
+-- ---- one more line
+
+departed_after-snoc : (before ls : List (List ℕ)) (l : List ℕ) → departed_after before (ls ++ l ∷ []) ≡ departed_after before ls ++ departed_on (before ++ ls) l
+departed_after-snoc before [] l = append-nil (departed_on before l) ∙ ap (λ (ls : List (List ℕ)). departed_on ls l) (sym (append-nil before))
+departed_after-snoc before (m ∷ ls) l =
+    ap (λ ds. departed_on before m ++ ds) (departed_after-snoc (before ++ m ∷ []) ls l)
+    ∙ (ap (λ (all : List (List ℕ)). departed_on before m ++ (departed_after (before ++ m ∷ []) ls ++ departed_on all l)) (append_assoc before (m ∷ []) ls)
+    ∙ sym (append_assoc (departed_on before m) (departed_after (before ++ m ∷ []) ls) (departed_on (before ++ m ∷ ls) l)))
+
+pub all_departed-snoc : (ls : List (List ℕ)) (l : List ℕ) → all_departed (ls ++ l ∷ []) ≡ all_departed ls ++ departed_on ls l
+all_departed-snoc ls l = departed_after-snoc [] ls l
+
+-- ---- what a line says
+
+none_said : (n : ℕ) (l : List ℕ) (header : Option Settings) (h : List Event) → departed_at n l header h None ≡ []
+none_said n l None h = refl
+none_said n l (Some c) h = refl
+
+none_headed : (n : ℕ) (l : List ℕ) (h : List Event) (said : Option Event) → departed_at n l None h said ≡ []
+none_headed n l h said = refl
+
+or_nothing : (o p : Option Settings) → option_or o p ≡ None → o ≡ None
+or_nothing None p none = refl
+or_nothing (Some c) p none = none
+
+or_none : (o : Option Settings) → option_or o None ≡ o
+or_none None = refl
+or_none (Some c) = refl
+
+-- without a header nothing departs
+pub departed_headless : (ls : List (List ℕ)) (l : List ℕ) → header_in reading (ls ++ l ∷ []) ≡ None → departed_on ls l ≡ []
+departed_headless ls l none =
+    let before : header_in reading ls ≡ None = or_nothing (header_in reading ls) (header_said (reading l)) (sym (header_in-snoc reading ls l) ∙ none) in
+    rw before refl
+
+pub headless_before : (ls : List (List ℕ)) (l : List ℕ) → header_in reading (ls ++ l ∷ []) ≡ None → header_in reading ls ≡ None
+headless_before ls l none = or_nothing (header_in reading ls) (header_said (reading l)) (sym (header_in-snoc reading ls l) ∙ none)
+
+history_with : (ls : List (List ℕ)) (l : List ℕ) (e : Event) → reading l ≡ Ok (line.Event e) → history_in (ls ++ l ∷ []) ≡ e ∷ history_in ls
+history_with ls l e says =
+    ap history_of (events_in-snoc reading ls l ∙ ap (λ (r : Result Line Fault). events_in reading ls ++ filter_map event_said (r ∷ [])) says)
+    ∙ history_of-snoc (events_in reading ls) e
+
+no_history : (events : List Event) (r : Result Line Fault) → history_of (events ++ filter_map event_said (r ∷ [])) ≡ [] → history_of events ≡ []
+no_history events (Ok (line.Event e)) none = let more = history_of-snoc events e in cc
+no_history events (Ok line.Blank) none = ap history_of (sym (append-nil events)) ∙ none
+no_history events (Ok (line.Header c)) none = ap history_of (sym (append-nil events)) ∙ none
+no_history events (Err f) none = ap history_of (sym (append-nil events)) ∙ none
+
+-- where there is no event there was none before
+pub none_before : (ls : List (List ℕ)) (l : List ℕ) → history_in (ls ++ l ∷ []) ≡ [] → history_in ls ≡ []
+none_before ls l none = no_history (events_in reading ls) (reading l) (sym (ap history_of (events_in-snoc reading ls l)) ∙ none)
+
+-- the departures on a line are those by what it says
+pub departed_same : (ls : List (List ℕ)) (l : List ℕ) (said : Line) (c : Settings) → reading l ≡ Ok said → header_in reading (ls ++ l ∷ []) ≡ Some c
+    → departed_by (length ls + 1) l said c (history_in (ls ++ l ∷ [])) ≡ departed_on ls l
+departed_same ls l (line.Event e) c says headed =
+    let before : header_in reading ls ≡ Some c = sym (or_none (header_in reading ls)) ∙ (sym (header_in-snoc reading ls l ∙ ap (λ s. option_or (header_in reading ls) (header_said s)) says) ∙ headed) in
+    rw (history_with ls l e says, says, before) refl
+departed_same ls l line.Blank c says headed = rw says (sym (none_said (length ls + 1) l (header_in reading ls) (history_in ls)))
+departed_same ls l (line.Header d) c says headed = rw says (sym (none_said (length ls + 1) l (header_in reading ls) (history_in ls)))
