@@ -1,4 +1,4 @@
 mod Among
 mod Judged
-mod Told
+pub mod Told
 mod Found

@@ -16,12 +16,7 @@ pub trait Notes<J: Judge> {
     /// Takes notes of the line that the checker took last, which is good and says this.
     ///
     /// `AllocError` comes where it is out of memory; of notes that failed nothing is promised.
-    fn note(
-        &mut self,
-        checker: &Checker<J>,
-        line: &[u8],
-        said: &Line,
-    ) -> Result<(), AllocError>
+    fn note(&mut self, checker: &Checker<J>, line: &[u8], said: &Line) -> Result<(), AllocError>
         requires whole { checker.now.failed ≡ false }
         requires says { reading line.now ≡ Ok said.now }
         ensures { OnOk result ((ls : List (List ℕ)) → covers self.old ls

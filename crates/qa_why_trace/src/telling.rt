@@ -102,7 +102,15 @@ pub fn find<J: Reasons + Drop, N: Notes<J>, R: Source>(
 {
     let mut splitter = Splitter::new(alloc);
     let mut checker = Checker::<J>::new(alloc);
-    take_pieces(alloc, form, name, reader, &mut splitter, &mut checker, notes)
+    take_pieces(
+        alloc,
+        form,
+        name,
+        reader,
+        &mut splitter,
+        &mut checker,
+        notes,
+    )
 }
 
 /// Takes piece after piece, from the first on, and tells why.
