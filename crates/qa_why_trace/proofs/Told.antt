@@ -43,6 +43,14 @@ pub holds_of_good : {L : Type 0} (judges : Judges L) (held : Held L) (ls : List 
     → HoldsRun judges held.ledger (header_in reading ls) (history_of (events_in reading ls))
 holds_of_good judges held ls is good = open_by judges held.verdict held.ledger held.lines held.last_event ls is good
 
+lines_by : {L : Type 0} (judges : Judges L) (v : Option Verdict) (ledger : Option L) (count last : ℕ) (ls : List (List ℕ)) → StandsBy judges v ledger count last ls → AreGood (by judges) ls → count ≡ length ls
+lines_by judges None ledger count last ls is good = is.2
+lines_by judges (Some v) ledger count last ls is good = absurd (not_both (first_stop (by judges) [] ls) good is.0)
+
+-- how many they are
+pub lines_of_good : {L : Type 0} (judges : Judges L) (held : Held L) (ls : List (List ℕ)) → StandsFor judges held ls → AreGood (by judges) ls → held.lines ≡ length ls
+lines_of_good judges held ls is good = lines_by judges held.verdict held.ledger held.lines held.last_event ls is good
+
 -- ---- at a line, and at the end
 
 stop_behind : (judging : Judging) (ls : List (List ℕ)) (l : List ℕ) → AreGood judging ls → AreDecided judging (ls ++ l ∷ []) → is_some (stop_after judging ls l) ≡ true

@@ -1,10 +1,12 @@
 //! Who takes notes of the good lines of a trace while it is judged.
-ghost use Rattle.std.specs.Prelude.{◌≡◌, ◌++◌, [], ◌∷◌, ℕ, List, Ok, false, OnOk};
-ghost use Rattle.qa_check.specs.Standing.{StandsFor, by};
+ghost use Rattle.std.specs.Prelude.{◌≡◌, ◌+◌, ◌++◌, [], ◌∷◌, ℕ, List, Ok, false, length, OnOk};
+ghost use Rattle.std.specs.Option.{ForSome, option_copied};
+ghost use Rattle.qa_base.specs.machine.Packets.{history_of};
+ghost use Rattle.qa_check.specs.Standing.{HoldsRun};
 ghost use Rattle.qa_format.specs.format.Reading.{reading};
-ghost use Rattle.qa_format.specs.verdicts.Verdict.{AreGood};
+ghost use Rattle.qa_format.specs.verdicts.Verdict.{events_in, header_in};
 
-use qa_check::{Checker, Judge};
+use qa_check::Judge;
 use qa_format::Line;
 use std::alloc::AllocError;
 
@@ -13,15 +15,21 @@ pub trait Notes<J: Judge> {
     // They are notes of these lines, in their order.
     ghost covers: { Self → List (List ℕ) → Type 0 };
 
-    /// Takes notes of the line that the checker took last, which is good and says this.
+    /// Takes notes of line n, which is good and says this, with the judge after it; there is none before
+    /// a header.
     ///
     /// `AllocError` comes where it is out of memory; of notes that failed nothing is promised.
-    fn note(&mut self, checker: &Checker<J>, line: &[u8], said: &Line) -> Result<(), AllocError>
-        requires whole { checker.now.failed ≡ false }
+    fn note(
+        &mut self,
+        n: u64,
+        line: &[u8],
+        said: &Line,
+        judge: Option<&J>,
+    ) -> Result<(), AllocError>
         requires says { reading line.now ≡ Ok said.now }
-        ensures { OnOk result ((ls : List (List ℕ)) → covers self.old ls
-            → StandsFor J.judges checker.now (ls ++ line.now ∷ [])
-            → AreGood (by J.judges) (ls ++ line.now ∷ [])
+        requires works { ForSome (option_copied judge) (λ j. J.has_failed j ≡ false) }
+        ensures { OnOk result ((ls : List (List ℕ)) → covers self.old ls → n ≡ length ls + 1
+            → HoldsRun J.judges (option_copied judge.entry) (header_in reading (ls ++ line.now ∷ [])) (history_of (events_in reading (ls ++ line.now ∷ [])))
             → covers self.new (ls ++ line.now ∷ [])) };
 }
 
@@ -34,9 +42,10 @@ impl<J: Judge> Notes<J> for NoNotes {
 
     fn note(
         &mut self,
-        _checker: &Checker<J>,
+        _n: u64,
         _line: &[u8],
         _said: &Line,
+        _judge: Option<&J>,
     ) -> Result<(), AllocError> {
         Ok(())
     }

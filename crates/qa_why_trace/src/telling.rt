@@ -256,7 +256,7 @@ fn note<J: Reasons + Drop, N: Notes<J>>(
         → N.covers notes.new (ls ++ line.now ∷ []))) }
     ensures memory { IfErr result (λ fault. fault ≡ AuditFault.OutOfMemory) }
 {
-    match notes.note(checker, line, said) {
+    match notes.note(checker.line_count(), line, said, checker.ledger()) {
         Ok(()) => Ok(None),
         Err(_) => Err(AuditFault::OutOfMemory),
     }
