@@ -1,11 +1,11 @@
 -- What is told of one more departure, and of those on one more line.
-use Rattle.std.proofs.Common.{◌≡◌, ◌∙◌, ◌+◌, ℕ, Bool, false, List, [], ◌∷◌, ◌++◌, Option, Some, None, Result, Ok, Err, append_assoc, length, map, refl, sym, ap, arith}
-use Rattle.std.proofs.lemmas.List.{append-nil, length-append}
+use Rattle.std.proofs.Common.{◌≡◌, ◌∙◌, ◌+◌, ℕ, Bool, false, List, [], ◌∷◌, ◌++◌, Option, Some, None, Result, Ok, Err, append_assoc, length, refl, subst, sym, ap}
+use Rattle.std.proofs.lemmas.List.{append-nil}
 use Rattle.std.specs.Option.{option_or}
 use Rattle.std.specs.Prelude.{filter_map}
-use Rattle.qa_all.specs.All.{Departed, all_departed, departed, departed_after, departed_at, departed_on, finding_of, findings, first_text, firsts, firsts_after, history_in}
-use Rattle.qa_all.specs.Bearing.{latest_of}
-use Rattle.qa_all.specs.Keeping.{departed_by}
+use Rattle.qa_all.specs.All.{Departed, all_departed, departed_after, departed_at, departed_on, finding_of, findings, first_text, firsts, firsts_after, history_in, unit_of}
+use Rattle.qa_all.specs.Keeping.{Covers, Keeps, departed_by}
+use Rattle.qa_all.specs.declared.keeping.Kept.{Kept}
 use Rattle.qa_base.specs.declared.event.Event.{Event}
 use Rattle.qa_base.proofs.machine.Histories.{history_of-snoc}
 use Rattle.qa_base.specs.machine.Packets.{history_of}
@@ -54,9 +54,6 @@ none_said : (n : ℕ) (l : List ℕ) (header : Option Settings) (h : List Event)
 none_said n l None h = refl
 none_said n l (Some c) h = refl
 
-none_headed : (n : ℕ) (l : List ℕ) (h : List Event) (said : Option Event) → departed_at n l None h said ≡ []
-none_headed n l h said = refl
-
 or_nothing : (o p : Option Settings) → option_or o p ≡ None → o ≡ None
 or_nothing None p none = refl
 or_nothing (Some c) p none = none
@@ -97,3 +94,25 @@ departed_same ls l (line.Event e) c says headed =
     rw (history_with ls l e says, says, before) refl
 departed_same ls l line.Blank c says headed = rw says (sym (none_said (length ls + 1) l (header_in reading ls) (history_in ls)))
 departed_same ls l (line.Header d) c says headed = rw says (sym (none_said (length ls + 1) l (header_in reading ls) (history_in ls)))
+
+-- ---- what is kept
+
+-- one more line behind a header
+pub covers_more : (name : List ℕ) (old new : Kept) (ls : List (List ℕ)) (l : List ℕ) (said : Line) (n : ℕ) (c : Settings) → reading l ≡ Ok said → header_in reading (ls ++ l ∷ []) ≡ Some c → n ≡ length ls + 1
+    → Keeps name new (all_departed ls ++ departed_by n l said c (history_in (ls ++ l ∷ []))) → new.unit ≡ c.unit → new.events ≡ length (history_in (ls ++ l ∷ []))
+    → Covers name new (ls ++ l ∷ [])
+covers_more name old new ls l said n c says headed count keeps unit events =
+    let h = history_in (ls ++ l ∷ []) in
+    let same : all_departed ls ++ departed_by n l said c h ≡ all_departed (ls ++ l ∷ []) =
+    ap (λ m. all_departed ls ++ departed_by m l said c h) count ∙ (ap (λ ds. all_departed ls ++ ds) (departed_same ls l said c says headed) ∙ sym (all_departed-snoc ls l)) in
+    (subst (λ (ds : List Departed). Keeps name new ds) same keeps, unit ∙ sym (ap unit_of headed), events)
+
+-- one more line, and no header yet
+pub covers_headless : (name : List ℕ) (kept : Kept) (ls : List (List ℕ)) (l : List ℕ) → header_in reading (ls ++ l ∷ []) ≡ None → history_in (ls ++ l ∷ []) ≡ [] → Covers name kept ls → Covers name kept (ls ++ l ∷ [])
+covers_headless name kept ls l none nothing covers =
+    let same : all_departed ls ≡ all_departed (ls ++ l ∷ []) =
+    sym (all_departed-snoc ls l ∙ (ap (λ ds. all_departed ls ++ ds) (departed_headless ls l none) ∙ append-nil (all_departed ls))) in (
+      subst (λ (ds : List Departed). Keeps name kept ds) same covers.0,
+      covers.1 ∙ (ap unit_of (headless_before ls l none) ∙ sym (ap unit_of none)),
+      covers.2 ∙ (ap length (none_before ls l nothing) ∙ sym (ap length nothing)),
+    )

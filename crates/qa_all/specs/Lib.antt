@@ -1,3 +1,4 @@
 pub mod Bearing
 pub mod All
 pub mod Keeping
+pub mod Rows

@@ -57,6 +57,7 @@ impl<L: Bears + Explains + Drop> Bearing<L> {
     /// The ledger after the events that were admitted.
     pub fn ledger(&self) -> &L
         ensures ledger { result.now ≡ self.now.ledger }
+        ensures works { self.now.failed ≡ false → L.has_failed result.now ≡ false }
     {
         &self.ledger
     }

@@ -122,7 +122,7 @@ impl Kept {
     }
 
     /// Notes the departures on a good line, by the judge after it.
-    fn note_said<L: Bears + Explains + Drop>(
+    pub(crate) fn note_said<L: Bears + Explains + Drop>(
         &mut self,
         name: &str,
         n: u64,

@@ -7,7 +7,9 @@
 mod bearing;
 mod keeping;
 mod reasoning;
+mod rows;
 mod trace;
 
 pub use bearing::{Bearing, Departure};
+pub use rows::rows_all;
 pub use trace::why_all;

@@ -8,35 +8,29 @@ ghost use Rattle.qa_check.specs.Failures.{failures_after};
 use crate::bearing::Bearing;
 use crate::keeping::Kept;
 use qa_causes::Explains;
-use qa_check::{AuditFault, Checker, Outcome, Sink, Source, write_whole};
+use qa_check::{AuditFault, Outcome, Sink, Source, write_whole};
 use qa_format::Line;
 use qa_ledger::Bears;
 use qa_why_trace::{Form, Notes, Why, find, unless_accepted};
 use std::alloc::{AllocError, Global};
 
-/// The departures of a trace of this name.
-#[derive(Drop)]
-struct Departures<'a> {
-    name: &'a str,
-    kept: Kept,
-}
-
-impl<'a, L: Bears + Explains + Drop> Notes<Bearing<L>> for Departures<'a> {
+impl<L: Bears + Explains + Drop> Notes<Bearing<L>> for Kept {
     ghost use Rattle.qa_all.specs.Keeping.{Covers};
 
-    ghost covers = { λ notes ls. Covers notes.name.now notes.kept ls };
+    ghost covers = { Covers };
 
     fn note(
         &mut self,
-        checker: &Checker<Bearing<L>>,
+        name: &str,
+        n: u64,
         line: &[u8],
         said: &Line,
+        judge: Option<&Bearing<L>>,
     ) -> Result<(), AllocError> {
-        let Some(judge) = checker.ledger() else {
-            return Ok(());
-        };
-        self.kept
-            .note_said(self.name, checker.line_count(), line, said, judge)
+        match judge {
+            Some(judge) => self.note_said(name, n, line, said, judge),
+            None => Ok(()),
+        }
     }
 }
 
@@ -98,18 +92,9 @@ fn find_all<L: Bears + Explains + Drop, R: Source>(
         ≡ failures_after (is_read_fault result) (R.read_failures reader.old) }
     ensures written { is_write_fault result ≡ false }
 {
-    let mut departures = Departures {
-        name,
-        kept: Kept::new(alloc),
-    };
-    let end = find::<Bearing<L>, Departures<'_>, R>(
-        alloc,
-        Form::Text,
-        name,
-        reader,
-        &mut departures,
-    )?;
-    match departures.kept.finish(name, end) {
+    let mut kept = Kept::new(alloc);
+    let end = find::<Bearing<L>, Kept, R>(alloc, Form::Text, name, reader, &mut kept)?;
+    match kept.finish(name, end) {
         Ok(all) => Ok(all),
         Err(_) => Err(AuditFault::OutOfMemory),
     }

@@ -18,6 +18,8 @@ const JSON: &str = "json";
 
 const ROWS: &str = "rows";
 
+const ALL: &str = "all";
+
 /// The version of the program.
 const VERSION: &str = "0.3.0";
 
@@ -26,8 +28,12 @@ const VERSION: &str = "0.3.0";
 pub enum Told {
     /// Why it is refused, in this form.
     Why(Form),
+    /// All departures from the rules of conduct, and how it ends past them.
+    All,
     /// What the machine held behind each of its lines.
     Rows,
+    /// The same, behind departures too.
+    AllRows,
 }
 
 /// Which traces to tell of, and what.
@@ -76,14 +82,14 @@ fn inquiry_of<'a>(alloc: Global, matches: &ArgMatches<'a>) -> Result<Inquiry<'a>
     })
 }
 
-/// What the options ask for, of which two exclude each other.
+/// What the options ask for, some of which exclude each other.
 fn told_by(matches: &ArgMatches<'_>) -> Told {
-    if matches.get_flag(ROWS) {
-        Told::Rows
-    } else if matches.get_flag(JSON) {
-        Told::Why(Form::Json)
-    } else {
-        Told::Why(Form::Text)
+    match (matches.get_flag(ALL), matches.get_flag(ROWS)) {
+        (true, true) => Told::AllRows,
+        (false, true) => Told::Rows,
+        (true, false) => Told::All,
+        (false, false) if matches.get_flag(JSON) => Told::Why(Form::Json),
+        (false, false) => Told::Why(Form::Text),
     }
 }
 
@@ -120,6 +126,12 @@ fn parser<'a>(alloc: Global) -> Result<Command<'a>, AllocError> {
         .action(ArgAction::SetTrue)
         .conflicts_with(JSON)?
         .conflicts_with(QUIET)?;
+    let all = Arg::new(alloc, ALL)
+        .short('a')
+        .long(ALL)
+        .help("Go on past rules of conduct, and tell of all departures from them")
+        .action(ArgAction::SetTrue)
+        .conflicts_with(JSON)?;
     let files = Arg::new(alloc, FILE)
         .help("A trace; - is standard input, which is also read where no file is named")
         .action(ArgAction::Append);
@@ -130,6 +142,7 @@ fn parser<'a>(alloc: Global) -> Result<Command<'a>, AllocError> {
         .after_help(
             "The exit status is 0 where all traces are accepted, 1 where one is refused,\n2 where one cannot be read, 3 where a file or a stream failed, and 64 where\nthe arguments are refused; the greatest of these counts.",
         )
+        .arg(all)?
         .arg(json)?
         .arg(quiet)?
         .arg(rows)?

@@ -1,5 +1,7 @@
 //! The whole command.
 ghost use Rattle.std.specs.Prelude.{◌≡◌, ℕ, List, Some, Ok, IfOk, codes};
+ghost use Rattle.qa_all.specs.All.{WritesAll};
+ghost use Rattle.qa_all.specs.Rows.{WritesAllRows};
 ghost use Rattle.qa_why_command.specs.Commands as defined;
 ghost use Rattle.qa_rows.specs.Rows.{WritesRows};
 ghost use Rattle.qa_why_trace.specs.Why.{Writes};
@@ -7,6 +9,7 @@ ghost use Rattle.qa_why_trace.specs.declared.form.Form.{Form as AForm};
 
 use crate::arguments::{Asked, Inquiry, Told, parse};
 use crate::tally::Tally;
+use qa_all::{rows_all, why_all};
 use qa_arguments::ArgumentsFault;
 use qa_check::{AuditFault, Metered, Outcome, Sink, Source, write_whole};
 use qa_commands::write_line;
@@ -152,7 +155,7 @@ fn tell_several<R: Files, I: Source, O: Sink, E: Sink>(
             return;
         }
     }
-    if inquiry.told != Told::Why(Form::Text) {
+    if !matches!(inquiry.told, Told::Why(Form::Text) | Told::All) {
         return;
     }
     if let Err(failure) = write_tally(alloc, tally, output) {
@@ -223,9 +226,14 @@ fn tell_input<I: Source, O: Sink>(
     ensures why { (form : AForm) (bytes : List ℕ) → inquiry.now.told ≡ Told.Why form
         → I.left input.old ≡ Some bytes
         → IfOk result (λ outcome. Writes (O.held output.old) (O.held output.new) form inquiry.now.quiet (codes "-") outcome bytes) }
+    ensures all { (bytes : List ℕ) → inquiry.now.told ≡ Told.All → I.left input.old ≡ Some bytes
+        → IfOk result (λ outcome. WritesAll (O.held output.old) (O.held output.new) inquiry.now.quiet (codes "-") outcome bytes) }
     ensures rows { (bytes : List ℕ) → inquiry.now.told ≡ Told.Rows
         → I.left input.old ≡ Some bytes
         → IfOk result (λ outcome. WritesRows (O.held output.old) (O.held output.new) outcome bytes) }
+    ensures all_rows { (bytes : List ℕ) → inquiry.now.told ≡ Told.AllRows
+        → I.left input.old ≡ Some bytes
+        → IfOk result (λ outcome. WritesAllRows (O.held output.old) (O.held output.new) outcome bytes) }
 {
     tell_read(alloc, inquiry, STANDARD_INPUT, input, output)
 }
@@ -241,9 +249,14 @@ fn tell_read<R: Source, O: Sink>(
     ensures why { (form : AForm) (bytes : List ℕ) → inquiry.now.told ≡ Told.Why form
         → R.left reader.old ≡ Some bytes
         → IfOk result (λ outcome. Writes (O.held output.old) (O.held output.new) form inquiry.now.quiet name.now outcome bytes) }
+    ensures all { (bytes : List ℕ) → inquiry.now.told ≡ Told.All → R.left reader.old ≡ Some bytes
+        → IfOk result (λ outcome. WritesAll (O.held output.old) (O.held output.new) inquiry.now.quiet name.now outcome bytes) }
     ensures rows { (bytes : List ℕ) → inquiry.now.told ≡ Told.Rows
         → R.left reader.old ≡ Some bytes
         → IfOk result (λ outcome. WritesRows (O.held output.old) (O.held output.new) outcome bytes) }
+    ensures all_rows { (bytes : List ℕ) → inquiry.now.told ≡ Told.AllRows
+        → R.left reader.old ≡ Some bytes
+        → IfOk result (λ outcome. WritesAllRows (O.held output.old) (O.held output.new) outcome bytes) }
 {
     match inquiry.told {
         Told::Why(form) => judged(why::<Running, R, O>(
@@ -254,7 +267,15 @@ fn tell_read<R: Source, O: Sink>(
             reader,
             output,
         )),
+        Told::All => judged(why_all::<Running, R, O>(
+            alloc,
+            name,
+            inquiry.quiet,
+            reader,
+            output,
+        )),
         Told::Rows => judged(rows::<Running, R, O>(alloc, reader, output)),
+        Told::AllRows => judged(rows_all::<Running, R, O>(alloc, reader, output)),
     }
 }
 

@@ -12,15 +12,16 @@ use std::alloc::AllocError;
 
 /// Who takes notes of the lines of a trace that are good, one after another.
 pub trait Notes<J: Judge> {
-    // They are notes of these lines, in their order.
-    ghost covers: { Self → List (List ℕ) → Type 0 };
+    // Under a name, they are notes of these lines, in their order.
+    ghost covers: { List ℕ → Self → List (List ℕ) → Type 0 };
 
-    /// Takes notes of line n, which is good and says this, with the judge after it; there is none before
-    /// a header.
+    /// Takes notes of line n of the trace of this name, which is good and says this, with the judge after
+    /// it; there is none before a header.
     ///
     /// `AllocError` comes where it is out of memory; of notes that failed nothing is promised.
     fn note(
         &mut self,
+        name: &str,
         n: u64,
         line: &[u8],
         said: &Line,
@@ -28,9 +29,9 @@ pub trait Notes<J: Judge> {
     ) -> Result<(), AllocError>
         requires says { reading line.now ≡ Ok said.now }
         requires works { ForSome (option_copied judge) (λ j. J.has_failed j ≡ false) }
-        ensures { OnOk result ((ls : List (List ℕ)) → covers self.old ls → n ≡ length ls + 1
+        ensures { OnOk result ((ls : List (List ℕ)) → covers name.now self.old ls → n ≡ length ls + 1
             → HoldsRun J.judges (option_copied judge.entry) (header_in reading (ls ++ line.now ∷ [])) (history_of (events_in reading (ls ++ line.now ∷ [])))
-            → covers self.new (ls ++ line.now ∷ [])) };
+            → covers name.now self.new (ls ++ line.now ∷ [])) };
 }
 
 /// No notes are taken.
@@ -38,10 +39,11 @@ pub trait Notes<J: Judge> {
 pub struct NoNotes;
 
 impl<J: Judge> Notes<J> for NoNotes {
-    ghost covers = { λ notes ls. Unit {0} };
+    ghost covers = { λ name notes ls. Unit {0} };
 
     fn note(
         &mut self,
+        _name: &str,
         _n: u64,
         _line: &[u8],
         _said: &Line,

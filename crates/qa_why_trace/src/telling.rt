@@ -91,10 +91,10 @@ pub fn find<J: Reasons + Drop, N: Notes<J>, R: Source>(
     reader: &mut R,
     notes: &mut N,
 ) -> Result<Why, AuditFault>
-    requires fresh { N.covers notes.old [] }
+    requires fresh { N.covers name.now notes.old [] }
     ensures told { IfOk result (λ why. (bytes : List ℕ)
         × ReadsEnoughBy (by J.judges) (R.left reader.old) (R.left reader.new) (R.last_read reader.new) bytes
-        × TellsNoted (by J.judges) N.covers form name.now why.outcome why.text.items notes.new bytes) }
+        × TellsNoted (by J.judges) (N.covers name.now) form name.now why.outcome why.text.items notes.new bytes) }
     ensures reads { ReadsBy (by J.judges) (R.left reader.old) (R.left reader.new) (R.last_read reader.new) }
     ensures read_failures { R.read_failures reader.new
         ≡ failures_after (is_read_fault result) (R.read_failures reader.old) }
@@ -124,10 +124,10 @@ fn take_pieces<J: Reasons + Drop, N: Notes<J>, R: Source>(
     notes: &mut N,
 ) -> Result<Why, AuditFault>
     requires more { TakesMore splitter.old checker.old }
-    requires first { Follows J.judges N.covers splitter.old.bytes checker.old notes.old [] }
+    requires first { Follows J.judges (N.covers name.now) splitter.old.bytes checker.old notes.old [] }
     ensures told { IfOk result (λ why. (bytes : List ℕ)
         × ReadsEnoughBy (by J.judges) (R.left reader.old) (R.left reader.new) (R.last_read reader.new) bytes
-        × TellsNoted (by J.judges) N.covers form name.now why.outcome why.text.items notes.new bytes) }
+        × TellsNoted (by J.judges) (N.covers name.now) form name.now why.outcome why.text.items notes.new bytes) }
     ensures reads { ReadsBy (by J.judges) (R.left reader.old) (R.left reader.new) (R.last_read reader.new) }
     ensures read_failures { R.read_failures reader.new
         ≡ failures_after (is_read_fault result) (R.read_failures reader.old) }
@@ -165,12 +165,12 @@ fn take_piece<J: Reasons + Drop, N: Notes<J>>(
     requires whole { checker.old.failed ≡ false }
     ensures more { IfOk result (λ found. IfNone found (TakesMore splitter.new checker.new)) }
     ensures good { IfOk result (λ found. IfNone found ((bytes : List ℕ)
-        → Follows J.judges N.covers splitter.old.bytes checker.old notes.old bytes
-        → Follows J.judges N.covers splitter.new.bytes checker.new notes.new (bytes ++ piece.now))) }
+        → Follows J.judges (N.covers name.now) splitter.old.bytes checker.old notes.old bytes
+        → Follows J.judges (N.covers name.now) splitter.new.bytes checker.new notes.new (bytes ++ piece.now))) }
     ensures bad { IfOk result (λ found. IfSome found (λ why. (bytes : List ℕ)
-        → Follows J.judges N.covers splitter.old.bytes checker.old notes.old bytes
+        → Follows J.judges (N.covers name.now) splitter.old.bytes checker.old notes.old bytes
         → IsFixed (by J.judges) (bytes ++ piece.now)
-        × TellsNoted (by J.judges) N.covers form name.now why.outcome why.text.items notes.new (bytes ++ piece.now))) }
+        × TellsNoted (by J.judges) (N.covers name.now) form name.now why.outcome why.text.items notes.new (bytes ++ piece.now))) }
     ensures memory { IfErr result (λ fault. fault ≡ AuditFault.OutOfMemory) }
 {
     let Ok(()) = splitter.feed(piece) else {
@@ -192,12 +192,12 @@ fn take_lines<J: Reasons + Drop, N: Notes<J>>(
     requires whole { checker.old.failed ≡ false }
     ensures more { IfOk result (λ found. IfNone found (TakesMore splitter.new checker.new)) }
     ensures good { IfOk result (λ found. IfNone found ((bytes : List ℕ)
-        → Follows J.judges N.covers splitter.old.bytes checker.old notes.old bytes
-        → Follows J.judges N.covers splitter.new.bytes checker.new notes.new bytes)) }
+        → Follows J.judges (N.covers name.now) splitter.old.bytes checker.old notes.old bytes
+        → Follows J.judges (N.covers name.now) splitter.new.bytes checker.new notes.new bytes)) }
     ensures bad { IfOk result (λ found. IfSome found (λ why. (bytes : List ℕ)
-        → Follows J.judges N.covers splitter.old.bytes checker.old notes.old bytes
+        → Follows J.judges (N.covers name.now) splitter.old.bytes checker.old notes.old bytes
         → IsFixed (by J.judges) bytes
-        × TellsNoted (by J.judges) N.covers form name.now why.outcome why.text.items notes.new bytes)) }
+        × TellsNoted (by J.judges) (N.covers name.now) form name.now why.outcome why.text.items notes.new bytes)) }
     ensures memory { IfErr result (λ fault. fault ≡ AuditFault.OutOfMemory) }
 {
     'lines: loop {
@@ -228,14 +228,14 @@ fn take_line<J: Reasons + Drop, N: Notes<J>>(
 ) -> Result<Option<Why>, AuditFault>
     ensures whole { IfOk result (λ found. checker.new.failed ≡ false) }
     ensures good { IfOk result (λ found. IfNone found
-        (NotesGood J.judges N.covers checker.old checker.new notes.old notes.new line.now)) }
+        (NotesGood J.judges (N.covers name.now) checker.old checker.new notes.old notes.new line.now)) }
     ensures bad { IfOk result (λ found. IfSome found (λ why.
         TellsBad J.judges checker.old checker.new form name.now line.now why.outcome why.text.items
         × (notes.new ≡ notes.old))) }
     ensures memory { IfErr result (λ fault. fault ≡ AuditFault.OutOfMemory) }
 {
     match checker.push_line_said(line) {
-        Ok(said) => note(checker, notes, line, &said),
+        Ok(said) => note(name, checker, notes, line, &said),
         Err(Stop::Decided) => found(why_of(alloc, form, name, checker, Some(line))),
         Err(Stop::OutOfMemory) => Err(AuditFault::OutOfMemory),
     }
@@ -243,6 +243,7 @@ fn take_line<J: Reasons + Drop, N: Notes<J>>(
 
 /// Notes of the good line that the checker took last: nothing is told of it.
 fn note<J: Reasons + Drop, N: Notes<J>>(
+    name: &str,
     checker: &Checker<J>,
     notes: &mut N,
     line: &[u8],
@@ -250,13 +251,13 @@ fn note<J: Reasons + Drop, N: Notes<J>>(
 ) -> Result<Option<Why>, AuditFault>
     requires whole { checker.now.failed ≡ false }
     requires says { reading line.now ≡ Ok said.now }
-    ensures noted { IfOk result (λ found. (found ≡ None) × ((ls : List (List ℕ)) → N.covers notes.old ls
+    ensures noted { IfOk result (λ found. (found ≡ None) × ((ls : List (List ℕ)) → N.covers name.now notes.old ls
         → StandsFor J.judges checker.now (ls ++ line.now ∷ [])
         → AreGood (by J.judges) (ls ++ line.now ∷ [])
-        → N.covers notes.new (ls ++ line.now ∷ []))) }
+        → N.covers name.now notes.new (ls ++ line.now ∷ []))) }
     ensures memory { IfErr result (λ fault. fault ≡ AuditFault.OutOfMemory) }
 {
-    match notes.note(checker.line_count(), line, said, checker.ledger()) {
+    match notes.note(name, checker.line_count(), line, said, checker.ledger()) {
         Ok(()) => Ok(None),
         Err(_) => Err(AuditFault::OutOfMemory),
     }
@@ -287,8 +288,8 @@ fn conclude<J: Reasons + Drop, N: Notes<J>>(
     requires empty { HasNoLine splitter.old }
     requires whole { checker.old.failed ≡ false }
     ensures told { IfOk result (λ why. (bytes : List ℕ)
-        → Follows J.judges N.covers splitter.old.bytes checker.old notes.old bytes
-        → TellsNoted (by J.judges) N.covers form name.now why.outcome why.text.items notes.new bytes) }
+        → Follows J.judges (N.covers name.now) splitter.old.bytes checker.old notes.old bytes
+        → TellsNoted (by J.judges) (N.covers name.now) form name.now why.outcome why.text.items notes.new bytes) }
     ensures memory { IfErr result (λ fault. fault ≡ AuditFault.OutOfMemory) }
 {
     splitter.close();

@@ -22,3 +22,9 @@ returns-in-Why-clause-why g c = λ form bytes is tells.
 
 pub returns-in-Rows-clause-rows : goal.returns-in-Rows-clause-rows
 returns-in-Rows-clause-rows g c = λ bytes is tells. passed _ c.rows.result c.judged-in-Rows.result c.judged-in-Rows.ensures (c.rows.ensures.told bytes tells)
+
+pub returns-in-All-clause-all : goal.returns-in-All-clause-all
+returns-in-All-clause-all g c = λ bytes is tells. passed _ c.why_all.result c.judged-in-All.result c.judged-in-All.ensures (c.why_all.ensures.told bytes tells)
+
+pub returns-in-AllRows-clause-all_rows : goal.returns-in-AllRows-clause-all_rows
+returns-in-AllRows-clause-all_rows g c = λ bytes is tells. passed _ c.rows_all.result c.judged-in-AllRows.result c.judged-in-AllRows.ensures (c.rows_all.ensures.told bytes tells)
