@@ -267,13 +267,7 @@ fn tell_read<R: Source, O: Sink>(
             reader,
             output,
         )),
-        Told::All => judged(why_all::<Running, R, O>(
-            alloc,
-            name,
-            inquiry.quiet,
-            reader,
-            output,
-        )),
+        Told::All => judged(why_all::<Running, R, O>(alloc, name, inquiry.quiet, reader, output)),
         Told::Rows => judged(rows::<Running, R, O>(alloc, reader, output)),
         Told::AllRows => judged(rows_all::<Running, R, O>(alloc, reader, output)),
     }
