@@ -258,6 +258,8 @@ class Stored(unittest.TestCase):
 
     def test_each_is_read(self) -> None:
         for path in sorted(TRACES.glob("*.rows")):
+            if path.name.endswith(".all.rows"):
+                continue
             rows = [json.loads(line) for line in path.read_bytes().splitlines()]
             trace = Path(path.with_suffix(".trace"))
             with self.subTest(path.stem):
