@@ -7,6 +7,7 @@ from dataclasses import dataclass
 from operator import sub
 from typing import cast
 
+from .departures import Departures, departures_of
 from .failure import Failure, Status
 from .lenient import METRICS, SPACES
 from .program import Object, Verdict
@@ -199,6 +200,24 @@ def metrics_of(trace: Trace, part: Part) -> Object:
     return found
 
 
+def told_of(verdict: Verdict, unit: str) -> Object:
+    """What a diagram has of a verdict."""
+    return {
+        "kind": verdict.kind,
+        "line": verdict.line,
+        "rule": verdict.rule,
+        "name": verdict.name,
+        "field": verdict.said.get("field"),
+        "deadline": verdict.said.get(f"deadline_{unit}"),
+    }
+
+
+def marked(kind: Departures, part: Part) -> Object:
+    """The departures of a kind that are marked in the diagrams of a part."""
+    lines = differences(line for line in kind.lines if part.has(line))
+    return {"rule": kind.rule, "name": kind.name, "field": kind.field, "lines": lines}
+
+
 def payload(trace: Trace, verdict: Verdict, part: Part) -> Object:
     """All that the script of a page draws, but for the text of the lines."""
     lines = slice(part.first - 1, part.last)
@@ -211,14 +230,9 @@ def payload(trace: Trace, verdict: Verdict, part: Part) -> Object:
         "unjudged": verdict.first_unjudged,
         "max_ack_delay": header.get("max_ack_delay", 0),
         "timer_late_us": header.get("timer_late_us"),
-        "verdict": {
-            "kind": verdict.kind,
-            "line": verdict.line,
-            "rule": verdict.rule,
-            "name": verdict.name,
-            "field": verdict.said.get("field"),
-            "deadline": verdict.said.get(f"deadline_{trace.unit}"),
-        },
+        "verdict": told_of(verdict, trace.unit),
+        "end": told_of(verdict.end, trace.unit) if verdict.end is not verdict else None,
+        "departures": [marked(kind, part) for kind in departures_of(verdict)],
         "kind": trace.kind[lines].decode(),
         "space": digits(trace.space[lines]),
         "time": differences(trace.time[lines]),
