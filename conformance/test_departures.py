@@ -4,9 +4,11 @@ fails what writes others, and that departures and faults are told as they have t
 
 import json
 import unittest
+from collections import Counter
 from operator import itemgetter
 from typing import Any
 
+import departing
 import departure_objects
 from constants import MOST_DOUBLINGS
 from departures import KINDS, STORED, Course, Departure, course_of, is_borne, table_of
@@ -260,6 +262,37 @@ class Told(unittest.TestCase):
         self.assertEqual(rows["V7"]["greatest_bytes"], 1200)
         for rule, amount in (("V13", 1), ("V16", 1001), ("V18", 1001)):
             self.assertEqual(rows[rule]["greatest_ns"], amount)
+
+
+class Departing(unittest.TestCase):
+    """Senders that depart again and again."""
+
+    def test_they_depart_in_each_way_and_end_in_each(self) -> None:
+        times, ends, most = Counter[str](), Counter[str](), 0
+        for seed in range(1, 121):
+            case = departing.case_of(seed)
+            course = course_of("a sender", case.trace, case.report)
+            times.update(str(it.what) for it in course.departures)
+            ends[course.verdict] += 1
+            most = max(most, len(course.departures))
+        self.assertEqual(times.keys(), set(map(str, KINDS)))
+        self.assertEqual(ends.keys(), {"accepted", "refused", "unreadable"})
+        self.assertGreater(sum(times.values()), 500)
+        self.assertGreater(most, 20)
+
+    def test_a_seed_makes_one_trace(self) -> None:
+        self.assertEqual(departing.case_of(7), departing.case_of(7))
+        self.assertNotEqual(departing.case_of(7), departing.case_of(8))
+
+    def test_reports_are_those_of_the_first_departure(self) -> None:
+        for seed in range(1, 41):
+            case = departing.case_of(seed)
+            course = course_of("a sender", case.trace, case.report)
+            if course.departures:
+                first = course.departures[0]
+                with self.subTest(seed):
+                    wanted = f"refused line {first.line} {first.what}\n"
+                    self.assertTrue(case.report.startswith(wanted))
 
 
 class Rules(unittest.TestCase):
