@@ -4,6 +4,7 @@ import base64
 import zlib
 from collections.abc import Iterable, Sequence
 from dataclasses import dataclass
+from itertools import chain, compress
 from operator import sub
 from typing import cast
 
@@ -89,24 +90,28 @@ def part_that_fits(trace: Trace, verdict: Verdict, part: Part) -> Part:
 
 def differences(values: Iterable[int]) -> list[int]:
     """Each value less the one before it."""
-    listed = list(values)
-    return [*listed[:1], *map(sub, listed[1:], listed)]
+    listed = values if isinstance(values, list) else list(values)
+    return list(map(sub, listed, chain((0,), listed)))
 
 
-def clamped(values: Sequence[int | None]) -> Sequence[int]:
-    """Values that a script can hold: -1 for none, and the greatest where they are greater."""
-    present = cast(Sequence[int], values)
-    if None in values:
-        present = [NOTHING if it is None else it for it in values]
-    return present if max(present, default=0) <= EXACT else [min(it, EXACT) for it in present]
+def present(values: Sequence[int | None]) -> Sequence[int]:
+    """Values with -1 for none."""
+    if None not in values:
+        return cast(Sequence[int], values)
+    return [NOTHING if it is None else it for it in values]
 
 
 def column(values: Sequence[int | None]) -> Object:
     """A column that a script can hold: what it would round is there as digits too."""
-    held = clamped(values)
-    is_exact = max(held, default=0) < EXACT
-    exact = {} if is_exact else {n: str(it) for n, it in enumerate(values) if it and it > EXACT}
-    return {"by": differences(held), "exact": exact}
+    held = present(values)
+    if max(held, default=0) <= EXACT:
+        return {"by": differences(held), "exact": {}}
+    return {"by": differences(min(it, EXACT) for it in held), "exact": exact(values)}
+
+
+def exact(values: Sequence[int | None]) -> dict[int, str]:
+    """The digits of those values that a script does not hold exactly, by their places."""
+    return {place: str(it) for place, it in enumerate(values) if it and it > EXACT}
 
 
 def digits(codes: bytes | bytearray) -> str:
@@ -119,8 +124,10 @@ def state_of(trace: Trace, part: Part) -> Object:
     state = trace.state
     kept = [place for place, line in enumerate(state.line) if part.has(line)]
     begin, end = (kept[0], kept[-1] + 1) if kept else (0, 0)
-    found: Object = {name: column(state.amounts[name][begin:end]) for name in AMOUNTS}
-    found["deadline"] |= {"by": remaining(trace, begin, end)}
+    amounts = {name: state.amounts[name][begin:end] for name in AMOUNTS}
+    deadlines = amounts.pop("deadline")
+    found: Object = {name: column(values) for name, values in amounts.items()}
+    found["deadline"] = remaining(trace, begin, deadlines)
     found["line"] = differences(state.line[begin:end])
     found["timer"] = digits(state.timer[begin:end])
     found["owed"] = differences(state.owed[begin:end])
@@ -129,12 +136,12 @@ def state_of(trace: Trace, part: Part) -> Object:
     return found
 
 
-def remaining(trace: Trace, begin: int, end: int) -> list[int]:
+def remaining(trace: Trace, begin: int, deadlines: Sequence[int | None]) -> Object:
     """How long after each line the timer is set for, which repeats where deadlines rise."""
-    lines, deadlines = trace.state.line[begin:end], trace.state.amounts["deadline"][begin:end]
-    pairs = zip(lines, deadlines, clamped(deadlines), strict=True)
-    times = trace.time
-    return differences(0 if due is None else held - times[line - 1] for line, due, held in pairs)
+    times, lines = trace.time, trace.state.line[begin : begin + len(deadlines)]
+    pairs = zip(lines, deadlines, strict=True)
+    after = [0 if due is None else min(due, EXACT) - times[line - 1] for line, due in pairs]
+    return {"by": differences(after), "exact": exact(deadlines)}
 
 
 def packets_of(trace: Trace, part: Part) -> Object:
@@ -147,8 +154,7 @@ def packets_of(trace: Trace, part: Part) -> Object:
     spaces = [packets.space[place] for place in kept]
     # Numbers count from the least of their space, and so stay exact where they are great.
     least = [
-        min((n for n, s in zip(numbers, spaces, strict=True) if s == space), default=0)
-        for space in range(len(SPACES))
+        min(compress(numbers, map(space.__eq__, spaces)), default=0) for space in range(len(SPACES))
     ]
     from_least = [number - least[space] for number, space in zip(numbers, spaces, strict=True)]
     found: Object = {
