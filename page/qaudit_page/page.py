@@ -14,7 +14,7 @@ from .departures import section_of
 from .facts import Facts, facts_of
 from .files import name_of, read
 from .library import dygraphs, licence, resource, script
-from .payload import LEVEL_OF_LINES, Part, packed, part_of, payload, shown, text_of
+from .payload import Part, packed, part_of, payload, shown, text_of
 from .program import (
     PAST,
     STRICT,
@@ -92,7 +92,7 @@ def without_collector() -> Iterator[None]:
 def written(wanted: Wanted, library: str, trace: Trace, verdict: Verdict, part: Part) -> str:
     """The whole page."""
     with ThreadPoolExecutor() as pool:
-        lines = pool.submit(lambda: packed(text_of(trace, part), LEVEL_OF_LINES))
+        lines = pool.submit(lambda: packed(text_of(trace, part)))
         columns = json.dumps(payload(trace, verdict, part), separators=(",", ":"))
         data = packed(columns)
         text = lines.result()

@@ -25,8 +25,8 @@ SHOWN_OF_LONG = 2_000
 EXACT = 2**53 - 1
 NOTHING = -1
 DIGITS = bytes(range(48, 58)) + bytes(246)
-# How well columns and lines are deflated; the lines while the columns are made.
-LEVEL, LEVEL_OF_LINES = 6, 9
+# How well columns and lines are deflated: above this the lines cost much time, and gain little.
+LEVEL = 6
 
 
 @dataclass(frozen=True)
@@ -261,7 +261,7 @@ def text_of(trace: Trace, part: Part) -> str:
     return "\n".join(map(shown, trace.lines[part.first - 1 : part.last]))
 
 
-def packed(text: str, level: int = LEVEL) -> str:
+def packed(text: str) -> str:
     """Text, deflated and in base64, so that nothing in it can end an element of the page."""
-    data = zlib.compress(text.encode("utf-8", "backslashreplace"), level)
+    data = zlib.compress(text.encode("utf-8", "backslashreplace"), LEVEL)
     return base64.b64encode(data).decode("ascii")
