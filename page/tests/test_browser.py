@@ -704,9 +704,11 @@ class Marks(Browsing):
 class WrongPages(Browsing):
     """Wrong pages, which the marks at their places have to tell from right ones."""
 
-    def changed(self, change: Any) -> str:
-        """The page of the small trace with other columns."""
-        text = made(joined(*SMALL), is_strict=True)
+    def changed(
+        self, change: Any, trace: tuple[str, ...] = SMALL, *, is_strict: bool = True
+    ) -> str:
+        """The page of a small trace with other columns."""
+        text = made(joined(*trace), is_strict=is_strict)
         block = re.search(r'id="data">([^<]*)<', text)
         assert block is not None
         data = json.loads(zlib.decompress(base64.b64decode(block[1])))
@@ -732,6 +734,27 @@ class WrongPages(Browsing):
         self.show(self.changed(change))
         self.key("Home")
         self.assertTrue(Scale(self.browser, "window").has(101, 12_000, "app"))
+
+    def test_a_departure_that_is_not_marked(self) -> None:
+        def change(data: Any) -> None:
+            data["departures"][0]["lines"].pop()
+
+        trace = (HEADER, *(sent(n) for n in range(10)), sent(10, 50_000), sent(11, 100_000))
+        for page, is_marked in (
+            (made(joined(*trace)), True),
+            (self.changed(change, trace, is_strict=False), False),
+        ):
+            self.show(page)
+            self.key("Home")
+            self.assertEqual(Scale(self.browser, "window").has(100, 14_400, "refused"), is_marked)
+
+    def test_a_trace_that_ends_at_another_line(self) -> None:
+        def change(data: Any) -> None:
+            data["unjudged"] = REFUSED + 1
+
+        self.show(self.changed(change, is_strict=False))
+        self.key("Home")
+        self.assertFalse(Scale(self.browser, "packets-app").has(310, 9, "app"))
 
     def test_a_packet_at_another_number(self) -> None:
         def change(data: Any) -> None:
