@@ -96,7 +96,8 @@ def row_of(kind: Departures) -> str:
     return (
         f'<tr><th scope="row">{html(kind.rule)} {html(kind.name)}</th>'
         f'<td class="meaning">{meaning_of(kind.rule)}</td>'
-        f"<td>{count(kind.count)}</td><td>{html(kind.greatest)}</td>"
+        f'<td data-name="how often">{count(kind.count)}</td>'
+        f'<td data-name="by at most">{html(kind.greatest)}</td>'
         f'<td class="links">{links_of(kind)}</td></tr>'
     )
 
@@ -108,6 +109,6 @@ def links_of(kind: Departures) -> str:
     if not more:
         return seen
     is_cut = kind.count > len(links)
-    total = count(kind.count)
-    named = f"the first {count(len(links))} of {total}" if is_cut else f"all {total}"
+    cut = f", of {count(kind.count)} in all" if is_cut else ""
+    named = f"{count(len(more))} more{cut}"
     return f"{seen} <details><summary>{named}</summary>{' '.join(more)}</details>"

@@ -252,7 +252,7 @@ class Departures(unittest.TestCase):
         rows = {row[0]: row for row in page.rows()}
         self.assertEqual(rows["V16 metric window"][2], "833")
         self.assertEqual(len(rows["V16 metric window"][4].split()), 833)
-        self.assertEqual(page.texts["summary"][:3], ["all 85", "all 833", "all 833"])
+        self.assertEqual(page.texts["summary"][:3], ["73 more", "821 more", "821 more"])
 
     def test_of_more_than_a_thousand_the_first_are_named(self) -> None:
         data = joined(HEADER, *(sent(n) for n in range(1015)))
@@ -260,7 +260,7 @@ class Departures(unittest.TestCase):
         (row,) = page.rows()
         self.assertEqual((row[0], row[2]), ("V7 past-window", "1,005"))
         self.assertEqual(row[4].split()[-1], "1,011")
-        self.assertIn("the first 1,000 of 1,005", page.by_id["departures"])
+        self.assertIn("988 more, of 1,005 in all", page.by_id["departures"])
         self.assertEqual(len(page.data()["departures"][0]["lines"]), 1000)
 
     def test_without_departures_there_is_none(self) -> None:
