@@ -2,15 +2,17 @@
 
 The sender and what happens to it by chance are those of `simulate`, whose own traces end behind
 their first mistake. Here about a quarter of the events break rules of conduct, and no others; the
-sender takes them and goes on. At the end some traces break another rule, cannot be read, or owe a
-loss, and lines follow that nobody may look at.
+sender takes them and goes on. At the end some traces break another rule, have a line that cannot be
+read, or owe a loss, and lines follow that nobody may look at.
 """
 
+from functools import cache
 from typing import Any, NamedTuple
 
-from constants import Rule
+from constants import MAX_LINE_LENGTH, Rule
 from departures import KINDS, is_borne
-from runners import simulate
+from faults import UndecidedError, fault_of
+from runners import FOLDER, simulate
 from sender import Event, Sender, report, report_of
 from why import said_by
 
@@ -24,6 +26,17 @@ OTHERS = (
     Rule.ACK_UNSENT,
     Rule.TIMER_OTHER,
 )
+# Lines that cannot be read, beside those of lines/ that say one of these.
+BAD = (
+    b"{",
+    b"5",
+    b"[]",
+    b'{"event":"other","time":1}',
+    b'{"time":1}',
+    b"x" * (MAX_LINE_LENGTH + 1),
+)
+KINDS_OF_LINES = ("sent", "ack", "lost", "timer", "discard", "confirmed", "keys", "metrics")
+MAX_LENGTH = 300
 
 
 class Case(NamedTuple):
@@ -39,10 +52,27 @@ def case_of(seed: int) -> Case:
     simulation = made.Simulation(seed)
     events, chance = events_of(simulation), simulation.chance
     lines: list[bytes] = made.trace_of([simulation.header, *events], chance)
-    is_cut = chance.random() < 0.2
-    if is_cut:
-        lines += [b"{", made.line_of(events[0], chance)]
-    return Case(b"\n".join(lines) + b"\n", strict_report(lines))
+    behind: list[bytes] = []
+    if chance.random() < 0.3:
+        fault = chance.choice(list(bad_lines()))
+        behind = [chance.choice(bad_lines()[fault]), made.line_of(events[0], chance)]
+    return Case(b"\n".join([*lines, *behind]) + b"\n", strict_report(lines, behind))
+
+
+@cache
+def bad_lines() -> dict[str, list[bytes]]:
+    """Lines that cannot be read behind a header, by their faults."""
+    found: dict[str, list[bytes]] = {}
+    files = (FOLDER / "lines" / f"{kind}.lines" for kind in KINDS_OF_LINES)
+    lines = (it for file in files for it in file.read_bytes().split(b"\n"))
+    for line in (*BAD, *(it for it in lines if len(it) <= MAX_LENGTH)):
+        try:
+            fault = fault_of(line)
+        except UndecidedError:
+            continue
+        if fault is not None:
+            found.setdefault(fault, []).append(line)
+    return found
 
 
 def events_of(simulation: Any) -> list[Event]:
@@ -74,16 +104,14 @@ def departing(simulation: Any, wanted: str) -> list[Event]:
     return [event]
 
 
-def strict_report(lines: list[bytes]) -> str:
-    """The report of lines, which end at the first that departs."""
+def strict_report(lines: list[bytes], behind: list[bytes]) -> str:
+    """The report of lines that can be read and of one behind them that cannot, if any."""
     numbered = [(n, line) for n, line in enumerate(lines, 1) if line.strip(b" \t\r")]
-    cut = next((n for n, line in numbered if line == b"{"), None)
-    read = [(n, said_by(line)) for n, line in numbered if cut is None or n < cut]
-    (_, header), *events = read
+    (_, header), *events = [(n, said_by(line)) for n, line in numbered]
     found = report_of(header, events)
-    if cut is None or found.startswith("refused") and Rule.OWED_AT_END not in found:
+    if not behind or found.startswith("refused") and Rule.OWED_AT_END not in found:
         return found
     sender = Sender(header)
     for _, event in events:
         sender.follow(event)
-    return report(f"unreadable line {cut} F1 not-json", sender)
+    return report(f"unreadable line {len(lines) + 1} {fault_of(behind[0])}", sender)
