@@ -20,6 +20,7 @@ from tests.made import (
 )
 
 from mutants import mutant
+import departing
 from constants import METRICS_IN_BYTES
 from departures import course_of
 from rows import first_not_followed, first_not_good
@@ -265,30 +266,37 @@ def departed(data: bytes, last: int | None) -> Departed:
 class Departures(unittest.TestCase):
     """The departures that a page marks and tells of."""
 
+    def check(self, data: bytes, report: str) -> set[str]:
+        """What a page marks and tells of a trace is what its sender breaks; returns that."""
+        is_read = not report.startswith("unreadable")
+        found: Departed = departed(data, last_past(data, report)) if is_read else {}
+        if not found:
+            self.assertEqual(departures_of(seen(data, report)[1]), [])
+            return set()
+        page = Page(made(data, report))
+        columns = page.data()
+        marked = {
+            f"{it['rule']} {it['name']}": summed(it["lines"]) for it in columns["departures"]
+        }
+        lines = {what: [line for line, _ in told] for what, told in found.items()}
+        self.assertEqual(marked, lines)
+        rows = {what: row_by(what, told, columns["unit"]) for what, told in found.items()}
+        self.assertEqual({row[0]: row[2:] for row in page.rows()}, rows)
+        wanted = [(line, wanted_state(it)) for line, it, _ in states(data, report)]
+        self.assertEqual(shown_states(columns), wanted)
+        return set(found)
+
     def test_they_are_those_of_the_second_machine(self) -> None:
         met = set()
         for path in sorted(TRACES.glob("*.trace")):
-            data, report = path.read_bytes(), report_of(path)
-            last = last_past(data, report)
-            is_read = not report.startswith("unreadable")
-            found: Departed = departed(data, last) if is_read else {}
-            met |= set(found)
-            if not found:
-                self.assertEqual(departures_of(seen(data, report)[1]), [])
-                continue
-            page = Page(made(data, report))
             with self.subTest(path.stem):
-                marked = {
-                    f"{it['rule']} {it['name']}": summed(it["lines"])
-                    for it in page.data()["departures"]
-                }
-                self.assertEqual(
-                    marked, {what: [line for line, _ in told] for what, told in found.items()}
-                )
-                unit = page.data()["unit"]
-                rows = {what: row_by(what, told, unit) for what, told in found.items()}
-                self.assertEqual({row[0]: row[2:] for row in page.rows()}, rows)
+                met |= self.check(path.read_bytes(), report_of(path))
         self.assertEqual({it.split()[0] for it in met}, set(CONDUCT))
+
+    def test_senders_that_depart_again_and_again(self) -> None:
+        for seed in range(1, 61):
+            with self.subTest(seed):
+                self.check(*departing.case_of(seed))
 
     def test_those_of_a_part_alone_are_marked(self) -> None:
         path = TRACES / "several-departures.trace"
