@@ -156,10 +156,12 @@ conformance-reasons:
 # What the machine holds behind each line, for pages.
 conformance-rows:
 	conformance/rows $(program_why)
+	conformance/rows --all $(program_why)
 
 # All departures from the rules of conduct: the files of the corpus, since no program writes them yet.
 conformance-departures:
 	conformance/departures
+	conformance/departures --json $(program_why)
 
 conformance-allocations:
 	conformance/allocations $(program)

@@ -19,7 +19,7 @@ from typing import NamedTuple
 
 from constants import METRICS, METRICS_IN_BYTES, MOST_DOUBLINGS, OF_CONDUCT, Rule
 from faults import fault_of
-from objects import unit_of
+from objects import Facts, Object, broken, owed_at_end, unit_of, unreadable
 from sender import Event, Sender
 from why import (
     Verdict,
@@ -115,7 +115,8 @@ class Departure(NamedTuple):
 @dataclass
 class Course:
     """What came of a trace: its verdict once departures are passed over, the departures, how many
-    events were followed, and what is written of the first departure of each kind and of the end."""
+    events were followed, and what is written of the first departure of each kind and of the end.
+    Beside its text the end of a trace whose lines were followed is there as an object."""
 
     verdict: str = "accepted"
     departures: list[Departure] = field(default_factory=list)
@@ -123,6 +124,7 @@ class Course:
     unit: str = "us"
     firsts: list[bytes] = field(default_factory=list)
     end: bytes = b""
+    ending: Object = field(default_factory=dict)
 
     @property
     def word(self) -> str:
@@ -163,6 +165,7 @@ class Follower:
         header = next(it for it in lines if is_said(it))
         self.sender = Sender(said_by(header))
         self.found = Course(unit=unit_of(said_by(header)))
+        self.facts = Facts(self.sender, self.found.unit)
 
     def course(self) -> Course:
         """What comes of the trace."""
@@ -172,10 +175,13 @@ class Follower:
             if self.is_end(number):
                 return self.ended()
             last = number
-        self.found.end = accepted(self.name, self.sender.events)
         if self.sender.owed:
             head = head_of(self.name, last, "refused", Rule.OWED_AT_END)
-            self.end_as("refused", head + refused_end(self.sender))
+            facts = {"line": last} | owed_at_end(self.facts)
+            self.end_as("refused", head + refused_end(self.sender), facts)
+        else:
+            events = self.sender.events
+            self.end_as("accepted", accepted(self.name, events), {"events": events})
         return self.ended()
 
     def ended(self) -> Course:
@@ -183,9 +189,10 @@ class Follower:
         self.found.events = self.sender.events
         return self.found
 
-    def end_as(self, verdict: str, text: bytes) -> None:
+    def end_as(self, verdict: str, text: bytes, facts: Object) -> None:
         """The trace ends with this verdict."""
         self.found.verdict, self.found.end = verdict, text
+        self.found.ending = {"verdict": verdict} | facts
 
     def is_end(self, number: int) -> bool:
         """Whether a line ends the trace; follows what it says where it does not."""
@@ -193,15 +200,17 @@ class Follower:
         fault = fault_of(line)
         if fault is not None:
             verdict = Verdict("unreadable", number, fault, is_headed=True)
-            self.end_as("unreadable", not_read(self.name, verdict, self.lines))
+            facts = {"line": number} | unreadable(verdict, self.lines)
+            self.end_as("unreadable", not_read(self.name, verdict, self.lines), facts)
             return True
         event = said_by(line)
-        broken = list(self.sender.broken(event))
-        unborne = next((it for it in broken if not is_borne(self.sender, it)), None)
+        rules = list(self.sender.broken(event))
+        unborne = next((it for it in rules if not is_borne(self.sender, it)), None)
         if unborne is not None:
-            self.end_as("refused", self.text_of(number, event, "refused", unborne))
+            facts = {"line": number} | broken(self.facts, event, unborne)
+            self.end_as("refused", self.text_of(number, event, "refused", unborne), facts)
             return True
-        for what in broken:
+        for what in rules:
             self.depart(number, event, what)
         self.sender.follow(event)
         return False
@@ -275,8 +284,13 @@ def row_of(what: str, found: list[Departure], unit: str) -> str:
     amounts = [it.amount for it in found if it.amount is not None]
     if not amounts:
         return where
-    most = f"{max(amounts)} {'bytes' if what in IN_BYTES else unit}"
+    most = f"{max(amounts)} {unit_of_amount(what, unit)}"
     return f"{where}, by {most}" if is_once else f"{where}, by at most {most}"
+
+
+def unit_of_amount(what: str, unit: str) -> str:
+    """The unit of by how much a kind departs, in a trace whose times have this unit."""
+    return "bytes" if what in IN_BYTES else unit
 
 
 def times(count: int) -> str:

@@ -23,6 +23,7 @@ from why import (
     due_of,
     first_outside,
     packets_due_of,
+    rule_of,
     runs_of,
     said_by,
     verdict_of,
@@ -34,7 +35,12 @@ Object = dict[str, object]
 
 def object_line(name: str, trace: bytes, report: str) -> bytes:
     """The line of a trace whose report is this, under a name."""
-    text = json.dumps(object_of(name, trace, report), separators=(",", ":"), ensure_ascii=False)
+    return line_of(object_of(name, trace, report))
+
+
+def line_of(found: Object) -> bytes:
+    """An object on a line, without white space."""
+    text = json.dumps(found, separators=(",", ":"), ensure_ascii=False)
     return text.encode() + b"\n"
 
 
@@ -65,20 +71,33 @@ def unreadable(verdict: Verdict, lines: list[bytes]) -> Object:
 
 def refused(verdict: Verdict, lines: list[bytes]) -> Object:
     """The rule that is broken, the event and the facts; of the end of a trace the facts alone."""
-    number, name, *field = verdict.what.split(" ")
-    found: Object = {"rule": number, "name": name}
-    if field:
-        found |= {"field": field[0]}
     said = ((at, said_by(line)) for at, line in enumerate(lines, 1) if line.strip())
     header = next(said)[1]
-    sender = Sender(header)
-    facts = Facts(sender, unit_of(header))
-    rule = Rule(f"{number} {name}")
+    facts = Facts(Sender(header), unit_of(header))
     for at, event in said:
-        if at == verdict.line and rule != Rule.OWED_AT_END:
-            return found | facts.of_event(event) | facts.of_rule(event, rule, field)
-        sender.follow(event)
-    return found | facts.of_owed()
+        if at == verdict.line and verdict.what != Rule.OWED_AT_END:
+            return broken(facts, event, verdict.what)
+        facts.sender.follow(event)
+    return owed_at_end(facts)
+
+
+def broken(facts: "Facts", event: Event, what: str) -> Object:
+    """A rule that an event breaks, as a report names it, the event, and the facts before it."""
+    rule, field = rule_of(what)
+    return named(what) | facts.of_event(event) | facts.of_rule(event, rule, field)
+
+
+def owed_at_end(facts: "Facts") -> Object:
+    """The rule that a trace breaks which ends so, and the facts."""
+    return named(Rule.OWED_AT_END) | facts.of_owed()
+
+
+def named(what: str) -> Object:
+    """A rule that a report names so, and its field where it has one."""
+    rule, field = rule_of(what)
+    number, name = rule.split(" ")
+    found: Object = {"rule": number, "name": name}
+    return found | ({"field": field} if field else {})
 
 
 def unit_of(header: Event) -> str:
@@ -104,7 +123,7 @@ class Facts:
         found |= {key: event[key] for key in ("kind", "space", "number") if key in event}
         return found | ({"size_bytes": event["size"]} if "size" in event else {})
 
-    def of_rule(self, event: Event, rule: Rule, field: list[str]) -> Object:
+    def of_rule(self, event: Event, rule: Rule, field: str) -> Object:
         """The facts of a rule."""
         match rule:
             case Rule.TIME_BACK:
@@ -126,7 +145,7 @@ class Facts:
             case Rule.PROBE_OWED:
                 return {"probe_space": self.sender.probe_due}
             case Rule.METRIC:
-                return {"differences": list(self.of_report(event, field[0]))}
+                return {"differences": list(self.of_report(event, field))}
             case Rule.TIMER_LATE:
                 return self.of_late(event, packets_due_of(self.sender))
             case Rule.COLLAPSE_MISSING:

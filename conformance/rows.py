@@ -18,7 +18,8 @@ from collections.abc import Iterator
 from pathlib import Path
 
 from constants import METRICS, Rule
-from objects import runs_of_numbers, unit_of
+from departures import Course, course_of
+from objects import named, runs_of_numbers, unit_of
 from sender import Event, Sender
 from why import said_by, verdict_of
 
@@ -56,6 +57,25 @@ STORED = (
     "timer-late",
     "two-logs-joined",
 )
+# Traces whose rows with `--all` are kept: each rule of conduct, each way to end past departures,
+# persistent congestion that a report does not have, nanoseconds, and traces without departures.
+STORED_ALL = (
+    "app-pto",
+    "departure-and-a-loss-owed-at-the-end",
+    "departure-and-then-a-loss-set",
+    "departure-and-then-no-json",
+    "departures-in-nanoseconds",
+    "departures-of-each-rule-of-conduct",
+    "early-timers-past-64-bits",
+    "empty-input",
+    "handshake-timer-early",
+    "late-event-and-a-collapse-missing",
+    "loss-timer-early",
+    "several-departures",
+    "time-back",
+    "two-departures-at-one-event",
+)
+SUFFIX, SUFFIX_ALL = ".rows", ".all.rows"
 
 
 def rows_of(trace: bytes, last: int | None) -> Iterator[bytes]:
@@ -162,6 +182,21 @@ def first_not_good(trace: bytes, report: str) -> int | None:
     return None if is_whole else verdict.line
 
 
+def first_not_followed(trace: bytes, report: str, course: Course) -> int | None:
+    """The line before which the rows of a trace end with `--all`, of which this comes; None for
+    all lines."""
+    if not course.departures:
+        return first_not_good(trace, report)
+    end = course.ending
+    is_whole = end["verdict"] == "accepted" or named(Rule.OWED_AT_END).items() <= end.items()
+    return None if is_whole else int(str(end["line"]))
+
+
+def rows_past(trace: bytes, report: str, course: Course) -> bytes:
+    """The rows with `--all` of a trace whose report is this, and of which this comes."""
+    return b"".join(rows_of(trace, first_not_followed(trace, report, course)))
+
+
 def judged(trace: bytes) -> int | None:
     """The first line that sender.py does not follow, or that is not JSON."""
     sender = None
@@ -189,11 +224,20 @@ def rows_text(path: Path) -> bytes:
     return b"".join(rows_of(trace, last))
 
 
+def rows_text_past(path: Path) -> bytes:
+    """The rows with `--all` of the trace in a file, by its report."""
+    trace, report = path.read_bytes(), path.with_suffix(".report").read_text()
+    return rows_past(trace, report, course_of(path.name, trace, report))
+
+
 def write(traces: Path) -> None:
     """Writes each file of rows anew."""
     for name in STORED:
         trace = traces / f"{name}.trace"
-        trace.with_suffix(".rows").write_bytes(rows_text(trace))
+        trace.with_suffix(SUFFIX).write_bytes(rows_text(trace))
+    for name in STORED_ALL:
+        trace = traces / f"{name}.trace"
+        trace.with_suffix(SUFFIX_ALL).write_bytes(rows_text_past(trace))
 
 
 def main() -> int:
@@ -202,13 +246,16 @@ def main() -> int:
         description=__doc__, formatter_class=argparse.RawDescriptionHelpFormatter
     )
     group = parser.add_mutually_exclusive_group(required=True)
-    group.add_argument("--write", action="store_true", help="write traces/NAME.rows anew")
+    group.add_argument("--write", action="store_true", help="write the files of rows anew")
     group.add_argument("trace", metavar="TRACE", type=Path, nargs="?", help="a trace")
+    text = "go on past departures, of a trace beside which its report lies"
+    parser.add_argument("--all", action="store_true", help=text)
     arguments = parser.parse_args()
+    text_of = rows_text_past if arguments.all else rows_text
     if arguments.write:
         write(FOLDER / "traces")
     else:
-        sys.stdout.buffer.write(rows_text(arguments.trace))
+        sys.stdout.buffer.write(text_of(arguments.trace))
     return 0
 
 

@@ -165,7 +165,8 @@ def write(lines: int, folder: Path) -> Path:
     trace = folder / f"{lines}.trace"
     trace.write_text("".join(f"{line}\n" for line in transfer.trace[:lines]))
     trace.with_suffix(".rows").write_text("".join(f"{row}\n" for row in transfer.rows[:lines]))
-    said = {"file": "-", "verdict": "accepted", "events": lines - 1}
+    said: dict[str, Any] = {"file": "-", "verdict": "accepted", "events": lines - 1}
+    said |= {"departures": []}
     trace.with_suffix(".json").write_text(json.dumps(said) + "\n")
     return trace
 

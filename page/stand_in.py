@@ -1,20 +1,24 @@
 #!/usr/bin/env python3
 """A stand-in for the program qaudit-why, made of the second machine of conformance/.
 
-It knows `--json` and `--rows` of standard input: of a trace of the corpus by its report, and of any
-other by what sender.py makes of it, whose lines are only as good as Python's reader of JSON finds
-them. The tests of pages run it where no program that was proved is named.
+It knows `--json` and `--rows` of standard input, each with `--all` and without: of a trace of the
+corpus by its report, and of any other by what sender.py makes of it, whose lines are only as good
+as Python's reader of JSON finds them up to the first departure. The tests of pages run it where no
+program that was proved is named.
 """
 
 import os
 import sys
+from collections.abc import Iterator
 from pathlib import Path
 
 CONFORMANCE = Path(__file__).resolve().parents[1] / "conformance"
 sys.path.insert(0, str(CONFORMANCE))
 
+import departure_objects  # noqa: E402
+from departures import Course, course_of  # noqa: E402
 from objects import object_line  # noqa: E402
-from rows import first_not_good, rows_of  # noqa: E402
+from rows import first_not_followed, first_not_good, rows_of  # noqa: E402
 from sender import Sender, report  # noqa: E402
 from why import said_by  # noqa: E402
 
@@ -58,18 +62,39 @@ def judged(trace: bytes) -> str:
     return report(verdict, sender)
 
 
+def written(options: frozenset[str], trace: bytes) -> tuple[Iterator[bytes], str]:
+    """What is written of a trace, some at a time, and the verdict by which the run ends."""
+    said = report_of(trace)
+    course = course_of("-", trace, said) if "--all" in options else None
+    if "--rows" in options:
+        return rows_of(trace, last_of(trace, said, course)), word_of(said, course)
+    if course is None:
+        return iter([object_line("-", trace, said)]), word_of(said, course)
+    return iter([departure_objects.text_of("-", trace, said, course)]), word_of(said, course)
+
+
+def last_of(trace: bytes, said: str, course: Course | None) -> int | None:
+    """The line before which the rows of a trace end; None for all lines."""
+    if course is None:
+        return first_not_good(trace, said)
+    return first_not_followed(trace, said, course)
+
+
+def word_of(said: str, course: Course | None) -> str:
+    """The verdict by which a run ends."""
+    return said.split()[0] if course is None else course.word
+
+
 def main() -> int:
     """Writes what is asked for."""
-    if sys.argv[1:] not in (["--json", "-"], ["--rows", "-"]):
+    *words, name = sys.argv[1:] or [""]
+    options = frozenset(words)
+    if name != "-" or options - {"--all"} not in ({"--json"}, {"--rows"}):
         return os.EX_USAGE
-    trace = sys.stdin.buffer.read()
-    said = report_of(trace)
-    if sys.argv[1] == "--json":
-        sys.stdout.buffer.write(object_line("-", trace, said))
-    else:
-        for row in rows_of(trace, first_not_good(trace, said)):
-            sys.stdout.buffer.write(row)
-    return STATUS[said.split()[0]]
+    pieces, word = written(options, sys.stdin.buffer.read())
+    for piece in pieces:
+        sys.stdout.buffer.write(piece)
+    return STATUS[word]
 
 
 if __name__ == "__main__":

@@ -4,19 +4,30 @@ import base64
 import gc
 import hashlib
 import json
-from collections.abc import Iterable, Iterator
+from collections.abc import Iterator
 from concurrent.futures import ThreadPoolExecutor
 from contextlib import contextmanager
 from dataclasses import dataclass
 from pathlib import Path
 
+from .departures import section_of
 from .facts import Facts, facts_of
 from .files import name_of, read
 from .library import dygraphs, licence, resource, script
-from .payload import LEVEL_OF_LINES, Part, packed, part_of, payload, shown, text_of
-from .program import Run, Verdict, find, rows_by, verdict_by
-from .rules import FAULTS, RULES
-from .texts import count, html, milliseconds, plural
+from .payload import Part, packed, part_of, payload, shown, text_of
+from .program import (
+    PAST,
+    STRICT,
+    Mode,
+    Run,
+    UnknownOptionError,
+    Verdict,
+    find,
+    rows_by,
+    verdict_by,
+)
+from .rules import meaning_of
+from .texts import count, html, link, milliseconds, pairs, plural
 from .trace import Trace, trace_of
 
 # Of the line of the verdict, as many characters stand above the diagrams.
@@ -45,13 +56,25 @@ class Wanted:
 def page_of(wanted: Wanted) -> tuple[Verdict, str]:
     """The page of a trace, and its verdict."""
     library, program = dygraphs(wanted.dygraphs), find(wanted.program)
-    data = read(wanted.trace)
-    with Run(program, "--json", data) as judging, Run(program, "--rows", data) as telling:
-        verdict = verdict_by(judging)
-        with without_collector():
-            trace = trace_of(data, rows_by(telling), verdict.first_unjudged)
+    verdict, trace = audited(program, read(wanted.trace))
     part = part_of(trace, verdict, wanted.first, wanted.last)
     return verdict, written(wanted, library, trace, verdict, part)
+
+
+def audited(program: str, data: bytes) -> tuple[Verdict, Trace]:
+    """What a program says of a trace: past departures, where it knows how to go on."""
+    try:
+        return audited_as(PAST, program, data)
+    except UnknownOptionError:
+        return audited_as(STRICT, program, data)
+
+
+def audited_as(mode: Mode, program: str, data: bytes) -> tuple[Verdict, Trace]:
+    """What a program says of a trace that is asked in this way."""
+    with Run(program, mode.verdict, data) as judging, Run(program, mode.rows, data) as telling:
+        verdict = verdict_by(judging)
+        with without_collector():
+            return verdict, trace_of(data, rows_by(telling), verdict.first_unjudged)
 
 
 @contextmanager
@@ -69,7 +92,7 @@ def without_collector() -> Iterator[None]:
 def written(wanted: Wanted, library: str, trace: Trace, verdict: Verdict, part: Part) -> str:
     """The whole page."""
     with ThreadPoolExecutor() as pool:
-        lines = pool.submit(lambda: packed(text_of(trace, part), LEVEL_OF_LINES))
+        lines = pool.submit(lambda: packed(text_of(trace, part)))
         columns = json.dumps(payload(trace, verdict, part), separators=(",", ":"))
         data = packed(columns)
         text = lines.result()
@@ -85,6 +108,7 @@ def written(wanted: Wanted, library: str, trace: Trace, verdict: Verdict, part: 
         SENTENCE=sentence(verdict),
         FACTS=pairs(facts_of(verdict.said, trace.unit)),
         QUOTE=quote(trace, verdict),
+        DEPARTURES=section_of(verdict, trace.unit),
         OVERVIEW=pairs(overview(wanted, trace, verdict, part)),
         OPTIONS=pairs(options(trace)),
         LICENCE=html_of_lines(licence()),
@@ -124,23 +148,15 @@ def html_of_lines(text: str) -> str:
     return "\n".join(html(line) for line in text.splitlines())
 
 
-def pairs(rows: Iterable[tuple[str, str]]) -> str:
-    """Names with their values."""
-    return "".join(f"<div><dt>{html(a)}</dt> <dd>{html(b)}</dd></div>" for a, b in rows)
-
-
 def sentence(verdict: Verdict) -> str:
     """The verdict in a sentence."""
     if verdict.kind == "accepted":
         told = "In all that the trace tells, the sender kept to RFC 9002."
         return f"<b>Accepted.</b> {told}"
-    meaning = RULES.get(verdict.rule) or FAULTS.get(verdict.rule)
-    told = html(meaning.sentence) if meaning else ""
-    source = f' <span class="source">{html(meaning.source)}</span>' if meaning else ""
     word = verdict.kind.capitalize()
-    line = f'<a href="#line={verdict.line}">line {count(verdict.line)}</a>'
+    line = link(verdict.line, f"line {count(verdict.line)}")
     what = f"{html(verdict.rule)} {html(verdict.name)}"
-    return f"<b>{word} at {line}: {what}.</b> {told}{source}"
+    return f"<b>{word} at {line}: {what}.</b> {meaning_of(verdict.rule)}"
 
 
 def quote(trace: Trace, verdict: Verdict) -> str:
@@ -161,7 +177,7 @@ def overview(wanted: Wanted, trace: Trace, verdict: Verdict, part: Part) -> Fact
     packets = trace.packets
     judged = trace.state.line
     told = [("file", name_of(wanted.trace)), ("lines", count(len(trace.lines)))]
-    if verdict.kind != "accepted" and judged:
+    if verdict.end.kind != "accepted" and judged:
         told.append(("judged", f"up to line {count(judged[-1])}"))
     span = max(drawn) - min(drawn) if drawn else 0
     told.append(("span", milliseconds(span, trace.unit)))

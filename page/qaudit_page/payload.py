@@ -4,9 +4,11 @@ import base64
 import zlib
 from collections.abc import Iterable, Sequence
 from dataclasses import dataclass
+from itertools import chain, compress
 from operator import sub
 from typing import cast
 
+from .departures import Departures, departures_of
 from .failure import Failure, Status
 from .lenient import METRICS, SPACES
 from .program import Object, Verdict
@@ -23,8 +25,8 @@ SHOWN_OF_LONG = 2_000
 EXACT = 2**53 - 1
 NOTHING = -1
 DIGITS = bytes(range(48, 58)) + bytes(246)
-# How well columns and lines are deflated; the lines while the columns are made.
-LEVEL, LEVEL_OF_LINES = 6, 9
+# How well columns and lines are deflated: above this the lines cost much time, and gain little.
+LEVEL = 6
 
 
 @dataclass(frozen=True)
@@ -88,24 +90,28 @@ def part_that_fits(trace: Trace, verdict: Verdict, part: Part) -> Part:
 
 def differences(values: Iterable[int]) -> list[int]:
     """Each value less the one before it."""
-    listed = list(values)
-    return [*listed[:1], *map(sub, listed[1:], listed)]
+    listed = values if isinstance(values, list) else list(values)
+    return list(map(sub, listed, chain((0,), listed)))
 
 
-def clamped(values: Sequence[int | None]) -> Sequence[int]:
-    """Values that a script can hold: -1 for none, and the greatest where they are greater."""
-    present = cast(Sequence[int], values)
-    if None in values:
-        present = [NOTHING if it is None else it for it in values]
-    return present if max(present, default=0) <= EXACT else [min(it, EXACT) for it in present]
+def present(values: Sequence[int | None]) -> Sequence[int]:
+    """Values with -1 for none."""
+    if None not in values:
+        return cast(Sequence[int], values)
+    return [NOTHING if it is None else it for it in values]
 
 
 def column(values: Sequence[int | None]) -> Object:
     """A column that a script can hold: what it would round is there as digits too."""
-    held = clamped(values)
-    is_exact = max(held, default=0) < EXACT
-    exact = {} if is_exact else {n: str(it) for n, it in enumerate(values) if it and it > EXACT}
-    return {"by": differences(held), "exact": exact}
+    held = present(values)
+    if max(held, default=0) <= EXACT:
+        return {"by": differences(held), "exact": {}}
+    return {"by": differences(min(it, EXACT) for it in held), "exact": exact(values)}
+
+
+def exact(values: Sequence[int | None]) -> dict[int, str]:
+    """The digits of those values that a script does not hold exactly, by their places."""
+    return {place: str(it) for place, it in enumerate(values) if it and it > EXACT}
 
 
 def digits(codes: bytes | bytearray) -> str:
@@ -118,8 +124,10 @@ def state_of(trace: Trace, part: Part) -> Object:
     state = trace.state
     kept = [place for place, line in enumerate(state.line) if part.has(line)]
     begin, end = (kept[0], kept[-1] + 1) if kept else (0, 0)
-    found: Object = {name: column(state.amounts[name][begin:end]) for name in AMOUNTS}
-    found["deadline"] |= {"by": remaining(trace, begin, end)}
+    amounts = {name: state.amounts[name][begin:end] for name in AMOUNTS}
+    deadlines = amounts.pop("deadline")
+    found: Object = {name: column(values) for name, values in amounts.items()}
+    found["deadline"] = remaining(trace, begin, deadlines)
     found["line"] = differences(state.line[begin:end])
     found["timer"] = digits(state.timer[begin:end])
     found["owed"] = differences(state.owed[begin:end])
@@ -128,12 +136,12 @@ def state_of(trace: Trace, part: Part) -> Object:
     return found
 
 
-def remaining(trace: Trace, begin: int, end: int) -> list[int]:
+def remaining(trace: Trace, begin: int, deadlines: Sequence[int | None]) -> Object:
     """How long after each line the timer is set for, which repeats where deadlines rise."""
-    lines, deadlines = trace.state.line[begin:end], trace.state.amounts["deadline"][begin:end]
-    pairs = zip(lines, deadlines, clamped(deadlines), strict=True)
-    times = trace.time
-    return differences(0 if due is None else held - times[line - 1] for line, due, held in pairs)
+    times, lines = trace.time, trace.state.line[begin : begin + len(deadlines)]
+    pairs = zip(lines, deadlines, strict=True)
+    after = [0 if due is None else min(due, EXACT) - times[line - 1] for line, due in pairs]
+    return {"by": differences(after), "exact": exact(deadlines)}
 
 
 def packets_of(trace: Trace, part: Part) -> Object:
@@ -146,8 +154,7 @@ def packets_of(trace: Trace, part: Part) -> Object:
     spaces = [packets.space[place] for place in kept]
     # Numbers count from the least of their space, and so stay exact where they are great.
     least = [
-        min((n for n, s in zip(numbers, spaces, strict=True) if s == space), default=0)
-        for space in range(len(SPACES))
+        min(compress(numbers, map(space.__eq__, spaces)), default=0) for space in range(len(SPACES))
     ]
     from_least = [number - least[space] for number, space in zip(numbers, spaces, strict=True)]
     found: Object = {
@@ -199,6 +206,24 @@ def metrics_of(trace: Trace, part: Part) -> Object:
     return found
 
 
+def told_of(verdict: Verdict, unit: str) -> Object:
+    """What a diagram has of a verdict."""
+    return {
+        "kind": verdict.kind,
+        "line": verdict.line,
+        "rule": verdict.rule,
+        "name": verdict.name,
+        "field": verdict.said.get("field"),
+        "deadline": verdict.said.get(f"deadline_{unit}"),
+    }
+
+
+def marked(kind: Departures, part: Part) -> Object:
+    """The departures of a kind that are marked in the diagrams of a part."""
+    lines = differences(line for line in kind.lines if part.has(line))
+    return {"rule": kind.rule, "name": kind.name, "field": kind.field, "lines": lines}
+
+
 def payload(trace: Trace, verdict: Verdict, part: Part) -> Object:
     """All that the script of a page draws, but for the text of the lines."""
     lines = slice(part.first - 1, part.last)
@@ -211,14 +236,9 @@ def payload(trace: Trace, verdict: Verdict, part: Part) -> Object:
         "unjudged": verdict.first_unjudged,
         "max_ack_delay": header.get("max_ack_delay", 0),
         "timer_late_us": header.get("timer_late_us"),
-        "verdict": {
-            "kind": verdict.kind,
-            "line": verdict.line,
-            "rule": verdict.rule,
-            "name": verdict.name,
-            "field": verdict.said.get("field"),
-            "deadline": verdict.said.get(f"deadline_{trace.unit}"),
-        },
+        "verdict": told_of(verdict, trace.unit),
+        "end": told_of(verdict.end, trace.unit) if verdict.end is not verdict else None,
+        "departures": [marked(kind, part) for kind in departures_of(verdict)],
         "kind": trace.kind[lines].decode(),
         "space": digits(trace.space[lines]),
         "time": differences(trace.time[lines]),
@@ -241,7 +261,7 @@ def text_of(trace: Trace, part: Part) -> str:
     return "\n".join(map(shown, trace.lines[part.first - 1 : part.last]))
 
 
-def packed(text: str, level: int = LEVEL) -> str:
+def packed(text: str) -> str:
     """Text, deflated and in base64, so that nothing in it can end an element of the page."""
-    data = zlib.compress(text.encode("utf-8", "backslashreplace"), level)
+    data = zlib.compress(text.encode("utf-8", "backslashreplace"), LEVEL)
     return base64.b64encode(data).decode("ascii")

@@ -9,7 +9,7 @@ import tempfile
 from collections.abc import Iterator
 from dataclasses import dataclass
 from pathlib import Path
-from typing import IO, Any
+from typing import IO, Any, NamedTuple
 
 from .failure import Failure
 
@@ -23,9 +23,25 @@ SHOWN = 300
 Object = dict[str, Any]
 
 
+class Mode(NamedTuple):
+    """How a program is asked: the options for the verdict with its facts, and for the rows."""
+
+    verdict: tuple[str, ...]
+    rows: tuple[str, ...]
+
+
+# Past departures from the rules of conduct, or up to the first line that is refused.
+PAST = Mode(("--all", "--json"), ("--rows", "--all"))
+STRICT = Mode(("--json",), ("--rows",))
+
+
+class UnknownOptionError(Failure):
+    """A program has not the options that it is asked with."""
+
+
 @dataclass(frozen=True)
 class Verdict:
-    """What `--json` says of a trace."""
+    """What `--json` says of a trace, alone or with `--all`."""
 
     said: Object
 
@@ -51,10 +67,17 @@ class Verdict:
         return str(self.said.get("name", "")) + (f" {about}" if about else "")
 
     @property
+    def end(self) -> "Verdict":
+        """How the trace ends once departures are passed over: this verdict where none are."""
+        end = self.said.get("end")
+        return Verdict(end) if isinstance(end, dict) else self
+
+    @property
     def first_unjudged(self) -> int | None:
         """The first line that has no row; None where all have, as at the end of a trace."""
-        is_whole = self.kind == "accepted" or self.rule == "V17"
-        return None if is_whole else self.line
+        end = self.end
+        is_whole = end.kind == "accepted" or end.rule == "V17"
+        return None if is_whole else end.line
 
     @property
     def text(self) -> str:
@@ -79,15 +102,18 @@ def find(given: Path | None) -> str:
 class Run:
     """A run of the program over the bytes of a trace, which it has on standard input."""
 
-    def __init__(self, program: str, mode: str, data: bytes) -> None:
-        self.program, self.mode = program, mode
+    def __init__(self, program: str, options: tuple[str, ...], data: bytes) -> None:
+        self.program, self.options = program, " ".join(options)
         self.errors: IO[bytes] = tempfile.TemporaryFile()
         with tempfile.TemporaryFile() as file:
             file.write(data)
             file.seek(0)
             try:
                 self.process = subprocess.Popen(
-                    [program, mode, "-"], stdin=file, stdout=subprocess.PIPE, stderr=self.errors
+                    [program, *options, "-"],
+                    stdin=file,
+                    stdout=subprocess.PIPE,
+                    stderr=self.errors,
                 )
             except OSError as fault:
                 raise Failure(f"cannot run {program}: {fault.strerror}") from fault
@@ -116,15 +142,17 @@ class Run:
         self.end()
 
     def end(self) -> None:
-        """Failure where the program did not end with a verdict."""
+        """Failure where the program did not end with a verdict; another where it does not know the
+        options."""
         status = self.process.wait()
         if status == os.EX_USAGE:
-            raise Failure(f"{self.program} has no {self.mode}: a newer {NAME} is needed")
+            text = f"{self.program} has no {self.options}: a newer {NAME} is needed"
+            raise UnknownOptionError(text)
         if status not in range(len(VERDICTS)):
             self.errors.seek(0)
             told = self.errors.read(SHOWN).decode("utf-8", "backslashreplace").strip()
             ending = f"ended with status {status}" if status > 0 else f"was killed by {-status}"
-            raise Failure(f"{self.program} {self.mode} {ending}: {told}")
+            raise Failure(f"{self.program} {self.options} {ending}: {told}")
 
 
 def verdict_by(run: Run) -> Verdict:
@@ -134,14 +162,19 @@ def verdict_by(run: Run) -> Verdict:
         said = json.loads(text)
     except ValueError:
         said = None
-    if not isinstance(said, dict) or said.get("verdict") not in VERDICTS:
+    if not is_verdict(said) or not is_verdict(said.get("end", said)):
         raise Failure(f"{run.program} wrote no verdict: {text[:SHOWN]!r}")
     return Verdict(said)
 
 
+def is_verdict(said: object) -> bool:
+    """Whether an object has a verdict."""
+    return isinstance(said, dict) and said.get("verdict") in VERDICTS
+
+
 def verdict_of(program: str, data: bytes) -> Verdict:
     """What the program says of the bytes of a trace."""
-    with Run(program, "--json", data) as run:
+    with Run(program, STRICT.verdict, data) as run:
         return verdict_by(run)
 
 

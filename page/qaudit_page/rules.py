@@ -2,6 +2,8 @@
 
 from typing import NamedTuple
 
+from .texts import html
+
 
 class Meaning(NamedTuple):
     """A rule or a fault: its name, its sentence, and where it comes from."""
@@ -65,3 +67,11 @@ FAULTS = {
     "F11": Meaning("too-many-lines", "The trace has more lines than can be numbered.", FORMAT),
 }
 # fmt: on
+
+
+def meaning_of(rule: str) -> str:
+    """The sentence of a rule or a fault with its source, as HTML; empty where it is unknown."""
+    meaning = RULES.get(rule) or FAULTS.get(rule)
+    if meaning is None:
+        return ""
+    return f'{html(meaning.sentence)} <span class="source">{html(meaning.source)}</span>'

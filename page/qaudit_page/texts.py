@@ -1,6 +1,7 @@
 """Amounts and foreign text for people, as text and as HTML."""
 
 import re
+from collections.abc import Iterable
 from html import escape
 
 NANOSECONDS = {"us": 1_000, "ns": 1}
@@ -53,6 +54,16 @@ def visible(text: str) -> str:
 def html(text: str) -> str:
     """Text of others as HTML, in an element or in an attribute with quotes."""
     return escape(visible(text), quote=True)
+
+
+def link(line: int, text: str) -> str:
+    """A link to a line of the page."""
+    return f'<a href="#line={line}">{html(text)}</a>'
+
+
+def pairs(rows: Iterable[tuple[str, str]]) -> str:
+    """Names with their values."""
+    return "".join(f"<div><dt>{html(a)}</dt> <dd>{html(b)}</dd></div>" for a, b in rows)
 
 
 def decoded(line: bytes) -> str:

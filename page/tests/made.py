@@ -17,8 +17,10 @@ STAND_IN = PAGE / "stand_in.py"
 PROGRAM = Path(os.environ.get("QAUDIT_WHY", STAND_IN)).resolve()
 sys.path.append(str(PROJECT / "conformance"))
 
-from objects import object_of  # noqa: E402
-from rows import first_not_good, rows_of  # noqa: E402
+import departure_objects  # noqa: E402
+from departures import course_of  # noqa: E402
+from objects import object_line  # noqa: E402
+from rows import first_not_followed, first_not_good, rows_of  # noqa: E402
 
 from qaudit_page.library import PLACE, dygraphs  # noqa: E402
 from qaudit_page.page import Wanted, written  # noqa: E402
@@ -56,19 +58,33 @@ def report_of(path: Path) -> str:
     return path.with_suffix(".report").read_text()
 
 
-def seen(data: bytes, report: str | None = None) -> tuple[Trace, Verdict]:
+def told(data: bytes, report: str, *, is_strict: bool) -> tuple[bytes, int | None]:
+    """The object of a trace, and the first line that has no row, by the second machine: past
+    departures, or as of a program that does not go on."""
+    if is_strict:
+        return object_line("-", data, report), first_not_good(data, report)
+    course = course_of("-", data, report)
+    said = departure_objects.text_of("-", data, report, course)
+    return said, first_not_followed(data, report, course)
+
+
+def seen(
+    data: bytes, report: str | None = None, *, is_strict: bool = False
+) -> tuple[Trace, Verdict]:
     """A trace as a page has it, by the second machine."""
-    report = report or judged(data)
-    verdict = Verdict(object_of("-", data, report))
-    rows = [json.loads(row) for row in rows_of(data, first_not_good(data, report))]
+    said, last = told(data, report or judged(data), is_strict=is_strict)
+    verdict = Verdict(json.loads(said))
+    rows = [json.loads(row) for row in rows_of(data, last)]
     # In pieces, as from a program.
     pieces = [rows[place : place + 7] for place in range(0, len(rows), 7)]
     return trace_of(data, pieces, verdict.first_unjudged), verdict
 
 
-def made(data: bytes, report: str | None = None, **wanted: Any) -> str:
+def made(
+    data: bytes, report: str | None = None, *, is_strict: bool = False, **wanted: Any
+) -> str:
     """The page of a trace."""
-    trace, verdict = seen(data, report)
+    trace, verdict = seen(data, report, is_strict=is_strict)
     fields: dict[str, Any] = {"trace": Path("made.trace"), **wanted}
     asked = Wanted(**fields)
     part = part_of(trace, verdict, asked.first, asked.last)
@@ -84,6 +100,8 @@ class Page(HTMLParser):
         self.open: list[str] = []
         self.by_id: dict[str, str] = {}
         self.texts: dict[str, list[str]] = {}
+        # Of the table of departures, the texts of each row but the head.
+        self.cells: list[list[str]] = []
         self.feed(text)
         self.close()
 
@@ -93,6 +111,10 @@ class Page(HTMLParser):
         self.tags.append((tag, found))
         if tag not in ("meta", "input", "br"):
             self.open.append(found.get("id") or tag)
+        if "departures" in self.open and tag == "tr":
+            self.cells.append([])
+        if self.is_in_row() and tag in ("td", "th") and found.get("scope") != "col":
+            self.cells[-1].append("")
 
     def handle_endtag(self, tag: str) -> None:
         """An element ends."""
@@ -102,8 +124,14 @@ class Page(HTMLParser):
         """Text, which belongs to all elements that are open."""
         for name in self.open:
             self.by_id[name] = self.by_id.get(name, "") + data
+        if self.is_in_row() and self.cells[-1] and "summary" not in self.open:
+            self.cells[-1][-1] += data
         if self.open:
             self.texts.setdefault(self.open[-1], []).append(data)
+
+    def is_in_row(self) -> bool:
+        """Whether a row of the table of departures is open."""
+        return "departures" in self.open and "tr" in self.open and bool(self.cells)
 
     def policy(self) -> str:
         """The policy of the page."""
@@ -113,6 +141,11 @@ class Page(HTMLParser):
     def data(self) -> Any:
         """The columns."""
         return json.loads(unpacked(self.by_id["data"]))
+
+    def rows(self) -> list[tuple[str, ...]]:
+        """The table of all departures, a tuple of texts for each kind: its rule, what it is, how
+        often it came, by how much at most, and the lines."""
+        return [tuple(" ".join(cell.split()) for cell in row) for row in self.cells if row]
 
     def lines(self) -> list[str]:
         """The lines."""

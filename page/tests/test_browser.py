@@ -130,7 +130,7 @@ class Using(Browsing):
     @classmethod
     def setUpClass(cls) -> None:
         super().setUpClass()
-        cls.page = made(REAL.read_bytes(), report_of(REAL))
+        cls.page = made(REAL.read_bytes(), report_of(REAL), is_strict=True)
 
     def test_it_opens_at_the_refused_line(self) -> None:
         self.show(self.page)
@@ -339,10 +339,153 @@ class Using(Browsing):
             self.browser.dress(is_dark=False)
 
     def test_a_part(self) -> None:
-        self.show(made(REAL.read_bytes(), report_of(REAL), first=1000, last=1100))
+        part = {"first": 1000, "last": 1100}
+        self.show(made(REAL.read_bytes(), report_of(REAL), is_strict=True, **part))
         self.assertIn("Line 84 is not in this page", self.text("#trouble"))
         self.find("1050")
         self.assertEqual(self.selected(), 1050)
+
+
+class Past(Browsing):
+    """Pages that go on past departures."""
+
+    def corpus(self, name: str, **more: Any) -> None:
+        """Opens the page of a trace of the corpus."""
+        path = TRACES / f"{name}.trace"
+        self.show(made(path.read_bytes(), report_of(path), **more))
+
+    def tags(self) -> Any:
+        """What is said against the line that is selected."""
+        script = (
+            "return [...document.querySelectorAll('tr.selected .tag')].map(it => it.textContent)"
+        )
+        return self.browser.run(script)
+
+    def test_the_lines_behind_have_their_state(self) -> None:
+        self.corpus("several-departures")
+        self.assertEqual(self.selected(), 13)
+        self.assertEqual(self.tags(), ["refused V7 past-window"])
+        self.assertIn("13,200", self.text("tr.selected"))
+        self.browser.run("location.hash = '#line=24'")
+        self.browser.wait("return qauditPage.selected() === 24")
+        self.assertEqual(self.text("tr.selected td[data-name=PTOs]"), "1")
+        unjudged = "return document.querySelectorAll('#rows tr.unjudged').length"
+        self.assertEqual(self.browser.run(unjudged), 0)
+
+    def test_keys_and_buttons_go_from_one_to_the_next(self) -> None:
+        self.corpus("several-departures")
+        for line in (15, 17, 22, 24, 24):
+            self.key("n")
+            self.assertEqual(self.selected(), line)
+        self.assertEqual(self.tags(), ["departure V13 timer-early"])
+        self.assertIn("departure V13 timer-early", self.text("#said"))
+        self.key("p")
+        self.assertEqual(self.selected(), 22)
+        self.browser.run("document.getElementById('departure-before').click()")
+        self.assertEqual(self.selected(), 17)
+        self.browser.run("document.getElementById('departure-next').click()")
+        self.assertEqual(self.selected(), 22)
+        self.key("v")
+        self.assertEqual(self.selected(), 13)
+
+    def test_a_link_of_the_table_opens_its_line(self) -> None:
+        self.corpus("several-departures")
+        self.browser.run("document.querySelector('#departures a[href=\"#line=24\"]').click()")
+        self.browser.wait("return qauditPage.selected() === 24")
+        self.assertEqual(self.tags(), ["departure V13 timer-early"])
+
+    def test_several_rules_at_one_line(self) -> None:
+        self.corpus("two-departures-at-one-event")
+        self.assertEqual(self.tags(), ["refused V13 timer-early", "departure V14 probe-owed"])
+        self.key("n")
+        names = [f"departure V16 metric {it}" for it in ("window", "ssthresh", "smoothed_rtt")]
+        self.assertEqual(self.tags(), names)
+
+    def test_behind_the_end_nothing_is_judged(self) -> None:
+        self.corpus("departure-and-then-a-loss-set")
+        self.key("End")
+        self.assertIn("not judged", self.text("tr.selected"))
+        self.assertEqual(self.browser.run("return document.querySelector('.unjudged') !== null"), 1)
+        self.key("ArrowLeft")
+        self.assertEqual(self.selected(), 15)
+        self.assertEqual(self.tags(), ["refused V4 loss-set"])
+        self.assertIn("the machine stops before this line", self.text("tr.selected"))
+        self.key("ArrowLeft")
+        self.assertIn("3: app 0-2", self.text("tr.selected"))
+
+    def test_an_end_that_cannot_be_read(self) -> None:
+        self.corpus("departure-and-then-no-json")
+        self.browser.run("location.hash = '#line=15'")
+        self.browser.wait("return qauditPage.selected() === 15")
+        self.assertEqual(self.tags(), ["unreadable F1 not-json"])
+
+    def test_a_loss_that_is_owed_at_the_end(self) -> None:
+        self.corpus("departure-and-a-loss-owed-at-the-end")
+        self.browser.run("location.hash = '#line=14'")
+        self.browser.wait("return qauditPage.selected() === 14")
+        self.assertEqual(self.tags(), ["refused V17 owed-at-end"])
+        self.assertIn("2: app 0-1", self.text("tr.selected"))
+
+    def test_a_page_without_departures_has_no_buttons_for_them(self) -> None:
+        self.corpus("app-pto")
+        hidden = "return document.getElementById('departures-bar').hidden"
+        self.assertTrue(self.browser.run(hidden))
+
+    def test_a_part(self) -> None:
+        self.corpus("several-departures", first=14, last=20)
+        self.assertIn("Line 13 is not in this page", self.text("#trouble"))
+        self.browser.run("document.querySelector('#departures a[href=\"#line=15\"]').click()")
+        self.browser.wait("return qauditPage.selected() === 15")
+        self.browser.run("document.querySelector('#departures a[href=\"#line=24\"]').click()")
+        self.browser.wait(
+            "return document.getElementById('trouble').textContent.includes('Line 24 is not')"
+        )
+
+    def test_widths(self) -> None:
+        try:
+            for width in (1200, 400):
+                self.browser.resize(width, 900)
+                for name in ("quinn-growth-before-the-loss", "departure-and-then-a-loss-set"):
+                    self.corpus(name)
+                    wide = self.browser.run("return document.documentElement.scrollWidth")
+                    self.assertLessEqual(wide, width)
+        finally:
+            self.browser.resize(1200, 900)
+
+    def test_places(self) -> None:
+        """The diagrams go on past the departure, in colour."""
+        self.show(made(joined(*SMALL)))
+        self.key("Home")
+        at = Scale(self.browser, "window")
+        self.assertTrue(at.has(200, 7_200, "refused"), "the cross at what departs")
+        self.assertTrue(at.has(280, 6_000, "app"), "the window behind it")
+        at = Scale(self.browser, "packets-app")
+        self.assertTrue(at.has(310, 9, "app"), "a packet behind it")
+        self.assertFalse(at.has(310, 9, "soft"))
+        self.assertTrue(at.has(200, 6, "refused"), "the line of the verdict")
+
+    def test_each_departure_is_marked(self) -> None:
+        """Two packets past the window: the second has an upright, and a cross of its own."""
+        data = joined(HEADER, *(sent(n) for n in range(10)), sent(10, 50_000), sent(11, 100_000))
+        self.show(made(data + joined(sent(12, 200_000, size=1, more=""))))
+        self.key("Home")
+        at = Scale(self.browser, "window")
+        for time, flying in ((50, 13_200), (100, 14_400), (200, 14_401)):
+            self.assertTrue(at.has(time, flying, "refused"), f"the cross at {time} ms")
+            self.assertTrue(at.has(time, 2_000, "refused"), f"the upright at {time} ms")
+        self.assertFalse(at.has(150, 14_400, "refused"))
+        self.assertFalse(at.has(150, 2_000, "refused"))
+
+    def test_many_are_ticks(self) -> None:
+        """Where many depart each has a short upright at the bottom, and hides nothing."""
+        many = (sent(10 + n, 1000 * n) for n in range(100))
+        self.show(made(joined(HEADER, *(sent(n) for n in range(10)), *many)))
+        self.key("Home")
+        at = Scale(self.browser, "window")
+        self.assertTrue(at.has(50, 1_000, "refused"))
+        self.assertFalse(at.has(50, 30_000, "refused"))
+        self.assertTrue(at.has(50, 12_000, "app"), "the window")
+        self.assertTrue(at.has(50, 13_200 + 50 * 1_200, "refused"), "a cross")
 
 
 class Harm(Browsing):
@@ -473,7 +616,7 @@ class Marks(Browsing):
     @classmethod
     def setUpClass(cls) -> None:
         super().setUpClass()
-        cls.page = made(joined(*SMALL))
+        cls.page = made(joined(*SMALL), is_strict=True)
 
     def deselected(self) -> None:
         """Selects a line away from what is looked at."""
@@ -561,9 +704,11 @@ class Marks(Browsing):
 class WrongPages(Browsing):
     """Wrong pages, which the marks at their places have to tell from right ones."""
 
-    def changed(self, change: Any) -> str:
-        """The page of the small trace with other columns."""
-        text = made(joined(*SMALL))
+    def changed(
+        self, change: Any, trace: tuple[str, ...] = SMALL, *, is_strict: bool = True
+    ) -> str:
+        """The page of a small trace with other columns."""
+        text = made(joined(*trace), is_strict=is_strict)
         block = re.search(r'id="data">([^<]*)<', text)
         assert block is not None
         data = json.loads(zlib.decompress(base64.b64decode(block[1])))
@@ -589,6 +734,27 @@ class WrongPages(Browsing):
         self.show(self.changed(change))
         self.key("Home")
         self.assertTrue(Scale(self.browser, "window").has(101, 12_000, "app"))
+
+    def test_a_departure_that_is_not_marked(self) -> None:
+        def change(data: Any) -> None:
+            data["departures"][0]["lines"].pop()
+
+        trace = (HEADER, *(sent(n) for n in range(10)), sent(10, 50_000), sent(11, 100_000))
+        for page, is_marked in (
+            (made(joined(*trace)), True),
+            (self.changed(change, trace, is_strict=False), False),
+        ):
+            self.show(page)
+            self.key("Home")
+            self.assertEqual(Scale(self.browser, "window").has(100, 14_400, "refused"), is_marked)
+
+    def test_a_trace_that_ends_at_another_line(self) -> None:
+        def change(data: Any) -> None:
+            data["unjudged"] = REFUSED + 1
+
+        self.show(self.changed(change, is_strict=False))
+        self.key("Home")
+        self.assertFalse(Scale(self.browser, "packets-app").has(310, 9, "app"))
 
     def test_a_packet_at_another_number(self) -> None:
         def change(data: Any) -> None:

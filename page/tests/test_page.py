@@ -18,6 +18,7 @@ from tests.made import (
     NO_LIBRARY,
     PAGE,
     PROGRAM,
+    STAND_IN,
     TRACES,
     Page,
     acked,
@@ -26,10 +27,13 @@ from tests.made import (
     report_of,
     seen,
     sent,
+    summed,
 )
 
 from qaudit_page import payload
-from qaudit_page.failure import Failure
+from qaudit_page.departures import departures_of, section_of
+from qaudit_page.failure import Failure, Status
+from qaudit_page.program import PAST, Verdict
 from qaudit_page.rules import FAULTS, RULES
 from qaudit_page.texts import milliseconds, runs
 
@@ -49,12 +53,26 @@ UNTOLD = {
     "counts_from",
     "free_space",
     "owed_space",
+    # Of all departures.
+    "events",
+    "departures",
+    "end",
 }
 EVIL = (
     "</script><script>window.pwned=1</script><img src=x onerror=window.pwned=2>\"'&"
     "\u2028\u202e\x00\x1b[2J"
 )
 EMPTY = "unreadable line 1 F7 header-place\n"
+
+
+def knows_all(program: Path) -> bool:
+    """Whether a program goes past departures."""
+    for options in (PAST.verdict, PAST.rows):
+        command = [str(program), *options, "-"]
+        ended = subprocess.run(command, input=b"", capture_output=True, timeout=60, check=False)
+        if ended.returncode == Status.USAGE:
+            return False
+    return True
 
 
 def told(page: Page) -> str:
@@ -154,6 +172,121 @@ class Corpus(unittest.TestCase):
         page = Page(made(b"", EMPTY))
         self.assertEqual(page.data()["count"], 0)
         self.assertIn("F7 header-place", page.by_id["p"])
+
+
+class Departures(unittest.TestCase):
+    """The table of all departures."""
+
+    def page(self, name: str, **more: Any) -> Page:
+        """The page of a trace of the corpus."""
+        path = TRACES / f"{name}.trace"
+        return Page(made(path.read_bytes(), report_of(path), **more))
+
+    def test_rows_by_hand(self) -> None:
+        page = self.page("several-departures")
+        window, timer = RULES["V7"], RULES["V13"]
+        self.assertEqual(
+            page.rows(),
+            [
+                (
+                    "V7 past-window",
+                    f"{window.sentence} {window.source}",
+                    "4",
+                    "1,740 B",
+                    "13 15 17 22",
+                ),
+                ("V13 timer-early", f"{timer.sentence} {timer.source}", "1", "0.2 ms", "24"),
+            ],
+        )
+        links = [found["href"] for tag, found in page.tags if tag == "a"]
+        self.assertEqual(links, [f"#line={line}" for line in (13, 13, 15, 17, 22, 24)])
+        told_of_all = " ".join(page.by_id["departures"].split())
+        self.assertIn("The sender departs 5 times in 22 events.", told_of_all)
+        self.assertIn("All else that the trace tells keeps to RFC 9002.", told_of_all)
+
+    def test_the_verdict_stays_the_first_departure(self) -> None:
+        page = self.page("several-departures")
+        self.assertIn("Refused at line 13: V7 past-window.", page.by_id["p"])
+        self.assertIn("12,000 + 1,200 = 13,200 B", told(page))
+        self.assertNotIn("judged", page.by_id["overview"])
+
+    def test_each_way_to_end(self) -> None:
+        for name, words, line in (
+            ("departure-and-then-a-loss-set", "the trace is refused at line 15: V4 loss-set.", 14),
+            (
+                "departure-and-a-loss-owed-at-the-end",
+                "the trace is refused at line 14: V17 owed-at-end.",
+                14,
+            ),
+            (
+                "departure-and-then-no-json",
+                "the trace cannot be read at line 15: F1 not-json.",
+                13,
+            ),
+            (
+                "departure-and-then-a-key-missing",
+                "the trace cannot be read at line 14: F3 missing ranges.",
+                13,
+            ),
+            (
+                "early-timers-past-the-fortieth-doubling",
+                "the trace is refused at line 83: V13 timer-early.",
+                82,
+            ),
+        ):
+            with self.subTest(name):
+                page = self.page(name)
+                self.assertIn(f"Past that {words}", " ".join(page.by_id["departures"].split()))
+                self.assertIn(f"judged up to line {line}", page.by_id["overview"])
+
+    def test_the_end_has_its_amounts(self) -> None:
+        page = self.page("departure-and-then-a-loss-set")
+        self.assertIn("owed and not named 2", " ".join(page.by_id["departures"].split()))
+
+    def test_amounts_past_64_bits(self) -> None:
+        page = self.page("early-timers-past-64-bits")
+        self.assertEqual(page.rows()[0][3], "1,649,267,441,663,999,999.999 ms")
+
+    def test_of_many_lines_most_are_folded(self) -> None:
+        page = self.page("quinn-growth-before-the-loss")
+        rows = {row[0]: row for row in page.rows()}
+        self.assertEqual(rows["V16 metric window"][2], "833")
+        self.assertEqual(len(rows["V16 metric window"][4].split()), 833)
+        self.assertEqual(page.texts["summary"][:3], ["73 more", "821 more", "821 more"])
+
+    def test_of_more_than_a_thousand_the_first_are_named(self) -> None:
+        data = joined(HEADER, *(sent(n) for n in range(1015)))
+        page = Page(made(data))
+        (row,) = page.rows()
+        self.assertEqual((row[0], row[2]), ("V7 past-window", "1,005"))
+        self.assertEqual(row[4].split()[-1], "1,011")
+        self.assertIn("988 more, of 1,005 in all", page.by_id["departures"])
+        self.assertEqual(len(page.data()["departures"][0]["lines"]), 1000)
+
+    def test_without_departures_there_is_none(self) -> None:
+        for name in ("app-pto", "loss-set-partial", "no-event"):
+            with self.subTest(name):
+                page = self.page(name)
+                self.assertNotIn("departures", page.by_id)
+                self.assertIsNone(page.data()["end"])
+        self.assertNotIn("departures", self.page("several-departures", is_strict=True).by_id)
+
+    def test_names_are_no_markup(self) -> None:
+        data = joined(HEADER, *(sent(n) for n in range(11)))
+        trace, verdict = seen(data)
+        kind = verdict.said["departures"][0] | {"name": EVIL}
+        end = {"verdict": "refused", "line": 9, "rule": "V0", "name": EVIL}
+        evil = Verdict(verdict.said | {"departures": [kind], "end": end})
+        text = section_of(evil, trace.unit)
+        self.assertNotIn("<img", text)
+        self.assertNotIn("<script", text)
+        self.assertEqual(text.count("&lt;img"), 2)
+
+    def test_unknown_departures_are_a_failure(self) -> None:
+        for said in ({}, {"rule": "V7"}, 5, {"rule": "V7", "name": "x", "count": 1, "lines": [[]]}):
+            verdict = Verdict({"verdict": "refused", "line": 2, "departures": [said]})
+            with self.subTest(said), self.assertRaisesRegex(Failure, "unknown departures"):
+                departures_of(verdict)
 
 
 class Safety(unittest.TestCase):
@@ -328,6 +461,33 @@ class Commands(unittest.TestCase):
         old.chmod(0o755)
         self.fails(3, f"{old} has no --rows", TRACES / "timer-late.trace", program=old)
 
+    def test_a_program_that_goes_past_departures(self) -> None:
+        trace = TRACES / "several-departures.trace"
+        wanted = made(trace.read_bytes(), report_of(trace), trace=trace)
+        for program in {STAND_IN, PROGRAM} if knows_all(PROGRAM) else {STAND_IN}:
+            ended = self.run_command("--output", self.page, trace, program=program)
+            self.assertEqual((ended.returncode, ended.stderr), (0, b""))
+            page = Page(self.page.read_text())
+            self.assertEqual([row[0] for row in page.rows()], ["V7 past-window", "V13 timer-early"])
+            self.assertEqual(summed(page.data()["state"]["line"])[-1], 28)
+            self.assertEqual(page.data(), Page(wanted).data())
+
+    def test_a_program_that_does_not(self) -> None:
+        """The page is that of before: what lies behind the first departure was not judged."""
+        old = Path(self.folder.name, "old")
+        for refused in ('case "$*" in *--all*)', 'case "$*" in *--rows*--all*)'):
+            old.write_text(
+                f'#!/bin/sh\n{refused} echo usage >&2; exit 64;; esac\nexec "{PROGRAM}" "$@"\n'
+            )
+            old.chmod(0o755)
+            trace = TRACES / "several-departures.trace"
+            ended = self.run_command("--output", self.page, trace, program=old)
+            self.assertEqual((ended.returncode, ended.stderr), (0, b""))
+            text = self.page.read_text()
+            strict = made(trace.read_bytes(), report_of(trace), trace=trace, is_strict=True)
+            self.assertEqual(Page(text).data(), Page(strict).data())
+            self.assertNotIn("departures", Page(text).by_id)
+
     def test_a_program_that_fails(self) -> None:
         broken = Path(self.folder.name, "broken")
         for text, told_of in (
@@ -339,7 +499,8 @@ class Commands(unittest.TestCase):
             broken.chmod(0o755)
             self.fails(3, told_of, TRACES / "timer-late.trace", program=broken)
         said = '{"file":"-","verdict":"refused","line":2,"rule":"V7","name":"past-window"}'
-        broken.write_text(f"#!/bin/sh\n[ $1 = --json ] && echo '{said}'\nexit 1\n")
+        asked = 'case "$*" in *--json*)'
+        broken.write_text(f"#!/bin/sh\n{asked} echo '{said}';; esac\nexit 1\n")
         self.fails(3, "an unknown object", TRACES / "timer-late.trace", program=broken)
         broken.write_text(
             '#!/bin/sh\n[ "$1" = --rows ] && echo \'{"line":1}\' && exit 0\n'

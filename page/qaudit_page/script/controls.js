@@ -47,11 +47,20 @@ function changeAxis(event) {
 }
 
 const toVerdict = () => trace.verdictAt >= 0 && select(trace.verdictAt, {zooms: true});
+
+// Selects the next line that departs, or the one before.
+function toDeparture(by) {
+  const at = view.selected, places = [...trace.departed.keys()];
+  const next = by > 0 ? places.find(it => it > at) : places.filter(it => it < at).pop();
+  if (next !== undefined) select(next);
+}
+
 const KEYS = {
   ArrowLeft: event => event.shiftKey ? pan(-0.25) : select(view.selected - 1, {stays: true}),
   ArrowRight: event => event.shiftKey ? pan(0.25) : select(view.selected + 1, {stays: true}),
   Home: () => select(0), End: () => select(trace.count - 1),
   '+': () => zoom(0.5), '=': () => zoom(0.5), '-': () => zoom(2), '0': showAll, v: toVerdict,
+  n: () => toDeparture(1), p: () => toDeparture(-1),
   '/': () => byId('find').focus(), Escape: () => showTip(-1),
 };
 
@@ -74,6 +83,8 @@ function addControls() {
   click('earlier', () => turnTable(-ROWS));
   click('later', () => turnTable(ROWS));
   click('to-verdict', toVerdict);
+  click('departure-before', () => toDeparture(-1));
+  click('departure-next', () => toDeparture(1));
   click('rows', event => {
     const row = event.target.closest('tr');
     if (row && !getSelection().toString()) select(placeShown(+row.dataset.line), {stays: true});
@@ -84,6 +95,7 @@ function addControls() {
   addEventListener('keydown', onKey);
   addEventListener('hashchange', followAddress);
   addEventListener('resize', redraw);
+  byId('departures-bar').hidden = !trace.departed.size;
   byId('to-verdict').hidden = trace.verdictAt < 0;
   byId('to-verdict').textContent = `Go to line ${trace.verdict.line}`;
   byId('to-verdict').classList.add(trace.verdict.kind);

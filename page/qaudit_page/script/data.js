@@ -55,7 +55,11 @@ function unpack(said, text) {
   trace.space = Uint8Array.from(said.space, Number);
   // The place of the first line that was not judged.
   trace.limit = said.unjudged === null ? said.count : Math.max(0, said.unjudged - said.first);
+  trace.stopAt = said.unjudged === null ? -1 : placeShown(said.unjudged);
   trace.verdictAt = placeShown(said.verdict.line);
+  // Past departures the trace ends in another way, and at another line.
+  trace.endAt = said.end && said.end.kind !== 'accepted' ? placeShown(said.end.line) : -1;
+  trace.departed = departedOf(said.departures);
   unpackState(said.state);
   unpackPackets(said.packets);
   // The greatest numbers count from the least of their space, as those of packets do.
@@ -64,7 +68,7 @@ function unpack(said, text) {
   for (const name of METRICS) trace.reports[name] = amounts(said.metrics[name]);
   trace.marks = marksOf();
   trace.silences = silencesOf();
-  trace.culprit = culpritOf();
+  trace.culprits = culpritsOf();
 }
 
 const placesOf = lines => summed(lines).map(line => line - trace.first);
@@ -73,6 +77,27 @@ const placesOf = lines => summed(lines).map(line => line - trace.first);
 function placeShown(line) {
   const place = line - trace.first;
   return line > 0 && place >= 0 && place < trace.count ? place : -1;
+}
+
+// The rules of conduct that lines depart from, by the places of the lines.
+function departedOf(kinds) {
+  const found = new Map();
+  for (const {lines, ...kind} of kinds) for (const at of placesOf(lines)) {
+    if (!found.has(at)) found.set(at, []);
+    found.get(at).push(kind);
+  }
+  return new Map([...found].sort(([one], [other]) => one - other));
+}
+
+// The first place of rising values that is not below a value.
+function firstNotBelow(values, value) {
+  let low = 0, high = values.length;
+  while (low < high) {
+    const middle = (low + high) >> 1;
+    if (values[middle] < value) low = middle + 1;
+    else high = middle;
+  }
+  return low;
 }
 
 // The state behind each line: that of its row, of a blank line that of the row above.
@@ -177,18 +202,25 @@ function silencesOf() {
   return found.sort((a, b) => b.over - a.over).slice(0, 2000);
 }
 
-// What the refused line would make of the state, or says of it, and the diagram that has that.
-function culpritOf() {
-  const at = trace.verdictAt, {rule, field} = trace.verdict;
-  if (at < 1 || trace.verdict.kind !== 'refused') return null;
+// The values that are refused, or that depart.
+function culpritsOf() {
+  const isRefused = trace.verdict.kind === 'refused';
+  const lines = trace.departed.size ? [...trace.departed] :
+    isRefused ? [[trace.verdictAt, [trace.verdict]]] : [];
+  return lines.flatMap(([at, rules]) => rules.map(rule => culpritOf(at, rule))).filter(Boolean);
+}
+
+// What a line would make of the state, or says of it, and the diagram that has that.
+function culpritOf(at, {rule, field}) {
+  if (at < 1) return null;
   const packet = trace.packets.of[at];
   if (rule === 'V7' && packet >= 0)
-    return {chart: 'window', value: trace.state.in_flight[at - 1] + trace.packets.size[packet]};
-  const report = trace.reports.at.indexOf(at);
+    return {at, chart: 'window', value: trace.state.in_flight[at - 1] + trace.packets.size[packet]};
+  const report = firstNotBelow(trace.reports.at, at);
   const of = {V16: field, V19: 'window'}[rule];
-  if (report < 0 || !of) return null;
+  if (trace.reports.at[report] !== at || !of) return null;
   const chart = /rtt/.test(of) ? 'rtt' : 'window';
-  return {chart, value: trace.reports[of][report]};
+  return {at, chart, value: trace.reports[of][report]};
 }
 
 // Text for people.

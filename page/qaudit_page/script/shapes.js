@@ -8,6 +8,7 @@ const FONT = '12px system-ui, "DejaVu Sans", sans-serif';
 const DASHES = {
   pto: [3, 2], loss: [1, 2], discard: [6, 3, 1, 3], confirmed: [2, 4], keys: [2, 4],
   ssthresh: [7, 4], least: [7, 4], lossDelay: [2, 2], timeout: [9, 3, 2, 3],
+  departed: [5, 2],
 };
 const colors = {};
 
@@ -18,7 +19,7 @@ function readColors() {
 
 const toneOfMark = of => of === 'pto' || of === 'loss' ? colors.timer : colors.soft;
 const toneOfSpace = (space, isJudged) => isJudged ? colors[SPACES[space]] : colors.soft;
-const toneOfVerdict = () => trace.verdict.kind === 'refused' ? colors.refused : colors.unread;
+const toneOfVerdict = ({kind}) => kind === 'refused' ? colors.refused : colors.unread;
 
 // Strokes what a function puts into a path.
 function stroked(context, color, width, dashes, path, alpha = 1) {

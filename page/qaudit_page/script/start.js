@@ -74,7 +74,8 @@ function makeCharts() {
     ...toneOfAxes(), series: seriesOfRtt(), axes: {x, y: {...y, ...formatter}},
   }));
   isDrawing = false;
-  const about = `${grouped(trace.packets.count)} packets, ${trace.verdict.kind}`;
+  const departed = trace.departed.size ? `, ${grouped(trace.departed.size)} lines depart` : '';
+  const about = `${grouped(trace.packets.count)} packets, ${trace.verdict.kind}${departed}`;
   byId('chart-packets').setAttribute('aria-label', `Packet numbers over time: ${about}`);
 }
 
@@ -156,16 +157,19 @@ function fillKeys() {
       c.fillStyle = colors.timer; c.fill(); }],
     [has('loss'), 'loss timer', c => shaped(c, colors.timer, 1.6, triangle, 5)],
     [has('discard'), 'keys discarded', c => standingLine(c, colors.soft, 1.3, DASHES.discard)],
-    [trace.verdictAt >= 0, 'line of the verdict', c => standingLine(c, toneOfVerdict(), 2.5, [])],
+    [trace.verdictAt >= 0, 'line of the verdict', c =>
+      standingLine(c, toneOfVerdict(trace.verdict), 2.5, [])],
+    [trace.departed.size > 1, 'departs too', c =>
+      standingLine(c, colors.refused, 1.3, DASHES.departed)],
     [trace.limit < trace.count, 'not judged', c => hatched(c, 1, 1, 24, 14, 1)],
   ]);
   fillKeysOfState(has);
 }
 
 function fillKeysOfState() {
-  const {reports, culprit, state} = trace;
+  const {reports, culprits, state} = trace;
   const reported = name => reports[name].some(value => value === value);
-  const refused = chart => [culprit && culprit.chart === chart, 'what is refused',
+  const refused = chart => [culprits.some(it => it.chart === chart), 'what is refused',
     c => shaped(c, colors.refused, 3, cross, 5)];
   fillKey('key-window', [
     refused('window'),

@@ -65,7 +65,7 @@ function pickColumn(columns, begin, high, end, places) {
 const orNull = value => value === value ? value : null;
 
 // The rows that dygraphs draws: x, each series, and a place for marks. The state holds until the
-// line of the verdict.
+// line at which the machine stops.
 function rowsOf(series, pixels) {
   const columns = Object.values(series);
   const places = picked(columns, pixels);
@@ -74,7 +74,7 @@ function rowsOf(series, pixels) {
     !k || k === places.length - 1 || column[places[k]] !== column[places[k - 1]];
   const rows = places.map((i, k) =>
     [view.x[i], ...columns.map(it => isNew(it, k) ? orNull(it[i]) : null), 0]);
-  const last = Math.min(trace.limit, trace.count) - 1, end = trace.verdictAt;
+  const last = Math.min(trace.limit, trace.count) - 1, end = trace.stopAt;
   if (rows.length && end > last && view.to > view.x[last])
     rows.push([view.x[end], ...columns.map(it => orNull(it[last])), 0]);
   if (!rows.length)
@@ -96,11 +96,8 @@ function extremes(rows, reported, chart) {
     if (value <= limit) high = Math.max(high, value);
     if (value <= limit) low = Math.min(low, value);
   }
-  const culprit = trace.culprit;
-  if (culprit && culprit.chart === chart && isSeen(view.x[trace.verdictAt])) {
-    const value = culprit.value / (chart === 'rtt' ? trace.scale : 1);
-    if (value < high * 8) high = Math.max(high, value);
-  }
+  const most = high * 8;
+  for (const it of culpritsSeen(chart)) if (it.shown < most) high = Math.max(high, it.shown);
   return [low, high];
 }
 
@@ -159,17 +156,29 @@ const circle = (context, x, y, r) => {
   context.arc(x, y, r * 0.8, 0, 2 * Math.PI);
 };
 
-// A cross at the value that is refused.
-function drawCulprit(context, area, range, chart) {
-  const culprit = trace.culprit;
-  if (!culprit || culprit.chart !== chart) return;
-  const to = scaleOf(area, range), value = culprit.value / (chart === 'rtt' ? trace.scale : 1);
-  const x = to.x(view.x[trace.verdictAt]), y = Math.max(area.y + 9, to.y(value));
-  context.beginPath();
-  context.arc(x, y, 8.5, 0, 2 * Math.PI);
-  context.fillStyle = colors.paper;
-  context.fill();
-  stroked(context, colors.refused, 3, [], () => cross(context, x, y, 5.5));
+// The values of a diagram that are refused or depart, as many as are seen.
+function culpritsSeen(chart) {
+  const by = chart === 'rtt' ? trace.scale : 1;
+  return trace.culprits.filter(it => it.chart === chart && isSeen(view.x[it.at]))
+    .map(({at, value}) => ({at, shown: value / by}));
+}
+
+// A cross at each value that is refused or departs: at those of the verdict a great one.
+function drawCulprits(context, area, range, chart) {
+  const to = scaleOf(area, range), points = culpritsSeen(chart).map(({at, shown}) =>
+    ({at, x: to.x(view.x[at]), y: Math.max(area.y + 9, to.y(shown))}));
+  const free = cells(area, points.length > MANY_DEPARTURES ? 10 : 4);
+  stroked(context, colors.refused, 1.6, [], () => {
+    for (const {at, x, y} of points)
+      if (at !== trace.verdictAt && free(x, y)) cross(context, x, y, 3.2);
+  });
+  for (const {at, x, y} of points) if (at === trace.verdictAt) {
+    context.beginPath();
+    context.arc(x, y, 8.5, 0, 2 * Math.PI);
+    context.fillStyle = colors.paper;
+    context.fill();
+    stroked(context, colors.refused, 3, [], () => cross(context, x, y, 5.5));
+  }
 }
 
 function drawWindowMarks(event) {
@@ -180,7 +189,7 @@ function drawWindowMarks(event) {
   drawReported(context, area, windowRange, ssthresh, colors.soft, diamond);
   drawReported(context, area, windowRange, bytes_in_flight, colors.flight, circle);
   drawOver(context, area, false);
-  drawCulprit(context, area, windowRange, 'window');
+  drawCulprits(context, area, windowRange, 'window');
   context.restore();
 }
 
@@ -193,7 +202,7 @@ function drawRttMarks(event) {
   drawReported(context, area, rttRange, latest, colors.latest, circle);
   drawReported(context, area, rttRange, least, colors.least, circle);
   drawOver(context, area, false);
-  drawCulprit(context, area, rttRange, 'rtt');
+  drawCulprits(context, area, rttRange, 'rtt');
   context.restore();
 }
 

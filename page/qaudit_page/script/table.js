@@ -36,8 +36,26 @@ const hasTime = place => !'hbu'.includes(trace.kind[place]);
 
 // What the verdict is of a line, where it is not that the line is good.
 function standing(place) {
-  if (place === trace.verdictAt) return 'verdict-line';
+  if (place === trace.verdictAt || place === trace.endAt) return 'verdict-line';
+  if (trace.departed.has(place)) return 'departed';
   return place >= trace.limit ? 'unjudged' : '';
+}
+
+// What is said against a line: that it is refused or cannot be read, and each rule it departs from.
+function judgements(place) {
+  const said = [], named = it => `${it.rule} ${it.name}`;
+  for (const [at, it] of [[trace.verdictAt, trace.verdict], [trace.endAt, trace.end]])
+    if (at >= 0 && at === place) said.push(`${it.kind} ${named(it)}`);
+  for (const it of trace.departed.get(place) || []) {
+    const isVerdict = place === trace.verdictAt && named(it) === named(trace.verdict);
+    if (!isVerdict) said.push(`departure ${named(it)}`);
+  }
+  return said;
+}
+
+// The same in a row, or that the line was not judged.
+function standingOf(place) {
+  return judgements(place).join(', ') || (standing(place) === 'unjudged' ? 'not judged' : '');
 }
 
 function fillTable() {
@@ -58,10 +76,7 @@ function rowOfLine(place) {
   const number = element('th', String(trace.first + place));
   number.scope = 'row';
   const said = element('td', undefined, 'text');
-  if (place === trace.verdictAt) {
-    const {kind, rule, name} = trace.verdict;
-    said.append(element('span', `${kind} ${rule} ${name}`, 'tag'), ' ');
-  }
+  for (const words of judgements(place)) said.append(element('span', words, 'tag'), ' ');
   put(said, trace.lines[place] || '', MOST_OF_LINE);
   const time = hasTime(place) ? withoutUnit(milliseconds(trace.time[place])) : '';
   row.append(number, cellOf('time', time), said);
@@ -82,8 +97,8 @@ function cellOf(name, text) {
 }
 
 function cellWithout(place) {
-  const isVerdict = place === trace.verdictAt, isBefore = place < trace.limit;
-  const words = isVerdict ? 'the machine stops before this line' : isBefore ? '' : 'not judged';
+  const isEnd = place === trace.stopAt, isBefore = place < trace.limit;
+  const words = isEnd ? 'the machine stops before this line' : isBefore ? '' : 'not judged';
   const cell = element('td', words, 'without');
   cell.colSpan = 2;
   return cell;
@@ -123,9 +138,8 @@ function summaryOf(place) {
   const line = `Line ${trace.first + place}, ${KINDS[trace.kind[place]]}`;
   const time = hasTime(place) ? `, ${milliseconds(trace.time[place])}` : '';
   const packet = trace.packets.of[place] >= 0 ? `, ${fateOf(trace.packets.of[place])}` : '';
-  const stand =
-    {'verdict-line': `, ${trace.verdict.kind}`, unjudged: ', not judged'}[standing(place)];
-  return `${line}${time}${packet}${stand || ''}`;
+  const stand = standingOf(place);
+  return `${line}${time}${packet}${stand && `, ${stand}`}`;
 }
 
 // What became of a packet.
@@ -152,8 +166,7 @@ function showTip(place, event) {
   box.hidden = place < 0;
   if (place < 0) return;
   const time = hasTime(place) ? ` \u00b7 ${milliseconds(trace.time[place])}` : '';
-  const stand = {'verdict-line': ` \u00b7 ${trace.verdict.kind} by ${trace.verdict.rule}`,
-    unjudged: ' \u00b7 not judged'}[standing(place)] || '';
+  const stand = standingOf(place) && ` \u00b7 ${standingOf(place)}`;
   const head = element('div');
   head.append(element('b', `line ${trace.first + place}`), time, stand);
   const said = element('div', undefined, 'text');
@@ -177,7 +190,9 @@ function nearest(name, x, y) {
   const at = name === 'packets' ? nearestPacket(area, x, y) : -1;
   if (at >= 0) return at;
   const to = scaleOf(area, [0, 1]), isNear = place => Math.abs(to.x(view.x[place]) - x) < 4;
-  if (trace.verdictAt >= 0 && isNear(trace.verdictAt)) return trace.verdictAt;
+  const judged = [trace.verdictAt, trace.endAt, ...trace.departed.keys()].filter(it => it >= 0);
+  const told = judged.find(isNear);
+  if (told !== undefined) return told;
   const mark = trace.marks.find(it => isNear(it.at));
   if (mark) return mark.at;
   const value = view.from + (x - area.x) / area.w * (view.to - view.from), next = placeAt(value);

@@ -3,6 +3,9 @@
 const view = {byLine: false, x: new Float64Array(0), low: 0, high: 1, from: 0, to: 1, selected: -1};
 const shownSpaces = [true, true, true];
 const charts = {};
+// Above so many lines that depart each is drawn as a tick of this height, in pixels.
+const MANY_DEPARTURES = 40;
+const TICK = 12;
 let isDrawing = false, frameWanted = 0, frames = 0, lastFrame = 0;
 
 // The x of each line: its time in milliseconds, which never falls here, or its number.
@@ -21,15 +24,7 @@ function setAxis() {
 }
 
 // The first place whose x is not below this one.
-function placeAt(x) {
-  let low = 0, high = trace.count;
-  while (low < high) {
-    const middle = (low + high) >> 1;
-    if (view.x[middle] < x) low = middle + 1;
-    else high = middle;
-  }
-  return low;
-}
+const placeAt = x => firstNotBelow(view.x, x);
 
 // The x of a place, of one behind the lines that are shown, and of a packet from before them.
 const xOf = place => place < trace.count ? view.x[place] : view.high;
@@ -124,26 +119,23 @@ function drawUnder(context, area) {
   context.restore();
 }
 
-// Above the data: the line of the verdict, the deadline that decides, and the one selected.
+// Above the data: what departs, the line of the verdict and the one that ends the trace, with the
+// deadlines that decide, and the one selected.
 function drawOver(context, area, hasLabels) {
-  const to = scaleOf(area, [0, 1]), flags = [];
-  if (trace.verdictAt >= 0) {
-    const {line, rule, name, kind} = trace.verdict, x = to.x(view.x[trace.verdictAt]);
-    upright(context, area, x, toneOfVerdict(), 2.5, []);
-    const sign = kind === 'refused' ? '\u2717' : '?';
-    const text = `${sign} line ${line}: ${rule} ${name}`;
-    flags.push({x, text, color: toneOfVerdict(), full: true});
-  }
-  if (Number.isFinite(trace.verdict.deadline) && !view.byLine) {
-    const x = to.x(trace.verdict.deadline / trace.scale);
-    upright(context, area, x, colors.timer, 2, [2, 2]);
-    flags.push({x, text: 'its deadline', color: colors.timer, boxed: true});
-  }
+  const to = scaleOf(area, [0, 1]), departed = drawDeparted(context, area, to);
+  const verdicts = [[trace.verdictAt, trace.verdict], [trace.endAt, trace.end]];
+  const flags = verdicts.filter(([at]) => at >= 0)
+    .map(([at, verdict]) => drawVerdict(context, area, to, at, verdict));
   if (view.selected >= 0) {
     const x = to.x(view.x[view.selected]);
     upright(context, area, x, colors.ink, 1, []);
   }
-  if (!hasLabels) return drawFlags(context, area, flags.slice(0, 1));
+  for (const [, verdict] of verdicts) {
+    const flag = drawDeadline(context, area, to, verdict);
+    if (flag && hasLabels) flags.push(flag);
+  }
+  if (!hasLabels) return drawFlags(context, area, flags);
+  flags.push(...departed);
   let before = -9, at = -1;
   for (const mark of trace.marks) {
     const x = to.x(view.x[mark.at]);
@@ -153,6 +145,40 @@ function drawOver(context, area, hasLabels) {
     flags.push({x, text: mark.label, color: toneOfMark(mark.of)});
   }
   return drawFlags(context, area, flags);
+}
+
+// The upright of a line that is refused or cannot be read; its flag.
+function drawVerdict(context, area, to, at, verdict) {
+  const {line, rule, name, kind} = verdict, x = to.x(view.x[at]), color = toneOfVerdict(verdict);
+  upright(context, area, x, color, 2.5, []);
+  const sign = kind === 'refused' ? '\u2717' : '?';
+  return {x, text: `${sign} line ${line}: ${rule} ${name}`, color, full: true};
+}
+
+// The deadline that decides of a verdict, where there is one; its flag.
+function drawDeadline(context, area, to, verdict) {
+  if (!verdict || !Number.isFinite(verdict.deadline) || view.byLine) return null;
+  const x = to.x(verdict.deadline / trace.scale);
+  upright(context, area, x, colors.timer, 2, [2, 2]);
+  return {x, text: 'its deadline', color: colors.timer, boxed: true};
+}
+
+// The lines that depart, behind the first: as uprights, or where many are seen as short ones at the
+// bottom. Their flags, where they are few.
+function drawDeparted(context, area, to) {
+  const seen = [...trace.departed].filter(([at]) => at !== trace.verdictAt && isSeen(view.x[at]));
+  const isMany = seen.length > MANY_DEPARTURES, tall = isMany ? TICK : area.h, flags = [];
+  let before = -9;
+  for (const [at, rules] of seen) {
+    const x = to.x(view.x[at]);
+    if (x - before < 1) continue;
+    before = x;
+    const part = {y: area.y + area.h - tall, h: tall};
+    upright(context, part, Math.round(x) + 0.5, colors.refused, 1.3, isMany ? [] : DASHES.departed);
+    const names = [...new Set(rules.map(it => it.rule))].join(' ');
+    if (!isMany) flags.push({x, text: names, color: colors.refused});
+  }
+  return flags;
 }
 
 // Flags in rows at the top; one that finds no place is left out.
