@@ -158,10 +158,9 @@ conformance-rows:
 	conformance/rows $(program_why)
 	conformance/rows --all $(program_why)
 
-# All departures from the rules of conduct: the files of the corpus, since no program writes them yet.
+# All departures from the rules of conduct. No program writes them as JSON yet.
 conformance-departures:
-	conformance/departures
-	conformance/departures --json $(program_why)
+	conformance/departures $(program_why)
 
 conformance-allocations:
 	conformance/allocations $(program)

@@ -1,0 +1,47 @@
+//! All departures of a trace, and its rows behind them, as conformance/ has them.
+use qa_all::{rows_all, why_all};
+use qa_check::{Metered, Outcome};
+use qa_running::Running;
+
+/// A probe before any probe timeout, which breaks V8.
+const TRACE: &str =
+    "{\"event\":\"header\",\"version\":1,\"role\":\"server\",\"max_datagram_size\":1200}\n{\"event\":\"sent\",\"time\":0,\"space\":\"app\",\"number\":0,\"size\":1200,\"eliciting\":true,\"in_flight\":true,\"leave\":\"probe\"}\n";
+
+/// The departure, and the table.
+const TEXT: &str =
+    "a:2: departure V8 past-probe: packet 0 of app goes past what a probe timeout allows\n  2 | {\"event\":\"sent\",\"time\":0,\"space\":\"app\",\"number\":0,\"size\":1200,\"eliciting\":true,\"in_flight\":true,\"leave\":\"probe\"}\n  no probe timeout yet\n  RFC 9002, 6.2.4, 7.5: a probe timeout allows two datagrams.\na: departs once in 1 events\n  V8 past-probe: once, line 2\n";
+
+/// The rows of the header and of the probe.
+const ROWS: &str =
+    "{\"line\":1,\"event\":{\"event\":\"header\",\"initial_rtt\":333000,\"initial_window\":12000,\"max_ack_delay\":25000,\"max_datagram_size\":1200,\"role\":\"server\",\"version\":1},\"state\":{\"events\":0,\"window_bytes\":12000,\"ssthresh_bytes\":null,\"in_flight_bytes\":0,\"latest_rtt_us\":0,\"min_rtt_us\":0,\"smoothed_rtt_us\":333000,\"rttvar_us\":166500,\"pto_count\":0,\"owed_space\":null,\"owed\":[],\"set_kind\":null,\"set_space\":null,\"deadline_us\":null}}\n{\"line\":2,\"event\":{\"eliciting\":true,\"event\":\"sent\",\"in_flight\":true,\"leave\":\"probe\",\"number\":0,\"size\":1200,\"space\":\"app\",\"time\":0},\"state\":{\"events\":1,\"window_bytes\":12000,\"ssthresh_bytes\":null,\"in_flight_bytes\":1200,\"latest_rtt_us\":0,\"min_rtt_us\":0,\"smoothed_rtt_us\":333000,\"rttvar_us\":166500,\"pto_count\":0,\"owed_space\":null,\"owed\":[],\"set_kind\":null,\"set_space\":null,\"deadline_us\":null}}\n";
+
+/// A trace that departs is told of with its table, and is refused.
+#[test]
+fn a_trace_departs(rt: HostRuntime) {
+    let mut reader = Metered::new(TRACE.as_bytes());
+    let mut writer = Metered::new(Vec::new(rt.alloc()));
+    let ended = why_all::<Running, _, _>(rt.alloc(), "a", true, &mut reader, &mut writer);
+    assert_eq!(rt; ended, Ok(Outcome::Refused));
+    assert_eq!(rt; writer.into_inner().as_slice(), TEXT.as_bytes());
+}
+
+/// The header alone is accepted, and nothing is written of it where it is to be quiet.
+#[test]
+fn a_trace_departs_from_nothing(rt: HostRuntime) {
+    let header = &TRACE.as_bytes()[..72];
+    let mut reader = Metered::new(header);
+    let mut writer = Metered::new(Vec::new(rt.alloc()));
+    let ended = why_all::<Running, _, _>(rt.alloc(), "a", true, &mut reader, &mut writer);
+    assert_eq!(rt; ended, Ok(Outcome::Accepted));
+    assert!(rt; writer.into_inner().is_empty());
+}
+
+/// Both lines have a row, the second behind a departure.
+#[test]
+fn a_row_stands_behind_a_departure(rt: HostRuntime) {
+    let mut reader = Metered::new(TRACE.as_bytes());
+    let mut writer = Metered::new(Vec::new(rt.alloc()));
+    let ended = rows_all::<Running, _, _>(rt.alloc(), &mut reader, &mut writer);
+    assert_eq!(rt; ended, Ok(Outcome::Accepted));
+    assert_eq!(rt; writer.into_inner().as_slice(), ROWS.as_bytes());
+}

@@ -1,0 +1,153 @@
+//! What a judge that goes on past rules of conduct keeps of an event, and the table of what events
+//! departed from, worked out by hand from RFC 9002.
+ghost use Rattle.std.specs.Prelude.{◌<◌, ◌≤◌, ◌+◌};
+ghost use Rattle.qa_base.specs.values.Limits.{max_lines};
+
+use qa_all::Bearing;
+use qa_base::{Event, Header, Leave, PacketNumber, Role, Rule, Space, Ticks, TimeUnit};
+use qa_causes::Cause;
+use qa_check::Judge;
+use qa_departures::{Finding, Table, amount, is_in_bytes};
+use qa_ledger::{Ledger, LedgerFault};
+use qa_running::Running;
+use std::test::Fail;
+
+/// An ack-eliciting probe of 1,200 bytes at time 0, which breaks V8 where no probe timeout came before.
+fn probe(number: u64) -> Option<Event> {
+    Some(Event::Sent {
+        time: Ticks::of(0),
+        space: Space::Initial,
+        number: PacketNumber::new(number)?,
+        size: 1200,
+        eliciting: true,
+        in_flight: true,
+        leave: Leave::Probe,
+    })
+}
+
+/// Has the judge judge an event; None where there is none, or it does not fit.
+fn judged(judge: &mut Bearing<Running>, event: Option<Event>) -> Option<Result<(), LedgerFault>>
+    requires few { judge.old.ledger.connection.events < max_lines }
+    ensures { judge.new.ledger.connection.events ≤ judge.old.ledger.connection.events + 1 }
+{
+    let event = event?;
+    if !event.fits() {
+        return None;
+    }
+    Some(judge.judge(&event))
+}
+
+/// The rules that the last event broke.
+fn first_latest(judge: &Bearing<Running>) -> Option<Rule> {
+    Some(judge.latest().first()?.rule)
+}
+
+/// What two probes may take since a probe timeout, and what was taken, where this is why an event
+/// breaks V8.
+fn allowance(cause: &Cause) -> Option<(u64, Option<u128>)> {
+    match cause {
+        Cause::PastProbe { allowance, spent } => Some((*allowance, *spent)),
+        _ => None,
+    }
+}
+
+/// Of the first of the last event's departures.
+fn latest_allowance(judge: &Bearing<Running>) -> Option<(u64, Option<u128>)> {
+    allowance(&judge.latest().first()?.cause)
+}
+
+/// Of an event that was not admitted.
+fn next_allowance(judge: &Bearing<Running>, event: Option<Event>) -> Option<(u64, Option<u128>)> {
+    allowance(&judge.cause(&event?, Rule::PastProbe).ok()?)
+}
+
+/// When the timer is due, in microseconds.
+fn due(judge: &Bearing<Running>) -> Option<u128> {
+    Some(judge.deadline()?.time)
+}
+
+/// Whether a loss is owed in any space.
+fn owes_a_space(judge: &Bearing<Running>) -> Option<bool> {
+    Some(judge.owed().ok()?.space.is_some())
+}
+
+/// A probe before any probe timeout is admitted, with the facts before it; a second packet of the same
+/// number is refused, and what the last admitted event broke stays.
+#[test]
+fn a_departure_is_kept_with_its_facts(rt: HostRuntime) -> Result<(), Fail> {
+    let header = Header::new(Role::Server, 1200, None, None, None)?;
+    let mut judge = Bearing::<Running>::under(rt.alloc(), header);
+    assert_eq!(rt; first_latest(&judge), None);
+    assert_eq!(rt; next_allowance(&judge, probe(0)), Some((2400, None)));
+    assert_eq!(rt; judged(&mut judge, probe(0)), Some(Ok(())));
+    assert_eq!(rt; first_latest(&judge), Some(Rule::PastProbe));
+    assert_eq!(rt; latest_allowance(&judge), Some((2400, None)));
+    assert_eq!(rt;
+        judged(&mut judge, probe(0)),
+        Some(Err(LedgerFault::Broken(Rule::NumberNotHigher)))
+    );
+    assert_eq!(rt; first_latest(&judge), Some(Rule::PastProbe));
+    Ok(())
+}
+
+/// What is asked of a judge is answered by its ledger: after one packet nothing is owed, and its probe
+/// timeout is due at 999 ms, which is 333 ms and four times 166.5 ms (RFC 9002, section 6.2.1).
+#[test]
+fn a_judge_answers_by_its_ledger(rt: HostRuntime) -> Result<(), Fail> {
+    let header = Header::new(Role::Server, 1200, None, None, None)?;
+    let mut judge = Bearing::<Running>::under(rt.alloc(), header);
+    assert_eq!(rt; judged(&mut judge, probe(0)), Some(Ok(())));
+    assert_eq!(rt; judge.ledger().totals().bytes_in_flight, 1200);
+    assert_eq!(rt; judge.state().bytes_in_flight, 1200);
+    assert!(rt; !judge.is_owing());
+    assert_eq!(rt; owes_a_space(&judge), Some(false));
+    assert!(rt; matches!(judge.unit(), TimeUnit::Microseconds));
+    assert_eq!(rt; due(&judge), Some(999_000));
+    Ok(())
+}
+
+/// By how much a probe departs for this cause.
+fn probe_amount(cause: &Cause) -> Option<u128> {
+    amount(&probe(0)?, Rule::PastProbe, cause)
+}
+
+/// A probe of 1,200 bytes where 2,400 are allowed and 1,500 were taken is 300 bytes past them.
+#[test]
+fn a_probe_departs_by_bytes(rt: HostRuntime) {
+    let cause = Cause::PastProbe {
+        allowance: 2400,
+        spent: Some(1500),
+    };
+    assert_eq!(rt; probe_amount(&cause), Some(300));
+    assert!(rt; is_in_bytes(Rule::PastProbe));
+}
+
+/// Two packets past the window, by 1,068 bytes at most, and a timer 200 microseconds early.
+#[test]
+fn the_table_has_a_row_for_each_kind(rt: HostRuntime) -> Result<(), Fail> {
+    let mut table = Table::new();
+    assert!(rt; table.is_empty());
+    table.note(&Finding {
+        line: 34,
+        rule: Rule::PastWindow,
+        amount: Some(1068),
+    });
+    table.note(&Finding {
+        line: 50,
+        rule: Rule::TimerEarly,
+        amount: Some(200),
+    });
+    table.note(&Finding {
+        line: 61,
+        rule: Rule::PastWindow,
+        amount: Some(132),
+    });
+    assert!(rt; table.has(Rule::TimerEarly));
+    assert!(rt; !table.has(Rule::ProbeOwed));
+    let text = table.text(rt.alloc(), TimeUnit::Microseconds, 70)?;
+    assert_eq!(rt;
+        text.as_str(),
+        ": departs 3 times in 70 events\n  V7 past-window: 2 times, lines 34 to 61, by at most 1068 bytes\n  V13 timer-early: once, line 50, by 200 us\n"
+    );
+    Ok(())
+}
