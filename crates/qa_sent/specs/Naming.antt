@@ -44,6 +44,23 @@ abbrev pub IsNext : (ℕ → Bool) → ℕ → Option ℕ → Type 0
 IsNext test from None = NoneFrom test from
 IsNext test from (Some n) = IsFirst test from n
 
+-- ---- of the numbers that pass a test, some that have to come, and no others but those that may
+
+-- from a number on none but those that may
+abbrev pub AreOnly : (test may : ℕ → Bool) → ℕ → Type 0
+AreOnly test may from = (n : ℕ) → from ≤ n → test n ≡ true → may n ≡ true
+
+-- this one comes, and before it none but those that may
+pub record IsNextOf (test may : ℕ → Bool) (from m : ℕ) : Type 0 where
+  pub low : from ≤ m
+  pub before : (n : ℕ) → from ≤ n → n < m → test n ≡ true → may n ≡ true
+  pub here : test m ≡ true
+
+-- these come in rising order
+abbrev pub AreNext : (test may : ℕ → Bool) → ℕ → List ℕ → Type 0
+AreNext test may from [] = AreOnly test may from
+AreNext test may from (m ∷ ms) = IsNextOf test may from m × AreNext test may (m + 1) ms
+
 -- ---- a walk along the numbers that spans name
 
 pub record IsWalk (spans : List (ℕ × ℕ)) (walk : NamedNumbers) : Type 0 where

@@ -4,7 +4,6 @@
 
 mod acknowledging;
 mod advancing;
-mod asking;
 mod covering;
 mod declaring;
 mod detecting;

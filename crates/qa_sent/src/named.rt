@@ -1,5 +1,5 @@
 //! The numbers that spans name, one after another in rising order. It takes no memory.
-use qa_base::{PacketNumber, Span};
+use qa_base::Span;
 
 /// Numbers one after another, from `start` to below `end`.
 #[derive(Clone, Copy)]
@@ -62,8 +62,7 @@ pub(crate) struct NamedNumbers {
 }
 
 impl NamedNumbers {
-    ghost use Rattle.std.specs.Prelude.{◌≡◌, ◌≤◌, ◌<◌, ◌+◌, ℕ, true, false, List, ◌∷◌, drop, length, slice_index_or, IfSome};
-    ghost use Rattle.qa_base.specs.values.Limits.{max_packet_number};
+    ghost use Rattle.std.specs.Prelude.{◌≡◌, ◌≤◌, ◌<◌, ◌+◌, ℕ, true, List, ◌∷◌, drop, length, slice_index_or, IfSome};
     ghost use Rattle.qa_base.specs.machine.Numbers.{AreRanges};
     ghost use Rattle.qa_base.specs.values.Events.{is_named};
     ghost use Rattle.qa_sent.specs.Naming.{AreRisingFrom, IsNext, IsStretch, IsWalk, turned};
@@ -103,31 +102,6 @@ impl NamedNumbers {
         let number = self.from;
         self.from += 1;
         Some(number)
-    }
-
-    /// Goes on to the first number that the spans name, from this one on, and tells whether it is this
-    /// one. No number from there on may lie where the walk stands.
-    pub(crate) fn pass(&mut self, spans: &[Span], number: u64) -> bool
-        requires walk { IsWalk spans.now self.old }
-        requires from { self.old.from ≤ number }
-        requires to { self.old.to ≤ number }
-        requires high { number ≤ max_packet_number }
-        ensures value { result ≡ is_named spans.now number }
-        ensures none { (n : ℕ) → number ≤ n → n < self.new.from → is_named spans.now n ≡ false }
-        ensures walk { IsWalk spans.now self.new }
-    {
-        self.from = number;
-        match self.next_stretch(spans) {
-            None => {
-                self.from = PacketNumber::MAX + 1;
-                false
-            }
-            Some(stretch) => {
-                self.from = stretch.start;
-                self.to = stretch.end;
-                stretch.start == number
-            }
-        }
     }
 
     /// The first numbers that are not passed, one after another.
