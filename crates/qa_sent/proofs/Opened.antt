@@ -10,7 +10,7 @@ use Rattle.std.proofs.lemmas.Bool.Decides.{nat_tests}
 use Rattle.std.proofs.lemmas.List.Elements.{filter_agree}
 use Rattle.qa_base.specs.declared.space.Space.{Space}
 use Rattle.qa_base.specs.values.Events.{is_space, is_named}
-use Rattle.qa_sent.specs.Covering.{AreApart, is_between, is_new_in}
+use Rattle.qa_sent.specs.Covering.{AreApart, AreApartFrom, BeginsAbove, is_between, is_new_in}
 use Rattle.qa_sent.specs.Fates.{is_new, is_open, is_unacknowledged, is_waiting}
 use Rattle.qa_sent.specs.Held.{AreOrdered, IsBefore, unacknowledged_in}
 use Rattle.qa_sent.specs.declared.fate.Fate.{Fate}
@@ -227,3 +227,15 @@ ends_below [] i next apart forward within is = absurd (omega arith)
 ends_below (r ∷ rs) zero next apart forward within is = tt
 ends_below (r ∷ rs) (suc i) next apart forward within is =
     (head_below r rs i next apart forward.1 (omega arith) is, ends_below rs i next apart.1 forward.1 (omega arith) is)
+
+begins_above : (n : ℕ) (ranges : List (ℕ × ℕ)) → AreApartFrom (n + 1) ranges → BeginsAbove n ranges
+begins_above n [] apart = tt
+begins_above n (r ∷ rs) apart = let low = apart.0 in omega (arith, low)
+
+pub apart_from : (n : ℕ) (ranges : List (ℕ × ℕ)) → AreApartFrom n ranges → AreApart ranges
+apart_from n [] apart = tt
+apart_from n (r ∷ rs) apart = (begins_above r.1 rs apart.1, apart_from (r.1 + 1) rs apart.1)
+
+-- ranges that name the same numbers
+pub new_alike : (s : Space) (ranges others : List (ℕ × ℕ)) (ps : List SentPacket) → ((n : ℕ) → is_named ranges n ≡ is_named others n) → filter (is_new s ranges) ps ≡ filter (is_new s others) ps
+new_alike s ranges others ps same = filter_agree (is_new s ranges) (is_new s others) (λ p. ap (λ b. is_space s p.space && is_open p.fate && b) (same p.number)) ps

@@ -1,16 +1,33 @@
 //! What an acknowledgment newly acknowledges.
-ghost use Rattle.std.specs.Prelude.{◌≡◌, ◌≤◌, [], ◌∷◌, ◌++◌, filter, IfOk, OnOk};
+ghost use Rattle.std.specs.Prelude.{◌≡◌, ◌≤◌, [], ◌∷◌, ◌++◌, filter, reverse, true, IfOk, OnOk};
 ghost use Rattle.qa_sent.specs.Covering.{AreApart, AreFrom, is_new_in};
 ghost use Rattle.qa_sent.specs.Fates.{is_new, is_open};
 ghost use Rattle.qa_sent.specs.Held.{AreOrdered, IsIndexed};
+ghost use Rattle.qa_sent.specs.Naming.{turned};
 
 use crate::lane::Lane;
+use crate::named::NamedNumbers;
 use crate::packet::SentPacket;
 use qa_base::{Space, Span};
 use std::alloc::{AllocError, Global};
 use std::collections::VecDeque;
 
-/// The open packets of a space that some span names, by the lane of the space.
+/// Whether each span ends below the one before it, as those of an acknowledgment mostly do.
+pub fn are_falling(spans: &[Span]) -> bool
+    ensures { result ≡ true → AreApart (reverse spans.now) }
+{
+    let mut falling = true;
+    let mut next = 0;
+    for at in 0..spans.len() {
+        let span = NamedNumbers::nth(spans, true, at);
+        falling = falling && next <= span.lo().get();
+        next = span.hi().get() + 1;
+    }
+    falling
+}
+
+/// The open packets of a space that some span names, by the lane of the space. The spans rise, taken
+/// from the first to the last or, where they fall, from the last to the first.
 pub(crate) fn new_in_spans(
     alloc: Global,
     packets: &VecDeque<SentPacket>,
@@ -18,8 +35,9 @@ pub(crate) fn new_in_spans(
     lane: &Lane,
     space: Space,
     spans: &[Span],
+    falling: bool,
 ) -> Result<Vec<SentPacket>, AllocError>
-    requires apart { AreApart spans.now }
+    requires apart { AreApart (turned falling spans.now) }
     requires indexed { IsIndexed space dropped packets.now.items lane.now }
     requires ordered { AreOrdered packets.now.items }
     ensures { IfOk result (λ found. found.items
@@ -27,8 +45,9 @@ pub(crate) fn new_in_spans(
 {
     let mut found = Vec::new(alloc);
     let first = lane.first_for(spans);
-    for span in spans {
-        push_span(&mut found, packets, dropped, lane, space, first, *span)?;
+    for at in 0..spans.len() {
+        let span = NamedNumbers::nth(spans, falling, at);
+        push_span(&mut found, packets, dropped, lane, space, first, span)?;
     }
     Ok(found)
 }

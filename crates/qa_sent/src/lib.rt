@@ -20,6 +20,7 @@ mod packets;
 mod pushing;
 mod taking;
 
+pub use acknowledging::are_falling;
 pub use detecting::Thresholds;
 pub use fate::Fate;
 pub use free::FreePackets;

@@ -124,7 +124,7 @@ impl NamedNumbers {
     }
 
     /// The span at this place, counted from the end where they are taken from the last to the first.
-    fn nth(spans: &[Span], falling: bool, at: usize) -> Span
+    pub(crate) fn nth(spans: &[Span], falling: bool, at: usize) -> Span
         requires { at < length spans.now }
         ensures { result ≡ slice_index_or (turned falling spans.now) at result }
     {

@@ -15,7 +15,7 @@ ghost use Rattle.qa_sent.specs.Walks.{owed_numbers};
 ghost use Rattle.qa_sent.specs.declared.fate.Fate.TheVariants.{Open};
 ghost use Rattle.qa_sent.specs.declared.packet.SentPacket.{SentPacket};
 ghost use Rattle.std.specs.List.{AllByRecursion, list_any};
-ghost use Rattle.std.specs.Prelude.{◌≡◌, [], ◌≤◌, ◌<◌, ◌+◌, ◌∷◌, ◌++◌, length, OnErr, OnOk, filter, IfOk, false, Some, map, ◌&&◌, ◌-◌, true, count_by, drop, None, ◌*◌, ◌^◌, find, sum_by};
+ghost use Rattle.std.specs.Prelude.{◌≡◌, [], ◌≤◌, ◌<◌, ◌+◌, ◌∷◌, ◌++◌, length, OnErr, OnOk, filter, IfOk, false, Some, map, ◌&&◌, ◌-◌, true, count_by, drop, None, ◌*◌, ◌^◌, find, reverse, sum_by};
 
 use crate::acknowledging::new_in_spans;
 use crate::covering::cover_in_lane;
@@ -162,7 +162,37 @@ impl SentPackets {
             ≡ filter (is_new space spans.now) self.now.packets) }
     {
         let lane = self.lanes.of(space);
-        new_in_spans(self.alloc, &self.packets, self.dropped, lane, space, spans)
+        new_in_spans(
+            self.alloc,
+            &self.packets,
+            self.dropped,
+            lane,
+            space,
+            spans,
+            false,
+        )
+    }
+
+    /// The same of spans of which each ends below the one before it.
+    pub fn newly_acknowledged_by_falling(
+        &self,
+        space: Space,
+        spans: &[Span],
+    ) -> Result<Vec<SentPacket>, AllocError>
+        requires apart { AreApart (reverse spans.now) }
+        ensures { IfOk result (λ found. found.items
+            ≡ filter (is_new space spans.now) self.now.packets) }
+    {
+        let lane = self.lanes.of(space);
+        new_in_spans(
+            self.alloc,
+            &self.packets,
+            self.dropped,
+            lane,
+            space,
+            spans,
+            true,
+        )
     }
 
     /// Covers the packets of a space that some span names: an acknowledgment came for them. Those
