@@ -15,6 +15,10 @@ abbrev pub AreRisingFrom : ℕ → List (ℕ × ℕ) → Type 0
 AreRisingFrom low [] = Unit {0}
 AreRisingFrom low (span ∷ spans) = (low ≤ span.0) × AreRisingFrom span.0 spans
 
+-- the span ends below this number
+abbrev pub EndsBelow : ℕ → ℕ × ℕ → Type 0
+EndsBelow n span = (span.0 ≤ span.1) × (span.1 < n)
+
 -- ---- of the numbers that pass a test, those from a number on
 
 abbrev pub NoneFrom : (ℕ → Bool) → ℕ → Type 0

@@ -1,6 +1,6 @@
 //! What an acknowledgment newly acknowledges.
 ghost use Rattle.std.specs.Prelude.{◌≡◌, ◌≤◌, [], ◌∷◌, ◌++◌, filter, reverse, true, IfOk, OnOk};
-ghost use Rattle.qa_sent.specs.Covering.{AreApart, AreFrom, is_new_in};
+ghost use Rattle.qa_sent.specs.Covering.{AreApart, is_new_in};
 ghost use Rattle.qa_sent.specs.Fates.{is_new, is_open};
 ghost use Rattle.qa_sent.specs.Held.{AreOrdered, IsIndexed};
 ghost use Rattle.qa_sent.specs.Naming.{turned};
@@ -45,35 +45,31 @@ pub(crate) fn new_in_spans(
 {
     let mut found = Vec::new(alloc);
     let first = lane.first_for(spans);
-    for at in 0..spans.len() {
+    // Below the first there are none, so a span that ends there is not looked up.
+    let start = NamedNumbers::first_left(spans, falling, 0, first);
+    for at in start..spans.len() {
         let span = NamedNumbers::nth(spans, falling, at);
-        push_span(&mut found, packets, dropped, lane, space, first, span)?;
+        push_span(&mut found, packets, dropped, lane, space, span)?;
     }
     Ok(found)
 }
 
-/// Adds the open packets whose numbers are in the span, by the lane of the space. They are numbered
-/// from `first` on, so a span that ends below it is not looked up.
+/// Adds the open packets whose numbers are in the span, by the lane of the space.
 pub(crate) fn push_span(
     found: &mut Vec<SentPacket>,
     packets: &VecDeque<SentPacket>,
     dropped: u64,
     lane: &Lane,
     space: Space,
-    first: u64,
     span: Span,
 ) -> Result<(), AllocError>
     requires indexed { IsIndexed space dropped packets.now.items lane.now }
-    requires first { AreFrom first lane.now.unacknowledged.entries }
     ensures order { span.0 ≤ span.1 }
     ensures found { OnOk result (found.new.items
         ≡ found.old.items ++ filter (is_new_in space span.0 span.1) packets.now.items) }
 {
     let lo = span.lo().get();
     let hi = span.hi().get();
-    if hi < first {
-        return Ok(());
-    }
     for (_, place) in lane.unacknowledged.range(lo..=hi) {
         push_open(found, &packets[(*place - dropped) as usize])?;
     }

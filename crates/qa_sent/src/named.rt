@@ -62,10 +62,11 @@ pub(crate) struct NamedNumbers {
 }
 
 impl NamedNumbers {
-    ghost use Rattle.std.specs.Prelude.{◌≡◌, ◌≤◌, ◌<◌, ◌+◌, ℕ, true, List, ◌∷◌, drop, length, slice_index_or, IfSome};
+    ghost use Rattle.std.specs.Prelude.{◌≡◌, ◌≤◌, ◌<◌, ◌+◌, ℕ, true, List, ◌∷◌, drop, length, slice_index_or, take, IfSome};
+    ghost use Rattle.std.specs.List.{AllByRecursion};
     ghost use Rattle.qa_base.specs.machine.Numbers.{AreRanges};
     ghost use Rattle.qa_base.specs.values.Events.{is_named};
-    ghost use Rattle.qa_sent.specs.Naming.{AreRisingFrom, IsNext, IsStretch, IsWalk, turned};
+    ghost use Rattle.qa_sent.specs.Naming.{AreRisingFrom, EndsBelow, IsNext, IsStretch, IsWalk, turned};
 
     /// A walk from the least number on.
     pub(crate) fn start(spans: &[Span]) -> NamedNumbers
@@ -136,7 +137,7 @@ impl NamedNumbers {
     }
 
     /// The first span, from a place on, that does not end below the number.
-    fn first_left(spans: &[Span], falling: bool, passed: usize, from: u64) -> usize
+    pub(crate) fn first_left(spans: &[Span], falling: bool, passed: usize, from: u64) -> usize
         requires { passed ≤ length spans.now }
         ensures within { result ≤ length spans.now }
         ensures left { (n : ℕ) → from ≤ n
@@ -144,6 +145,8 @@ impl NamedNumbers {
             ≡ is_named (drop result (turned falling spans.now)) n }
         ensures order { AreRisingFrom 0 (drop passed (turned falling spans.now))
             → AreRisingFrom 0 (drop result (turned falling spans.now)) }
+        ensures below { AllByRecursion (EndsBelow from) (take passed (turned falling spans.now))
+            → AllByRecursion (EndsBelow from) (take result (turned falling spans.now)) }
         ensures reached { (span : ℕ × ℕ) (rest : List (ℕ × ℕ))
             → drop result (turned falling spans.now) ≡ span ∷ rest → from ≤ span.1 }
     {

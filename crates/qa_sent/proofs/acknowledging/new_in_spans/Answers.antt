@@ -1,19 +1,29 @@
 use Rattle.std.proofs.Common.{◌≡◌, ◌≤◌, ◌<◌, ◌∙◌, ◌+◌, ℕ, List, [], ◌∷◌, ◌++◌, filter, length, take, sym, ap, subst, arith}
 use Rattle.std.proofs.lemmas.List.{take_all}
-use Rattle.qa_sent.specs.Covering.{is_new_in}
+use Rattle.std.specs.List.{AllByRecursion}
+use Rattle.qa_sent.specs.Covering.{AreFrom, is_new_in}
 use Rattle.qa_sent.specs.Fates.{is_new}
-use Rattle.qa_sent.specs.Naming.{turned}
+use Rattle.qa_sent.specs.Held.{unacknowledged_in}
+use Rattle.qa_sent.specs.Naming.{EndsBelow, turned}
 use Rattle.qa_sent.proofs.Acknowledged.{take_more}
-use Rattle.qa_sent.proofs.Opened.{ends_below, new_alike, new_more, new_none}
-use Rattle.qa_sent.proofs.Parts.{each_more}
+use Rattle.qa_sent.proofs.Opened.{ends_below, new_alike, new_below, new_more}
+use Rattle.qa_sent.proofs.Parts.{each_more, each_weaker}
 use Rattle.qa_sent.proofs.Stretches.{length_turned, named_turned}
 use Rattle.qa_sent.proofs.acknowledging.new_in_spans.Goals as goal
 
 pub loop-at-init : goal.loop-at-init
-loop-at-init c = record {
-  found = c.new-found.ensures.items ∙ sym (new_none c.args.space c.args.packets.now.items);
-  forward = tt;
-}
+loop-at-init c =
+    let s = c.args.space in
+    let d = c.args.dropped in
+    let ps = c.args.packets.now.items in
+    let first = c.first_for-first.result in
+    let front = take c.first_left-start.result (turned c.args.falling c.args.spans.now) in
+    let below : AllByRecursion (EndsBelow first) front = c.first_left-start.ensures.below tt in
+    let from : AreFrom first (unacknowledged_in s d ps) = subst (AreFrom first) c.requires.indexed.entries c.first_for-first.ensures in
+    record {
+      found = c.new-found.ensures.items ∙ sym (new_below s d first front ps (each_weaker (EndsBelow first) (λ (r : ℕ × ℕ). r.1 < first) (λ r ends. ends.1) front below) from);
+      forward = each_weaker (EndsBelow first) (λ (r : ℕ × ℕ). r.0 ≤ r.1) (λ r ends. ends.0) front below;
+    }
 
 pub loop-at-preserved : goal.loop-at-preserved
 loop-at-preserved c =
