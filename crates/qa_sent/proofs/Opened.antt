@@ -256,6 +256,14 @@ begins_above : (n : ℕ) (ranges : List (ℕ × ℕ)) → AreApartFrom (n + 1) r
 begins_above n [] apart = tt
 begins_above n (r ∷ rs) apart = let low = apart.0 in omega (arith, low)
 
+rests_apart : (n : ℕ) (ranges : List (ℕ × ℕ)) → BeginsAbove n ranges → AreApart ranges → AreApartFrom (n + 1) ranges
+rests_apart n [] above apart = tt
+rests_apart n (r ∷ rs) above apart = (omega (arith, above), rests_apart r.1 rs apart.0 apart.1)
+
+pub from_apart : (ranges : List (ℕ × ℕ)) → AreApart ranges → AreApartFrom 0 ranges
+from_apart [] apart = tt
+from_apart (r ∷ rs) apart = (omega arith, rests_apart r.1 rs apart.0 apart.1)
+
 pub apart_from : (n : ℕ) (ranges : List (ℕ × ℕ)) → AreApartFrom n ranges → AreApart ranges
 apart_from n [] apart = tt
 apart_from n (r ∷ rs) apart = (begins_above r.1 rs apart.1, apart_from (r.1 + 1) rs apart.1)

@@ -14,7 +14,8 @@ use std::collections::VecDeque;
 
 /// Whether each span ends below the one before it, as those of an acknowledgment mostly do.
 pub fn are_falling(spans: &[Span]) -> bool
-    ensures { result ≡ true → AreApart (reverse spans.now) }
+    ensures apart { result ≡ true → AreApart (reverse spans.now) }
+    ensures each { AreApart (reverse spans.now) → result ≡ true }
 {
     let mut falling = true;
     let mut next = 0;
