@@ -173,7 +173,8 @@ impl SentPackets {
         )
     }
 
-    /// The same of spans of which each ends below the one before it.
+    /// The same packets, named by spans of which each ends below the one before it, as those of an
+    /// acknowledgment mostly do. `AllocError` comes where it is out of memory.
     pub fn newly_acknowledged_by_falling(
         &self,
         space: Space,
