@@ -30,12 +30,6 @@ pub apart_rise : (ranges : List (ℕ × ℕ)) → runs.AreApart ranges → AreAp
 apart_rise [] apart = tt
 apart_rise (r ∷ later) apart = (above_all r.1 later apart.1, apart_rise later apart.2)
 
--- one range stands by itself
-pub one_is_apart : (ranges : List (ℕ × ℕ)) → length ranges ≡ 1 → AreApart ranges
-one_is_apart [] one = tt
-one_is_apart (r ∷ []) one = (tt, tt)
-one_is_apart (r ∷ (q ∷ later)) one = absurd (omega (arith, one))
-
 -- ---- persistent congestion
 
 pub unsampled : (c : Settings) (h : List Event) → IsCourse c h → (r : Estimate) → r ≡ sampled c h → r.first_rtt_sample ≡ None → false ≡ is_persistent c h

@@ -37,7 +37,7 @@ use crate::watch::TimerWatch;
 use qa_base::{Event, Header, Leave, MetricValues, Space, Span, Spans, Ticks, TimerKind};
 use qa_connection::{Connection, Detection, Losses};
 use qa_ranges::{Ranges, SentNumbers};
-use qa_sent::{Fate, SentPacket, SentPackets, Thresholds};
+use qa_sent::{Fate, SentPacket, SentPackets, Thresholds, are_falling};
 use std::alloc::{AllocError, Global};
 
 /// The state of a sender after some events: what RFC 9002 keeps in A.3 and B.2, and what the rules
@@ -350,9 +350,9 @@ fn named(
     ensures { IfOk result (λ found. found.items
         ≡ filter (is_new space spans.now) packets.now.packets) }
 {
-    if spans.len() == 1 {
-        // It is in order by itself, which takes no memory.
-        return packets.newly_acknowledged(space, spans);
+    if are_falling(spans) {
+        // They mostly do, and are in order by themselves, which takes no memory.
+        return packets.newly_acknowledged_by_falling(space, spans);
     }
     let in_order = Ranges::of_spans(alloc, spans)?;
     packets.newly_acknowledged(space, in_order.as_slice())

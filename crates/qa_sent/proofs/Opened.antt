@@ -5,12 +5,12 @@ use Rattle.std.specs.List.{AllByRecursion}
 use Rattle.std.specs.BTreeMap.Range.{entries_between, range_contains}
 use Rattle.std.specs.Ordering.{nat_cmp}
 use Rattle.std.specs.declared.ops.Bound.TheVariants.{Included}
-use Rattle.std.proofs.lemmas.Bool.{and_parts, cases_Bool}
+use Rattle.std.proofs.lemmas.Bool.{and_parts, cases_Bool, false_from_ne_true}
 use Rattle.std.proofs.lemmas.Bool.Decides.{nat_tests}
 use Rattle.std.proofs.lemmas.List.Elements.{filter_agree}
 use Rattle.qa_base.specs.declared.space.Space.{Space}
 use Rattle.qa_base.specs.values.Events.{is_space, is_named}
-use Rattle.qa_sent.specs.Covering.{AreApart, is_between, is_new_in}
+use Rattle.qa_sent.specs.Covering.{AreApart, AreApartFrom, AreFrom, BeginsAbove, is_between, is_new_in}
 use Rattle.qa_sent.specs.Fates.{is_new, is_open, is_unacknowledged, is_waiting}
 use Rattle.qa_sent.specs.Held.{AreOrdered, IsBefore, unacknowledged_in}
 use Rattle.qa_sent.specs.declared.fate.Fate.{Fate}
@@ -161,6 +161,9 @@ named_below lo n (r ∷ rs) below named = elim (cases_Bool (is_between r.0 r.1 n
   | inr out ↦ named_below lo n rs below.1 (ap (λ b. b || is_named rs n) (sym out) ∙ named)
 ]
 
+not_named : (lo n : ℕ) (front : List (ℕ × ℕ)) → AllByRecursion (λ (r : ℕ × ℕ). r.1 < lo) front → lo ≤ n → is_named front n ≡ false
+not_named lo n front below from = false_from_ne_true (is_named front n) (λ named. let under = named_below lo n front below named in omega (arith, under, from))
+
 mine_parts : (s : Space) (p : SentPacket) (named : Bool) → (is_space s p.space && is_open p.fate && named) ≡ true → (is_space s p.space ≡ true) × (named ≡ true)
 mine_parts s p named e =
     let both = and_parts (is_space s p.space && is_open p.fate) named e in
@@ -205,9 +208,30 @@ new_more s front range (x ∷ ps) below ordered =
     (λ mine within. none_named s range.0 x front ps (and_parts (is_space s x.space) (is_open x.fate) mine).0 (at_begin range.0 range.1 x.number within) below ordered.0)
     (new_more s front range ps below ordered.1)
 
-pub new_none : (s : Space) (ps : List SentPacket) → filter (is_new s []) ps ≡ []
-new_none s [] = refl
-new_none s (p ∷ ps) = ap (λ b. cond b (p ∷ filter (is_new s []) ps) (filter (is_new s []) ps)) (and_false (is_space s p.space && is_open p.fate)) ∙ new_none s ps
+-- ---- where no entry has a number below one
+
+from_rest : (n : ℕ) (e : ℕ × ℕ) (es : List (ℕ × ℕ)) (b : Bool) → AreFrom n (if b then e ∷ es else es) → AreFrom n es
+from_rest n e es true from = from.1
+from_rest n e es false from = from
+
+from_here : (n : ℕ) (e : ℕ × ℕ) (es : List (ℕ × ℕ)) (b : Bool) → b ≡ true → AreFrom n (if b then e ∷ es else es) → n ≤ e.0
+from_here n e es true is from = from.0
+from_here n e es false is from = cc
+
+is_not : (here unacknowledged open_here named : Bool) → (open_here ≡ true → unacknowledged ≡ true) → (here && unacknowledged ≡ true → named ≡ false) → (here && open_here && named) ≡ false
+is_not true unacknowledged true named waits out = out (waits refl)
+is_not true unacknowledged false named waits out = refl
+is_not false unacknowledged open_here named waits out = refl
+
+-- none is new by ranges that end below it
+pub new_below : (s : Space) (d first : ℕ) (front : List (ℕ × ℕ)) (ps : List SentPacket) → AllByRecursion (λ (r : ℕ × ℕ). r.1 < first) front → AreFrom first (unacknowledged_in s d ps)
+    → filter (is_new s front) ps ≡ []
+new_below s d first front [] below from = refl
+new_below s d first front (p ∷ ps) below from =
+    let es = unacknowledged_in s (suc d) ps in
+    let out : is_new s front p ≡ false = is_not (is_space s p.space) (is_unacknowledged p.fate) (is_open p.fate) (is_named front p.number) (open_unacknowledged p.fate)
+    (λ waits. not_named first p.number front below (from_here first (p.number, d) es (is_waiting s p) waits from)) in
+    ap (λ b. cond b (p ∷ filter (is_new s front) ps) (filter (is_new s front) ps)) out ∙ new_below s (suc d) first front ps below (from_rest first (p.number, d) es (is_waiting s p) from)
 
 -- ---- ranges that are apart
 
@@ -227,3 +251,23 @@ ends_below [] i next apart forward within is = absurd (omega arith)
 ends_below (r ∷ rs) zero next apart forward within is = tt
 ends_below (r ∷ rs) (suc i) next apart forward within is =
     (head_below r rs i next apart forward.1 (omega arith) is, ends_below rs i next apart.1 forward.1 (omega arith) is)
+
+begins_above : (n : ℕ) (ranges : List (ℕ × ℕ)) → AreApartFrom (n + 1) ranges → BeginsAbove n ranges
+begins_above n [] apart = tt
+begins_above n (r ∷ rs) apart = let low = apart.0 in omega (arith, low)
+
+rests_apart : (n : ℕ) (ranges : List (ℕ × ℕ)) → BeginsAbove n ranges → AreApart ranges → AreApartFrom (n + 1) ranges
+rests_apart n [] above apart = tt
+rests_apart n (r ∷ rs) above apart = (omega (arith, above), rests_apart r.1 rs apart.0 apart.1)
+
+pub from_apart : (ranges : List (ℕ × ℕ)) → AreApart ranges → AreApartFrom 0 ranges
+from_apart [] apart = tt
+from_apart (r ∷ rs) apart = (omega arith, rests_apart r.1 rs apart.0 apart.1)
+
+pub apart_from : (n : ℕ) (ranges : List (ℕ × ℕ)) → AreApartFrom n ranges → AreApart ranges
+apart_from n [] apart = tt
+apart_from n (r ∷ rs) apart = (begins_above r.1 rs apart.1, apart_from (r.1 + 1) rs apart.1)
+
+-- ranges that name the same numbers
+pub new_alike : (s : Space) (ranges others : List (ℕ × ℕ)) (ps : List SentPacket) → ((n : ℕ) → is_named ranges n ≡ is_named others n) → filter (is_new s ranges) ps ≡ filter (is_new s others) ps
+new_alike s ranges others ps same = filter_agree (is_new s ranges) (is_new s others) (λ p. ap (λ b. is_space s p.space && is_open p.fate && b) (same p.number)) ps

@@ -11,7 +11,7 @@ use Rattle.qa_base.specs.machine.Numbers.{is_in}
 use Rattle.qa_base.specs.values.Events.{is_named, is_space}
 use Rattle.qa_sent.specs.Covering.{first_between, is_between}
 use Rattle.qa_sent.specs.Fates.{is_flying, is_open, is_owed, is_unacknowledged, is_waiting}
-use Rattle.qa_sent.specs.Free.{AreOwedIn, is_free_by, is_nameable_by, numbers_of, taken_by, widened}
+use Rattle.qa_sent.specs.Free.{is_free_by, numbers_of, taken_by, widened}
 use Rattle.qa_sent.specs.Held.{AreLosses, AreOrdered, IsBefore, IsBehind, NoneFlies, unacknowledged_in}
 use Rattle.qa_sent.specs.Owing.{NoneOwed}
 use Rattle.qa_sent.specs.Steps.{with_fate}
@@ -55,13 +55,6 @@ each_later P (x ∷ xs) (suc n) (suc m) less all = each_later P xs n m (omega (a
 
 -- ---- which packets wait
 
-waits_owed : (f : Fate) → is_owed f ≡ true → is_unacknowledged f ≡ true
-waits_owed Owed e = refl
-waits_owed Open e = cc
-waits_owed DeclaredLost e = cc
-waits_owed Acknowledged e = cc
-waits_owed Discarded e = cc
-
 waits_open : (f : Fate) → is_open f ≡ true → is_unacknowledged f ≡ true
 waits_open Open e = refl
 waits_open Owed e = cc
@@ -80,13 +73,6 @@ free_waits free p is =
     let flies = flies_of free.space p (and_parts (is_flying free.space p) (nat_lt p.number free.end) is).0 in
     rw (flies.0, waits_open p.fate flies.1) refl
 
--- and one that is owed, where those are of the space
-pub nameable_waits : (free : FreePackets) (p : SentPacket) → (is_owed p.fate ≡ true → is_space free.space p.space ≡ true) → is_nameable_by free p ≡ true → is_waiting free.space p ≡ true
-nameable_waits free p of_space is = elim (or_cases (is_owed p.fate) (is_free_by free p) is) [
-  | inl owed ↦ (let here = of_space owed in let waits = waits_owed p.fate owed in rw (here, waits) refl)
-  | inr left ↦ free_waits free p left
-]
-
 -- each that passes a test is waiting
 abbrev pub AreWaiting : Space → (SentPacket → Bool) → List SentPacket → Type 0
 AreWaiting s test ps = AllByRecursion (λ p. test p ≡ true → is_waiting s p ≡ true) ps
@@ -94,10 +80,6 @@ AreWaiting s test ps = AllByRecursion (λ p. test p ≡ true → is_waiting s p 
 pub all_free_wait : (free : FreePackets) (ps : List SentPacket) → AreWaiting free.space (is_free_by free) ps
 all_free_wait free [] = tt
 all_free_wait free (p ∷ ps) = (free_waits free p, all_free_wait free ps)
-
-pub all_nameable_wait : (free : FreePackets) (ps : List SentPacket) → AreOwedIn free.space ps → AreWaiting free.space (is_nameable_by free) ps
-all_nameable_wait free ps of_space =
-    each_weaker (λ p. is_owed p.fate ≡ true → is_space free.space p.space ≡ true) (λ p. is_nameable_by free p ≡ true → is_waiting free.space p ≡ true) (nameable_waits free) ps of_space
 
 here_of : (s : Space) (p : SentPacket) → is_waiting s p ≡ true → is_space s p.space ≡ true
 here_of s p waits = (and_parts (is_space s p.space) (is_unacknowledged p.fate) waits).0
@@ -108,11 +90,11 @@ in_if : (x n : ℕ) (ns : List ℕ) (b : Bool) → (b ≡ true → x ≢ n) → 
 in_if x n ns true other rest = or_from (nat_eq x n) (is_in ns n) (ne_eqb x n (other refl)) rest
 in_if x n ns false other rest = rest
 
-numbers_if : (test : SentPacket → Bool) (x : SentPacket) (ps : List SentPacket) (b : Bool) → test x ≡ b → numbers_of test (x ∷ ps) ≡ (if b then x.number ∷ numbers_of test ps else numbers_of test ps)
+pub numbers_if : (test : SentPacket → Bool) (x : SentPacket) (ps : List SentPacket) (b : Bool) → test x ≡ b → numbers_of test (x ∷ ps) ≡ (if b then x.number ∷ numbers_of test ps else numbers_of test ps)
 numbers_if test x ps true is = rw is refl
 numbers_if test x ps false is = rw is refl
 
-not_in : (test : SentPacket → Bool) (x : SentPacket) (ps : List SentPacket) (n : ℕ) → (test x ≡ true → x.number ≢ n) → is_in (numbers_of test ps) n ≡ false → is_in (numbers_of test (x ∷ ps)) n ≡ false
+pub not_in : (test : SentPacket → Bool) (x : SentPacket) (ps : List SentPacket) (n : ℕ) → (test x ≡ true → x.number ≢ n) → is_in (numbers_of test ps) n ≡ false → is_in (numbers_of test (x ∷ ps)) n ≡ false
 not_in test x ps n other rest = rw (numbers_if test x ps (test x) refl) (in_if x.number n (numbers_of test ps) (test x) other rest)
 
 is_alone : (n : ℕ) → is_between n n n ≡ true

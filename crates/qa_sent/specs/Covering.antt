@@ -1,5 +1,5 @@
 -- An acknowledgment of the numbers of one range, by which those of all its ranges are acknowledged.
-use Rattle.std.specs.Prelude.{ℕ, ◌&&◌, nat_le, Bool, List, [], ◌∷◌, Option, Some, None, if◌then◌else◌, ◌<◌, ◌≤◌}
+use Rattle.std.specs.Prelude.{ℕ, ◌+◌, ◌&&◌, nat_le, Bool, List, [], ◌∷◌, Option, Some, None, if◌then◌else◌, ◌<◌, ◌≤◌}
 use Rattle.std.specs.List.{AllByRecursion}
 use Rattle.qa_base.specs.declared.space.Space.{Space}
 use Rattle.qa_base.specs.values.Events.{is_space}
@@ -41,3 +41,8 @@ BeginsAbove n (range ∷ ranges) = n < range.0
 abbrev pub AreApart : List (ℕ × ℕ) → Type 0
 AreApart [] = Unit {0}
 AreApart (range ∷ ranges) = BeginsAbove range.1 ranges × AreApart ranges
+
+-- and the first of them no lower than this number
+abbrev pub AreApartFrom : ℕ → List (ℕ × ℕ) → Type 0
+AreApartFrom next [] = Unit {0}
+AreApartFrom next (range ∷ ranges) = (next ≤ range.0) × AreApartFrom (range.1 + 1) ranges

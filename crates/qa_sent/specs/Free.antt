@@ -1,12 +1,10 @@
 -- What the next Lost line may name beyond what is owed, and what it makes of the packets.
-use Rattle.std.specs.Prelude.{◌≡◌, ◌+◌, ◌==◌, ◌&&◌, ◌||◌, ℕ, Bool, true, false, List, filter, map, max, min, nat_lt, if◌then◌else◌}
+use Rattle.std.specs.Prelude.{◌≡◌, ◌+◌, ◌==◌, ◌&&◌, ◌||◌, ℕ, Bool, true, List, filter, map, max, min, nat_lt, if◌then◌else◌}
 use Rattle.std.specs.List.{AllByRecursion}
 use Rattle.qa_base.specs.declared.space.Space.{Space}
 use Rattle.qa_base.specs.values.Events.{is_named, is_space}
 use Rattle.qa_sent.specs.Fates.{is_flying, is_owed}
-use Rattle.qa_sent.specs.Naming.{IsWalk}
 use Rattle.qa_sent.specs.Steps.{with_fate}
-use Rattle.qa_sent.specs.declared.asking.NamedTest.{NamedTest}
 use Rattle.qa_sent.specs.declared.fate.Fate.TheVariants.{Owed}
 use Rattle.qa_sent.specs.declared.free.FreePackets.{FreePackets}
 use Rattle.qa_sent.specs.declared.packet.SentPacket.{SentPacket}
@@ -43,8 +41,3 @@ abbrev pub widened : ℕ → Losses → Losses
 widened place l =
     if l.count == 0 then record { space = l.space; count = 1; from = place; to = place + 1 }
     else record { space = l.space; count = l.count + 1; from = min l.from place; to = max l.to (place + 1) }
-
--- a walk, and from one number to where it stands none that is named
-pub record IsTest (spans : List (ℕ × ℕ)) (test : NamedTest) : Type 0 where
-  pub walk : IsWalk spans test.named
-  pub none : (n : ℕ) → nat_lt n test.low ≡ false → nat_lt n test.named.from ≡ true → is_named spans n ≡ false

@@ -15,6 +15,10 @@ abbrev pub AreRisingFrom : ℕ → List (ℕ × ℕ) → Type 0
 AreRisingFrom low [] = Unit {0}
 AreRisingFrom low (span ∷ spans) = (low ≤ span.0) × AreRisingFrom span.0 spans
 
+-- the span ends below this number
+abbrev pub EndsBelow : ℕ → ℕ × ℕ → Type 0
+EndsBelow n span = (span.0 ≤ span.1) × (span.1 < n)
+
 -- ---- of the numbers that pass a test, those from a number on
 
 abbrev pub NoneFrom : (ℕ → Bool) → ℕ → Type 0
@@ -43,6 +47,23 @@ pub record IsFirst (test : ℕ → Bool) (from n : ℕ) : Type 0 where
 abbrev pub IsNext : (ℕ → Bool) → ℕ → Option ℕ → Type 0
 IsNext test from None = NoneFrom test from
 IsNext test from (Some n) = IsFirst test from n
+
+-- ---- of the numbers that pass a test, some that have to come, and no others but those that may
+
+-- from a number on none but those that may
+abbrev pub AreOnly : (test may : ℕ → Bool) → ℕ → Type 0
+AreOnly test may from = (n : ℕ) → from ≤ n → test n ≡ true → may n ≡ true
+
+-- this one comes, and before it none but those that may
+pub record IsNextOf (test may : ℕ → Bool) (from m : ℕ) : Type 0 where
+  pub low : from ≤ m
+  pub before : (n : ℕ) → from ≤ n → n < m → test n ≡ true → may n ≡ true
+  pub here : test m ≡ true
+
+-- these come in rising order
+abbrev pub AreNext : (test may : ℕ → Bool) → ℕ → List ℕ → Type 0
+AreNext test may from [] = AreOnly test may from
+AreNext test may from (m ∷ ms) = IsNextOf test may from m × AreNext test may (m + 1) ms
 
 -- ---- a walk along the numbers that spans name
 

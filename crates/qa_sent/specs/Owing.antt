@@ -1,5 +1,5 @@
 -- Where the packets stand that are owed, and which numbers they have.
-use Rattle.std.specs.Prelude.{◌≡◌, ◌≤◌, ℕ, false, List, [], ◌∷◌, drop, length, take, Option, Some, None}
+use Rattle.std.specs.Prelude.{◌≡◌, ◌≤◌, ◌<◌, ℕ, false, List, [], ◌∷◌, drop, length, take, Option, Some, None}
 use Rattle.std.specs.List.{AllByRecursion}
 use Rattle.qa_base.specs.declared.space.Space.{Space}
 use Rattle.qa_sent.specs.Fates.{is_owed}
@@ -15,6 +15,11 @@ pub record IsOwedPart (from to : ℕ) (ps : List SentPacket) : Type 0 where
   pub within : to ≤ length ps
   pub before : NoneOwed (take from ps)
   pub behind : NoneOwed (drop to ps)
+
+-- each number is below those behind it
+abbrev pub AreRising : List ℕ → Type 0
+AreRising [] = Unit {0}
+AreRising (n ∷ ns) = AllByRecursion (λ m. n < m) ns × AreRising ns
 
 -- the space of the first of these
 abbrev pub first_space : List SentPacket → Option Space

@@ -4,7 +4,6 @@
 
 mod acknowledging;
 mod advancing;
-mod asking;
 mod covering;
 mod declaring;
 mod detecting;
@@ -21,6 +20,7 @@ mod packets;
 mod pushing;
 mod taking;
 
+pub use acknowledging::are_falling;
 pub use detecting::Thresholds;
 pub use fate::Fate;
 pub use free::FreePackets;

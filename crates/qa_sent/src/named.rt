@@ -1,5 +1,5 @@
 //! The numbers that spans name, one after another in rising order. It takes no memory.
-use qa_base::{PacketNumber, Span};
+use qa_base::Span;
 
 /// Numbers one after another, from `start` to below `end`.
 #[derive(Clone, Copy)]
@@ -62,11 +62,11 @@ pub(crate) struct NamedNumbers {
 }
 
 impl NamedNumbers {
-    ghost use Rattle.std.specs.Prelude.{◌≡◌, ◌≤◌, ◌<◌, ◌+◌, ℕ, true, false, List, ◌∷◌, drop, length, slice_index_or, IfSome};
-    ghost use Rattle.qa_base.specs.values.Limits.{max_packet_number};
+    ghost use Rattle.std.specs.Prelude.{◌≡◌, ◌≤◌, ◌<◌, ◌+◌, ℕ, true, List, ◌∷◌, drop, length, slice_index_or, take, IfSome};
+    ghost use Rattle.std.specs.List.{AllByRecursion};
     ghost use Rattle.qa_base.specs.machine.Numbers.{AreRanges};
     ghost use Rattle.qa_base.specs.values.Events.{is_named};
-    ghost use Rattle.qa_sent.specs.Naming.{AreRisingFrom, IsNext, IsStretch, IsWalk, turned};
+    ghost use Rattle.qa_sent.specs.Naming.{AreRisingFrom, EndsBelow, IsNext, IsStretch, IsWalk, turned};
 
     /// A walk from the least number on.
     pub(crate) fn start(spans: &[Span]) -> NamedNumbers
@@ -105,31 +105,6 @@ impl NamedNumbers {
         Some(number)
     }
 
-    /// Goes on to the first number that the spans name, from this one on, and tells whether it is this
-    /// one. No number from there on may lie where the walk stands.
-    pub(crate) fn pass(&mut self, spans: &[Span], number: u64) -> bool
-        requires walk { IsWalk spans.now self.old }
-        requires from { self.old.from ≤ number }
-        requires to { self.old.to ≤ number }
-        requires high { number ≤ max_packet_number }
-        ensures value { result ≡ is_named spans.now number }
-        ensures none { (n : ℕ) → number ≤ n → n < self.new.from → is_named spans.now n ≡ false }
-        ensures walk { IsWalk spans.now self.new }
-    {
-        self.from = number;
-        match self.next_stretch(spans) {
-            None => {
-                self.from = PacketNumber::MAX + 1;
-                false
-            }
-            Some(stretch) => {
-                self.from = stretch.start;
-                self.to = stretch.end;
-                stretch.start == number
-            }
-        }
-    }
-
     /// The first numbers that are not passed, one after another.
     fn next_stretch(&mut self, spans: &[Span]) -> Option<Stretch>
         requires { IsWalk spans.now self.old }
@@ -150,7 +125,7 @@ impl NamedNumbers {
     }
 
     /// The span at this place, counted from the end where they are taken from the last to the first.
-    fn nth(spans: &[Span], falling: bool, at: usize) -> Span
+    pub(crate) fn nth(spans: &[Span], falling: bool, at: usize) -> Span
         requires { at < length spans.now }
         ensures { result ≡ slice_index_or (turned falling spans.now) at result }
     {
@@ -162,7 +137,7 @@ impl NamedNumbers {
     }
 
     /// The first span, from a place on, that does not end below the number.
-    fn first_left(spans: &[Span], falling: bool, passed: usize, from: u64) -> usize
+    pub(crate) fn first_left(spans: &[Span], falling: bool, passed: usize, from: u64) -> usize
         requires { passed ≤ length spans.now }
         ensures within { result ≤ length spans.now }
         ensures left { (n : ℕ) → from ≤ n
@@ -170,6 +145,8 @@ impl NamedNumbers {
             ≡ is_named (drop result (turned falling spans.now)) n }
         ensures order { AreRisingFrom 0 (drop passed (turned falling spans.now))
             → AreRisingFrom 0 (drop result (turned falling spans.now)) }
+        ensures below { AllByRecursion (EndsBelow from) (take passed (turned falling spans.now))
+            → AllByRecursion (EndsBelow from) (take result (turned falling spans.now)) }
         ensures reached { (span : ℕ × ℕ) (rest : List (ℕ × ℕ))
             → drop result (turned falling spans.now) ≡ span ∷ rest → from ≤ span.1 }
     {

@@ -1,80 +1,98 @@
-//! Whether ranges name the packets that are owed, and none that may not be named.
-ghost use Rattle.std.specs.Prelude.{◌≡◌, ◌≤◌, IfOk, length, slice_range};
-ghost use Rattle.std.specs.List.{list_all};
-ghost use Rattle.qa_base.specs.machine.Numbers.{has_all, is_in};
+//! Whether a walk along named numbers comes by those that are owed, and by no others but free ones.
+ghost use Rattle.std.specs.Prelude.{◌≡◌, ◌+◌, ◌∷◌, ◌↔◌, IfOk, IsTrue, List, true};
+ghost use Rattle.qa_base.specs.machine.Numbers.{is_in};
 ghost use Rattle.qa_base.specs.values.Events.{is_named};
-ghost use Rattle.qa_sent.specs.Free.{AreOwedIn, free_numbers, nameable_numbers};
-ghost use Rattle.qa_sent.specs.Held.{AreOrdered, IsIndexed};
+ghost use Rattle.qa_sent.specs.Free.{free_numbers, nameable_numbers};
+ghost use Rattle.qa_sent.specs.Naming.{AreNext, AreOnly, IsNextOf, IsWalk};
 ghost use Rattle.qa_sent.specs.Walks.{owed_numbers};
+ghost use Rattle.qa_sent.specs.declared.packet.SentPacket.{SentPacket};
 
-use crate::asking::NamedTest;
 use crate::covering::entry_at;
 use crate::free::FreePackets;
-use crate::lane::Lane;
 use crate::named::NamedNumbers;
 use crate::packet::SentPacket;
+use crate::packets::SentPackets;
 use qa_base::{PacketNumber, Span};
 use std::alloc::{AllocError, Global};
 use std::collections::VecDeque;
-use std::ops::Range;
 
-/// Whether a packet that is owed or free has this number, by the lane of the space.
-pub(crate) fn has_nameable(
-    packets: &VecDeque<SentPacket>,
-    dropped: u64,
-    lane: &Lane,
-    free: FreePackets,
-    number: u64,
-) -> bool
-    requires indexed { IsIndexed free.space dropped packets.now.items lane.now }
-    requires ordered { AreOrdered packets.now.items }
-    requires of_space { AreOwedIn free.space packets.now.items }
-    ensures { result ≡ is_in (nameable_numbers free packets.now.items) number }
-{
-    match entry_at(&lane.unacknowledged, number) {
-        None => false,
-        Some(entry) => {
-            let packet = &packets[(entry.1 - dropped) as usize];
-            packet.is_owed() || free.has(packet)
-        }
-    }
-}
-
-/// Whether each number that the spans name is that of a packet that is owed or free.
-pub(crate) fn are_nameable(
-    packets: &VecDeque<SentPacket>,
-    dropped: u64,
-    lane: &Lane,
-    free: FreePackets,
-    spans: &[Span],
-) -> bool
-    requires indexed { IsIndexed free.space dropped packets.now.items lane.now }
-    requires ordered { AreOrdered packets.now.items }
-    requires of_space { AreOwedIn free.space packets.now.items }
-    ensures { result ≡ has_all (nameable_numbers free packets.now.items) spans.now }
-{
-    let mut named = NamedNumbers::start(spans);
-    while let Some(number) = named.next(spans) {
-        if !has_nameable(packets, dropped, lane, free, number) {
+impl SentPackets {
+    /// Whether a free packet has this number.
+    fn has_free_number(&self, free: FreePackets, number: u64) -> bool
+        ensures { result ≡ is_in (free_numbers free self.now.packets) number }
+    {
+        if free.end <= number {
             return false;
         }
-    }
-    true
-}
-
-/// Whether the spans name each packet in this part that is owed.
-pub(crate) fn are_named(packets: &VecDeque<SentPacket>, part: Range<usize>, spans: &[Span]) -> bool
-    requires order { part.start ≤ part.end }
-    requires within { part.end ≤ length packets.now.items }
-    ensures { result ≡ list_all (is_named spans.now) (owed_numbers (slice_range packets.now.items part.start part.end)) }
-{
-    let mut test = NamedTest::start(spans);
-    for packet in packets.range(part) {
-        if packet.is_owed() && !test.names(spans, packet.number) {
-            return false;
+        let lane = self.lanes.of(free.space);
+        match entry_at(&lane.unacknowledged, number) {
+            None => false,
+            Some(entry) => free.has(&self.packets[(entry.1 - self.dropped) as usize]),
         }
     }
-    true
+
+    /// Whether the walk comes by this number, and before it by no numbers but those of free packets.
+    /// If so it stands behind the number then.
+    fn comes_by(
+        &self,
+        free: FreePackets,
+        spans: &[Span],
+        named: &mut NamedNumbers,
+        number: u64,
+    ) -> bool
+        requires { IsWalk spans.now named.old }
+        ensures next { IsTrue result
+            ↔ IsNextOf (is_named spans.now) (is_in (free_numbers free self.now.packets)) named.old.from number }
+        ensures from { result ≡ true → named.new.from ≡ number + 1 }
+        ensures walk { IsWalk spans.now named.new }
+    {
+        while let Some(first) = named.next(spans) {
+            if first == number {
+                return true;
+            }
+            if number < first || !self.has_free_number(free, first) {
+                return false;
+            }
+        }
+        false
+    }
+
+    /// Whether the walk comes by the number of this packet, if it is owed, and before it by no numbers but
+    /// those of free packets. A packet that is not owed is passed over.
+    pub(crate) fn comes_by_owed(
+        &self,
+        free: FreePackets,
+        spans: &[Span],
+        named: &mut NamedNumbers,
+        packet: &SentPacket,
+    ) -> bool
+        requires { IsWalk spans.now named.old }
+        ensures next { (ps : List SentPacket)
+            → AreNext (is_named spans.now) (is_in (free_numbers free self.now.packets)) named.old.from (owed_numbers (packet.now ∷ ps))
+            ↔ (IsTrue result
+            × AreNext (is_named spans.now) (is_in (free_numbers free self.now.packets)) named.new.from (owed_numbers ps)) }
+        ensures walk { IsWalk spans.now named.new }
+    {
+        if !packet.is_owed() {
+            return true;
+        }
+        self.comes_by(free, spans, named, packet.number.get())
+    }
+
+    /// Whether the walk comes by no more numbers but those of free packets.
+    pub(crate) fn are_free(&self, free: FreePackets, spans: &[Span], named: NamedNumbers) -> bool
+        requires { IsWalk spans.now named }
+        ensures { IsTrue result
+            ↔ AreOnly (is_named spans.now) (is_in (free_numbers free self.now.packets)) named.from }
+    {
+        let mut named = named;
+        while let Some(number) = named.next(spans) {
+            if !self.has_free_number(free, number) {
+                return false;
+            }
+        }
+        true
+    }
 }
 
 /// The numbers of the packets that are owed or free.

@@ -15,7 +15,7 @@ ghost use Rattle.qa_sent.specs.Walks.{owed_numbers};
 ghost use Rattle.qa_sent.specs.declared.fate.Fate.TheVariants.{Open};
 ghost use Rattle.qa_sent.specs.declared.packet.SentPacket.{SentPacket};
 ghost use Rattle.std.specs.List.{AllByRecursion, list_any};
-ghost use Rattle.std.specs.Prelude.{◌≡◌, [], ◌≤◌, ◌<◌, ◌+◌, ◌∷◌, ◌++◌, length, OnErr, OnOk, filter, IfOk, false, Some, map, ◌&&◌, ◌-◌, true, count_by, drop, None, ◌*◌, ◌^◌, find, sum_by};
+ghost use Rattle.std.specs.Prelude.{◌≡◌, [], ◌≤◌, ◌<◌, ◌+◌, ◌∷◌, ◌++◌, length, OnErr, OnOk, filter, IfOk, false, Some, map, ◌&&◌, ◌-◌, true, count_by, drop, None, ◌*◌, ◌^◌, find, reverse, sum_by};
 
 use crate::acknowledging::new_in_spans;
 use crate::covering::cover_in_lane;
@@ -24,7 +24,8 @@ use crate::detecting::{Thresholds, detect_in_lane};
 use crate::discarding::discard_all;
 use crate::free::FreePackets;
 use crate::lane::Lane;
-use crate::naming::{are_nameable, are_named, free_numbers_in, nameable_numbers_in};
+use crate::named::NamedNumbers;
+use crate::naming::{free_numbers_in, nameable_numbers_in};
 use crate::owing::{are_apart_in, last_owed_in, owed_numbers_in};
 use crate::packet::SentPacket;
 use crate::pushing::{add, are_before};
@@ -161,7 +162,38 @@ impl SentPackets {
             ≡ filter (is_new space spans.now) self.now.packets) }
     {
         let lane = self.lanes.of(space);
-        new_in_spans(self.alloc, &self.packets, self.dropped, lane, space, spans)
+        new_in_spans(
+            self.alloc,
+            &self.packets,
+            self.dropped,
+            lane,
+            space,
+            spans,
+            false,
+        )
+    }
+
+    /// The same packets, named by spans of which each ends below the one before it, as those of an
+    /// acknowledgment mostly do. `AllocError` comes where it is out of memory.
+    pub fn newly_acknowledged_by_falling(
+        &self,
+        space: Space,
+        spans: &[Span],
+    ) -> Result<Vec<SentPacket>, AllocError>
+        requires apart { AreApart (reverse spans.now) }
+        ensures { IfOk result (λ found. found.items
+            ≡ filter (is_new space spans.now) self.now.packets) }
+    {
+        let lane = self.lanes.of(space);
+        new_in_spans(
+            self.alloc,
+            &self.packets,
+            self.dropped,
+            lane,
+            space,
+            spans,
+            true,
+        )
     }
 
     /// Covers the packets of a space that some span names: an acknowledgment came for them. Those
@@ -288,17 +320,21 @@ impl SentPackets {
     /// Whether the spans name all packets that are owed, and no others but those that are free. They may
     /// overlap, and stand in any order. What is owed has to be of the space of those.
     ///
-    /// Takes no memory, a look at each number that is named until one may not be, and one walk
-    /// along the packets that were passed by the detection that found these losses. Where the spans
-    /// rise or fall it walks along them twice, however many numbers they have; else once for each
+    /// Takes no memory, and one walk along the packets that were passed by the detection that found
+    /// these losses; a number that is named beside those of the losses is looked up. Where the spans
+    /// rise or fall it walks along them once, however many numbers they have; else once for each
     /// stretch of numbers that it finds.
     pub fn names_losses(&self, spans: &[Span], free: FreePackets) -> bool
         requires { AreOwedIn free.space self.now.packets }
         ensures { result ≡ names_between spans.now (owed_numbers self.now.packets) (nameable_numbers free self.now.packets) }
     {
-        let lane = self.lanes.of(free.space);
-        are_nameable(&self.packets, self.dropped, lane, free, spans)
-            && are_named(&self.packets, self.owed_part(), spans)
+        let mut named = NamedNumbers::start(spans);
+        for packet in self.packets.range(self.owed_part()) {
+            if !self.comes_by_owed(free, spans, &mut named, packet) {
+                return false;
+            }
+        }
+        self.are_free(free, spans, named)
     }
 
     /// The free packets that some span names are owed from now on; whether there are any. What is owed

@@ -1,28 +1,11 @@
-use Rattle.std.proofs.Common.{◌≡◌, ◌∙◌, ◌-◌, ◌<◌, List, ◌∷◌, [], ◌++◌, append_assoc, filter, sym, ap, subst, arith, rules}
+use Rattle.std.proofs.Common.{◌≡◌, ◌∙◌, ◌-◌, List, ◌∷◌, [], ◌++◌, append_assoc, filter, sym, ap, arith, rules}
 use Rattle.std.specs.BTreeMap.Range.{entries_between}
 use Rattle.std.specs.Ordering.{nat_cmp}
 use Rattle.std.specs.declared.ops.Bound.TheVariants.{Included}
-use Rattle.std.proofs.lemmas.List.{append-nil}
-use Rattle.qa_sent.specs.Covering.{AreFrom}
 use Rattle.qa_sent.specs.Fates.{is_open}
-use Rattle.qa_sent.specs.Held.{unacknowledged_in}
 use Rattle.qa_sent.specs.declared.packet.SentPacket.{SentPacket}
-use Rattle.qa_sent.proofs.Entries.{none_between}
 use Rattle.qa_sent.proofs.Opened.{at_index, one_at, opened, part_opened, part_within}
 use Rattle.qa_sent.proofs.acknowledging.push_span.Goals as goal
-
-pub returns-then-hi-first-clause-found : goal.returns-then-hi-first-clause-found
-returns-then-hi-first-clause-found c =
-    let s = c.args.space in
-    let d = c.args.dropped in
-    let ps = c.args.packets.now.items in
-    let span = c.args.span in
-    let found = c.args.found.now.items in
-    let less = c.if-hi-first.true in
-    let hi = c.get-hi.ensures.value ∙ c.hi.ensures.value in
-    let below : span.1 < c.args.first = omega (arith, less, hi) in
-    let none = none_between c.args.first span.0 span.1 (unacknowledged_in s d ps) below (subst (AreFrom c.args.first) c.requires.indexed.entries c.requires.first) in
-    sym (append-nil found) ∙ ap (λ qs. found ++ qs) (ap (opened d ps) (sym none) ∙ part_opened s d span.0 span.1 ps)
 
 pub loop-place-init : goal.loop-place-init
 loop-place-init c =

@@ -1,6 +1,7 @@
-use Rattle.std.proofs.Common.{◌≡◌, ◌≤◌, ◌-◌, ℕ, drop, length}
+use Rattle.std.proofs.Common.{◌≡◌, ◌≤◌, ◌-◌, ℕ, drop, length, take}
+use Rattle.std.specs.List.{AllByRecursion}
 use Rattle.qa_base.specs.values.Events.{is_named}
-use Rattle.qa_sent.specs.Naming.{AreRisingFrom, turned}
+use Rattle.qa_sent.specs.Naming.{AreRisingFrom, EndsBelow, turned}
 use Rattle.qa_sent.proofs.named.NamedNumbers.first_left.Given as goal
 
 abbrev pub invariant-loop-at : goal.invariant-loop-at
@@ -8,6 +9,7 @@ invariant-loop-at l = record {
   within : l.at ≤ length l.spans;
   left : (n : ℕ) → l.from ≤ n → is_named (drop l.passed (turned l.falling l.spans)) n ≡ is_named (drop l.at (turned l.falling l.spans)) n;
   order : AreRisingFrom 0 (drop l.passed (turned l.falling l.spans)) → AreRisingFrom 0 (drop l.at (turned l.falling l.spans));
+  below : AllByRecursion (EndsBelow l.from) (take l.passed (turned l.falling l.spans)) → AllByRecursion (EndsBelow l.from) (take l.at (turned l.falling l.spans));
 }
 
 abbrev pub decreases-loop-at : goal.decreases-loop-at
