@@ -112,23 +112,67 @@ fn tell_all<R: Read, W: Write>(
     reader: &mut R,
     writer: &mut W,
 ) -> Result<(), Failure> {
+    tell_input(alloc, reader, writer)?;
+    tell_acknowledged(alloc, writer)?;
+    tell_unacknowledged(alloc, writer)
+}
+
+/// Tells of the traces that the reader gives.
+fn tell_input<R: Read, W: Write>(
+    alloc: Global,
+    reader: &mut R,
+    writer: &mut W,
+) -> Result<(), Failure> {
     let mut input = Vec::new(alloc);
     if reader.read_to_end(&mut input).is_err() {
         return Err(Failure::Read);
     }
-    tell_traces(alloc, &input, writer)?;
-    acknowledged_one_by_one(alloc)?.tell(writer)?;
-    never_acknowledged(alloc)?.tell(writer)
+    tell_traces(alloc, &input, writer)
+}
+
+/// Tells of the packets that are acknowledged one by one.
+fn tell_acknowledged<W: Write>(alloc: Global, writer: &mut W) -> Result<(), Failure> {
+    let mut history = server(alloc)?;
+    acknowledge_one_by_one(&mut history, alloc)?;
+    history.tell(writer)
+}
+
+/// Tells of the packets that are never acknowledged.
+fn tell_unacknowledged<W: Write>(alloc: Global, writer: &mut W) -> Result<(), Failure> {
+    let mut history = server(alloc)?;
+    send_unacknowledged(&mut history)?;
+    history.tell(writer)
 }
 
 /// Tells of each trace at its end.
 fn tell_traces<W: Write>(alloc: Global, input: &[u8], writer: &mut W) -> Result<(), Failure> {
     let mut history: Option<History> = None;
-    for bytes in input.split(|byte| *byte == b'\n') {
-        let line = line_of(alloc, bytes)?;
-        take_line(alloc, &mut history, &line, writer)?;
-    }
+    take_lines(alloc, &mut history, input, writer)?;
     tell_of(&history, writer)
+}
+
+/// Takes in each line of the input.
+fn take_lines<W: Write>(
+    alloc: Global,
+    history: &mut Option<History>,
+    input: &[u8],
+    writer: &mut W,
+) -> Result<(), Failure> {
+    for bytes in input.split(|byte| *byte == b'\n') {
+        take_bytes(alloc, history, bytes, writer)?;
+    }
+    Ok(())
+}
+
+/// Takes in the line of these bytes.
+fn take_bytes<W: Write>(
+    alloc: Global,
+    history: &mut Option<History>,
+    bytes: &[u8],
+    writer: &mut W,
+) -> Result<(), Failure> {
+    let line = line_of(alloc, bytes)?;
+    take_line(alloc, history, &line, writer)
 }
 
 /// What a line says.
@@ -177,24 +221,39 @@ fn server(alloc: Global) -> Result<History, Failure> {
     Ok(History::new(alloc, header))
 }
 
-/// Packets each of which is acknowledged by itself, before the next is sent.
-fn acknowledged_one_by_one(alloc: Global) -> Result<History, Failure> {
-    let mut history = server(alloc)?;
+/// Admits packets each of which is acknowledged by itself, before the next is sent.
+fn acknowledge_one_by_one(history: &mut History, alloc: Global) -> Result<(), Failure> {
     for n in 0..ACKNOWLEDGED {
-        history.admit(&sent(n, 2 * n, true)?)?;
-        history.admit(&ack(alloc, n, 2 * n + 1)?)?;
+        admit_sent(history, n, 2 * n, true)?;
+        admit_ack(history, alloc, n, 2 * n + 1)?;
     }
-    Ok(history)
+    Ok(())
 }
 
-/// Packets at one time that are not in flight, so that nothing limits them, and none of which is
-/// acknowledged.
-fn never_acknowledged(alloc: Global) -> Result<History, Failure> {
-    let mut history = server(alloc)?;
+/// Admits packets at one time that are not in flight, so that nothing limits them, and none of which
+/// is acknowledged.
+fn send_unacknowledged(history: &mut History) -> Result<(), Failure> {
     for n in 0..UNACKNOWLEDGED {
-        history.admit(&sent(n, 0, false)?)?;
+        admit_sent(history, n, 0, false)?;
     }
-    Ok(history)
+    Ok(())
+}
+
+/// Admits a packet that is sent.
+fn admit_sent(
+    history: &mut History,
+    number: u64,
+    time: u64,
+    in_flight: bool,
+) -> Result<(), Failure> {
+    let event = sent(number, time, in_flight)?;
+    history.admit(&event)
+}
+
+/// Admits an acknowledgment of one packet.
+fn admit_ack(history: &mut History, alloc: Global, number: u64, time: u64) -> Result<(), Failure> {
+    let event = ack(alloc, number, time)?;
+    history.admit(&event)
 }
 
 /// A packet of 1,200 bytes, which is ack-eliciting and in flight, or neither.
