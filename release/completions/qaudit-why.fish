@@ -1,5 +1,6 @@
 # Completion of qaudit-why for fish.
 
+complete -c qaudit-why -s a -l all -d 'Go on past rules of conduct, and tell of all departures'
 complete -c qaudit-why -s j -l json -d 'Write a JSON object for each trace, on one line'
 complete -c qaudit-why -s q -l quiet -d 'Write nothing of accepted traces'
 complete -c qaudit-why -s r -l rows -d 'Write a JSON object for each line, with the state behind it'

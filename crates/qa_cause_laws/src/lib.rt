@@ -1,7 +1,9 @@
-//! Laws of what is told of a refused event: the sums that deadlines are, and the numbers of runs.
+//! Laws of what is told of a refused event: the sums that deadlines are, the numbers of runs, and which
+//! of the rules that it breaks comes first.
 //!
 //! Each is the contract of a function that does nothing.
 #![tactic(auto)]
 
 pub mod differences;
+pub mod firsts;
 pub mod terms;
