@@ -97,23 +97,33 @@ fn is_told(cause: &Cause, first: PacketNumber, last: PacketNumber) -> bool {
     }
 }
 
+/// Whether a ledger to which packet 0 is owed tells so of a Lost line that breaks V4, loss-set.
+fn tells(
+    alloc: Global,
+    header: Header,
+    event: &Event,
+    first: PacketNumber,
+    last: PacketNumber,
+) -> bool {
+    let mut ledger = Running::start(alloc, header);
+    judged(&mut ledger, sent(0));
+    judged(&mut ledger, sent(3));
+    judged(&mut ledger, ack(alloc, 3));
+    match ledger.cause(event, Rule::LossSet) {
+        Ok(cause) => is_told(&cause, first, last),
+        Err(_) => false,
+    }
+}
+
 /// A Lost line that names another packet than the one that is owed: the ledger says which is not
 /// named, and which is not owed.
 #[test]
 fn a_cause(rt: HostRuntime) -> Result<(), Fail> {
     let header = Header::new(Role::Server, 1200, None, None, None)?;
-    let mut ledger = Running::start(rt.alloc(), header);
-    judged(&mut ledger, sent(0));
-    judged(&mut ledger, sent(3));
-    judged(&mut ledger, ack(rt.alloc(), 3));
     let first = PacketNumber::new(0).ok_or("a packet number")?;
     let last = PacketNumber::new(3).ok_or("a packet number")?;
     let event = lost(rt.alloc(), 3).ok_or("a Lost line")?;
-    let told = match ledger.cause(&event, Rule::LossSet) {
-        Ok(cause) => is_told(&cause, first, last),
-        Err(_) => false,
-    };
-    assert!(rt; told);
+    assert!(rt; tells(rt.alloc(), header, &event, first, last));
     Ok(())
 }
 

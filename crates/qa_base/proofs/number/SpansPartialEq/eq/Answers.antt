@@ -1,5 +1,6 @@
+use Rattle.std.proofs.Common.{rules}
 use Rattle.qa_base.proofs.number.SpansPartialEq.eq.Goals as goal
 
 -- Written out, so that a wrong body is refused at this line.
 pub returns : goal.returns
-returns c = rw (← c.self.view_is, ← c.other.view_is) c.eq.ensures
+returns c = search rules
