@@ -1,15 +1,19 @@
 -- What is told of one more departure, and of those on one more line.
-use Rattle.std.proofs.Common.{◌≡◌, ◌∙◌, ◌+◌, ℕ, Bool, false, List, [], ◌∷◌, ◌++◌, Option, Some, None, Result, Ok, Err, append_assoc, length, refl, subst, sym, ap}
+use Rattle.std.proofs.Common.{◌≡◌, ◌∙◌, ◌+◌, ℕ, suc, Bool, true, false, List, [], ◌∷◌, ◌++◌, Option, Some, None, Result, Ok, Err, append_assoc, length, refl, subst, sym, ap, arith}
+use Rattle.std.proofs.lemmas.Bool.{ne_eqb}
 use Rattle.std.proofs.lemmas.List.{append-nil}
 use Rattle.std.specs.Option.{option_or}
-use Rattle.std.specs.Prelude.{filter_map}
-use Rattle.qa_all.specs.All.{Departed, all_departed, departed_after, departed_at, departed_on, finding_of, findings, first_text, firsts, firsts_after, history_in, unit_of}
-use Rattle.qa_all.specs.Keeping.{Covers, Keeps, departed_by}
-use Rattle.qa_all.specs.declared.keeping.Kept.{Kept}
+use Rattle.std.specs.Prelude.{filter_map, nat_eq}
+use Rattle.qa_all.specs.All.{first_text, firsts, firsts_after}
+use Rattle.qa_all.specs.Departed.{Departed, all_departed, departed_after, departed_at, departed_on, finding_of, findings, history_in, unit_of}
+use Rattle.qa_all.specs.Keeping.{departed_by}
+use Rattle.qa_all.specs.Objects.{first_members, named, named_after, named_behind}
 use Rattle.qa_base.specs.declared.event.Event.{Event}
 use Rattle.qa_base.proofs.machine.Histories.{history_of-snoc}
+use Rattle.qa_base.specs.declared.space.TimeUnit.{TimeUnit}
 use Rattle.qa_base.specs.machine.Packets.{history_of}
 use Rattle.qa_base.specs.values.Settings.{Settings}
+use Rattle.qa_departures.specs.Table.{Holds, counted}
 use Rattle.qa_departures.specs.declared.finding.Finding.{Finding}
 use Rattle.qa_format.proofs.verdicts.RunsAccepted.{events_in-snoc}
 use Rattle.qa_format.proofs.verdicts.Stops.{header_in-snoc}
@@ -95,24 +99,53 @@ departed_same ls l (line.Event e) c says headed =
 departed_same ls l line.Blank c says headed = rw says (sym (none_said (length ls + 1) l (header_in reading ls) (history_in ls)))
 departed_same ls l (line.Header d) c says headed = rw says (sym (none_said (length ls + 1) l (header_in reading ls) (history_in ls)))
 
--- ---- what is kept
+-- ---- what is kept of the lines: their departures, their unit and the number of their events
+
+abbrev pub CoversBy : (List Departed → Type 0) → TimeUnit → ℕ → List (List ℕ) → Type 0
+CoversBy keeps unit events ls = keeps (all_departed ls) × (unit ≡ unit_of (header_in reading ls)) × (events ≡ length (history_in ls))
 
 -- one more line behind a header
-pub covers_more : (name : List ℕ) (old new : Kept) (ls : List (List ℕ)) (l : List ℕ) (said : Line) (n : ℕ) (c : Settings) → reading l ≡ Ok said → header_in reading (ls ++ l ∷ []) ≡ Some c → n ≡ length ls + 1
-    → Keeps name new (all_departed ls ++ departed_by n l said c (history_in (ls ++ l ∷ []))) → new.unit ≡ c.unit → new.events ≡ length (history_in (ls ++ l ∷ []))
-    → Covers name new (ls ++ l ∷ [])
-covers_more name old new ls l said n c says headed count keeps unit events =
+pub covers_more : (keeps : List Departed → Type 0) (unit : TimeUnit) (events : ℕ) (ls : List (List ℕ)) (l : List ℕ) (said : Line) (n : ℕ) (c : Settings) → reading l ≡ Ok said → header_in reading (ls ++ l ∷ []) ≡ Some c → n ≡ length ls + 1
+    → keeps (all_departed ls ++ departed_by n l said c (history_in (ls ++ l ∷ []))) → unit ≡ c.unit → events ≡ length (history_in (ls ++ l ∷ []))
+    → CoversBy keeps unit events (ls ++ l ∷ [])
+covers_more keeps unit events ls l said n c says headed count kept is_unit are_events =
     let h = history_in (ls ++ l ∷ []) in
     let same : all_departed ls ++ departed_by n l said c h ≡ all_departed (ls ++ l ∷ []) =
     ap (λ m. all_departed ls ++ departed_by m l said c h) count ∙ (ap (λ ds. all_departed ls ++ ds) (departed_same ls l said c says headed) ∙ sym (all_departed-snoc ls l)) in
-    (subst (λ (ds : List Departed). Keeps name new ds) same keeps, unit ∙ sym (ap unit_of headed), events)
+    (subst keeps same kept, is_unit ∙ sym (ap unit_of headed), are_events)
 
 -- one more line, and no header yet
-pub covers_headless : (name : List ℕ) (kept : Kept) (ls : List (List ℕ)) (l : List ℕ) → header_in reading (ls ++ l ∷ []) ≡ None → history_in (ls ++ l ∷ []) ≡ [] → Covers name kept ls → Covers name kept (ls ++ l ∷ [])
-covers_headless name kept ls l none nothing covers =
+pub covers_headless : (keeps : List Departed → Type 0) (unit : TimeUnit) (events : ℕ) (ls : List (List ℕ)) (l : List ℕ) → header_in reading (ls ++ l ∷ []) ≡ None → history_in (ls ++ l ∷ []) ≡ []
+    → CoversBy keeps unit events ls → CoversBy keeps unit events (ls ++ l ∷ [])
+covers_headless keeps unit events ls l none nothing covers =
     let same : all_departed ls ≡ all_departed (ls ++ l ∷ []) =
     sym (all_departed-snoc ls l ∙ (ap (λ ds. all_departed ls ++ ds) (departed_headless ls l none) ∙ append-nil (all_departed ls))) in (
-      subst (λ (ds : List Departed). Keeps name kept ds) same covers.0,
+      subst keeps same covers.0,
       covers.1 ∙ (ap unit_of (headless_before ls l none) ∙ sym (ap unit_of none)),
       covers.2 ∙ (ap length (none_before ls l nothing) ∙ sym (ap length nothing)),
     )
+
+-- ---- what is listed
+
+named_after-snoc : (before fs : List Finding) (f : Finding) → named_after before (fs ++ f ∷ []) ≡ named_after before fs ++ named_behind (before ++ fs) f
+named_after-snoc before [] f = append-nil (named_behind before f) ∙ ap (λ gs. named_behind gs f) (sym (append-nil before))
+named_after-snoc before (g ∷ fs) f =
+    ap (λ gs. named_behind before g ++ gs) (named_after-snoc (before ++ g ∷ []) fs f)
+    ∙ (ap (λ gs. named_behind before g ++ (named_after (before ++ g ∷ []) fs ++ named_behind gs f)) (append_assoc before (g ∷ []) fs)
+    ∙ sym (append_assoc (named_behind before g) (named_after (before ++ g ∷ []) fs) (named_behind (before ++ g ∷ fs) f)))
+
+pub named-snoc : (fs : List Finding) (f : Finding) → named (fs ++ f ∷ []) ≡ named fs ++ named_behind fs f
+named-snoc fs f = named_after-snoc [] fs f
+
+-- where there is a departure, one more is not the first
+pub first_stays : (ds : List Departed) (d : Departed) (noted : ℕ) → nat_eq noted 0 ≡ false → noted ≡ counted (length (findings ds)) → first_members ds ≡ first_members (ds ++ d ∷ [])
+first_stays [] d noted some count = let none : nat_eq noted 0 ≡ true = ap (λ n. nat_eq n 0) count in cc
+first_stays (e ∷ ds) d noted some count = refl
+
+not_none : (n : ℕ) → nat_eq (counted (suc n)) 0 ≡ false
+not_none n = ne_eqb (counted (suc n)) 0 (λ is. omega arith)
+
+-- where there is none, it is the first
+pub first_of_none : (ds : List Departed) (d : Departed) (noted : ℕ) → nat_eq noted 0 ≡ true → noted ≡ counted (length (findings ds)) → first_members (d ∷ []) ≡ first_members (ds ++ d ∷ [])
+first_of_none [] d noted none count = refl
+first_of_none (e ∷ ds) d noted none count = let some : nat_eq noted 0 ≡ false = ap (λ n. nat_eq n 0) count ∙ not_none (length (findings ds)) in cc

@@ -1,69 +1,27 @@
 -- What is told of all departures of a trace from the rules of conduct.
-use Rattle.std.specs.Prelude.{◌≡◌, ℕ, ◌+◌, Bool, codes, length, map, List, [], ◌∷◌, ◌++◌, Option, Some, None, if◌then◌else◌}
+use Rattle.std.specs.Prelude.{◌≡◌, ℕ, Bool, codes, length, map, List, [], ◌∷◌, ◌++◌, Option, if◌then◌else◌}
 use Rattle.std.specs.Io.KnownBytes.{Appends}
-use Rattle.qa_all.specs.Bearing.{departures_of}
-use Rattle.qa_all.specs.declared.bearing.Departure.{Departure}
-use Rattle.qa_base.specs.declared.event.Event.{Event}
+use Rattle.qa_all.specs.Departed.{Departed, all_departed, finding_of, findings, history_in, unit_of}
+use Rattle.qa_all.specs.Objects.{course_members}
 use Rattle.qa_base.specs.declared.space.TimeUnit.{TimeUnit}
-use Rattle.qa_base.specs.declared.space.TimeUnit.TheVariants.{Microseconds}
 use Rattle.qa_base.specs.machine.Departures.{first_unborne}
-use Rattle.qa_base.specs.machine.Packets.{history_of}
-use Rattle.qa_base.specs.values.Settings.{Settings}
 use Rattle.qa_check.specs.Audit.{outcome_of}
 use Rattle.qa_check.specs.declared.auditing.Outcome.{Outcome}
 use Rattle.qa_check.specs.declared.auditing.Outcome.TheVariants.{Accepted, Refused}
-use Rattle.qa_departures.specs.Amounts.{amount}
 use Rattle.qa_departures.specs.Table.{is_known}
 use Rattle.qa_departures.specs.Texts.{table_text}
 use Rattle.qa_departures.specs.declared.finding.Finding.{Finding}
 use Rattle.qa_format.specs.format.Reading.{reading}
-use Rattle.qa_format.specs.verdicts.Verdict.{Judging, event_said, events_in, header_in, verdict}
+use Rattle.qa_format.specs.verdicts.Verdict.{Judging, header_in, verdict}
 use Rattle.qa_why_trace.specs.Lines.{visible}
 use Rattle.qa_why_trace.specs.Texts.{broken_text}
-use Rattle.qa_why_trace.specs.Why.{good_lines, unless_accepted, why_by}
-use Rattle.qa_why_trace.specs.declared.form.Form.TheVariants.{Text}
+use Rattle.qa_why_trace.specs.Why.{good_lines, unless_accepted, whole, why_by}
+use Rattle.qa_why_trace.specs.declared.form.Form.{Form}
+use Rattle.qa_why_trace.specs.declared.form.Form.TheVariants.{Json, Text}
 
 -- how a trace is judged: an event ends it by the first rule that it breaks and past which the machine does not go on
 abbrev pub past_conduct : Judging
 past_conduct = record { says = reading; breaks = first_unborne }
-
--- ---- departures
-
--- an event departs from a rule, which this line says
-pub record Departed : Type 0 where
-  pub line : ℕ
-  pub bytes : List ℕ
-  pub event : Event
-  pub departure : Departure
-
-abbrev pub finding_of : Departed → Finding
-finding_of d = record { line = d.line; rule = d.departure.rule; amount = amount d.event d.departure.rule d.departure.cause }
-
-abbrev pub departed : ℕ → List ℕ → Event → Departure → Departed
-departed n l e d = record { line = n; bytes = l; event = e; departure = d }
-
--- what the event of line n departs from, behind a header and a history
-abbrev pub departed_at : ℕ → List ℕ → Option Settings → List Event → Option Event → List Departed
-departed_at n l (Some c) h (Some e) = map (departed n l e) (departures_of c h e)
-departed_at n l header h said = []
-
-abbrev pub history_in : List (List ℕ) → List Event
-history_in ls = history_of (events_in reading ls)
-
--- the departures on a line behind these
-abbrev pub departed_on : List (List ℕ) → List ℕ → List Departed
-departed_on before l = departed_at (length before + 1) l (header_in reading before) (history_in before) (event_said (reading l))
-
-abbrev pub departed_after : List (List ℕ) → List (List ℕ) → List Departed
-departed_after before [] = []
-departed_after before (l ∷ ls) = departed_on before l ++ departed_after (before ++ l ∷ []) ls
-
--- all departures on good lines
-abbrev pub all_departed : List (List ℕ) → List Departed
-all_departed ls = departed_after [] ls
-
-abbrev pub findings : List Departed → List Finding
-findings ds = map finding_of ds
 
 -- ---- what is told of them
 
@@ -83,10 +41,6 @@ abbrev pub firsts : List ℕ → List Departed → List ℕ
 firsts name ds = firsts_after name [] ds
 
 -- ---- the table
-
-abbrev pub unit_of : Option Settings → TimeUnit
-unit_of None = Microseconds
-unit_of (Some c) = c.unit
 
 -- the table behind the name; nothing where there is no departure
 abbrev pub table_of : List ℕ → TimeUnit → ℕ → List Finding → List ℕ
@@ -116,17 +70,25 @@ course_text name ls outcome text =
     ++ end_of (findings (all_departed ls)) outcome text
     ++ table_of name (unit_of (header_in reading ls)) (length (history_in ls)) (findings (all_departed ls))
 
+-- the same in a form: a text, or the members of an object
+abbrev pub course_in : Form → List ℕ → List (List ℕ) → Outcome → List ℕ → List ℕ
+course_in Text name ls outcome told = course_text name ls outcome told
+course_in Json name ls outcome told = course_members ls told
+
 -- of bytes, under the name of their file
-unfoldable pub all_text : List ℕ → List ℕ → List ℕ
-all_text name bytes = course_text name (good_lines past_conduct bytes) (outcome_of (verdict past_conduct bytes)) (why_by past_conduct Text name bytes)
+unfoldable pub told_by : Form → List ℕ → List ℕ → List ℕ
+told_by form name bytes = course_in form name (good_lines past_conduct bytes) (outcome_of (verdict past_conduct bytes)) (why_by past_conduct form name bytes)
+
+abbrev pub all_text : Form → List ℕ → List ℕ → List ℕ
+all_text form name bytes = whole form name (told_by form name bytes)
 
 unfoldable pub all_outcome : List ℕ → Outcome
 all_outcome bytes = outcome_with (findings (all_departed (good_lines past_conduct bytes))) (outcome_of (verdict past_conduct bytes))
 
 -- what is written: where it is to be quiet, nothing of accepted bytes
-abbrev pub all_written : Bool → List ℕ → List ℕ → List ℕ
-all_written quiet name bytes = unless_accepted quiet (all_outcome bytes) (all_text name bytes)
+abbrev pub all_written : Form → Bool → List ℕ → List ℕ → List ℕ
+all_written form quiet name bytes = unless_accepted quiet (all_outcome bytes) (all_text form name bytes)
 
 -- it was written, and the kind of the verdict is returned
-abbrev pub WritesAll : Option (List ℕ) → Option (List ℕ) → Bool → List ℕ → Outcome → List ℕ → Type 0
-WritesAll held held' quiet name outcome bytes = Appends held held' (all_written quiet name bytes) × (outcome ≡ all_outcome bytes)
+abbrev pub WritesAll : Option (List ℕ) → Option (List ℕ) → Form → Bool → List ℕ → Outcome → List ℕ → Type 0
+WritesAll held held' form quiet name outcome bytes = Appends held held' (all_written form quiet name bytes) × (outcome ≡ all_outcome bytes)

@@ -1,11 +1,14 @@
 //! What is kept of departures while a trace is judged.
 ghost use Rattle.std.specs.Prelude.{◌≡◌, ◌++◌, [], ◌∷◌, ℕ, List, length, false, not, IfOk, OnOk, map};
 ghost use Rattle.qa_all.specs.All as all;
-ghost use Rattle.qa_all.specs.All.{Departed};
+ghost use Rattle.qa_all.specs.Departed as departed;
+ghost use Rattle.qa_all.specs.Departed.{Departed};
 ghost use Rattle.qa_all.specs.Bearing.{StandsFor};
 ghost use Rattle.qa_all.specs.Keeping.{Covers, Keeps, departed_by, is_nil};
+ghost use Rattle.qa_departures.specs.Table.{Holds};
 ghost use Rattle.qa_departures.specs.declared.finding.Finding.{Finding as AFinding};
 ghost use Rattle.qa_base.specs.declared.event.Event.{Event as AnEvent};
+ghost use Rattle.qa_base.specs.declared.space.TimeUnit.{TimeUnit as AUnit};
 ghost use Rattle.qa_base.specs.values.Settings.{Settings};
 
 use crate::bearing::{Bearing, Departure};
@@ -30,9 +33,9 @@ pub(crate) struct Kept {
 }
 
 /// The departure as the table has it, of an event on this line.
-fn finding(line: u64, event: &Event, departure: &Departure) -> Finding
-    ensures { (bytes : List ℕ)
-        → result ≡ all.finding_of (all.departed line bytes event.now departure.now) }
+pub(crate) fn finding(line: u64, event: &Event, departure: &Departure) -> Finding
+    ensures { (u : AUnit) (bytes : List ℕ)
+        → result ≡ departed.finding_of (departed.departed u line bytes event.now departure.now) }
 {
     Finding {
         line,
@@ -64,9 +67,9 @@ impl Kept {
         event: &Event,
         departure: &Departure,
     ) -> Result<(), AllocError>
-        ensures { OnOk result ((ds : List Departed) → Keeps name.now self.old ds
+        ensures { OnOk result ((u : AUnit) (ds : List Departed) → Keeps name.now self.old ds
             → (self.new.firsts.items ≡ self.old.firsts.items
-            ++ all.first_text name.now (all.findings ds) (all.departed n line.now event.now departure.now))
+            ++ all.first_text name.now (departed.findings ds) (departed.departed u n line.now event.now departure.now))
             × (self.new.table ≡ self.old.table) × (self.new.unit ≡ self.old.unit)
             × (self.new.events ≡ self.old.events)) }
     {
@@ -95,8 +98,8 @@ impl Kept {
         event: &Event,
         departure: &Departure,
     ) -> Result<(), AllocError>
-        ensures { OnOk result ((ds : List Departed) → Keeps name.now self.old ds
-            → Keeps name.now self.new (ds ++ all.departed n line.now event.now departure.now ∷ [])) }
+        ensures { OnOk result ((u : AUnit) (ds : List Departed) → Keeps name.now self.old ds
+            → Keeps name.now self.new (ds ++ departed.departed u n line.now event.now departure.now ∷ [])) }
     {
         self.tell(name, n, line, event, departure)?;
         self.table.note(&finding(n, event, departure));
@@ -112,8 +115,8 @@ impl Kept {
         event: &Event,
         departures: &[Departure],
     ) -> Result<(), AllocError>
-        ensures { OnOk result ((ds : List Departed) → Keeps name.now self.old ds
-            → Keeps name.now self.new (ds ++ map (all.departed n line.now event.now) departures.now)) }
+        ensures { OnOk result ((u : AUnit) (ds : List Departed) → Keeps name.now self.old ds
+            → Keeps name.now self.new (ds ++ map (departed.departed u n line.now event.now) departures.now)) }
     {
         for departure in departures {
             self.note(name, n, line, event, departure)?;
@@ -147,7 +150,7 @@ impl Kept {
     /// The table behind the name; empty where there is no departure.
     fn table_text(&self, name: &str) -> Result<Vec<u8>, AllocError>
         ensures { IfOk result (λ text. (ds : List Departed) → Keeps name.now self.now ds
-            → text.items ≡ all.table_of name.now self.now.unit self.now.events (all.findings ds)) }
+            → text.items ≡ all.table_of name.now self.now.unit self.now.events (departed.findings ds)) }
     {
         if self.table.is_empty() {
             return Ok(Vec::new(self.alloc));
@@ -162,14 +165,14 @@ impl Kept {
     pub(crate) fn finish(mut self, name: &str, end: Why) -> Result<Why, AllocError>
         ensures { IfOk result (λ why. (ls : List (List ℕ)) → Covers name.now self ls
             → (why.text.items ≡ all.course_text name.now ls end.outcome end.text.items)
-            × (why.outcome ≡ all.outcome_with (all.findings (all.all_departed ls)) end.outcome)) }
+            × (why.outcome ≡ all.outcome_with (departed.findings (departed.all_departed ls)) end.outcome)) }
     {
         let table = self.table_text(name)?;
         let departs = !self.table.is_empty();
         extend(&mut self.firsts, end_of(departs, end.outcome, &end.text))?;
         extend(&mut self.firsts, &table)?;
         Ok(Why {
-            outcome: outcome_with(departs, end.outcome),
+            outcome: outcome_past(&self.table, end.outcome),
             text: self.firsts,
         })
     }
@@ -184,6 +187,13 @@ fn end_of(departs: bool, outcome: Outcome, text: &[u8]) -> &[u8]
         Outcome::Accepted if departs => &[],
         _ => text,
     }
+}
+
+/// The kind of the verdict of a trace with these departures.
+pub(crate) fn outcome_past(table: &Table, outcome: Outcome) -> Outcome
+    ensures { (fs : List AFinding) → Holds table.now fs → result ≡ all.outcome_with fs outcome }
+{
+    outcome_with(!table.is_empty(), outcome)
 }
 
 /// The kind of the verdict: a trace that departs is not accepted.

@@ -6,6 +6,8 @@
 
 mod bearing;
 mod keeping;
+mod listing;
+mod objects;
 mod reasoning;
 mod rows;
 mod trace;

@@ -1,5 +1,5 @@
 -- The table of departures: a row for each kind of them.
-use Rattle.std.specs.Prelude.{◌≡◌, ℕ, nat_lt, max, min, ◌==◌, ◌&&◌, ◌-◌, ◌^◌, Bool, true, false, length, map, filter, reverse, List, [], ◌∷◌, Option, Some, None}
+use Rattle.std.specs.Prelude.{◌≡◌, ℕ, nat_le, nat_lt, max, min, ◌==◌, ◌&&◌, ◌-◌, ◌^◌, Bool, true, false, length, map, filter, reverse, List, [], ◌∷◌, Option, Some, None}
 use Rattle.std.specs.List.{list_any}
 use Rattle.qa_base.specs.declared.rule.Field.{Field}
 use Rattle.qa_base.specs.declared.rule.Field.TheVariants as field
@@ -102,6 +102,14 @@ is_row r row = is_kind row.rule r && has_findings row
 -- a departure of this kind is among the findings
 abbrev pub is_known : Rule → List Finding → Bool
 is_known r fs = list_any (is_row r) (rows_of fs)
+
+-- the row is of this kind, of which so many were found or more
+abbrev pub is_row_of : ℕ → Rule → Row → Bool
+is_row_of many r row = is_kind row.rule r && nat_le many row.count
+
+-- so many departures of this kind or more are among the findings
+abbrev pub are_known : ℕ → Rule → List Finding → Bool
+are_known many r fs = list_any (is_row_of many r) (rows_of fs)
 
 -- ---- what is kept of it
 

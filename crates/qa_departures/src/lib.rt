@@ -10,5 +10,6 @@ mod texts;
 
 pub use amounts::{amount, is_in_bytes};
 pub use finding::Finding;
-pub use row::Row;
+pub use row::{Row, is_kind};
 pub use table::Table;
+pub use texts::unit_of;

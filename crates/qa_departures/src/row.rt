@@ -26,7 +26,7 @@ fn is_field(one: Field, other: Field) -> bool
 }
 
 /// Whether the two are one kind: the same rule, and for a metric the same value.
-fn is_kind(one: Rule, other: Rule) -> bool
+pub fn is_kind(one: Rule, other: Rule) -> bool
     ensures { result ≡ tables.is_kind one other }
 {
     match (one, other) {
@@ -121,4 +121,12 @@ pub(crate) fn has_row(rows: &[Row], rule: Rule) -> bool
 {
     rows.iter()
         .any(|row| is_kind(row.rule, rule) && 0 < row.count)
+}
+
+/// Whether a row is of this kind, of which so many were found or more.
+pub(crate) fn has_many_in(rows: &[Row], many: u64, rule: Rule) -> bool
+    ensures { result ≡ list_any (tables.is_row_of many rule) rows.now }
+{
+    rows.iter()
+        .any(|row| is_kind(row.rule, rule) && many <= row.count)
 }

@@ -1,12 +1,12 @@
 //! The table of departures.
 ghost use Rattle.std.specs.Prelude.{◌≡◌, List, [], ◌∷◌, ◌++◌, IfOk, OnOk, nat_eq, string_bytes};
 ghost use Rattle.qa_departures.specs.declared.finding.Finding.{Finding as AFinding};
-ghost use Rattle.qa_departures.specs.Table.{Holds, is_known, rows_of};
+ghost use Rattle.qa_departures.specs.Table.{Holds, are_known, is_known, rows_of};
 ghost use Rattle.qa_departures.specs.Steps.{one_more};
 ghost use Rattle.qa_departures.specs.Texts.{table_text};
 
 use crate::finding::Finding;
-use crate::row::{Row, has_row, note_in};
+use crate::row::{Row, has_many_in, has_row, note_in};
 use crate::texts::{push_head, push_rows};
 use qa_base::{Field, Rule, TimeUnit};
 use std::alloc::{AllocError, Global};
@@ -82,6 +82,21 @@ impl Table {
         ensures { (fs : List AFinding) → Holds self.now fs → result ≡ is_known rule fs }
     {
         has_row(&self.rows, rule)
+    }
+
+    /// Whether it was told of so many departures from this rule of conduct or more, for a metric of the
+    /// same value.
+    pub fn has_many(&self, many: u64, rule: Rule) -> bool
+        ensures { (fs : List AFinding) → Holds self.now fs → result ≡ are_known many rule fs }
+    {
+        has_many_in(&self.rows, many, rule)
+    }
+
+    /// The row of each rule of conduct, in their order; 0 is the count of one that was not found.
+    pub fn rows(&self) -> &[Row]
+        ensures { (fs : List AFinding) → Holds self.now fs → result.now ≡ rows_of fs }
+    {
+        &self.rows
     }
 
     /// The text of the table behind the name of a trace whose times are in this unit and so many of

@@ -43,7 +43,7 @@ fn push_where(out: &mut String, row: &Row) -> Result<(), AllocError>
 }
 
 /// In what the amounts of the rule are: `bytes`, `us` or `ns`.
-fn unit_of(unit: TimeUnit, rule: Rule) -> &'static str
+pub fn unit_of(unit: TimeUnit, rule: Rule) -> &'static str
     ensures { result.now ≡ text.unit_of unit rule }
 {
     if is_in_bytes(rule) {

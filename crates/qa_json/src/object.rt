@@ -40,12 +40,13 @@ impl Object {
     pub fn new(alloc: Global) -> Result<Object, AllocError>
         ensures { IfOk result (λ object. object ≡ text.opened) }
     {
-        let mut object = Object::empty(alloc);
+        let mut object = Object::bare(alloc);
         object.token(Token::BeginObject)?;
         Ok(object)
     }
 
-    fn empty(alloc: Global) -> Object
+    /// Members that are to stand in another object: they have no braces. None is written yet.
+    pub fn bare(alloc: Global) -> Object
         ensures { result ≡ [] }
     {
         Object {
@@ -61,7 +62,8 @@ impl Object {
         self.writer.token(token)
     }
 
-    fn integer(&mut self, number: u128) -> Result<(), AllocError>
+    /// An integer in the list.
+    pub fn integer(&mut self, number: u128) -> Result<(), AllocError>
         ensures { OnOk result (self.new ≡ self.old ++ tokens.number (decimal number) ∷ []) }
     {
         let mut buffer = Buffer::new();
@@ -235,7 +237,8 @@ impl Object {
         Ok(line)
     }
 
-    fn into_bytes(self) -> Vec<u8>
+    /// The text as it stands, with no brace behind it.
+    pub fn into_bytes(self) -> Vec<u8>
         ensures { result.items ≡ text.text_of_all self }
     {
         self.writer.into_inner()

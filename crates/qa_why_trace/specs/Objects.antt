@@ -1,4 +1,4 @@
--- What is written of a trace as a JSON object, by its verdict.
+-- What is written of a trace as a JSON object: by its verdict the members, as they stand between braces.
 use Rattle.std.specs.Prelude.{ℕ, Bool, codes, decimal, List, [], ◌++◌, Option, Some, None}
 use Rattle.json.specs.Token.{Token}
 use Rattle.qa_base.specs.declared.event.Event.{Event}
@@ -15,22 +15,30 @@ use Rattle.qa_format.specs.declared.fault.Fault.{Fault}
 use Rattle.qa_format.specs.format.Faults.{fault_name, fault_number, key_of}
 use Rattle.qa_json.specs.Facts.{facts}
 use Rattle.qa_json.specs.Losses.{owed}
-use Rattle.qa_json.specs.Object.{flag_at, line_of, number_at, opened, string_at}
+use Rattle.qa_json.specs.Object.{flag_at, number_at, opened, string_at, text_of_all}
 use Rattle.qa_json.specs.Subjects.{subject}
 use Rattle.qa_why_trace.specs.Faults.{wanted}
 
--- the file, and the verdict in a word
-unfoldable pub front : List ℕ → List ℕ → List Token
-front name word = opened ++ string_at (codes "file") name ++ string_at (codes "verdict") word
+-- ---- the object around the members
+
+-- the file is its first member, and the others stand behind: a line
+unfoldable pub object_line : List ℕ → List ℕ → List ℕ
+object_line name members = text_of_all (opened ++ string_at (codes "file") name) ++ codes "," ++ members ++ codes "}\n"
+
+-- ---- the members of a verdict
+
+-- the verdict in a word
+unfoldable pub front : List ℕ → List Token
+front word = string_at (codes "verdict") word
 
 -- the same, and the line that the verdict is about
-unfoldable pub head : List ℕ → List ℕ → ℕ → List Token
-head name word n = front name word ++ number_at (codes "line") n
+unfoldable pub head : List ℕ → ℕ → List Token
+head word n = front word ++ number_at (codes "line") n
 
 -- ---- accepted
 
-unfoldable pub accepted_object : List ℕ → Totals → List ℕ
-accepted_object name t = line_of (front name (codes "accepted") ++ number_at (codes "events") t.events)
+unfoldable pub accepted_members : Totals → List ℕ
+accepted_members t = text_of_all (front (codes "accepted") ++ number_at (codes "events") t.events)
 
 -- ---- refused
 
@@ -43,12 +51,12 @@ unfoldable pub rule_members : Rule → List Token
 rule_members r = string_at (codes "rule") (codes "V" ++ decimal (rule_number r)) ++ string_at (codes "name") (rule_name r) ++ field_at (field_of r)
 
 -- why line n is refused, which says an event that breaks a rule
-unfoldable pub refused_object : TimeUnit → List ℕ → ℕ → Rule → Event → Cause → List ℕ
-refused_object u name n r e k = line_of (head name (codes "refused") n ++ rule_members r ++ subject u e ++ facts u e r k)
+unfoldable pub refused_members : TimeUnit → ℕ → Rule → Event → Cause → List ℕ
+refused_members u n r e k = text_of_all (head (codes "refused") n ++ rule_members r ++ subject u e ++ facts u e r k)
 
 -- V17
-unfoldable pub owed_at_end_object : List ℕ → ℕ → Owed → List ℕ
-owed_at_end_object name n o = line_of (head name (codes "refused") n ++ rule_members rule.OwedAtEnd ++ owed o)
+unfoldable pub owed_at_end_members : ℕ → Owed → List ℕ
+owed_at_end_members n o = text_of_all (head (codes "refused") n ++ rule_members rule.OwedAtEnd ++ owed o)
 
 -- ---- unreadable
 
@@ -64,5 +72,5 @@ unfoldable pub fault_members : Fault → List Token
 fault_members f = string_at (codes "fault") (codes "F" ++ decimal (fault_number f)) ++ string_at (codes "name") (fault_name f) ++ some_key_members (key_of f)
 
 -- why line n cannot be read, and whether a header stands before
-unfoldable pub unreadable_object : List ℕ → ℕ → Fault → Bool → List ℕ
-unreadable_object name n f headed = line_of (head name (codes "unreadable") n ++ fault_members f ++ flag_at (codes "behind_header") headed)
+unfoldable pub unreadable_members : ℕ → Fault → Bool → List ℕ
+unreadable_members n f headed = text_of_all (head (codes "unreadable") n ++ fault_members f ++ flag_at (codes "behind_header") headed)

@@ -19,28 +19,28 @@ use Rattle.qa_format.specs.declared.verdict.Verdict.TheVariants.{Accepted, Refus
 use Rattle.qa_format.specs.format.Lines.{lines}
 use Rattle.qa_format.specs.format.Reading.{reading}
 use Rattle.qa_format.specs.verdicts.Verdict.{Judging, event_said, events_in, header_in, stop_after, strict, verdict}
-use Rattle.qa_why_trace.specs.Objects.{accepted_object, owed_at_end_object, refused_object, unreadable_object}
+use Rattle.qa_why_trace.specs.Objects.{accepted_members, object_line, owed_at_end_members, refused_members, unreadable_members}
 use Rattle.qa_why_trace.specs.Texts.{accepted_text, owed_at_end_text, refused_text, unreadable_text}
 use Rattle.qa_why_trace.specs.declared.form.Form.{Form}
 use Rattle.qa_why_trace.specs.declared.form.Form.TheVariants as forms
 
--- ---- in a form
+-- ---- in a form: a text, or the members of an object
 
 abbrev pub accepted_in : Form → List ℕ → Totals → List ℕ
 accepted_in forms.Text name t = accepted_text name t
-accepted_in forms.Json name t = accepted_object name t
+accepted_in forms.Json name t = accepted_members t
 
 abbrev pub refused_in : Form → TimeUnit → List ℕ → ℕ → Rule → Event → Cause → List ℕ → List ℕ
 refused_in forms.Text u name n r e k l = refused_text name n r e k l
-refused_in forms.Json u name n r e k l = refused_object u name n r e k
+refused_in forms.Json u name n r e k l = refused_members u n r e k
 
 abbrev pub owed_at_end_in : Form → List ℕ → ℕ → Owed → List ℕ
 owed_at_end_in forms.Text name n o = owed_at_end_text name n o
-owed_at_end_in forms.Json name n o = owed_at_end_object name n o
+owed_at_end_in forms.Json name n o = owed_at_end_members n o
 
 abbrev pub unreadable_in : Form → List ℕ → ℕ → Fault → Bool → Option (List ℕ) → List ℕ
 unreadable_in forms.Text name n f headed line = unreadable_text name n f headed line
-unreadable_in forms.Json name n f headed line = unreadable_object name n f headed
+unreadable_in forms.Json name n f headed line = unreadable_members n f headed
 
 -- ---- by the header and the history before
 
@@ -85,16 +85,18 @@ told_at judging form name v place = told form name v (header_in judging.says pla
 unfoldable pub why_by : Judging → Form → List ℕ → List ℕ → List ℕ
 why_by judging form name bytes = told_at judging form name (verdict judging bytes) (judged_at judging [] (lines bytes))
 
--- the same where a trace ends at an event that breaks a rule
+-- in a line the members stand behind the file
+abbrev pub whole : Form → List ℕ → List ℕ → List ℕ
+whole forms.Text name told = told
+whole forms.Json name told = object_line name told
+
+-- what is written where a trace ends at an event that breaks a rule
 abbrev pub why : Form → List ℕ → List ℕ → List ℕ
-why form name bytes = why_by (strict reading) form name bytes
+why form name bytes = whole form name (why_by (strict reading) form name bytes)
 
 -- it is this text, and the kind of their verdict is this
 abbrev pub TellsBy : Judging → Form → List ℕ → Outcome → List ℕ → List ℕ → Type 0
 TellsBy judging form name outcome text bytes = (text ≡ why_by judging form name bytes) × (outcome ≡ outcome_of (verdict judging bytes))
-
-abbrev pub Tells : Form → List ℕ → Outcome → List ℕ → List ℕ → Type 0
-Tells form name outcome text bytes = TellsBy (strict reading) form name outcome text bytes
 
 -- what is written: where it is to be quiet, nothing of accepted bytes
 abbrev pub unless_accepted : Bool → Outcome → List ℕ → List ℕ

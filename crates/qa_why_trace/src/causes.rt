@@ -7,10 +7,11 @@ ghost use Rattle.qa_check.specs.Audit.{outcome_of};
 ghost use Rattle.qa_check.specs.Standing.{HoldsRun, StandsFor, by};
 ghost use Rattle.qa_format.specs.format.Reading.{reading};
 ghost use Rattle.qa_format.specs.verdicts.Verdict.{event_said, verdict_of};
+ghost use Rattle.qa_why_trace.specs.Objects.{object_line as object_line_of};
 ghost use Rattle.qa_why_trace.specs.Why as defined;
 
 use crate::form::Form;
-use crate::objects::{accepted_object, owed_at_end_object, refused_object, unreadable_object};
+use crate::objects::{accepted_members, object_line, owed_at_end_members, refused_members, unreadable_members};
 use crate::reasons::Reasons;
 use crate::texts::{accepted, broken, owed_at_end, unreadable};
 use qa_base::{Event, Rule, Totals};
@@ -24,8 +25,33 @@ use std::alloc::{AllocError, Global};
 pub struct Why {
     /// The kind of its verdict.
     pub outcome: Outcome,
-    /// What is told of it.
+    /// What is told of it: a text, or the members of an object.
     pub text: Vec<u8>,
+}
+
+/// What is written of it: members stand in the line of an object, behind the name of its file.
+pub fn whole(alloc: Global, form: Form, name: &str, told: Why) -> Result<Why, AuditFault>
+    ensures whole { IfOk result (λ why. (why.text.items ≡ defined.whole form name.now told.text.items)
+        × (why.outcome ≡ told.outcome)) }
+    ensures memory { IfErr result (λ fault. fault ≡ AuditFault.OutOfMemory) }
+{
+    match form {
+        Form::Text => Ok(told),
+        Form::Json => in_line(alloc, name, &told),
+    }
+}
+
+/// The same, of members.
+fn in_line(alloc: Global, name: &str, told: &Why) -> Result<Why, AuditFault>
+    ensures whole { IfOk result (λ why. (why.text.items ≡ object_line_of name.now told.now.text.items)
+        × (why.outcome ≡ told.now.outcome)) }
+    ensures memory { IfErr result (λ fault. fault ≡ AuditFault.OutOfMemory) }
+{
+    let Ok(text) = object_line(alloc, name, &told.text) else {
+        return Err(AuditFault::OutOfMemory);
+    };
+    let outcome = told.outcome;
+    Ok(Why { outcome, text })
 }
 
 /// Why the judge refuses the event, by the rule.
@@ -46,7 +72,7 @@ fn of_event<J: Reasons + Drop>(
     let cause = ledger.reason(event, rule)?;
     match form {
         Form::Text => broken(alloc, "refused", name, n, rule, event, &cause, line),
-        Form::Json => refused_object(alloc, ledger.time_unit(), name, n, rule, event, &cause),
+        Form::Json => refused_members(alloc, ledger.time_unit(), n, rule, event, &cause),
     }
 }
 
@@ -86,7 +112,7 @@ fn of_end<J: Reasons + Drop>(
     let owed = ledger.debt()?;
     match form {
         Form::Text => owed_at_end(alloc, name, n, &owed),
-        Form::Json => owed_at_end_object(alloc, name, n, &owed),
+        Form::Json => owed_at_end_members(alloc, n, &owed),
     }
 }
 
@@ -142,7 +168,7 @@ fn of_accepted(
 {
     match form {
         Form::Text => accepted(alloc, name, totals),
-        Form::Json => accepted_object(alloc, name, totals),
+        Form::Json => accepted_members(alloc, totals),
     }
 }
 
@@ -161,7 +187,7 @@ fn of_fault(
 {
     match form {
         Form::Text => unreadable(alloc, name, n, fault, headed, line),
-        Form::Json => unreadable_object(alloc, name, n, fault, headed),
+        Form::Json => unreadable_members(alloc, n, fault, headed),
     }
 }
 

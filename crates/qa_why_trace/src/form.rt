@@ -1,7 +1,7 @@
 //! In which form a trace is told of.
 
 /// In which form it is told why a trace is refused.
-#[derive(Clone, Copy, PartialEq, Eq)]
+#[derive(Clone, Copy)]
 pub enum Form {
     /// Lines of text, for people.
     Text,

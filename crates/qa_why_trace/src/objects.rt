@@ -1,31 +1,45 @@
-//! What is told of a trace as a JSON object, by its verdict.
+//! What is told of a trace as the members of a JSON object, by its verdict.
 ghost use Rattle.std.specs.Prelude.{◌≡◌, ◌++◌, IfOk, OnOk};
 ghost use Rattle.qa_why_trace.specs.Objects as text;
 
 use crate::faults::wanted;
+use crate::lines::extend;
 use qa_base::{Event, Field, Key, Rule, TimeUnit, Totals};
 use qa_causes::{Cause, Owed};
 use qa_format::Fault;
 use qa_json::{Object, push_facts, push_owed, push_subject};
 use std::alloc::{AllocError, Global};
 
-/// The file, and the verdict in a word.
-#[tactic(auto, unfolding(crate::specs::Objects::front))]
-fn begun(alloc: Global, name: &str, word: &str) -> Result<Object, AllocError>
-    ensures { IfOk result (λ object. object ≡ text.front name.now word.now) }
+/// The line of an object of a trace: its file, and the members behind it.
+#[tactic(auto, unfolding(crate::specs::Objects::object_line))]
+pub fn object_line(alloc: Global, name: &str, members: &[u8]) -> Result<Vec<u8>, AllocError>
+    ensures { IfOk result (λ line. line.items ≡ text.object_line name.now members.now) }
 {
     let mut object = Object::new(alloc)?;
     object.string("file", name)?;
+    let mut line = object.into_bytes();
+    extend(&mut line, b",")?;
+    extend(&mut line, members)?;
+    extend(&mut line, b"}\n")?;
+    Ok(line)
+}
+
+/// The verdict in a word.
+#[tactic(auto, unfolding(crate::specs::Objects::front))]
+fn begun(alloc: Global, word: &str) -> Result<Object, AllocError>
+    ensures { IfOk result (λ object. object ≡ text.front word.now) }
+{
+    let mut object = Object::bare(alloc);
     object.string("verdict", word)?;
     Ok(object)
 }
 
 /// The same, and the line that the verdict is about.
 #[tactic(auto, unfolding(crate::specs::Objects::head))]
-fn headed_by(alloc: Global, name: &str, word: &str, n: u64) -> Result<Object, AllocError>
-    ensures { IfOk result (λ object. object ≡ text.head name.now word.now n) }
+fn headed_by(alloc: Global, word: &str, n: u64) -> Result<Object, AllocError>
+    ensures { IfOk result (λ object. object ≡ text.head word.now n) }
 {
-    let mut object = begun(alloc, name, word)?;
+    let mut object = begun(alloc, word)?;
     object.number("line", u128::from(n))?;
     Ok(object)
 }
@@ -33,14 +47,14 @@ fn headed_by(alloc: Global, name: &str, word: &str, n: u64) -> Result<Object, Al
 // ---- accepted
 
 /// What is told of an accepted trace. `AllocError` comes where it is out of memory, here and in the
-/// other objects.
-#[tactic(auto, unfolding(crate::specs::Objects::accepted_object))]
-pub fn accepted_object(alloc: Global, name: &str, totals: &Totals) -> Result<Vec<u8>, AllocError>
-    ensures { IfOk result (λ told. told.items ≡ text.accepted_object name.now totals.now) }
+/// others.
+#[tactic(auto, unfolding(crate::specs::Objects::accepted_members))]
+pub fn accepted_members(alloc: Global, totals: &Totals) -> Result<Vec<u8>, AllocError>
+    ensures { IfOk result (λ told. told.items ≡ text.accepted_members totals.now) }
 {
-    let mut object = begun(alloc, name, "accepted")?;
+    let mut object = begun(alloc, "accepted")?;
     object.number("events", u128::from(totals.events))?;
-    object.finish()
+    Ok(object.into_bytes())
 }
 
 // ---- refused
@@ -56,7 +70,7 @@ fn push_field(object: &mut Object, field: Option<Field>) -> Result<(), AllocErro
 
 /// The rule by its number and its name, and the field that it is about.
 #[tactic(auto, unfolding(crate::specs::Objects::rule_members))]
-fn push_rule(alloc: Global, object: &mut Object, rule: Rule) -> Result<(), AllocError>
+pub fn push_rule(alloc: Global, object: &mut Object, rule: Rule) -> Result<(), AllocError>
     ensures { OnOk result (object.new ≡ object.old ++ text.rule_members rule) }
 {
     let number = format!(in alloc; "V{}", rule.number())?;
@@ -66,40 +80,34 @@ fn push_rule(alloc: Global, object: &mut Object, rule: Rule) -> Result<(), Alloc
 }
 
 /// Why line n is refused, which says an event that breaks a rule; times are in the unit.
-#[tactic(auto, unfolding(crate::specs::Objects::refused_object))]
-pub fn refused_object(
+#[tactic(auto, unfolding(crate::specs::Objects::refused_members))]
+pub fn refused_members(
     alloc: Global,
     unit: TimeUnit,
-    name: &str,
     n: u64,
     rule: Rule,
     event: &Event,
     cause: &Cause,
 ) -> Result<Vec<u8>, AllocError>
     ensures { IfOk result (λ told. told.items
-        ≡ text.refused_object unit name.now n rule event.now cause.now) }
+        ≡ text.refused_members unit n rule event.now cause.now) }
 {
-    let mut object = headed_by(alloc, name, "refused", n)?;
+    let mut object = headed_by(alloc, "refused", n)?;
     push_rule(alloc, &mut object, rule)?;
     push_subject(&mut object, unit, event)?;
     push_facts(&mut object, unit, event, rule, cause)?;
-    object.finish()
+    Ok(object.into_bytes())
 }
 
 /// V17: why a trace is refused that ends while a loss is owed, its last event on line n.
-#[tactic(auto, unfolding(crate::specs::Objects::owed_at_end_object))]
-pub fn owed_at_end_object(
-    alloc: Global,
-    name: &str,
-    n: u64,
-    owed: &Owed,
-) -> Result<Vec<u8>, AllocError>
-    ensures { IfOk result (λ told. told.items ≡ text.owed_at_end_object name.now n owed.now) }
+#[tactic(auto, unfolding(crate::specs::Objects::owed_at_end_members))]
+pub fn owed_at_end_members(alloc: Global, n: u64, owed: &Owed) -> Result<Vec<u8>, AllocError>
+    ensures { IfOk result (λ told. told.items ≡ text.owed_at_end_members n owed.now) }
 {
-    let mut object = headed_by(alloc, name, "refused", n)?;
+    let mut object = headed_by(alloc, "refused", n)?;
     push_rule(alloc, &mut object, Rule::OwedAtEnd)?;
     push_owed(&mut object, owed)?;
-    object.finish()
+    Ok(object.into_bytes())
 }
 
 // ---- unreadable
@@ -134,19 +142,17 @@ fn push_fault(alloc: Global, object: &mut Object, fault: Fault) -> Result<(), Al
 }
 
 /// Why line n cannot be read, and whether a header stands before.
-#[tactic(auto, unfolding(crate::specs::Objects::unreadable_object))]
-pub fn unreadable_object(
+#[tactic(auto, unfolding(crate::specs::Objects::unreadable_members))]
+pub fn unreadable_members(
     alloc: Global,
-    name: &str,
     n: u64,
     fault: Fault,
     headed: bool,
 ) -> Result<Vec<u8>, AllocError>
-    ensures { IfOk result (λ told. told.items
-        ≡ text.unreadable_object name.now n fault headed) }
+    ensures { IfOk result (λ told. told.items ≡ text.unreadable_members n fault headed) }
 {
-    let mut object = headed_by(alloc, name, "unreadable", n)?;
+    let mut object = headed_by(alloc, "unreadable", n)?;
     push_fault(alloc, &mut object, fault)?;
     object.flag("behind_header", headed)?;
-    object.finish()
+    Ok(object.into_bytes())
 }

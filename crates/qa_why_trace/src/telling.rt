@@ -13,7 +13,7 @@ ghost use Rattle.qa_why_trace.specs.Noting.{Follows, NotesGood, TellsBad, TellsN
 ghost use Rattle.qa_why_trace.specs.Why as defined;
 ghost use Rattle.qa_why_trace.specs.Why.{Writes, written};
 
-use crate::causes::{Why, why_of};
+use crate::causes::{Why, whole, why_of};
 use crate::form::Form;
 use crate::notes::{NoNotes, Notes};
 use crate::reasons::Reasons;
@@ -65,7 +65,8 @@ pub fn why<L: Explains + Drop, R: Source, W: Sink>(
     ensures write_failures { W.write_failures writer.new
         ≡ failures_after (is_write_fault result) (W.write_failures writer.old) }
 {
-    let why = find::<L, NoNotes, R>(alloc, form, name, reader, &mut NoNotes)?;
+    let told = find::<L, NoNotes, R>(alloc, form, name, reader, &mut NoNotes)?;
+    let why = whole(alloc, form, name, told)?;
     write_whole(writer, unless_accepted(quiet, why.outcome, &why.text))?;
     Ok(why.outcome)
 }
@@ -80,7 +81,8 @@ pub fn unless_accepted(quiet: bool, outcome: Outcome, text: &[u8]) -> &[u8]
     }
 }
 
-/// What is told of what is read, by the judge of its events, with notes of its good lines.
+/// What is told of what is read, by the judge of its events, with notes of its good lines: a text, or the
+/// members of an object.
 ///
 /// It reads pieces of at most 4,096 bytes, and none once the verdict was fixed by those before.
 /// `AuditFault::Read` comes where a read fails, and `AuditFault::OutOfMemory` where it is out of memory.

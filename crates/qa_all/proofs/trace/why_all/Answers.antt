@@ -1,15 +1,15 @@
-use Rattle.std.proofs.Common.{◌≡◌, ◌∙◌, List, ℕ, ap₂, subst, sym}
+use Rattle.std.proofs.Common.{◌≡◌, ◌∙◌, List, ℕ, ap, ap₂, subst, sym}
 use Rattle.std.specs.Io.KnownBytes.{Appends}
 use Rattle.qa_all.proofs.Staying.{told_outcome, told_text}
 use Rattle.qa_all.specs.All.{all_outcome, all_written}
-use Rattle.qa_why_trace.specs.Why.{unless_accepted}
+use Rattle.qa_why_trace.specs.Why.{unless_accepted, whole}
 use Rattle.qa_all.proofs.trace.why_all.Goals as goal
 
 pub returns-clause-told : goal.returns-clause-told
 returns-clause-told g c = λ bytes tells.
-    let found = c.in_ok-all.ensures.told in
-    let outcome : c.in_ok-all.all.outcome ≡ all_outcome bytes = found.3 ∙ sym (told_outcome _ _ found.0 bytes tells found.1) in
-    let words = told_text c.args.name.now _ _ found.0 bytes tells found.1 in
-    let all : c.unless_accepted.result.now ≡ all_written c.args.quiet c.args.name.now bytes =
-    c.unless_accepted.ensures ∙ ap₂ (unless_accepted c.args.quiet) outcome (c.deref.ensures.value ∙ (found.2 ∙ sym words)) in
+    let found = c.in_ok-told.ensures.told in
+    let outcome : c.in_ok-all.all.outcome ≡ all_outcome bytes = c.in_ok-all.ensures.whole.1 ∙ (found.3 ∙ sym (told_outcome _ _ found.0 bytes tells found.1)) in
+    let words = told_text c.args.form c.args.name.now _ _ found.0 bytes tells found.1 in
+    let all : c.unless_accepted.result.now ≡ all_written c.args.form c.args.quiet c.args.name.now bytes =
+    c.unless_accepted.ensures ∙ ap₂ (unless_accepted c.args.quiet) outcome (c.deref.ensures.value ∙ (c.in_ok-all.ensures.whole.0 ∙ ap (whole c.args.form c.args.name.now) (found.2 ∙ sym words))) in
     (subst (λ (text : List ℕ). Appends (g.W.Sink.held c.args.writer.now) (g.W.Sink.held c.write_whole.new.writer) text) all c.in_ok-write_whole.ensures.ok, outcome)

@@ -1,5 +1,6 @@
 use Rattle.std.proofs.Common.{◌≡◌, ◌∙◌, ◌++◌, List, ℕ, ap, subst, sym}
-use Rattle.qa_all.specs.All.{departed, findings, first_text}
+use Rattle.qa_all.specs.All.{first_text}
+use Rattle.qa_all.specs.Departed.{departed, findings}
 use Rattle.qa_all.proofs.Told.{findings-snoc, firsts-snoc}
 use Rattle.qa_departures.specs.Table.{Holds}
 use Rattle.qa_departures.specs.declared.finding.Finding.{Finding}
@@ -7,11 +8,11 @@ use Rattle.qa_departures.specs.declared.table.Table.{Table}
 use Rattle.qa_all.proofs.keeping.Kept.note.Goals as goal
 
 pub returns : goal.returns
-returns c = λ ds keeps.
-    let d = departed c.args.n c.args.line.now c.args.event.now c.args.departure.now in
-    let told = c.in_ok-tell.ensures ds keeps in
+returns c = λ u ds keeps.
+    let d = departed u c.args.n c.args.line.now c.args.event.now c.args.departure.now in
+    let told = c.in_ok-tell.ensures u ds keeps in
     let holds = subst (λ (t : Table). Holds t (findings ds)) (sym told.1) keeps.1 in
     let noted = c.note.ensures.holds (findings ds) holds in (
       told.0 ∙ (ap (λ (text : List ℕ). text ++ first_text c.args.name.now (findings ds) d) keeps.0 ∙ sym (firsts-snoc c.args.name.now ds d)),
-      rw (findings-snoc ds d, ← c.finding.ensures c.args.line.now) noted,
+      rw (findings-snoc ds d, ← c.finding.ensures u c.args.line.now) noted,
     )

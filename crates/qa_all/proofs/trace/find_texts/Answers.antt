@@ -1,13 +1,14 @@
 use Rattle.std.proofs.Common.{◌∙◌, ap, ap₂}
-use Rattle.qa_all.specs.All.{all_departed, all_outcome, all_text, course_text, findings, outcome_with, past_conduct}
+use Rattle.qa_all.specs.All.{all_outcome, course_text, outcome_with, past_conduct, told_by}
+use Rattle.qa_all.specs.Departed.{all_departed, findings}
 use Rattle.qa_why_trace.specs.Why.{good_lines}
-use Rattle.qa_all.proofs.trace.find_all.Goals as goal
+use Rattle.qa_all.proofs.trace.find_texts.Goals as goal
 
 pub find-requires : goal.find-requires
 find-requires g c = record { fresh = c.new-kept.ensures c.args.name.now }
 
 pub returns-in-Ok-clause-told : goal.returns-in-Ok-clause-told
-unfolding all_text all_outcome
+unfolding told_by all_outcome
 returns-in-Ok-clause-told g c =
     let found = c.in_ok-end.ensures.told in
     let good = good_lines past_conduct found.0 in

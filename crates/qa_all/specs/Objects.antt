@@ -1,0 +1,87 @@
+-- What is told of all departures of a trace as the members of a JSON object.
+use Rattle.std.specs.Prelude.{◌≡◌, ℕ, codes, decimal, length, List, [], ◌∷◌, ◌++◌, Option, Some, None, if◌then◌else◌}
+use Rattle.json.specs.Token.{Token}
+use Rattle.json.specs.Token as token
+use Rattle.qa_all.specs.Departed.{Departed, all_departed, findings, history_in, unit_of}
+use Rattle.qa_base.specs.declared.rule.Rule.{Rule}
+use Rattle.qa_base.specs.declared.space.TimeUnit.{TimeUnit}
+use Rattle.qa_departures.specs.Table.{are_known, is_found, table}
+use Rattle.qa_departures.specs.Texts as texts
+use Rattle.qa_departures.specs.declared.finding.Finding.{Finding}
+use Rattle.qa_departures.specs.declared.row.Row.{Row}
+use Rattle.qa_format.specs.format.Reading.{reading}
+use Rattle.qa_format.specs.verdicts.Verdict.{header_in}
+use Rattle.qa_json.specs.Object.{amount_at, closed, list_begin, list_end, number_at, opened, text_of_all}
+use Rattle.qa_why_trace.specs.Objects.{refused_members, rule_members}
+
+-- ---- the first departure
+
+-- what is told of the first departure of a trace
+abbrev pub first_members : List Departed → List ℕ
+first_members [] = []
+first_members (d ∷ ds) = refused_members d.unit d.line d.departure.rule d.event d.departure.cause
+
+-- ---- which lines are named
+
+-- a departure's line is named, where fewer than a thousand of its kind were found before
+abbrev pub named_behind : List Finding → Finding → List Finding
+named_behind before f = if are_known 1000 f.rule before then [] else f ∷ []
+
+abbrev pub named_after : List Finding → List Finding → List Finding
+named_after before [] = []
+named_after before (f ∷ fs) = named_behind before f ++ named_after (before ++ f ∷ []) fs
+
+-- the first thousand of each kind
+abbrev pub named : List Finding → List Finding
+named fs = named_after [] fs
+
+-- ---- a kind of departures
+
+-- the lines of those of the kind
+abbrev pub lines_of : Rule → List Finding → List Token
+lines_of r [] = []
+lines_of r (f ∷ fs) = (if is_found r f then token.number (decimal f.line) ∷ [] else []) ++ lines_of r fs
+
+-- how many there are, and where
+unfoldable pub counts : Row → List Token
+counts row = number_at (codes "count") row.count ++ number_at (codes "first") row.first ++ number_at (codes "last") row.last
+
+-- by how much at most, where it is known
+abbrev pub greatest_at : TimeUnit → Rule → Option ℕ → List Token
+greatest_at u r None = []
+greatest_at u r (Some amount) = amount_at (codes "greatest") (texts.unit_of u r) amount
+
+abbrev pub lines_member : Rule → List Finding → List Token
+lines_member r fs = list_begin (codes "lines") ++ lines_of r fs ++ list_end
+
+unfoldable pub row_object : TimeUnit → List Finding → Row → List Token
+row_object u fs row = opened ++ rule_members row.rule ++ counts row ++ greatest_at u row.rule row.greatest ++ lines_member row.rule fs ++ closed
+
+abbrev pub row_objects : TimeUnit → List Finding → List Row → List Token
+row_objects u fs [] = []
+row_objects u fs (row ∷ rows) = row_object u fs row ++ row_objects u fs rows
+
+-- ---- all of them
+
+-- how many events were followed, and an object for each kind
+unfoldable pub rows_members : TimeUnit → ℕ → List Finding → List Row → List ℕ
+rows_members u events fs rows = text_of_all (number_at (codes "events") events ++ list_begin (codes "departures") ++ row_objects u fs rows ++ list_end)
+
+abbrev pub table_members : TimeUnit → ℕ → List Finding → List ℕ
+table_members u events fs = rows_members u events (named fs) (table fs)
+
+-- how a trace ends, that departs from nothing
+unfoldable pub members_of_none : List ℕ → List ℕ
+members_of_none end = end ++ codes ",\"departures\":[]"
+
+-- the first departure, all of them, and how the trace ends past them
+unfoldable pub members_of_some : List ℕ → List ℕ → List ℕ → List ℕ
+members_of_some first all end = first ++ codes "," ++ all ++ codes ",\"end\":{" ++ end ++ codes "}"
+
+abbrev pub members_of : TimeUnit → ℕ → List Departed → List ℕ → List ℕ
+members_of u events [] end = members_of_none end
+members_of u events (d ∷ ds) end = members_of_some (first_members (d ∷ ds)) (table_members u events (findings (d ∷ ds))) end
+
+-- of good lines, with what is told of how it ends
+abbrev pub course_members : List (List ℕ) → List ℕ → List ℕ
+course_members ls end = members_of (unit_of (header_in reading ls)) (length (history_in ls)) (all_departed ls) end
