@@ -1,12 +1,13 @@
 -- What is told of one more departure, and of those on one more line.
-use Rattle.std.proofs.Common.{◌≡◌, ◌∙◌, ◌+◌, ℕ, suc, Bool, true, false, List, [], ◌∷◌, ◌++◌, Option, Some, None, Result, Ok, Err, append_assoc, length, refl, subst, sym, ap, arith}
+use Rattle.std.proofs.Common.{◌≡◌, ◌∙◌, ◌+◌, ◌<◌, ℕ, suc, Bool, true, false, List, [], ◌∷◌, ◌++◌, Option, Some, None, Result, Ok, Err, append_assoc, get_or, length, map, take, refl, subst, sym, ap, arith}
 use Rattle.std.proofs.lemmas.Bool.{ne_eqb}
-use Rattle.std.proofs.lemmas.List.{append-nil}
+use Rattle.std.proofs.lemmas.List.{append-nil, map-append, take_more}
 use Rattle.std.specs.Option.{option_or}
 use Rattle.std.specs.Prelude.{filter_map, nat_eq}
 use Rattle.qa_all.specs.All.{first_text, firsts, firsts_after}
 use Rattle.qa_all.specs.Departed.{Departed, all_departed, departed_after, departed_at, departed_on, finding_of, findings, history_in, unit_of}
 use Rattle.qa_all.specs.Keeping.{departed_by}
+use Rattle.qa_all.specs.declared.bearing.Departure.{Departure}
 use Rattle.qa_all.specs.Objects.{first_members, named, named_after, named_behind}
 use Rattle.qa_base.specs.declared.event.Event.{Event}
 use Rattle.qa_base.proofs.machine.Histories.{history_of-snoc}
@@ -24,6 +25,14 @@ use Rattle.qa_format.specs.format.Reading.{reading}
 use Rattle.qa_format.specs.verdicts.Verdict.{event_said, events_in, header_in, header_said}
 
 -- ---- one more departure
+
+-- what holds behind one more of a list holds of the list up to it
+pub up_to_one_more : (P : List Departed → Type 0) (f : Departure → Departed) (ds : List Departed) (xs : List Departure) (i : ℕ) (x : Departure) → i < length xs → x ≡ get_or xs i x
+    → P ((ds ++ map f (take i xs)) ++ f x ∷ []) → P (ds ++ map f (take (i + 1) xs))
+up_to_one_more P f ds xs i x within is holds =
+    let more : map f (take (i + 1) xs) ≡ map f (take i xs) ++ f x ∷ [] =
+    ap (map f) (take_more xs i x within) ∙ (map-append f (take i xs) (get_or xs i x ∷ []) ∙ ap (λ y. map f (take i xs) ++ f y ∷ []) (sym is)) in
+    subst P (append_assoc ds (map f (take i xs)) (f x ∷ []) ∙ sym (ap (λ es. ds ++ es) more)) holds
 
 pub findings-snoc : (ds : List Departed) (d : Departed) → findings (ds ++ d ∷ []) ≡ findings ds ++ finding_of d ∷ []
 findings-snoc [] d = refl

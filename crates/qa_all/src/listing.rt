@@ -89,7 +89,8 @@ impl Listed {
         if self.table.has_many(NAMED, finding.rule) {
             return Ok(());
         }
-        self.named.push(*finding)
+        self.named.push(*finding)?;
+        Ok(())
     }
 
     /// Notes a departure of the event on line n.

@@ -1,9 +1,6 @@
 //! All departures of a trace as the members of a JSON object.
-ghost use Rattle.std.specs.Prelude.{◌≡◌, ◌++◌, [], ◌∷◌, List, IfOk, OnOk};
+ghost use Rattle.std.specs.Prelude.{◌≡◌, ◌++◌, IfOk, OnOk, filter};
 ghost use Rattle.qa_all.specs.Objects as text;
-ghost use Rattle.qa_departures.specs.Table.{Holds, rows_of};
-ghost use Rattle.qa_departures.specs.declared.finding.Finding.{Finding as AFinding};
-ghost use Rattle.std.specs.Prelude.{filter};
 ghost use Rattle.qa_departures.specs.Table.{has_findings};
 
 use qa_base::{Rule, TimeUnit};

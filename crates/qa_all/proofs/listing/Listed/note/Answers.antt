@@ -1,6 +1,6 @@
-use Rattle.std.proofs.Common.{◌≡◌, ◌∙◌, ◌++◌, List, ℕ, ap, subst, sym}
+use Rattle.std.proofs.Common.{◌≡◌, ◌∙◌, [], ◌∷◌, ◌++◌, List, ℕ, ap, subst, sym}
 use Rattle.qa_all.specs.Departed.{departed, findings}
-use Rattle.qa_all.specs.Objects.{named_behind}
+use Rattle.qa_all.specs.Objects.{named, named_behind}
 use Rattle.qa_all.proofs.Told.{findings-snoc, named-snoc}
 use Rattle.qa_departures.specs.Table.{Holds}
 use Rattle.qa_departures.specs.declared.finding.Finding.{Finding}
@@ -11,12 +11,12 @@ pub returns : goal.returns
 returns c = λ bytes ds lists.
     let d = departed c.args.unit c.args.n bytes c.args.event.now c.args.departure.now in
     let fs = findings ds in
-    let is_finding = c.finding.ensures c.args.unit bytes in
+    let is_finding = c.finding-finding.ensures c.args.unit bytes in
     let told = c.in_ok-tell.ensures in
     let holds : Holds c.tell.new.self.table fs = subst (λ (t : Table). Holds t fs) (sym told.rest.0) lists.1 in
     let kept = c.in_ok-name.ensures in
     let noted = c.note.ensures.holds fs (subst (λ (t : Table). Holds t fs) (sym kept.rest.0) holds) in (
       ap (λ (v : _). v.items) kept.rest.1 ∙ told.first bytes ds lists,
       rw (findings-snoc ds d, ← is_finding) noted,
-      kept.named fs holds ∙ (ap (λ (v : _). v.items ++ named_behind fs c.finding.result) told.rest.1 ∙ (ap (λ names. names ++ named_behind fs c.finding.result) lists.2 ∙ (sym (named-snoc fs c.finding.result) ∙ ap named_of (ap (λ f. fs ++ f ∷ []) is_finding ∙ sym (findings-snoc ds d))))),
+      kept.named fs holds ∙ (ap (λ (v : _). v.items ++ named_behind fs c.finding-finding.result) told.rest.1 ∙ (ap (λ names. names ++ named_behind fs c.finding-finding.result) lists.2 ∙ (sym (named-snoc fs c.finding-finding.result) ∙ ap named (ap (λ f. fs ++ f ∷ []) is_finding ∙ sym (findings-snoc ds d))))),
     )
