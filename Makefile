@@ -161,6 +161,7 @@ conformance-rows:
 # All departures from the rules of conduct. No program writes them as JSON yet.
 conformance-departures:
 	conformance/departures $(program_why)
+	conformance/departures --json $(program_why)
 
 conformance-allocations:
 	conformance/allocations $(program)

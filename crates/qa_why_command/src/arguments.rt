@@ -24,12 +24,12 @@ const ALL: &str = "all";
 const VERSION: &str = "0.3.0";
 
 /// What is told of each trace.
-#[derive(Clone, Copy, PartialEq, Eq)]
+#[derive(Clone, Copy)]
 pub enum Told {
     /// Why it is refused, in this form.
     Why(Form),
-    /// All departures from the rules of conduct, and how it ends past them.
-    All,
+    /// All departures from the rules of conduct, and how it ends past them, in this form.
+    All(Form),
     /// What the machine held behind each of its lines.
     Rows,
     /// The same, behind departures too.
@@ -82,14 +82,18 @@ fn inquiry_of<'a>(alloc: Global, matches: &ArgMatches<'a>) -> Result<Inquiry<'a>
     })
 }
 
-/// What the options ask for, some of which exclude each other.
+/// What the options ask for. Rows are in no form.
 fn told_by(matches: &ArgMatches<'_>) -> Told {
+    let form = if matches.get_flag(JSON) {
+        Form::Json
+    } else {
+        Form::Text
+    };
     match (matches.get_flag(ALL), matches.get_flag(ROWS)) {
         (true, true) => Told::AllRows,
         (false, true) => Told::Rows,
-        (true, false) => Told::All,
-        (false, false) if matches.get_flag(JSON) => Told::Why(Form::Json),
-        (false, false) => Told::Why(Form::Text),
+        (true, false) => Told::All(form),
+        (false, false) => Told::Why(form),
     }
 }
 
@@ -130,8 +134,7 @@ fn parser<'a>(alloc: Global) -> Result<Command<'a>, AllocError> {
         .short('a')
         .long(ALL)
         .help("Go on past rules of conduct, and tell of all departures from them")
-        .action(ArgAction::SetTrue)
-        .conflicts_with(JSON)?;
+        .action(ArgAction::SetTrue);
     let files = Arg::new(alloc, FILE)
         .help("A trace; - is standard input, which is also read where no file is named")
         .action(ArgAction::Append);

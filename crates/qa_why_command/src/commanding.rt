@@ -155,7 +155,7 @@ fn tell_several<R: Files, I: Source, O: Sink, E: Sink>(
             return;
         }
     }
-    if !matches!(inquiry.told, Told::Why(Form::Text) | Told::All) {
+    if !matches!(inquiry.told, Told::Why(Form::Text) | Told::All(Form::Text)) {
         return;
     }
     if let Err(failure) = write_tally(alloc, tally, output) {
@@ -226,8 +226,9 @@ fn tell_input<I: Source, O: Sink>(
     ensures why { (form : AForm) (bytes : List ℕ) → inquiry.now.told ≡ Told.Why form
         → I.left input.old ≡ Some bytes
         → IfOk result (λ outcome. Writes (O.held output.old) (O.held output.new) form inquiry.now.quiet (codes "-") outcome bytes) }
-    ensures all { (bytes : List ℕ) → inquiry.now.told ≡ Told.All → I.left input.old ≡ Some bytes
-        → IfOk result (λ outcome. WritesAll (O.held output.old) (O.held output.new) inquiry.now.quiet (codes "-") outcome bytes) }
+    ensures all { (form : AForm) (bytes : List ℕ) → inquiry.now.told ≡ Told.All form
+        → I.left input.old ≡ Some bytes
+        → IfOk result (λ outcome. WritesAll (O.held output.old) (O.held output.new) form inquiry.now.quiet (codes "-") outcome bytes) }
     ensures rows { (bytes : List ℕ) → inquiry.now.told ≡ Told.Rows
         → I.left input.old ≡ Some bytes
         → IfOk result (λ outcome. WritesRows (O.held output.old) (O.held output.new) outcome bytes) }
@@ -249,8 +250,9 @@ fn tell_read<R: Source, O: Sink>(
     ensures why { (form : AForm) (bytes : List ℕ) → inquiry.now.told ≡ Told.Why form
         → R.left reader.old ≡ Some bytes
         → IfOk result (λ outcome. Writes (O.held output.old) (O.held output.new) form inquiry.now.quiet name.now outcome bytes) }
-    ensures all { (bytes : List ℕ) → inquiry.now.told ≡ Told.All → R.left reader.old ≡ Some bytes
-        → IfOk result (λ outcome. WritesAll (O.held output.old) (O.held output.new) inquiry.now.quiet name.now outcome bytes) }
+    ensures all { (form : AForm) (bytes : List ℕ) → inquiry.now.told ≡ Told.All form
+        → R.left reader.old ≡ Some bytes
+        → IfOk result (λ outcome. WritesAll (O.held output.old) (O.held output.new) form inquiry.now.quiet name.now outcome bytes) }
     ensures rows { (bytes : List ℕ) → inquiry.now.told ≡ Told.Rows
         → R.left reader.old ≡ Some bytes
         → IfOk result (λ outcome. WritesRows (O.held output.old) (O.held output.new) outcome bytes) }
@@ -267,7 +269,14 @@ fn tell_read<R: Source, O: Sink>(
             reader,
             output,
         )),
-        Told::All => judged(why_all::<Running, R, O>(alloc, name, inquiry.quiet, reader, output)),
+        Told::All(form) => judged(why_all::<Running, R, O>(
+            alloc,
+            form,
+            name,
+            inquiry.quiet,
+            reader,
+            output,
+        )),
         Told::Rows => judged(rows::<Running, R, O>(alloc, reader, output)),
         Told::AllRows => judged(rows_all::<Running, R, O>(alloc, reader, output)),
     }
