@@ -3,7 +3,7 @@ ghost use Rattle.std.specs.Prelude.{◌≡◌, ◌++◌, OnOk};
 ghost use Rattle.qa_json.specs.Facts as text;
 
 use crate::deadlines::{push_due, push_early, push_late};
-use crate::losses::{push_differing, push_nameable, push_owed, push_space};
+use crate::losses::{push_nameable, push_other_set, push_owed, push_space};
 use crate::object::Object;
 use crate::reports::{Slack, push_collapse, push_metric};
 use crate::sending::{push_packet_number, push_probe, push_recovery, push_window};
@@ -45,10 +45,7 @@ pub fn push_facts(
             free,
             unnamed,
             unowed,
-        } => {
-            push_nameable(out, owed, free)?;
-            push_differing(out, unnamed, unowed)
-        }
+        } => push_other_set(out, owed, free, unnamed, unowed),
         Cause::NumberNotHigher { greatest } => push_packet_number(out, "greatest_sent", *greatest),
         Cause::PastWindow {
             in_flight,

@@ -72,7 +72,7 @@ pub(crate) fn push_nameable(
 
 /// V4: how a Lost line differs from what it may name.
 #[tactic(auto, unfolding(crate::specs::Losses::differing))]
-pub(crate) fn push_differing(
+fn push_differing(
     out: &mut Object,
     unnamed: &Ranges,
     unowed: &Ranges,
@@ -81,4 +81,19 @@ pub(crate) fn push_differing(
 {
     out.runs("unnamed", unnamed.as_slice())?;
     out.runs("unowed", unowed.as_slice())
+}
+
+/// Writes what is owed and what is free, and by what the numbers that a line names differ from it.
+pub(crate) fn push_other_set(
+    out: &mut Object,
+    owed: &Owed,
+    free: &Option<Free>,
+    unnamed: &Ranges,
+    unowed: &Ranges,
+) -> Result<(), AllocError>
+    ensures { OnOk result (out.new ≡ out.old
+        ++ (text.nameable owed.now free.now ++ text.differing unnamed.now unowed.now)) }
+{
+    push_nameable(out, owed, free)?;
+    push_differing(out, unnamed, unowed)
 }

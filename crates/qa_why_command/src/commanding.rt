@@ -260,22 +260,11 @@ fn tell_read<R: Source, O: Sink>(
         → R.left reader.old ≡ Some bytes
         → IfOk result (λ outcome. WritesAllRows (O.held output.old) (O.held output.new) outcome bytes) }
 {
+    let quiet = inquiry.quiet;
     match inquiry.told {
-        Told::Why(form) => judged(why::<Running, R, O>(
-            alloc,
-            form,
-            name,
-            inquiry.quiet,
-            reader,
-            output,
-        )),
+        Told::Why(form) => judged(why::<Running, R, O>(alloc, form, name, quiet, reader, output)),
         Told::All(form) => judged(why_all::<Running, R, O>(
-            alloc,
-            form,
-            name,
-            inquiry.quiet,
-            reader,
-            output,
+            alloc, form, name, quiet, reader, output,
         )),
         Told::Rows => judged(rows::<Running, R, O>(alloc, reader, output)),
         Told::AllRows => judged(rows_all::<Running, R, O>(alloc, reader, output)),

@@ -2,6 +2,7 @@
 use qa_all::{rows_all, why_all};
 use qa_check::{Metered, Outcome};
 use qa_running::Running;
+use qa_why_trace::Form;
 
 /// A probe before any probe timeout, which breaks V8.
 const TRACE: &str =
@@ -10,6 +11,10 @@ const TRACE: &str =
 /// The departure, and the table.
 const TEXT: &str =
     "a:2: departure V8 past-probe: packet 0 of app goes past what a probe timeout allows\n  2 | {\"event\":\"sent\",\"time\":0,\"space\":\"app\",\"number\":0,\"size\":1200,\"eliciting\":true,\"in_flight\":true,\"leave\":\"probe\"}\n  no probe timeout yet\n  RFC 9002, 6.2.4, 7.5: a probe timeout allows two datagrams.\na: departs once in 1 events\n  V8 past-probe: once, line 2\n";
+
+/// The same as an object.
+const OBJECT: &str =
+    "{\"file\":\"a\",\"verdict\":\"refused\",\"line\":2,\"rule\":\"V8\",\"name\":\"past-probe\",\"event\":\"sent\",\"time_us\":0,\"space\":\"app\",\"number\":0,\"size_bytes\":1200,\"allowance_bytes\":2400,\"spent_bytes\":null,\"events\":1,\"departures\":[{\"rule\":\"V8\",\"name\":\"past-probe\",\"count\":1,\"first\":2,\"last\":2,\"lines\":[2]}],\"end\":{\"verdict\":\"accepted\",\"events\":1}}\n";
 
 /// The rows of the header and of the probe.
 const ROWS: &str =
@@ -20,9 +25,19 @@ const ROWS: &str =
 fn a_trace_departs(rt: HostRuntime) {
     let mut reader = Metered::new(TRACE.as_bytes());
     let mut writer = Metered::new(Vec::new(rt.alloc()));
-    let ended = why_all::<Running, _, _>(rt.alloc(), "a", true, &mut reader, &mut writer);
+    let ended = why_all::<Running, _, _>(rt.alloc(), Form::Text, "a", true, &mut reader, &mut writer);
     assert_eq!(rt; ended, Ok(Outcome::Refused));
     assert_eq!(rt; writer.into_inner().as_slice(), TEXT.as_bytes());
+}
+
+/// The same as an object.
+#[test]
+fn a_trace_departs_as_an_object(rt: HostRuntime) {
+    let mut reader = Metered::new(TRACE.as_bytes());
+    let mut writer = Metered::new(Vec::new(rt.alloc()));
+    let ended = why_all::<Running, _, _>(rt.alloc(), Form::Json, "a", true, &mut reader, &mut writer);
+    assert_eq!(rt; ended, Ok(Outcome::Refused));
+    assert_eq!(rt; writer.into_inner().as_slice(), OBJECT.as_bytes());
 }
 
 /// The header alone is accepted, and nothing is written of it where it is to be quiet.
@@ -31,7 +46,7 @@ fn a_trace_departs_from_nothing(rt: HostRuntime) {
     let header = &TRACE.as_bytes()[..72];
     let mut reader = Metered::new(header);
     let mut writer = Metered::new(Vec::new(rt.alloc()));
-    let ended = why_all::<Running, _, _>(rt.alloc(), "a", true, &mut reader, &mut writer);
+    let ended = why_all::<Running, _, _>(rt.alloc(), Form::Text, "a", true, &mut reader, &mut writer);
     assert_eq!(rt; ended, Ok(Outcome::Accepted));
     assert!(rt; writer.into_inner().is_empty());
 }
