@@ -43,12 +43,25 @@ SOURCES = {
     " timeout expires.",
     Rule.NOT_CONFIRMED: "RFC 9001, 4.9.2: the handshake keys are kept until the handshake is"
     " confirmed.",
-    Rule.METRIC: "This format: a report has the values of the machine.",
     Rule.OWED_AT_END: "RFC 9002, 6.1, A.10: a loss that was found is declared before the trace"
     " ends.",
     Rule.TIMER_LATE: "RFC 9002, 6.2: a timer fires when it is due, but for what the header allows.",
     Rule.COLLAPSE_MISSING: "RFC 9002, 7.6.2: persistent congestion reduces the window to the"
     " minimum.",
+}
+# The same for the values of reports (V16).
+VALUE_SOURCES = {
+    "window": "RFC 9002, 7.3, 7.6: the window by slow start, recovery, congestion avoidance and"
+    " persistent congestion.",
+    "ssthresh": "RFC 9002, 7.3.2: the slow start threshold is half of the window at the entry"
+    " into recovery.",
+    "bytes_in_flight": "RFC 9002, 6.2, B.2: packets are in flight until they are acknowledged,"
+    " declared lost or discarded; a timeout takes none out.",
+    "latest_rtt": "RFC 9002, 5.1: the time from when the largest packet of the ACK was sent to"
+    " the ACK, with no delay taken off.",
+    "min_rtt": "RFC 9002, 5.2: the least latest_rtt, with no delay taken off.",
+    "smoothed_rtt": "RFC 9002, 5.3: 7/8 of smoothed_rtt, and 1/8 of adjusted_rtt.",
+    "rttvar": "RFC 9002, 5.3: 3/4 of rttvar, and 1/4 of how far adjusted_rtt is from smoothed_rtt.",
 }
 # What an event did, where the amounts do not stand in the sentence.
 DEEDS = {
@@ -295,7 +308,8 @@ def breaks(sender: Sender, event: Event, what: str, line: bytes) -> bytes:
     sender before it, and the source."""
     rule, field = rule_of(what)
     front = f"{subject_of(event)} {deed_of(sender, event, rule, field)}\n"
-    facts_and_source = facts_of(sender, event, rule, field) + f"  {SOURCES[rule]}\n"
+    source = VALUE_SOURCES[field] if rule == Rule.METRIC else SOURCES[rule]
+    facts_and_source = facts_of(sender, event, rule, field) + f"  {source}\n"
     return front.encode() + line + facts_and_source.encode()
 
 

@@ -69,14 +69,7 @@ impl Listed {
         if !self.table.is_empty() {
             return Ok(());
         }
-        self.first = refused_members(
-            self.alloc,
-            unit,
-            n,
-            departure.rule,
-            event,
-            &departure.cause,
-        )?;
+        self.first = refused_members(self.alloc, unit, n, departure.rule, event, &departure.cause)?;
         Ok(())
     }
 

@@ -72,11 +72,7 @@ pub(crate) fn push_nameable(
 
 /// V4: how a Lost line differs from what it may name.
 #[tactic(auto, unfolding(crate::specs::Losses::differing))]
-fn push_differing(
-    out: &mut Object,
-    unnamed: &Ranges,
-    unowed: &Ranges,
-) -> Result<(), AllocError>
+fn push_differing(out: &mut Object, unnamed: &Ranges, unowed: &Ranges) -> Result<(), AllocError>
     ensures { OnOk result (out.new ≡ out.old ++ text.differing unnamed.now unowed.now) }
 {
     out.runs("unnamed", unnamed.as_slice())?;

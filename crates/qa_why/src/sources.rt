@@ -2,7 +2,27 @@
 ghost use Rattle.std.specs.Prelude.{◌≡◌};
 ghost use Rattle.qa_why.specs.Sources as text;
 
-use qa_base::Rule;
+use qa_base::{Field, Rule};
+
+/// The line that says where the value of a report stands, and what it is.
+fn value_source(field: Field) -> &'static str
+    ensures { result.now ≡ text.value_source field }
+{
+    match field {
+        Field::Window =>
+            "  RFC 9002, 7.3, 7.6: the window by slow start, recovery, congestion avoidance and persistent congestion.\n",
+        Field::Ssthresh =>
+            "  RFC 9002, 7.3.2: the slow start threshold is half of the window at the entry into recovery.\n",
+        Field::BytesInFlight =>
+            "  RFC 9002, 6.2, B.2: packets are in flight until they are acknowledged, declared lost or discarded; a timeout takes none out.\n",
+        Field::LatestRtt =>
+            "  RFC 9002, 5.1: the time from when the largest packet of the ACK was sent to the ACK, with no delay taken off.\n",
+        Field::MinRtt => "  RFC 9002, 5.2: the least latest_rtt, with no delay taken off.\n",
+        Field::SmoothedRtt => "  RFC 9002, 5.3: 7/8 of smoothed_rtt, and 1/8 of adjusted_rtt.\n",
+        Field::Rttvar =>
+            "  RFC 9002, 5.3: 3/4 of rttvar, and 1/4 of how far adjusted_rtt is from smoothed_rtt.\n",
+    }
+}
 
 /// The line that says where the rule stands, and what it is.
 #[tactic(auto, unfolding(crate::specs::Sources::source))]
@@ -41,7 +61,7 @@ pub fn source(rule: Rule) -> &'static str
         Rule::NotConfirmed => {
             "  RFC 9001, 4.9.2: the handshake keys are kept until the handshake is confirmed.\n"
         }
-        Rule::Metric(_) => "  This format: a report has the values of the machine.\n",
+        Rule::Metric(field) => value_source(field),
         Rule::OwedAtEnd => {
             "  RFC 9002, 6.1, A.10: a loss that was found is declared before the trace ends.\n"
         }

@@ -11,7 +11,9 @@ ghost use Rattle.qa_why_trace.specs.Objects.{object_line as object_line_of};
 ghost use Rattle.qa_why_trace.specs.Why as defined;
 
 use crate::form::Form;
-use crate::objects::{accepted_members, object_line, owed_at_end_members, refused_members, unreadable_members};
+use crate::objects::{
+    accepted_members, object_line, owed_at_end_members, refused_members, unreadable_members,
+};
 use crate::reasons::Reasons;
 use crate::texts::{accepted, broken, owed_at_end, unreadable};
 use qa_base::{Event, Rule, Totals};

@@ -25,7 +25,14 @@ const ROWS: &str =
 fn a_trace_departs(rt: HostRuntime) {
     let mut reader = Metered::new(TRACE.as_bytes());
     let mut writer = Metered::new(Vec::new(rt.alloc()));
-    let ended = why_all::<Running, _, _>(rt.alloc(), Form::Text, "a", true, &mut reader, &mut writer);
+    let ended = why_all::<Running, _, _>(
+        rt.alloc(),
+        Form::Text,
+        "a",
+        true,
+        &mut reader,
+        &mut writer,
+    );
     assert_eq!(rt; ended, Ok(Outcome::Refused));
     assert_eq!(rt; writer.into_inner().as_slice(), TEXT.as_bytes());
 }
@@ -35,7 +42,14 @@ fn a_trace_departs(rt: HostRuntime) {
 fn a_trace_departs_as_an_object(rt: HostRuntime) {
     let mut reader = Metered::new(TRACE.as_bytes());
     let mut writer = Metered::new(Vec::new(rt.alloc()));
-    let ended = why_all::<Running, _, _>(rt.alloc(), Form::Json, "a", true, &mut reader, &mut writer);
+    let ended = why_all::<Running, _, _>(
+        rt.alloc(),
+        Form::Json,
+        "a",
+        true,
+        &mut reader,
+        &mut writer,
+    );
     assert_eq!(rt; ended, Ok(Outcome::Refused));
     assert_eq!(rt; writer.into_inner().as_slice(), OBJECT.as_bytes());
 }
@@ -46,7 +60,14 @@ fn a_trace_departs_from_nothing(rt: HostRuntime) {
     let header = &TRACE.as_bytes()[..72];
     let mut reader = Metered::new(header);
     let mut writer = Metered::new(Vec::new(rt.alloc()));
-    let ended = why_all::<Running, _, _>(rt.alloc(), Form::Text, "a", true, &mut reader, &mut writer);
+    let ended = why_all::<Running, _, _>(
+        rt.alloc(),
+        Form::Text,
+        "a",
+        true,
+        &mut reader,
+        &mut writer,
+    );
     assert_eq!(rt; ended, Ok(Outcome::Accepted));
     assert!(rt; writer.into_inner().is_empty());
 }
