@@ -1,5 +1,5 @@
 -- What is told of one more departure, and of those on one more line.
-use Rattle.std.proofs.Common.{◌≡◌, ◌∙◌, ◌+◌, ◌<◌, ℕ, suc, Bool, true, false, List, [], ◌∷◌, ◌++◌, Option, Some, None, Result, Ok, Err, append_assoc, get_or, length, map, take, refl, subst, sym, ap, arith}
+use Rattle.std.proofs.Common.{◌≡◌, ◌∙◌, ◌+◌, ◌<◌, ℕ, suc, true, false, List, [], ◌∷◌, ◌++◌, Option, Some, None, Result, Ok, Err, append_assoc, get_or, length, map, take, refl, subst, sym, ap, arith}
 use Rattle.std.proofs.lemmas.Bool.{ne_eqb}
 use Rattle.std.proofs.lemmas.List.{append-nil, map-append, take_more}
 use Rattle.std.specs.Option.{option_or}
@@ -14,7 +14,7 @@ use Rattle.qa_base.proofs.machine.Histories.{history_of-snoc}
 use Rattle.qa_base.specs.declared.space.TimeUnit.{TimeUnit}
 use Rattle.qa_base.specs.machine.Packets.{history_of}
 use Rattle.qa_base.specs.values.Settings.{Settings}
-use Rattle.qa_departures.specs.Table.{Holds, counted}
+use Rattle.qa_departures.specs.Table.{counted}
 use Rattle.qa_departures.specs.declared.finding.Finding.{Finding}
 use Rattle.qa_format.proofs.verdicts.RunsAccepted.{events_in-snoc}
 use Rattle.qa_format.proofs.verdicts.Stops.{header_in-snoc}

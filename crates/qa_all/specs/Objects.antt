@@ -1,5 +1,5 @@
 -- What is told of all departures of a trace as the members of a JSON object.
-use Rattle.std.specs.Prelude.{◌≡◌, ℕ, codes, decimal, length, List, [], ◌∷◌, ◌++◌, Option, Some, None, if◌then◌else◌}
+use Rattle.std.specs.Prelude.{ℕ, codes, decimal, length, List, [], ◌∷◌, ◌++◌, Option, Some, None, if◌then◌else◌}
 use Rattle.json.specs.Token.{Token}
 use Rattle.json.specs.Token as token
 use Rattle.qa_all.specs.Departed.{Departed, all_departed, findings, history_in, unit_of}

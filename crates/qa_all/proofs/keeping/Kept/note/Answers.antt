@@ -1,9 +1,8 @@
-use Rattle.std.proofs.Common.{◌≡◌, ◌∙◌, ◌++◌, List, ℕ, ap, subst, sym}
+use Rattle.std.proofs.Common.{◌∙◌, ◌++◌, List, ℕ, ap, subst, sym}
 use Rattle.qa_all.specs.All.{first_text}
 use Rattle.qa_all.specs.Departed.{departed, findings}
 use Rattle.qa_all.proofs.Told.{findings-snoc, firsts-snoc}
 use Rattle.qa_departures.specs.Table.{Holds}
-use Rattle.qa_departures.specs.declared.finding.Finding.{Finding}
 use Rattle.qa_departures.specs.declared.table.Table.{Table}
 use Rattle.qa_all.proofs.keeping.Kept.note.Goals as goal
 

@@ -1,9 +1,8 @@
-use Rattle.std.proofs.Common.{◌≡◌, ◌∙◌, [], ◌∷◌, ◌++◌, List, ℕ, ap, subst, sym}
+use Rattle.std.proofs.Common.{◌∙◌, [], ◌∷◌, ◌++◌, ap, subst, sym}
 use Rattle.qa_all.specs.Departed.{departed, findings}
 use Rattle.qa_all.specs.Objects.{named, named_behind}
 use Rattle.qa_all.proofs.Told.{findings-snoc, named-snoc}
 use Rattle.qa_departures.specs.Table.{Holds}
-use Rattle.qa_departures.specs.declared.finding.Finding.{Finding}
 use Rattle.qa_departures.specs.declared.table.Table.{Table}
 use Rattle.qa_all.proofs.listing.Listed.note.Goals as goal
 

@@ -1,6 +1,6 @@
-use Rattle.std.proofs.Common.{◌++◌, List, map, take}
+use Rattle.std.proofs.Common.{◌++◌, map, take}
 use Rattle.qa_all.proofs.Told.{up_to_one_more}
-use Rattle.qa_all.specs.Departed.{Departed, departed}
+use Rattle.qa_all.specs.Departed.{departed}
 use Rattle.qa_all.specs.Keeping.{Lists}
 use Rattle.qa_all.proofs.listing.Listed.note_each.Goals as goal
 
