@@ -256,38 +256,42 @@ impl Machine {
                 delay,
                 app_limited,
             } => self.on_ack(alloc, *time, *space, ranges, *delay, *app_limited),
-            _ => {
-                self.on_other(event);
-                Ok(())
-            }
-        }
-    }
-
-    /// Any event that breaks no rule and takes no memory: neither a packet that is sent nor an
-    /// acknowledgment.
-    fn on_other(&mut self, event: &Event)
-        requires other { takes_memory event.now ≡ false }
-        requires next { IsNext self.old.packets event.now }
-        requires owed { AreOwedIn (free_of self.old.connection).space self.old.packets.packets }
-        ensures { Follows self.old self.new event.now }
-    {
-        match event {
             Event::Timer {
                 time,
                 kind: TimerKind::Loss,
                 space,
-            } => self.on_loss_timer(*time, *space),
+            } => {
+                self.on_loss_timer(*time, *space);
+                Ok(())
+            }
             Event::Timer {
                 time,
                 kind: TimerKind::Pto,
                 space,
-            } => self.on_probe_timeout(*time, *space),
-            Event::Lost { time, ranges, .. } => self.on_lost(*time, ranges),
-            Event::Discard { time, space } => self.on_discard(*time, *space),
-            Event::Confirmed { time } => self.on_confirmed(*time),
-            Event::Keys { time } => self.on_keys(*time),
-            Event::Metrics { time, values } => self.on_metrics(*time, values),
-            Event::Sent { .. } | Event::Ack { .. } => {}
+            } => {
+                self.on_probe_timeout(*time, *space);
+                Ok(())
+            }
+            Event::Lost { time, ranges, .. } => {
+                self.on_lost(*time, ranges);
+                Ok(())
+            }
+            Event::Discard { time, space } => {
+                self.on_discard(*time, *space);
+                Ok(())
+            }
+            Event::Confirmed { time } => {
+                self.on_confirmed(*time);
+                Ok(())
+            }
+            Event::Keys { time } => {
+                self.on_keys(*time);
+                Ok(())
+            }
+            Event::Metrics { time, values } => {
+                self.on_metrics(*time, values);
+                Ok(())
+            }
         }
     }
 
