@@ -11,7 +11,7 @@ use std::marker::Model;
 ///
 /// Every call asks for what its `requires` says: a maximum datagram size from 1200 to 65527 bytes,
 /// a packet size from 1 to 65527 bytes, and a window that is not 0 and not past its bound.
-#[derive(Clone, Copy)]
+#[derive(Clone, Copy, Debug, PartialEq, Eq)]
 pub struct Reno {
     /// The congestion window, in bytes.
     pub window: u64,
