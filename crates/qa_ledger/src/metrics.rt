@@ -82,7 +82,7 @@ pub fn totals_by(
 }
 
 /// The rule of the first test that is so.
-fn first_so(tests: &[(bool, Rule)]) -> Option<Rule>
+pub(crate) fn first_so(tests: &[(bool, Rule)]) -> Option<Rule>
     ensures { result ≡ rules.first_of tests.now }
 {
     for (is_so, rule) in tests {

@@ -6,6 +6,7 @@ ghost use Rattle.qa_base.specs.machine.Rules as rules;
 ghost use Rattle.qa_base.specs.values.Settings.{Settings};
 ghost use Rattle.qa_ledger.specs.Tests as tests;
 
+use crate::metrics::first_so;
 use crate::rules::{
     deadline_at, is_ack_unsent, is_loss_not_owed, is_loss_owed, is_not_confirmed,
     is_number_not_higher, is_other_loss_set, is_space_gone, is_time_back, is_timer_early,
@@ -32,25 +33,14 @@ fn first_of_packets<S: State>(state: &S, event: &Event) -> Option<Rule>
     ensures { (c : Settings) (h : List AnEvent) → S.tells state.now c h
         → result ≡ rules.first_of (tests.tests_of_packets c h event.now) }
 {
-    if is_time_back(state, event) {
-        return Some(Rule::TimeBack);
-    }
-    if is_loss_owed(state, event) {
-        return Some(Rule::LossOwed);
-    }
-    if is_loss_not_owed(state, event) {
-        return Some(Rule::LossNotOwed);
-    }
-    if is_other_loss_set(state, event) {
-        return Some(Rule::LossSet);
-    }
-    if is_space_gone(state, event) {
-        return Some(Rule::SpaceGone);
-    }
-    if is_number_not_higher(state, event) {
-        return Some(Rule::NumberNotHigher);
-    }
-    None
+    first_so(&[
+        (is_time_back(state, event), Rule::TimeBack),
+        (is_loss_owed(state, event), Rule::LossOwed),
+        (is_loss_not_owed(state, event), Rule::LossNotOwed),
+        (is_other_loss_set(state, event), Rule::LossSet),
+        (is_space_gone(state, event), Rule::SpaceGone),
+        (is_number_not_higher(state, event), Rule::NumberNotHigher),
+    ])
 }
 
 /// The first of V10 to V13 and V15 that the event breaks after these events, V13 only where the timeout
@@ -59,23 +49,14 @@ fn first_of_answers<S: State>(state: &S, event: &Event) -> Option<Rule>
     ensures { (c : Settings) (h : List AnEvent) → S.tells state.now c h
         → result ≡ rules.first_of (tests.tests_of_answers c h event.now) }
 {
-    if is_ack_unsent(state, event) {
-        return Some(Rule::AckUnsent);
-    }
     let due = deadline_at(state, event);
-    if is_timer_not_set(event, &due) {
-        return Some(Rule::TimerNotSet);
-    }
-    if is_timer_other(event, &due) {
-        return Some(Rule::TimerOther);
-    }
-    if is_timer_unborne(state, event, &due) {
-        return Some(Rule::TimerEarly);
-    }
-    if is_not_confirmed(state, event) {
-        return Some(Rule::NotConfirmed);
-    }
-    None
+    first_so(&[
+        (is_ack_unsent(state, event), Rule::AckUnsent),
+        (is_timer_not_set(event, &due), Rule::TimerNotSet),
+        (is_timer_other(event, &due), Rule::TimerOther),
+        (is_timer_unborne(state, event, &due), Rule::TimerEarly),
+        (is_not_confirmed(state, event), Rule::NotConfirmed),
+    ])
 }
 
 /// The first rule that the event breaks after these events and past which the machine does not go on:

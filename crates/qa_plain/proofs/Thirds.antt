@@ -14,3 +14,12 @@ no_by_second a b value first_part second_part third_part first second both is no
 -- the first says no
 pub no_by_first : (a value first_part second_part third_part : Bool) → a ≡ first_part → a ≡ false → value ≡ false → value ≡ (first_part && not second_part && not third_part)
 no_by_first a value first_part second_part third_part first is none = rw (none, ← first, is) refl
+
+-- the first two say yes
+pub third_of : (first second third : Bool) → first ≡ true → second ≡ true → third ≡ (first && second && third)
+third_of first second third is so = rw (is, so) refl
+
+pub behind_two : (first second third : Bool) → (first && second) ≡ true → third ≡ (first && second && third)
+behind_two true true third so = refl
+behind_two true false third so = cc
+behind_two false second third so = cc

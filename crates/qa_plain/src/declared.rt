@@ -103,10 +103,11 @@ fn is_taken(before: &[Event], look: Look, event: &Event, packet: Packet) -> bool
 pub fn is_lost(events: &[Event], losses: Losses, packet: Packet) -> bool
     ensures { result ≡ is_lost_by (history_of events.now) losses packet }
 {
-    match events.split_last() {
-        Some((event, before)) if matches!(event, Event::Lost { .. }) => {
-            losses.completes && is_taken(before, losses.look, event, packet)
-        }
+    let Some((event, before)) = events.split_last() else {
+        return is_found(events, losses.look, packet);
+    };
+    match event {
+        Event::Lost { .. } => losses.completes && is_taken(before, losses.look, event, packet),
         _ => is_found(events, losses.look, packet),
     }
 }

@@ -10,9 +10,12 @@ use qa_base::{Event, PacketNumber, Space, Span};
 pub fn is_named(ranges: &[Span], number: PacketNumber) -> bool
     ensures { result ≡ events.is_named ranges.now number }
 {
-    ranges
-        .iter()
-        .any(|range| range.lo() <= number && number <= range.hi())
+    for range in ranges {
+        if range.lo() <= number && number <= range.hi() {
+            return true;
+        }
+    }
+    false
 }
 
 /// Whether the event is an acknowledgment of this number in this space.

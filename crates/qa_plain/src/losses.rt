@@ -1,12 +1,12 @@
 //! Detection of losses, what is open, and the bytes in flight (RFC 9002, section 6.1, A.10).
-ghost use Rattle.std.specs.Prelude.{◌&&◌, ◌≡◌, ◌∷◌, ◌≤◌, ◌*◌, filter, length};
+ghost use Rattle.std.specs.Prelude.{nat_lt, ◌&&◌, ◌≡◌, ◌∷◌, ◌≤◌, ◌*◌, filter, length};
 ghost use Rattle.qa_base.specs.declared.space.Space.{Space};
 ghost use Rattle.qa_base.specs.machine.Detection as detections;
 ghost use Rattle.qa_base.specs.machine.Estimates as estimates;
 ghost use Rattle.qa_base.specs.machine.Loss as loss;
 ghost use Rattle.qa_base.specs.machine.Packets as packets;
 ghost use Rattle.qa_base.specs.machine.Packets.{history_of};
-ghost use Rattle.qa_base.specs.values.Settings.{early};
+ghost use Rattle.qa_base.specs.values.Settings.{early, is_may};
 ghost use Rattle.qa_plain.specs.Listed.{listed};
 ghost use Rattle.qa_plain.specs.Looks.{IsLook, IsSeen, is_found_by, is_left_by, is_nameable_by, largest_there as largest_there_of};
 ghost use Rattle.std.specs.List.{list_any};
@@ -78,6 +78,15 @@ fn is_past_threshold(
     }
 }
 
+/// Whether the packet is below the largest acknowledged number by the sender's packet threshold, and
+/// such packets may be spared.
+fn is_far_enough(header: &Header, largest: u64, packet: Packet) -> bool
+    ensures { result ≡ (nat_lt packet.number largest && (is_may header.now.options.loss_by_number && detections.is_far_below header.now largest packet)) }
+{
+    packet.number.get() < largest
+        && (header.options().loss_by_number.is_may() && is_far_below(header, largest, packet))
+}
+
 /// Whether the packet may be spared though it is below the largest acknowledged number by the sender's
 /// packet threshold: the header says so, and the packet is not old.
 fn may_be_spared(header: &Header, rtt: Rtt, now: u64, largest: Option<u64>, packet: Packet) -> bool
@@ -86,10 +95,7 @@ fn may_be_spared(header: &Header, rtt: Rtt, now: u64, largest: Option<u64>, pack
     match largest {
         None => false,
         Some(largest) => {
-            packet.number.get() < largest
-                && (header.options().loss_by_number.is_may()
-                    && is_far_below(header, largest, packet))
-                && !is_old(header, rtt, now, packet)
+            is_far_enough(header, largest, packet) && !is_old(header, rtt, now, packet)
         }
     }
 }

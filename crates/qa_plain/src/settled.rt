@@ -25,18 +25,24 @@ fn behind(events: &[Event], packet: Packet) -> &[Event]
 fn some_acknowledges(events: &[Event], packet: Packet) -> bool
     ensures { result ≡ list_any (questions.acknowledges packet.space packet.number) events.now }
 {
-    events
-        .iter()
-        .any(|event| acknowledges(event, packet.space, packet.number))
+    for event in events {
+        if acknowledges(event, packet.space, packet.number) {
+            return true;
+        }
+    }
+    false
 }
 
 /// Whether one of the events declares the packet's number in its space lost.
 fn some_declares_lost(events: &[Event], packet: Packet) -> bool
     ensures { result ≡ list_any (questions.declares_lost packet.space packet.number) events.now }
 {
-    events
-        .iter()
-        .any(|event| declares_lost(event, packet.space, packet.number))
+    for event in events {
+        if declares_lost(event, packet.space, packet.number) {
+            return true;
+        }
+    }
+    false
 }
 
 /// Whether an acknowledgment that came after the packet covers its number in its space, also one

@@ -11,7 +11,7 @@ use qa_base::constants::{
 use std::marker::Model;
 
 /// What a sender knows of the round-trip time. All times are in the unit of the trace.
-#[derive(Clone, Copy, Debug, PartialEq, Eq)]
+#[derive(Clone, Copy)]
 pub struct Rtt {
     /// The latest sample; 0 before the first.
     pub latest_rtt: Ticks,

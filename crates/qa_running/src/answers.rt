@@ -1,17 +1,20 @@
 //! What the rules ask of the events before an event, answered by what is kept.
-ghost use Rattle.std.specs.Prelude.{List};
+ghost use Rattle.std.specs.Prelude.{List, ◌≡◌, ◌&&◌};
+ghost use Rattle.std.specs.List.{list_any};
 ghost use Rattle.qa_base.specs.declared.event.Event.{Event as AnEvent};
 ghost use Rattle.qa_base.specs.machine.Departures.{IsCourse};
+ghost use Rattle.qa_base.specs.values.Events.{is_space};
 ghost use Rattle.qa_base.specs.values.Settings.{Settings};
 ghost use Rattle.qa_connection.specs.Deadlines.{AreOpen, IsOpenIn};
 ghost use Rattle.qa_running.specs.Standing.{StandsFor};
+ghost use Rattle.qa_sent.specs.Free.{is_free_by};
 
 use crate::freeing::free_packets;
 use crate::running::Running;
 use qa_base::{Due, Header, PacketNumber, PerSpace, Space, Span, Ticks, Totals};
 use qa_connection::OpenInSpace;
 use qa_ledger::State;
-use qa_sent::SentPackets;
+use qa_sent::{FreePackets, SentPackets};
 
 /// What the timer asks of the open packets of a space.
 pub(crate) fn open_in(packets: &SentPackets, space: Space) -> OpenInSpace
@@ -34,6 +37,13 @@ pub(crate) fn open_packets(packets: &SentPackets) -> PerSpace<OpenInSpace>
         handshake: open_in(packets, Space::Handshake),
         app: open_in(packets, Space::App),
     }
+}
+
+/// Whether a packet of the space is free.
+fn has_free_in(packets: &SentPackets, free: FreePackets, space: Space) -> bool
+    ensures { result ≡ (is_space space free.space && list_any (is_free_by free) packets.now.packets) }
+{
+    space == free.space && packets.has_free(free)
 }
 
 impl State for Running {
@@ -60,7 +70,7 @@ impl State for Running {
     fn has_nameable_in(&self, space: Space) -> bool {
         let free = free_packets(&self.machine.connection);
         let packets = &self.machine.packets;
-        packets.owes_in(space) || (space == free.space && packets.has_free(free))
+        packets.owes_in(space) || has_free_in(packets, free, space)
     }
 
     fn names_losses(&self, ranges: &[Span]) -> bool {

@@ -1,5 +1,8 @@
-use Rattle.std.proofs.Common.{◌∙◌, sym, ap}
+use Rattle.std.proofs.Common.{◌∙◌, sym, ap, arith}
+use Rattle.std.proofs.lemmas.List.{length-take-le}
+use Rattle.std.proofs.lemmas.List.Elements.{All-take}
 use Rattle.qa_base.specs.machine.Reno.{reno}
+use Rattle.qa_base.specs.machine.Widths.{Fits}
 use Rattle.qa_plain.proofs.Turns.{one_more, at_end}
 use Rattle.qa_plain.proofs.window.reno.Goals as goal
 
@@ -29,3 +32,10 @@ losses_after-losses-requires-clause-whole c = one_more c.args.events.now c.loop-
 
 pub returns : goal.returns
 returns c = c.loop-place.invariant.reno ∙ at_end (reno c.args.header.now) c.args.events.now c.loop-place.place c.loop-place-test.false
+
+pub reno_after-reno-requires-clause-few : goal.reno_after-reno-requires-clause-few
+reno_after-reno-requires-clause-few c =
+    omega (arith, c.requires.few, length-take-le c.loop-place.place c.args.events.now c.loop-place.auto.place-end)
+
+pub reno_after-reno-requires-clause-fit : goal.reno_after-reno-requires-clause-fit
+reno_after-reno-requires-clause-fit c = All-take Fits c.loop-place.place c.args.events.now c.requires.fit

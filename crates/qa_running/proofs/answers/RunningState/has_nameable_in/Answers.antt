@@ -1,4 +1,4 @@
-use Rattle.std.proofs.Common.{◌≡◌, ◌∙◌, ◌||◌, ◌&&◌, true, false, sym, ap, rules}
+use Rattle.std.proofs.Common.{◌∙◌, ◌||◌, ◌&&◌, sym, ap}
 use Rattle.std.specs.List.{list_any}
 use Rattle.qa_base.specs.values.Events.{is_space}
 use Rattle.qa_running.proofs.Nameable.{nameable_in_is_held}
@@ -16,27 +16,12 @@ returns-then-owes_in c = rw (← c.self.view_is) (λ settings h is.
     ∙ sym (nameable_in_is_held machine.connection settings h is.after.run.run is.after.connection c.args.space machine.packets is.after.packets
     ∙ ap (λ b. b || rest) (sym c.owes_in.ensures ∙ c.if-owes_in.true)))
 
-pub returns-then-eq : goal.returns-then-eq
-returns-then-eq c = rw (← c.self.view_is) (λ settings h is.
+pub returns-else-owes_in : goal.returns-else-owes_in
+returns-else-owes_in c = rw (← c.self.view_is) (λ settings h is.
     let machine = c.self.inside.machine in
     let free = free_of machine.connection in
-    let any = list_any (is_free_by free) machine.packets.packets in
-    let same : c.eq.result ≡ is_space c.args.space c.free_packets-free.result.space = search rules in
-    let here : is_space c.args.space free.space ≡ true = sym (same ∙ ap (λ (f : FreePackets). is_space c.args.space f.space) c.free_packets-free.ensures) ∙ c.if-eq.true in
-    c.has_free.ensures
-    ∙ (ap (λ (f : FreePackets). list_any (is_free_by f) machine.packets.packets) c.free_packets-free.ensures
+    let rest = is_space c.args.space free.space && list_any (is_free_by free) machine.packets.packets in
+    c.has_free_in.ensures
+    ∙ (ap (λ (f : FreePackets). is_space c.args.space f.space && list_any (is_free_by f) machine.packets.packets) c.free_packets-free.ensures
     ∙ sym (nameable_in_is_held machine.connection settings h is.after.run.run is.after.connection c.args.space machine.packets is.after.packets
-    ∙ (ap (λ b. b || (is_space c.args.space free.space && any)) (sym c.owes_in.ensures ∙ c.if-owes_in.false)
-    ∙ ap (λ b. b && any) here))))
-
-pub returns-else-eq : goal.returns-else-eq
-returns-else-eq c = rw (← c.self.view_is) (λ settings h is.
-    let machine = c.self.inside.machine in
-    let free = free_of machine.connection in
-    let any = list_any (is_free_by free) machine.packets.packets in
-    let same : c.eq.result ≡ is_space c.args.space c.free_packets-free.result.space = search rules in
-    let other : is_space c.args.space free.space ≡ false = sym (same ∙ ap (λ (f : FreePackets). is_space c.args.space f.space) c.free_packets-free.ensures) ∙ c.if-eq.false in
-    c.if-eq.false
-    ∙ sym (nameable_in_is_held machine.connection settings h is.after.run.run is.after.connection c.args.space machine.packets is.after.packets
-    ∙ (ap (λ b. b || (is_space c.args.space free.space && any)) (sym c.owes_in.ensures ∙ c.if-owes_in.false)
-    ∙ ap (λ b. b && any) other)))
+    ∙ ap (λ b. b || rest) (sym c.owes_in.ensures ∙ c.if-owes_in.false))))
