@@ -90,6 +90,37 @@ impl<T> Metered<T> {
     }
 }
 
+/// The count of failures after one more call, which failed or did not.
+fn counted(failures: u64, failed: bool) -> u64
+    ensures { result ≡ failures_after failed failures }
+{
+    if failed {
+        failures.wrapping_add(1)
+    } else {
+        failures
+    }
+}
+
+/// How many bytes a read gave.
+fn given_by(read: &io::Result<usize>) -> usize
+    ensures { result ≡ read_count read.now }
+{
+    match read {
+        Ok(n) => *n,
+        Err(_) => 0,
+    }
+}
+
+/// Whether a write of this piece failed: by an error, or since nothing was taken of what is not empty.
+fn has_failed(written: &io::Result<usize>, piece: &[u8]) -> bool
+    ensures { result ≡ write_failed written.now piece.now }
+{
+    match written {
+        Ok(n) => *n == 0 && !piece.is_empty(),
+        Err(_) => true,
+    }
+}
+
 impl<T: Read> Source for Metered<T> {
     ghost left = { λ m. T.remaining m.0 };
 
@@ -98,15 +129,10 @@ impl<T: Read> Source for Metered<T> {
     ghost read_failures = { λ m. m.1 };
 
     fn read_piece(&mut self, piece: &mut [u8]) -> io::Result<usize> {
-        let result = self.inner.read(piece);
-        self.last_read = match &result {
-            Ok(n) => *n,
-            Err(_) => 0,
-        };
-        if result.is_err() {
-            self.failures = self.failures.wrapping_add(1);
-        }
-        result
+        let read = self.inner.read(piece);
+        self.last_read = given_by(&read);
+        self.failures = counted(self.failures, read.is_err());
+        read
     }
 }
 
@@ -116,14 +142,9 @@ impl<T: Write> Sink for Metered<T> {
     ghost write_failures = { λ m. m.1 };
 
     fn write_piece(&mut self, piece: &[u8]) -> io::Result<usize> {
-        let result = self.inner.write(piece);
-        let failed = match &result {
-            Ok(n) => *n == 0 && !piece.is_empty(),
-            Err(_) => true,
-        };
-        if failed {
-            self.failures = self.failures.wrapping_add(1);
-        }
-        result
+        let written = self.inner.write(piece);
+        let failed = has_failed(&written, piece);
+        self.failures = counted(self.failures, failed);
+        written
     }
 }

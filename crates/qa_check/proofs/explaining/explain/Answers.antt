@@ -1,9 +1,15 @@
-use Rattle.std.proofs.Common.{◌≡◌, refl}
+use Rattle.std.proofs.Common.{◌≡◌, Result, Err, refl}
 use Rattle.std.proofs.lemmas.Result.{IfOk-weaker, err_from_is_err_and}
+use Rattle.qa_check.specs.declared.auditing.AuditFault.{AuditFault}
 use Rattle.qa_check.specs.declared.auditing.AuditFault.TheVariants.{Write}
+use Rattle.qa_check.specs.declared.auditing.Outcome.{Outcome}
 use Rattle.qa_check.proofs.Faults.{not_read, memory_not_write}
 use Rattle.qa_check.proofs.Writing.{explained, told_explained, report_begun, rows_written, rows_explain, told_begins}
 use Rattle.qa_check.proofs.explaining.explain.Goals as goal
+
+-- a fault that is returned as it came
+fault_is : (r : Result Outcome AuditFault) (x y : AuditFault) → r ≡ Err y → y ≡ x → r ≡ Err Write → x ≡ Write
+fault_is r x y left from is = cc
 
 pub returns : goal.returns
 returns g c =
@@ -25,15 +31,11 @@ returns g c =
 pub returns-in_err-verdict-clause-beginning : goal.returns-in_err-verdict-clause-beginning
 returns-in_err-verdict-clause-beginning g c = λ is.
     let passed = err_from_is_err_and c.from_residual.result c.from_residual.ensures.1 in
-    let left = passed.1 in
-    let from = passed.2 in
-    let fault : c.in_err-verdict.field-0.0 ≡ Write = cc in
+    let fault : c.in_err-verdict.field-0.0 ≡ Write = fault_is c.from_residual.result _ _ passed.1 passed.2 is in
     rows_explain _ _ _ _ (c.in_err-verdict.ensures.begun (rw fault refl))
 
 pub returns-in_err-verdict-clause-told_beginning : goal.returns-in_err-verdict-clause-told_beginning
 returns-in_err-verdict-clause-told_beginning g c = λ bytes tells is.
     let passed = err_from_is_err_and c.from_residual.result c.from_residual.ensures.1 in
-    let left = passed.1 in
-    let from = passed.2 in
-    let fault : c.in_err-verdict.field-0.0 ≡ Write = cc in
+    let fault : c.in_err-verdict.field-0.0 ≡ Write = fault_is c.from_residual.result _ _ passed.1 passed.2 is in
     told_begins _ _ _ _ bytes tells (rows_explain _ _ _ _ (c.in_err-verdict.ensures.begun (rw fault refl)))

@@ -1,4 +1,4 @@
-use Rattle.std.proofs.Common.{◌∙◌, refl, sym}
+use Rattle.std.proofs.Common.{◌∙◌, Err, Some, refl, sym, ap}
 use Rattle.qa_check.proofs.Faults.{ok_is_no_err, error_of, stops_differ, decided_is_not_memory, memory_is_not_decided}
 use Rattle.qa_check.proofs.Growing.{event_stops}
 use Rattle.qa_check.proofs.checker.Checker.admit.Goals as goal
@@ -25,3 +25,9 @@ returns-in-Err-Broken-clause-failed g c = λ is. absurd (decided_is_not_memory i
 
 pub returns-in-Err-OutOfMemory : goal.returns-in-Err-OutOfMemory
 returns-in-Err-OutOfMemory g c = record { failed = λ is. refl; whole = λ other. absurd (other refl); ok = tt; decided = λ is. absurd (memory_is_not_decided is); kept = λ is. absurd (memory_is_not_decided is) }
+
+-- Written out, so that a wrong body is refused at this line.
+pub returns-in-Err-Broken-clause-kept : goal.returns-in-Err-Broken-clause-kept
+returns-in-Err-Broken-clause-kept g c = λ is.
+    let broken = c.in-Err-Broken.is ∙ ap Err c.in-Err-Broken.field-0-is in
+    rw (← c.self.view_is) (ap Some (c.judge.ensures.broken c.in-Err-Broken.rule broken).0 ∙ sym c.in-Some.is)
