@@ -11,12 +11,12 @@ use Rattle.qa_base.specs.declared.rule.Rule.TheVariants as rule
 use Rattle.qa_base.specs.machine.Breaches.{is_time_back, is_loss_owed, is_loss_not_owed, is_other_loss_set, is_space_gone, is_number_not_higher, is_past_window, is_past_probe, is_past_recovery, is_ack_unsent, is_timer_not_set, is_timer_other, is_timer_early, is_probe_owed, is_not_confirmed, is_timer_late, is_collapse_missing}
 use Rattle.qa_base.specs.machine.Departures.{departures, first_unborne, is_unborne, most_doublings, rules_of}
 use Rattle.qa_base.specs.machine.Metrics.{differences, metric_tests}
-use Rattle.qa_base.specs.machine.Rules.{first_broken, first_of}
+use Rattle.qa_base.specs.machine.Rules.{first_of}
 use Rattle.qa_base.specs.machine.State.{totals}
 use Rattle.qa_base.specs.machine.Timer.{pto_count}
 use Rattle.qa_base.specs.values.Settings.{Settings}
 use Rattle.qa_ledger.specs.Tests.{tests_of_packets, tests_of_answers, all_of_packets, all_of_answers, all_of_lateness}
-use Rattle.qa_ledger.proofs.Firsts.{first_of_both, first_of_four}
+use Rattle.qa_ledger.proofs.Firsts.{first_of_both}
 
 and_true : (b : Bool) → (b && true) ≡ b
 and_true true = refl
@@ -123,13 +123,3 @@ pub found_in_parts : (c : Settings) (h : List Event) (e : Event) (r0 r1 r2 r3 r4
     → packets ≡ all_of_packets c h e → r1 ≡ r0 ++ rules_of packets → answers ≡ all_of_answers c h e → r2 ≡ r1 ++ rules_of answers
     → r3 ≡ r2 ++ rules_of (metric_tests c h e) → late ≡ all_of_lateness c h e → r4 ≡ r3 ++ rules_of late → r4 ≡ departures c h e
 found_in_parts c h e r0 r1 r2 r3 r4 packets answers late none p e1 a e2 e3 l e4 = rw (e4, e3, e2, e1, none, p, a, l) (sym (departures_in_parts c h e))
-
--- ---- the first rule that is broken
-
--- where it is looked for in the same parts
-pub found_first : (c : Settings) (h : List Event) (e : Event) (r1 r2 r3 r4 o2 o3 o4 : Option Rule) (packets answers late : List (Bool × Rule))
-    → packets ≡ all_of_packets c h e → r1 ≡ first_of packets → answers ≡ all_of_answers c h e → r2 ≡ first_of answers → o2 ≡ option_or r1 r2
-    → r3 ≡ first_of (metric_tests c h e) → o3 ≡ option_or o2 r3 → late ≡ all_of_lateness c h e → r4 ≡ first_of late → o4 ≡ option_or o3 r4 → o4 ≡ first_broken c h e
-unfolding first_broken
-found_first c h e r1 r2 r3 r4 o2 o3 o4 packets answers late p e1 a e2 f2 e3 f3 l e4 f4 =
-    rw (f4, f3, f2, e1, e2, e3, e4, p, a, l) (sym (first_of_four (all_of_packets c h e) (all_of_answers c h e) (metric_tests c h e) (all_of_lateness c h e)))

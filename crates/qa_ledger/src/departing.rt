@@ -1,13 +1,12 @@
-//! The rules that an event breaks: the first, and all of them.
+//! All rules that an event breaks.
 ghost use Rattle.std.specs.Prelude.{◌≡◌, ◌∷◌, ◌++◌, [], Bool, List, IfOk, OnOk};
 ghost use Rattle.qa_base.specs.declared.event.Event.{Event as AnEvent};
 ghost use Rattle.qa_base.specs.machine.Departures as conduct;
 ghost use Rattle.qa_base.specs.machine.Metrics as metrics;
-ghost use Rattle.qa_base.specs.machine.Rules as rules;
 ghost use Rattle.qa_base.specs.values.Settings.{Settings};
 ghost use Rattle.qa_ledger.specs.Tests as tests;
 
-use crate::metrics::{differences, first_so, metrics_rule};
+use crate::metrics::differences;
 use crate::rules::{
     deadline_at, is_ack_unsent, is_collapse_missing, is_loss_not_owed, is_loss_owed,
     is_not_confirmed, is_number_not_higher, is_other_loss_set, is_past_probe, is_past_recovery,
@@ -87,17 +86,6 @@ fn broken_of_lateness<S: State>(state: &S, event: &Event) -> [(bool, Rule); 2]
         (is_timer_late(state, event), Rule::TimerLate),
         (is_collapse_missing(state, event), Rule::CollapseMissing),
     ]
-}
-
-/// The first rule that the event breaks after these events, V1 to V16, V18 and V19 in their order.
-pub fn first_broken<S: State>(state: &S, event: &Event) -> Option<Rule>
-    ensures { (c : Settings) (h : List AnEvent) → S.tells state.now c h
-        → result ≡ rules.first_broken c h event.now }
-{
-    first_so(&broken_of_packets(state, event))
-        .or(first_so(&broken_of_answers(state, event)))
-        .or(metrics_rule(state, event))
-        .or(first_so(&broken_of_lateness(state, event)))
 }
 
 /// All rules that the event breaks after these events, V1 to V16, V18 and V19 in their order, and V16

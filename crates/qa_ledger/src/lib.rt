@@ -10,9 +10,9 @@ mod state;
 mod unborne;
 
 pub use bears::Bears;
-pub use departing::{departures, first_broken};
+pub use departing::departures;
 pub use ledger::{Ledger, LedgerFault};
 pub use metrics::totals_by;
-pub use rules::other_window;
+pub use rules::{first_broken, other_window};
 pub use state::State;
 pub use unborne::first_unborne;

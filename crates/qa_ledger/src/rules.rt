@@ -1,15 +1,17 @@
-//! The rules that an event can break, each judged from the events before it.
+//! The rules that an event can break, each judged from the events before it, and the first of them.
 ghost use Rattle.std.specs.Prelude.{◌≡◌, ◌≤◌, ◌^◌, List};
 ghost use Rattle.std.specs.Option.{ForSome};
 ghost use Rattle.qa_base.specs.declared.event.Event.{Event as AnEvent};
 ghost use Rattle.qa_base.specs.machine.Breaches as breaches;
+ghost use Rattle.qa_base.specs.machine.Rules as rules;
 ghost use Rattle.qa_base.specs.machine.Window as windows;
 ghost use Rattle.qa_base.specs.values.Settings.{Settings};
 ghost use Rattle.qa_ledger.specs.Tests.{deadline_at as deadline_at_of};
 
+use crate::metrics::metrics_rule;
 use crate::state::State;
 use qa_base::constants::{PROBE_DATAGRAMS, minimum_window};
-use qa_base::{Due, Event, Leave, Space, TimerKind};
+use qa_base::{Due, Event, Leave, Rule, Space, TimerKind};
 
 /// V1: the event is earlier than the one before it.
 pub(crate) fn is_time_back<S: State>(state: &S, event: &Event) -> bool
@@ -327,4 +329,68 @@ pub(crate) fn is_collapse_missing<S: State>(state: &S, event: &Event) -> bool
             other_window(state, event),
             state.acknowledged_since_collapse(),
         )
+}
+
+/// The first rule that the event breaks after these events, V1 to V16, V18 and V19 in their order.
+#[tactic(auto, unfolding(qa_base::specs::machine::Rules::first_broken))]
+pub fn first_broken<S: State>(state: &S, event: &Event) -> Option<Rule>
+    ensures { (c : Settings) (h : List AnEvent) → S.tells state.now c h
+        → result ≡ rules.first_broken c h event.now }
+{
+    if is_time_back(state, event) {
+        return Some(Rule::TimeBack);
+    }
+    if is_loss_owed(state, event) {
+        return Some(Rule::LossOwed);
+    }
+    if is_loss_not_owed(state, event) {
+        return Some(Rule::LossNotOwed);
+    }
+    if is_other_loss_set(state, event) {
+        return Some(Rule::LossSet);
+    }
+    if is_space_gone(state, event) {
+        return Some(Rule::SpaceGone);
+    }
+    if is_number_not_higher(state, event) {
+        return Some(Rule::NumberNotHigher);
+    }
+    if is_past_window(state, event) {
+        return Some(Rule::PastWindow);
+    }
+    if is_past_probe(state, event) {
+        return Some(Rule::PastProbe);
+    }
+    if is_past_recovery(state, event) {
+        return Some(Rule::PastRecovery);
+    }
+    if is_ack_unsent(state, event) {
+        return Some(Rule::AckUnsent);
+    }
+    let due = deadline_at(state, event);
+    if is_timer_not_set(event, &due) {
+        return Some(Rule::TimerNotSet);
+    }
+    if is_timer_other(event, &due) {
+        return Some(Rule::TimerOther);
+    }
+    if is_timer_early(state, event, &due) {
+        return Some(Rule::TimerEarly);
+    }
+    if is_probe_owed(state, event) {
+        return Some(Rule::ProbeOwed);
+    }
+    if is_not_confirmed(state, event) {
+        return Some(Rule::NotConfirmed);
+    }
+    if let Some(rule) = metrics_rule(state, event) {
+        return Some(rule);
+    }
+    if is_timer_late(state, event) {
+        return Some(Rule::TimerLate);
+    }
+    if is_collapse_missing(state, event) {
+        return Some(Rule::CollapseMissing);
+    }
+    None
 }
