@@ -2,6 +2,7 @@
 mod arithmetic;
 mod auditor;
 mod commands;
+mod keeping;
 mod lines;
 mod machine;
 mod sets;

@@ -15,79 +15,91 @@ use qa_plain::Whole;
 use qa_running::Running;
 use qa_trace::{Event, Header, Line, LineFault, SplitFault, Splitter, read_line, write_line};
 use std::alloc::{AllocError, Global};
-use std::io;
 use std::io::{Read, Write};
 use std::marker::Model;
 use std::process::ExitCode;
 
-fn main(rt: HostRuntime) -> ExitCode {
-    match tell_all(rt.alloc(), &mut rt.stdin(), &mut rt.stdout()) {
-        Ok(()) => ExitCode::from(0),
-        Err(_) => ExitCode::from(3),
+/// What is written, a line for each answer, up to the first write that fails.
+#[derive(Drop)]
+struct Answers<W> {
+    writer: W,
+    is_written: bool,
+}
+
+impl<W: Write> Answers<W> {
+    /// Writes a line.
+    fn tell(&mut self, text: &str) {
+        self.tell_bytes(text.as_bytes());
     }
+
+    /// Writes what was written to a vector, and LF.
+    fn tell_bytes(&mut self, bytes: &[u8]) {
+        if self.is_written {
+            let is_text = self.writer.write_all(bytes).is_ok();
+            self.is_written = is_text && self.writer.write_all(b"\n").is_ok();
+        }
+    }
+}
+
+fn main(rt: HostRuntime) -> ExitCode {
+    let mut answers = Answers {
+        writer: rt.stdout(),
+        is_written: true,
+    };
+    let is_read = tell_all(rt.alloc(), &mut rt.stdin(), &mut answers);
+    if is_read && answers.is_written {
+        return ExitCode::from(0);
+    }
+    ExitCode::from(3)
+}
+
+/// Makes all calls over the input, if it can be read.
+fn tell_all<R: Read, W: Write>(alloc: Global, reader: &mut R, answers: &mut Answers<W>) -> bool {
+    let mut input = Vec::new(alloc);
+    let is_read = reader.read_to_end(&mut input).is_ok();
+    if is_read {
+        tell_calls(alloc, &input, answers);
+    }
+    is_read
 }
 
 /// Makes all calls over the input.
-fn tell_all<R: Read, W: Write>(alloc: Global, reader: &mut R, writer: &mut W) -> io::Result<()> {
-    let mut input = Vec::new(alloc);
-    reader.read_to_end(&mut input)?;
-    tell_reading(alloc, &input, writer)?;
-    tell_checkers(alloc, &input, writer)?;
-    tell_ledgers(alloc, &input, writer)?;
-    tell_reports(alloc, &input, writer)
-}
-
-/// Splits the input, and reads its lines.
-fn tell_reading<W: Write>(alloc: Global, input: &[u8], writer: &mut W) -> io::Result<()> {
-    tell_splitter(alloc, input, writer)?;
-    tell_lines(alloc, input, writer)
+fn tell_calls<W: Write>(alloc: Global, input: &[u8], answers: &mut Answers<W>) {
+    tell_splitter(alloc, input, answers);
+    tell_lines(alloc, input, answers);
+    tell_checkers(alloc, input, answers);
+    tell_ledgers(alloc, input, answers);
+    tell_audit(alloc, input, answers);
+    tell_explanation(alloc, input, answers);
 }
 
 /// Has a checker over each ledger take the input.
-fn tell_checkers<W: Write>(alloc: Global, input: &[u8], writer: &mut W) -> io::Result<()> {
-    tell(writer, "checker over the definitions")?;
-    tell_checker::<Whole, W>(alloc, input, writer)?;
-    tell(writer, "checker over the running state")?;
-    tell_checker::<Running, W>(alloc, input, writer)
+fn tell_checkers<W: Write>(alloc: Global, input: &[u8], answers: &mut Answers<W>) {
+    answers.tell("checker over the definitions");
+    tell_checker::<Whole, W>(alloc, input, answers);
+    answers.tell("checker over the running state");
+    tell_checker::<Running, W>(alloc, input, answers);
 }
 
 /// Has each ledger take the input.
-fn tell_ledgers<W: Write>(alloc: Global, input: &[u8], writer: &mut W) -> io::Result<()> {
-    tell(writer, "ledger of the definitions")?;
-    tell_ledger::<Whole, W>(alloc, input, writer)?;
-    tell(writer, "ledger of the running state")?;
-    tell_ledger::<Running, W>(alloc, input, writer)
-}
-
-/// Audits the input, and explains it.
-fn tell_reports<W: Write>(alloc: Global, input: &[u8], writer: &mut W) -> io::Result<()> {
-    tell_audit(alloc, input, writer)?;
-    tell_explanation(alloc, input, writer)
-}
-
-/// Writes a line.
-fn tell<W: Write>(writer: &mut W, text: &str) -> io::Result<()> {
-    writer.write_all(text.as_bytes())?;
-    writer.write_all(b"\n")
-}
-
-/// Writes what was written to a vector, and LF.
-fn tell_text<W: Write>(writer: &mut W, text: &[u8]) -> io::Result<()> {
-    writer.write_all(text)?;
-    writer.write_all(b"\n")
+fn tell_ledgers<W: Write>(alloc: Global, input: &[u8], answers: &mut Answers<W>) {
+    answers.tell("ledger of the definitions");
+    tell_ledger::<Whole, W>(alloc, input, answers);
+    answers.tell("ledger of the running state");
+    tell_ledger::<Running, W>(alloc, input, answers);
 }
 
 /// Cuts the input by a splitter, and asks it again where it was out of memory.
-fn tell_splitter<W: Write>(alloc: Global, input: &[u8], writer: &mut W) -> io::Result<()> {
-    tell(writer, "splitter")?;
+fn tell_splitter<W: Write>(alloc: Global, input: &[u8], answers: &mut Answers<W>) {
+    answers.tell("splitter");
     let mut lines = Splitter::new(alloc);
     if lines.feed(input).is_err() {
-        tell(writer, "out of memory")?;
+        answers.tell("out of memory");
     }
     // Closed or not, one that was out of memory answers so.
-    tell(writer, told_of_split(lines.next_line()))?;
+    answers.tell(told_of_split(lines.next_line()));
     lines.close();
-    tell(writer, told_of_split(lines.next_line()))
+    answers.tell(told_of_split(lines.next_line()));
 }
 
 /// What a splitter answered.
@@ -101,17 +113,21 @@ fn told_of_split(answer: Result<Option<&[u8]>, SplitFault>) -> &'static str {
 }
 
 /// Reads each line, and writes those that are good.
-fn tell_lines<W: Write>(alloc: Global, input: &[u8], writer: &mut W) -> io::Result<()> {
-    tell(writer, "lines")?;
+fn tell_lines<W: Write>(alloc: Global, input: &[u8], answers: &mut Answers<W>) {
+    answers.tell("lines");
     for bytes in input.split(|byte| *byte == b'\n') {
-        let read = read_line(alloc, bytes);
-        tell(writer, told_of_read(&read))?;
-        // What was not read is read again.
-        if let Ok(line) = read.or(read_line(alloc, bytes)) {
-            tell(writer, told_of_written(&write_line(alloc, &line)))?;
-        }
+        tell_line(alloc, bytes, answers);
     }
-    Ok(())
+}
+
+/// Reads a line, and writes it if it is good.
+fn tell_line<W: Write>(alloc: Global, bytes: &[u8], answers: &mut Answers<W>) {
+    let read = read_line(alloc, bytes);
+    answers.tell(told_of_read(&read));
+    // What was not read is read again.
+    if let Ok(line) = read.or(read_line(alloc, bytes)) {
+        answers.tell(told_of_written(&write_line(alloc, &line)));
+    }
 }
 
 /// What was read of a line.
@@ -132,17 +148,12 @@ fn told_of_written(answer: &Result<String, AllocError>) -> &'static str {
 }
 
 /// Has a checker take each line, and asks it for its verdict.
-fn tell_checker<L: Ledger + Drop, W: Write>(
-    alloc: Global,
-    input: &[u8],
-    writer: &mut W,
-) -> io::Result<()> {
+fn tell_checker<L: Ledger + Drop, W: Write>(alloc: Global, input: &[u8], answers: &mut Answers<W>) {
     let mut checker = Checker::<L>::new(alloc);
     for bytes in input.split(|byte| *byte == b'\n') {
-        let answer = checker.push_line(bytes);
-        tell(writer, told_of_push(answer))?;
+        answers.tell(told_of_push(checker.push_line(bytes)));
     }
-    tell(writer, told_of_verdict(checker.verdict()))
+    answers.tell(told_of_verdict(checker.verdict()));
 }
 
 /// What a checker answered to a line.
@@ -210,19 +221,24 @@ impl<L: Ledger + Drop> Asked<L> {
 }
 
 /// Has a ledger admit each event, and compares its state where it answers that it is out of memory.
-fn tell_ledger<L: Ledger + Drop, W: Write>(
-    alloc: Global,
-    input: &[u8],
-    writer: &mut W,
-) -> io::Result<()> {
+fn tell_ledger<L: Ledger + Drop, W: Write>(alloc: Global, input: &[u8], answers: &mut Answers<W>) {
     let mut ledger: Option<Asked<L>> = None;
     for bytes in input.split(|byte| *byte == b'\n') {
-        // An event that was not read is read again.
-        if let Ok(line) = read_line(alloc, bytes).or(read_line(alloc, bytes)) {
-            tell_taken(alloc, &mut ledger, &line, writer)?;
-        }
+        tell_event(alloc, &mut ledger, bytes, answers);
     }
-    Ok(())
+}
+
+/// Takes in the line of these bytes.
+fn tell_event<L: Ledger + Drop, W: Write>(
+    alloc: Global,
+    ledger: &mut Option<Asked<L>>,
+    bytes: &[u8],
+    answers: &mut Answers<W>,
+) {
+    // An event that was not read is read again.
+    if let Ok(line) = read_line(alloc, bytes).or(read_line(alloc, bytes)) {
+        tell_taken(alloc, ledger, &line, answers);
+    }
 }
 
 /// Takes in a line: a header starts the ledger.
@@ -230,18 +246,16 @@ fn tell_taken<L: Ledger + Drop, W: Write>(
     alloc: Global,
     ledger: &mut Option<Asked<L>>,
     line: &Line,
-    writer: &mut W,
-) -> io::Result<()> {
+    answers: &mut Answers<W>,
+) {
     match line {
-        Line::Blank => Ok(()),
-        Line::Header(header) => {
-            *ledger = Some(Asked::new(alloc, *header));
-            Ok(())
+        Line::Blank => {}
+        Line::Header(header) => *ledger = Some(Asked::new(alloc, *header)),
+        Line::Event(event) => {
+            if let Some(ledger) = ledger {
+                tell_admitted(ledger, event, answers);
+            }
         }
-        Line::Event(event) => match ledger {
-            None => Ok(()),
-            Some(ledger) => tell_admitted(ledger, event, writer),
-        },
     }
 }
 
@@ -249,34 +263,33 @@ fn tell_taken<L: Ledger + Drop, W: Write>(
 fn tell_admitted<L: Ledger + Drop, W: Write>(
     asked: &mut Asked<L>,
     event: &Event,
-    writer: &mut W,
-) -> io::Result<()> {
+    answers: &mut Answers<W>,
+) {
     let totals = asked.ledger.totals();
     let owes = asked.ledger.owes();
     let answer = asked.admit(event);
-    tell(writer, answer)?;
+    answers.tell(answer);
     if answer != "admitted" && !asked.is_at(&totals, owes) {
-        tell(writer, "changed")?;
+        answers.tell("changed");
     }
-    Ok(())
 }
 
 /// Audits the input onto a vector.
-fn tell_audit<W: Write>(alloc: Global, input: &[u8], writer: &mut W) -> io::Result<()> {
-    tell(writer, "audit")?;
+fn tell_audit<W: Write>(alloc: Global, input: &[u8], answers: &mut Answers<W>) {
+    answers.tell("audit");
     let mut report = Metered::new(Vec::new(alloc));
     let ended = audit::<Running, _, _>(alloc, &mut Metered::new(input), &mut report);
-    tell(writer, told_of_audit(ended))?;
-    tell_text(writer, &report.into_inner())
+    answers.tell(told_of_audit(ended));
+    answers.tell_bytes(&report.into_inner());
 }
 
 /// Explains the input onto a vector.
-fn tell_explanation<W: Write>(alloc: Global, input: &[u8], writer: &mut W) -> io::Result<()> {
-    tell(writer, "explanation")?;
+fn tell_explanation<W: Write>(alloc: Global, input: &[u8], answers: &mut Answers<W>) {
+    answers.tell("explanation");
     let mut rows = Metered::new(Vec::new(alloc));
     let ended = explain::<Running, _, _>(alloc, &mut Metered::new(input), &mut rows);
-    tell(writer, told_of_audit(ended))?;
-    tell_text(writer, &rows.into_inner())
+    answers.tell(told_of_audit(ended));
+    answers.tell_bytes(&rows.into_inner());
 }
 
 /// How an audit ended.

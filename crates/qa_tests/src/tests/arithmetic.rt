@@ -1,6 +1,6 @@
 //! The arithmetic of a loss, worked out by hand from RFC 9002.
-ghost use Rattle.std.specs.Prelude.{◌≡◌, ◌≤◌};
-ghost use Rattle.qa_base.specs.values.Limits.{max_time};
+ghost use Rattle.std.specs.Prelude.{◌≤◌, ◌^◌};
+ghost use Rattle.qa_base.specs.values.Limits.{max_packet_size, max_time};
 
 use qa_base::Ticks;
 use qa_recovery::{Reno, Rtt};
@@ -11,17 +11,16 @@ fn a_sender(rt: HostRuntime) {
     // A millisecond in the unit of the times, here microseconds.
     let granularity = Ticks::of(1000);
     let mut rtt = Rtt::start(Ticks::of(333_000));
-    let mut reno = Reno::start(12_000);
-    assert_eq!(rt; rtt.pto_base(granularity), 999_000);
+    let timeout = rtt.pto_base(granularity);
     // Ten packets were sent at time 0; an acknowledgment of the fourth comes after 100 ms.
     rtt.sample(Ticks::of(100_000), 0, Ticks::of(100_000));
-    assert_eq!(rt; rtt.loss_delay(granularity), 112_500);
+    let delay = rtt.loss_delay(granularity);
     // The first is three numbers behind, so it is lost: the window is halved, once a round trip.
+    let mut reno = Reno::start(12_000);
     assert!(rt; reno.hit(Ticks::of(0), Ticks::of(100_000), 1200));
-    assert_eq!(rt; reno.window, 6000);
     // The acknowledged packet was sent before recovery began, so that it does not grow the window.
     reno.grow(1200, Ticks::of(0), 1200);
-    assert_eq!(rt; reno.window, 6000);
+    assert_eq!(rt; [timeout, delay, reno.window], [999_000, 112_500, 6000]);
 }
 
 /// An estimate before its first sample, with these values.
@@ -39,119 +38,155 @@ fn estimate(latest_rtt: u64, smoothed_rtt: u64, rttvar: u64) -> Rtt
     }
 }
 
+/// The loss delay by these values, with timers of a millisecond.
+fn loss_delay(latest_rtt: u64, smoothed_rtt: u64) -> u64
+    requires latest { latest_rtt ≤ max_time }
+    requires smoothed { smoothed_rtt ≤ max_time }
+{
+    estimate(latest_rtt, smoothed_rtt, 0).loss_delay(Ticks::of(1000))
+}
+
 /// Nine eighths of the greater round-trip time, rounded up, and the granularity at least.
 #[test]
 fn loss_delays(rt: HostRuntime) {
-    assert_eq!(rt;
-        estimate(0, 333_000, 166_500).loss_delay(Ticks::of(1000)),
-        374_625
-    );
-    assert_eq!(rt;
-        estimate(100_001, 100_000, 0).loss_delay(Ticks::of(1000)),
-        112_502
-    );
-    assert_eq!(rt; estimate(100, 100, 0).loss_delay(Ticks::of(1000)), 1000);
-    assert_eq!(rt;
-        estimate(1_000_000_000_000_000, 1, 0).loss_delay(Ticks::of(1000)),
-        1_125_000_000_000_000
-    );
+    let delays = [
+        loss_delay(0, 333_000),
+        loss_delay(100_001, 100_000),
+        loss_delay(100, 100),
+        loss_delay(1_000_000_000_000_000, 1),
+    ];
+    assert_eq!(rt; delays, [374_625, 112_502, 1000, 1_125_000_000_000_000]);
+}
+
+/// The base of a probe timeout by these values, with timers of a millisecond.
+fn pto_base(smoothed_rtt: u64, rttvar: u64) -> u64
+    requires smoothed { smoothed_rtt ≤ max_time }
+    requires variation { rttvar ≤ max_time }
+{
+    estimate(0, smoothed_rtt, rttvar).pto_base(Ticks::of(1000))
+}
+
+/// How far apart lost packets are in persistent congestion.
+fn persistent_after() -> u64 {
+    estimate(0, 100_000, 50_000).persistent_after(Ticks::of(1000), Ticks::of(25_000))
 }
 
 /// The smoothed round-trip time and four times its variation, or the granularity.
 #[test]
 fn bases_of_probe_timeouts(rt: HostRuntime) {
-    assert_eq!(rt;
-        estimate(0, 333_000, 166_500).pto_base(Ticks::of(1000)),
-        999_000
-    );
-    assert_eq!(rt; estimate(0, 500, 100).pto_base(Ticks::of(1000)), 1500);
-    let greatest = estimate(0, 1_000_000_000_000_000, 1_000_000_000_000_000);
-    assert_eq!(rt; greatest.pto_base(Ticks::of(1000)), 5_000_000_000_000_000);
-    let duration = estimate(0, 100_000, 50_000).persistent_after(
-        Ticks::of(1000),
-        Ticks::of(25_000),
-    );
-    assert_eq!(rt; duration, 975_000);
+    let bases = [
+        pto_base(333_000, 166_500),
+        pto_base(500, 100),
+        pto_base(1_000_000_000_000_000, 1_000_000_000_000_000),
+        persistent_after(),
+    ];
+    assert_eq!(rt; bases, [999_000, 1500, 5_000_000_000_000_000, 975_000]);
+}
+
+/// An estimate after a first sample.
+fn first_sample(latest_rtt: u64) -> Rtt
+    requires latest { latest_rtt ≤ max_time }
+{
+    let latest_rtt = Ticks::of(latest_rtt);
+    let mut rtt = Rtt::start(Ticks::of(333_000));
+    rtt.sample(latest_rtt, 0, latest_rtt);
+    rtt
+}
+
+/// An estimate after a second sample, whose delay is greater than the sample.
+fn second_sample() -> Rtt {
+    let mut rtt = first_sample(100_000);
+    rtt.sample(Ticks::of(120_000), u64::MAX, Ticks::of(400_000));
+    rtt
 }
 
 /// A delay that would leave less than the least sample is not taken off.
 #[test]
 fn samples(rt: HostRuntime) {
-    let mut first = Rtt::start(Ticks::of(333_000));
-    first.sample(Ticks::of(100_001), 0, Ticks::of(100_001));
-    assert_eq!(rt; first.rttvar, Ticks::of(50_000));
-    let mut second = Rtt {
-        latest_rtt: Ticks::of(100_000),
-        min_rtt: Ticks::of(100_000),
-        smoothed_rtt: Ticks::of(100_000),
-        rttvar: Ticks::of(50_000),
-        first_rtt_sample: Some(Ticks::of(100_000)),
-    };
-    second.sample(
-        Ticks::of(120_000),
-        18_446_744_073_709_551_615,
-        Ticks::of(400_000),
-    );
-    assert_eq!(rt; second.rttvar, Ticks::of(42_500));
-    assert_eq!(rt; second.smoothed_rtt, Ticks::of(102_500));
-    assert_eq!(rt; second.min_rtt, Ticks::of(100_000));
+    let (first, second) = (first_sample(100_001), second_sample());
+    let found = [
+        first.rttvar.get(),
+        second.rttvar.get(),
+        second.smoothed_rtt.get(),
+        second.min_rtt.get(),
+    ];
+    assert_eq!(rt; found, [50_000, 42_500, 102_500, 100_000]);
 }
 
-/// A window in bytes and a slow start threshold, outside recovery.
-fn outside_recovery(window: u64, ssthresh: Option<u64>) -> Reno
-    ensures { result.window ≡ window }
+/// A window in bytes and a slow start threshold, in a recovery that began then.
+fn in_recovery(window: u64, ssthresh: Option<u64>, began: u64) -> Reno
+    requires time { began ≤ max_time }
 {
     Reno {
         window,
         ssthresh,
-        recovery_start_time: None,
+        recovery_start_time: Some(Ticks::of(began)),
     }
 }
 
-/// A window of ten datagrams in a recovery that began at 500.
-fn in_recovery() -> Reno {
-    Reno {
-        window: 12_000,
+/// What a loss at 900 makes of it, of packets the last of which was sent then.
+fn lost_at(reno: Reno, sent: u64) -> Reno
+    requires time { sent ≤ max_time }
+{
+    let mut reno = reno;
+    reno.hit(Ticks::of(sent), Ticks::of(900), 1200);
+    reno
+}
+
+/// What a loss makes of a window outside recovery.
+fn lost_outside_recovery(window: u64) -> Reno {
+    let reno = Reno {
+        window,
         ssthresh: None,
-        recovery_start_time: Some(Ticks::of(500)),
-    }
+        recovery_start_time: None,
+    };
+    lost_at(reno, 0)
 }
 
 /// The threshold is half the window, and the window that or two datagrams.
 #[test]
 fn windows_after_a_loss(rt: HostRuntime) {
-    let mut small = outside_recovery(4000, None);
-    small.hit(Ticks::of(0), Ticks::of(900), 1200);
-    assert_eq!(rt; small.ssthresh, Some(2000));
-    assert_eq!(rt; small.window, 2400);
-    let mut odd = outside_recovery(13_201, None);
-    odd.hit(Ticks::of(0), Ticks::of(900), 1200);
-    assert_eq!(rt; odd.ssthresh, Some(6600));
-    assert_eq!(rt; odd.window, 6600);
+    let found = [lost_outside_recovery(4000), lost_outside_recovery(13_201)];
+    assert_eq!(rt;
+        found,
+        [
+            in_recovery(2400, Some(2000), 900),
+            in_recovery(6600, Some(6600), 900)
+        ]
+    );
 }
 
 /// Only a packet that was sent after recovery began enters it again.
 #[test]
 fn losses_in_recovery(rt: HostRuntime) {
-    let mut before = in_recovery();
-    assert!(rt; !before.hit(Ticks::of(500), Ticks::of(900), 1200));
-    assert_eq!(rt; before, in_recovery());
-    let mut after = in_recovery();
-    assert!(rt; after.hit(Ticks::of(501), Ticks::of(900), 1200));
-    assert_eq!(rt; after.recovery_start_time, Some(Ticks::of(900)));
-    assert_eq!(rt; after.window, 6000);
+    let before = in_recovery(12_000, None, 500);
+    let found = [lost_at(before, 500), lost_at(before, 501)];
+    assert_eq!(rt; found, [before, in_recovery(6000, Some(6000), 900)]);
+}
+
+/// The window after an acknowledgment of so many bytes.
+fn grown(window: u64, ssthresh: Option<u64>, size: u64) -> u64
+    requires window_low { 1 ≤ window }
+    requires window_high { window ≤ 2 ^ 62 }
+    requires size_low { 1 ≤ size }
+    requires size_high { size ≤ max_packet_size }
+{
+    let mut reno = Reno {
+        window,
+        ssthresh,
+        recovery_start_time: None,
+    };
+    reno.grow(size, Ticks::of(0), 1200);
+    reno.window
 }
 
 /// At the threshold the window grows by a part of a datagram, and below it by the packet.
 #[test]
 fn windows_after_growth(rt: HostRuntime) {
-    let mut avoiding = outside_recovery(6000, Some(6000));
-    avoiding.grow(1001, Ticks::of(0), 1200);
-    assert_eq!(rt; avoiding.window, 6200);
-    let mut starting = outside_recovery(5999, Some(6000));
-    starting.grow(1200, Ticks::of(0), 1200);
-    assert_eq!(rt; starting.window, 7199);
-    let mut greatest = outside_recovery(4_611_686_018_427_387_904, None);
-    greatest.grow(65_527, Ticks::of(0), 1200);
-    assert_eq!(rt; greatest.window, 4_611_686_018_427_453_431);
+    let windows = [
+        grown(6000, Some(6000), 1001),
+        grown(5999, Some(6000), 1200),
+        grown(4_611_686_018_427_387_904, None, 65_527),
+    ];
+    assert_eq!(rt; windows, [6200, 7199, 4_611_686_018_427_453_431]);
 }

@@ -1,8 +1,9 @@
 //! An audit of bytes that are handed in, piece by piece.
 use qa_base::{Header, Role, Totals};
-use qa_check::{Auditor, Fault, Line, Progress, Verdict, verdict_line};
+use qa_check::{AuditFault, Auditor, Fault, Line, Progress, Verdict, verdict_line};
 use qa_running::Running;
 use qa_session::{Phase, Session};
+use std::alloc::Global;
 use std::test::Fail;
 
 /// A header and the beginning of a packet.
@@ -13,13 +14,25 @@ const FRONT: &str =
 const REST: &str =
     "\"space\":\"app\",\"number\":0,\"size\":1200,\"eliciting\":true,\"in_flight\":true}\n";
 
-/// A trace comes in two pieces, cut inside a line. Nothing is fixed before its end.
+/// What an auditor answers to a trace in two pieces, to its end, and to a piece behind it.
+fn audit_in_pieces(
+    alloc: Global,
+) -> (
+    [Result<Progress, AuditFault>; 3],
+    Result<Verdict, AuditFault>,
+) {
+    let mut auditor = Auditor::<Running>::new(alloc);
+    let front = auditor.feed(FRONT.as_bytes());
+    let rest = auditor.feed(REST.as_bytes());
+    let ended = auditor.finish();
+    ([front, rest, auditor.feed(REST.as_bytes())], ended)
+}
+
+/// A trace comes in two pieces, cut inside a line. Nothing is fixed before its end, and nothing is taken
+/// behind it.
 #[test]
 fn a_trace_comes_in_two_pieces(rt: HostRuntime) {
-    let mut auditor = Auditor::<Running>::new(rt.alloc());
-    assert_eq!(rt; auditor.feed(FRONT.as_bytes()), Ok(Progress::Open));
-    assert_eq!(rt; auditor.feed(REST.as_bytes()), Ok(Progress::Open));
-    let totals = Totals {
+    let verdict = Verdict::Accepted(Totals {
         events: 1,
         window: 12000,
         ssthresh: None,
@@ -30,44 +43,82 @@ fn a_trace_comes_in_two_pieces(rt: HostRuntime) {
         rttvar: 166_500,
         pto_count: 0,
         owed: 0,
-    };
-    assert_eq!(rt; auditor.finish(), Ok(Verdict::Accepted(totals)));
-    // Nothing is taken behind the end.
+    });
+    let (open, fixed) = (Ok(Progress::Open), Ok(Progress::Fixed(verdict)));
     assert_eq!(rt;
-        auditor.feed(REST.as_bytes()),
-        Ok(Progress::Fixed(Verdict::Accepted(totals)))
+        audit_in_pieces(rt.alloc()),
+        ([open, open, fixed], Ok(verdict))
     );
+}
+
+/// Hands in a header and the beginning of a line: what is answered to each, how far the auditor is then,
+/// and whether it is inside a line.
+fn begin_by_a_header(
+    auditor: &mut Auditor<Running>,
+    header: Header,
+) -> Option<([Result<Progress, AuditFault>; 3], bool)> {
+    if !auditor.is_between_lines() {
+        return None;
+    }
+    let said = auditor.push_said(&Line::Header(header));
+    let begun = auditor.feed(b"{");
+    Some((
+        [said, begun, auditor.progress()],
+        !auditor.is_between_lines(),
+    ))
+}
+
+/// Whether the report says that the second line is no JSON.
+fn is_unreadable(auditor: &mut Auditor<Running>, alloc: Global) -> bool {
+    let Ok(verdict) = auditor.finish() else {
+        return false;
+    };
+    match verdict_line(alloc, &verdict) {
+        Ok(line) => line.as_str() == "unreadable line 2 F1 not-json\n",
+        Err(_) => false,
+    }
+}
+
+/// What is answered to a header and to the beginning of a line, and the report then.
+fn audit_by_a_header(
+    alloc: Global,
+    header: Header,
+) -> Option<([Result<Progress, AuditFault>; 3], bool, bool)> {
+    let mut auditor = Auditor::<Running>::new(alloc);
+    let (answers, is_begun) = begin_by_a_header(&mut auditor, header)?;
+    Some((answers, is_begun, is_unreadable(&mut auditor, alloc)))
 }
 
 /// A header comes by what its line says, where no line was begun, and is the first line.
 #[test]
 fn a_header_comes_by_what_it_says(rt: HostRuntime) -> Result<(), Fail> {
-    let header = Line::Header(Header::new(Role::Client, 1200, None, None, None)?);
-    let mut auditor = Auditor::<Running>::new(rt.alloc());
-    assert!(rt; auditor.is_between_lines());
-    if auditor.is_between_lines() {
-        assert_eq!(rt; auditor.push_said(&header), Ok(Progress::Open));
-    }
-    assert_eq!(rt; auditor.progress(), Ok(Progress::Open));
-    assert_eq!(rt; auditor.feed(b"{"), Ok(Progress::Open));
-    assert!(rt; !auditor.is_between_lines());
-    let Ok(verdict) = auditor.finish() else {
-        return Ok(());
-    };
-    let line = verdict_line(rt.alloc(), &verdict)?;
-    assert_eq!(rt; line.as_str(), "unreadable line 2 F1 not-json\n");
+    let header = Header::new(Role::Client, 1200, None, None, None)?;
+    let open = Ok(Progress::Open);
+    let found = audit_by_a_header(rt.alloc(), header);
+    assert_eq!(rt; found, Some(([open, open, open], true, true)));
     Ok(())
+}
+
+/// What a session answers to a blank line, to its end, and to a piece behind it.
+fn finish_a_session(session: &mut Session) -> [Phase; 3] {
+    let begun = session.feed(b"\n");
+    let ended = session.finish();
+    [begun, ended, session.feed(FRONT.as_bytes())]
+}
+
+/// The same of a new session, with its verdict before and after, and whether it is finished.
+fn finish_a_new_session(alloc: Global) -> ([Phase; 3], [Option<Verdict>; 2], bool) {
+    let mut session = Session::new(alloc);
+    let before = session.verdict();
+    let phases = finish_a_session(&mut session);
+    (phases, [before, session.verdict()], session.is_finished())
 }
 
 /// A session is open, and then finished; what comes behind changes nothing.
 #[test]
 fn a_session_is_finished_once(rt: HostRuntime) {
-    let mut session = Session::new(rt.alloc());
-    assert_eq!(rt; session.feed(b"\n"), Phase::Open);
-    assert_eq!(rt; session.verdict(), None);
     let none = Verdict::Unreadable(2, Fault::HeaderPlace, None);
-    assert_eq!(rt; session.finish(), Phase::Finished(none));
-    assert!(rt; session.is_finished());
-    assert_eq!(rt; session.feed(FRONT.as_bytes()), Phase::Finished(none));
-    assert_eq!(rt; session.verdict(), Some(none));
+    let phases = [Phase::Open, Phase::Finished(none), Phase::Finished(none)];
+    let found = finish_a_new_session(rt.alloc());
+    assert_eq!(rt; found, (phases, [None, Some(none)], true));
 }

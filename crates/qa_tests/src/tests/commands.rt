@@ -24,72 +24,92 @@ fn arguments_of(alloc: Global, words: &[&str]) -> Result<Vec<String>, AllocError
 
 /// Runs the command with these arguments and the trace on standard input, and tells whether it returns
 /// this status and writes these reports and lines.
-fn runs(
-    rt: &HostRuntime,
-    words: &[&str],
-    status: u8,
-    reports: &str,
-    lines: &str,
-) -> Result<bool, AllocError> {
-    let arguments = arguments_of(rt.alloc(), words)?;
+fn ends_so(rt: &HostRuntime, arguments: &[String], status: u8, reports: &str, lines: &str) -> bool {
     let mut input = Metered::new(TRACE.as_bytes());
     let mut output = Metered::new(Vec::new(rt.alloc()));
     let mut error = Metered::new(Vec::new(rt.alloc()));
     let ended = command(
         rt,
         rt.alloc(),
-        &arguments,
+        arguments,
         &mut input,
         &mut output,
         &mut error,
     );
-    let output = output.into_inner();
-    let error = error.into_inner();
-    Ok(
-        ended == status
-            && output.as_slice() == reports.as_bytes()
-            && error.as_slice() == lines.as_bytes(),
+    let is_reported = output.into_inner().as_slice() == reports.as_bytes();
+    let is_told = error.into_inner().as_slice() == lines.as_bytes();
+    ended == status && is_reported && is_told
+}
+
+/// The same of arguments that are yet to be copied.
+fn runs(rt: &HostRuntime, words: &[&str], status: u8, reports: &str, lines: &str) -> bool {
+    match arguments_of(rt.alloc(), words) {
+        Ok(arguments) => ends_so(rt, &arguments, status, reports, lines),
+        Err(_) => false,
+    }
+}
+
+/// What the shell could take for text is hidden in an answer.
+const HIDDEN: &str = "qaudit: cannot open x\\x0Ay\u{E9}\\xE2\\x80\\xAE\n";
+
+const USAGE: &str = "usage: qaudit check [FILE...] or qaudit explain [FILE]\n";
+
+#[test]
+fn a_command_runs(rt: HostRuntime) -> Result<(), Fail> {
+    fs::write(&rt, "a", TRACE)?;
+    let found = [
+        runs(&rt, &["check"], 0, REPORT, ""),
+        runs(&rt, &["check", "a"], 0, REPORT, ""),
+        runs(&rt, &["explain", "x\ny\u{E9}\u{202E}"], 3, "", HIDDEN),
+        runs(&rt, &["help"], 64, "", USAGE),
+    ];
+    assert_eq!(rt; found, [true, true, true, true]);
+    Ok(())
+}
+
+#[test]
+fn arguments_are_read(rt: HostRuntime) {
+    assert!(rt; read_arguments(&rt).is_ok());
+}
+
+/// Whether an explanation of one file is asked for.
+fn explains_a_file(alloc: Global) -> Option<bool> {
+    let arguments = arguments_of(alloc, &["explain", "a"]).ok()?;
+    Some(matches!(
+        &parse(alloc, &arguments),
+        Ok(Subcommand::Explain(Some("a")))
+    ))
+}
+
+/// Whether two files are refused.
+fn refuses_two_files(alloc: Global) -> Option<bool> {
+    let arguments = arguments_of(alloc, &["explain", "a", "b"]).ok()?;
+    Some(matches!(&parse(alloc, &arguments), Err(ArgumentsFault::Refused)))
+}
+
+#[test]
+fn arguments_are_parsed(rt: HostRuntime) {
+    let found = [explains_a_file(rt.alloc()), refuses_two_files(rt.alloc())];
+    assert_eq!(rt; found, [Some(true), Some(true)]);
+}
+
+/// The status of a refusal for want of memory, and whether it says so.
+fn refuse_without_memory(alloc: Global) -> (u8, bool) {
+    let mut error = Metered::new(Vec::new(alloc));
+    let status = refuse(ArgumentsFault::OutOfMemory, &mut error);
+    let lines = error.into_inner();
+    (
+        status,
+        lines.as_slice() == b"qaudit: out of memory\n".as_slice(),
     )
 }
 
 #[test]
-fn a_command_runs(rt: HostRuntime) -> Result<(), Fail> {
-    assert!(rt; runs(&rt, &["check"], 0, REPORT, "")?);
-    fs::write(&rt, "a", TRACE)?;
-    assert!(rt; runs(&rt, &["check", "a"], 0, REPORT, "")?);
-    let hidden = "qaudit: cannot open x\\x0Ay\u{E9}\\xE2\\x80\\xAE\n";
-    assert!(rt; runs(&rt, &["explain", "x\ny\u{E9}\u{202E}"], 3, "", hidden)?);
-    let usage = "usage: qaudit check [FILE...] or qaudit explain [FILE]\n";
-    assert!(rt; runs(&rt, &["help"], 64, "", usage)?);
-    Ok(())
-}
-
-#[test]
-fn arguments_are_read(rt: HostRuntime) -> Result<(), Fail> {
-    assert!(rt; read_arguments(&rt).is_ok());
-    let arguments = arguments_of(rt.alloc(), &["explain", "a"])?;
-    assert!(rt;
-        matches!(
-            &parse(rt.alloc(), &arguments),
-            Ok(Subcommand::Explain(Some("a")))
-        )
-    );
-    let none = arguments_of(rt.alloc(), &["explain", "a", "b"])?;
-    assert_eq!(rt;
-        parse(rt.alloc(), &none).err(),
-        Some(ArgumentsFault::Refused)
-    );
-    Ok(())
-}
-
-#[test]
 fn an_end_has_a_status(rt: HostRuntime) {
-    assert_eq!(rt; status(&Ok(Outcome::Unreadable)), 2);
-    assert_eq!(rt; status(&Err(AuditFault::Write)), 3);
-    let mut error = Metered::new(Vec::new(rt.alloc()));
-    assert_eq!(rt; refuse(ArgumentsFault::OutOfMemory, &mut error), 3);
-    assert_eq!(rt;
-        error.into_inner().as_slice(),
-        b"qaudit: out of memory\n".as_slice()
-    );
+    let statuses = [
+        status(&Ok(Outcome::Unreadable)),
+        status(&Err(AuditFault::Write)),
+    ];
+    assert_eq!(rt; statuses, [2, 3]);
+    assert_eq!(rt; refuse_without_memory(rt.alloc()), (3, true));
 }

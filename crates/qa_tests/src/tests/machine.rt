@@ -1,17 +1,16 @@
-//! Events that are judged one by one, worked out by hand from RFC 9002, and how much the ledger keeps
-//! that passes once over them.
+//! Events that are judged one by one, worked out by hand from RFC 9002.
 ghost use Rattle.std.specs.Prelude.{◌<◌, ◌≤◌, ◌+◌};
 ghost use Rattle.qa_base.specs.values.Limits.{max_lines};
 
 use qa_base::{Event, Header, Leave, PacketNumber, Role, Rule, Space, Span, Spans, Ticks};
-use qa_causes::{Cause, Explains};
+use qa_causes::{Cause, Explains, Owed};
 use qa_ledger::{Bears, Ledger, LedgerFault};
 use qa_running::Running;
 use std::alloc::Global;
 use std::test::Fail;
 
 /// An ack-eliciting packet of 1,200 bytes at time 0.
-fn sent(number: u64) -> Option<Event> {
+fn packet(number: u64, leave: Leave) -> Option<Event> {
     Some(Event::Sent {
         time: Ticks::of(0),
         space: Space::App,
@@ -19,19 +18,40 @@ fn sent(number: u64) -> Option<Event> {
         size: 1200,
         eliciting: true,
         in_flight: true,
-        leave: Leave::Window,
+        leave,
     })
+}
+
+/// A packet by leave of the window.
+fn sent(number: u64) -> Option<Event> {
+    packet(number, Leave::Window)
+}
+
+/// A probe.
+fn probe(number: u64) -> Option<Event> {
+    packet(number, Leave::Probe)
+}
+
+/// The range of one number.
+fn span(number: u64) -> Option<Span> {
+    let number = PacketNumber::new(number)?;
+    Span::new(number, number)
+}
+
+/// The ranges of one number.
+fn ranges(alloc: Global, number: u64) -> Option<Spans> {
+    let span = span(number)?;
+    let mut ranges = Spans::new(alloc);
+    ranges.push(span).ok()?;
+    Some(ranges)
 }
 
 /// An acknowledgment of one packet after 100 ms.
 fn ack(alloc: Global, number: u64) -> Option<Event> {
-    let number = PacketNumber::new(number)?;
-    let mut ranges = Spans::new(alloc);
-    ranges.push(Span::new(number, number)?).ok()?;
     Some(Event::Ack {
         time: Ticks::of(100_000),
         space: Space::App,
-        ranges,
+        ranges: ranges(alloc, number)?,
         delay: 0,
         app_limited: false,
     })
@@ -39,13 +59,10 @@ fn ack(alloc: Global, number: u64) -> Option<Event> {
 
 /// A Lost line of one packet, after 100 ms.
 fn lost(alloc: Global, number: u64) -> Option<Event> {
-    let number = PacketNumber::new(number)?;
-    let mut ranges = Spans::new(alloc);
-    ranges.push(Span::new(number, number)?).ok()?;
     Some(Event::Lost {
         time: Ticks::of(100_000),
         space: Space::App,
-        ranges,
+        ranges: ranges(alloc, number)?,
     })
 }
 
@@ -77,8 +94,18 @@ fn a_loss(rt: HostRuntime) -> Result<(), Fail> {
     Ok(())
 }
 
-/// Whether it is told that packet 0 is owed, in the application space and alone of the two, that a
-/// Lost line does not name it, that the line names packet 3, which is not owed, and of nothing free.
+/// A server's header.
+fn server() -> Option<Header> {
+    Header::new(Role::Server, 1200, None, None, None).ok()
+}
+
+/// Whether packet 0 is owed in the application space, and packet 3 is not.
+fn is_owed(owed: &Owed, first: PacketNumber, last: PacketNumber) -> bool {
+    owed.space == Some(Space::App) && owed.numbers.contains(first) && !owed.numbers.contains(last)
+}
+
+/// Whether it is told that packet 0 is owed, that a Lost line does not name it, that the line names
+/// packet 3, which is not owed, and of nothing free.
 fn is_told(cause: &Cause, first: PacketNumber, last: PacketNumber) -> bool {
     match cause {
         Cause::LossSet {
@@ -86,58 +113,43 @@ fn is_told(cause: &Cause, first: PacketNumber, last: PacketNumber) -> bool {
             free: None,
             unnamed,
             unowed,
-        } => {
-            owed.space == Some(Space::App)
-                && owed.numbers.contains(first)
-                && !owed.numbers.contains(last)
-                && unnamed.contains(first)
-                && unowed.contains(last)
-        }
+        } => is_owed(owed, first, last) && unnamed.contains(first) && unowed.contains(last),
         _ => false,
     }
 }
 
-/// Whether a ledger to which packet 0 is owed tells so of a Lost line that breaks V4, loss-set.
-fn tells(
-    alloc: Global,
-    header: Header,
-    event: &Event,
-    first: PacketNumber,
-    last: PacketNumber,
-) -> bool {
-    let mut ledger = Running::start(alloc, header);
-    judged(&mut ledger, sent(0));
-    judged(&mut ledger, sent(3));
-    judged(&mut ledger, ack(alloc, 3));
+/// Sends packets 0 and 3, and acknowledges the latter.
+fn lose(ledger: &mut Running, alloc: Global)
+    requires few { ledger.old.connection.events + 2 < max_lines }
+{
+    judged(ledger, sent(0));
+    judged(ledger, sent(3));
+    judged(ledger, ack(alloc, 3));
+}
+
+/// Whether the ledger tells so of a Lost line that breaks V4, loss-set.
+fn tells(ledger: &Running, event: &Event, first: PacketNumber, last: PacketNumber) -> bool {
     match ledger.cause(event, Rule::LossSet) {
         Ok(cause) => is_told(&cause, first, last),
         Err(_) => false,
     }
 }
 
+/// The same of a Lost line of packet 3, where packet 0 is owed.
+fn tells_of_a_loss(alloc: Global) -> Option<bool> {
+    let (first, last) = (PacketNumber::new(0)?, PacketNumber::new(3)?);
+    let header = server()?;
+    let event = lost(alloc, 3)?;
+    let mut ledger = Running::start(alloc, header);
+    lose(&mut ledger, alloc);
+    Some(tells(&ledger, &event, first, last))
+}
+
 /// A Lost line that names another packet than the one that is owed: the ledger says which is not
 /// named, and which is not owed.
 #[test]
-fn a_cause(rt: HostRuntime) -> Result<(), Fail> {
-    let header = Header::new(Role::Server, 1200, None, None, None)?;
-    let first = PacketNumber::new(0).ok_or("a packet number")?;
-    let last = PacketNumber::new(3).ok_or("a packet number")?;
-    let event = lost(rt.alloc(), 3).ok_or("a Lost line")?;
-    assert!(rt; tells(rt.alloc(), header, &event, first, last));
-    Ok(())
-}
-
-/// A probe of 1,200 bytes at time 0.
-fn probe(number: u64) -> Option<Event> {
-    Some(Event::Sent {
-        time: Ticks::of(0),
-        space: Space::App,
-        number: PacketNumber::new(number)?,
-        size: 1200,
-        eliciting: true,
-        in_flight: true,
-        leave: Leave::Probe,
-    })
+fn a_cause(rt: HostRuntime) {
+    assert_eq!(rt; tells_of_a_loss(rt.alloc()), Some(true));
 }
 
 /// Has the ledger bear an event; None where there is none, or it does not fit.
@@ -152,51 +164,38 @@ fn borne(ledger: &mut Running, event: Option<Event>) -> Option<Result<(), Ledger
     Some(ledger.bear(&event))
 }
 
-/// The first rule that the event breaks.
-fn first_departure(ledger: &Running, alloc: Global, event: Option<Event>) -> Option<Rule> {
-    let found = ledger.departures(alloc, &event?).ok()?;
+/// The first rule that a probe breaks.
+fn first_departure(ledger: &Running, alloc: Global) -> Option<Rule> {
+    let found = ledger.departures(alloc, &probe(0)?).ok()?;
     found.first().copied()
 }
 
-/// A probe before any probe timeout breaks V8, past-probe, and the ledger goes on with it; a second
-/// packet of the same number it does not bear.
+/// The first rule that a probe before any packet breaks.
+fn first_departure_at_the_start(alloc: Global) -> Option<Rule> {
+    let header = server()?;
+    first_departure(&Running::start(alloc, header), alloc)
+}
+
+/// A probe before any probe timeout breaks V8, past-probe.
 #[test]
-fn a_probe_without_a_timeout_is_borne(rt: HostRuntime) -> Result<(), Fail> {
-    let header = Header::new(Role::Server, 1200, None, None, None)?;
-    let mut ledger = Running::start(rt.alloc(), header);
-    let departure = first_departure(&ledger, rt.alloc(), probe(0));
+fn a_probe_without_a_timeout_departs(rt: HostRuntime) {
+    let departure = first_departure_at_the_start(rt.alloc());
     assert_eq!(rt; departure, Some(Rule::PastProbe));
-    assert_eq!(rt; borne(&mut ledger, probe(0)), Some(Ok(())));
-    assert_eq!(rt; ledger.totals().bytes_in_flight, 1200);
-    let answer = borne(&mut ledger, probe(0));
-    assert_eq!(rt;
-        answer,
-        Some(Err(LedgerFault::Broken(Rule::NumberNotHigher)))
-    );
-    Ok(())
 }
 
-/// Hands an event to the ledger, and returns how much it keeps then.
-fn kept_after(ledger: &mut Running, event: Option<Event>) -> u128
-    requires few { ledger.old.connection.events < max_lines }
-    ensures { ledger.new.connection.events ≤ ledger.old.connection.events + 1 }
-{
-    judged(ledger, event);
-    ledger.kept()
+/// What a ledger answers to a probe and to another of the same number, and the bytes in flight then.
+fn borne_twice(alloc: Global) -> Option<([Option<Result<(), LedgerFault>>; 2], u64)> {
+    let header = server()?;
+    let mut ledger = Running::start(alloc, header);
+    let answers = [borne(&mut ledger, probe(0)), borne(&mut ledger, probe(0))];
+    Some((answers, ledger.totals().bytes_in_flight))
 }
 
-/// Two packets are sent, and then acknowledged in turn.
+/// The ledger goes on with a probe before any probe timeout; a second packet of the same number it
+/// does not bear.
 #[test]
-fn what_is_acknowledged_is_not_kept(rt: HostRuntime) -> Result<(), Fail> {
-    let header = Header::new(Role::Server, 1200, None, None, None)?;
-    let mut ledger = Running::start(rt.alloc(), header);
-    let kept = [
-        kept_after(&mut ledger, sent(0)),
-        kept_after(&mut ledger, sent(1)),
-        kept_after(&mut ledger, ack(rt.alloc(), 0)),
-        kept_after(&mut ledger, ack(rt.alloc(), 1)),
-    ];
-    // A packet, its entry, and one run of numbers; the numbers that were sent stay.
-    assert_eq!(rt; kept, [3, 5, 3, 1]);
-    Ok(())
+fn a_probe_without_a_timeout_is_borne(rt: HostRuntime) {
+    let refused = Err(LedgerFault::Broken(Rule::NumberNotHigher));
+    let answers = [Some(Ok(())), Some(refused)];
+    assert_eq!(rt; borne_twice(rt.alloc()), Some((answers, 1200)));
 }

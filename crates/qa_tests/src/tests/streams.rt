@@ -2,7 +2,7 @@
 ghost use Rattle.std.specs.Prelude.{◌≤◌, IfOk};
 
 use qa_base::{Event, Header, Totals};
-use qa_check::{AuditFault, Metered, audit, explain};
+use qa_check::{AuditFault, Metered, Outcome, audit, explain};
 use qa_ledger::{Ledger, LedgerFault};
 use qa_plain::Whole;
 use std::alloc::Global;
@@ -69,27 +69,42 @@ impl<T: Write> Write for Faulty<T> {
     }
 }
 
+/// Whether the writer was given this text, and no more.
+fn has_written(writer: &Vec<u8>, text: &str) -> bool {
+    writer.as_slice() == text.as_bytes()
+}
+
+/// How an explanation ends whose second read fails, how often it has read, and whether it has written
+/// the header's row.
+fn explain_to_a_failed_read(alloc: Global) -> (Result<Outcome, AuditFault>, u64, bool) {
+    let mut reader = Faulty::metered(TRACE.as_bytes(), 80, 1);
+    let mut writer = Metered::new(Vec::new(alloc));
+    let ended = explain::<Whole, _, _>(alloc, &mut reader, &mut writer);
+    let is_written = has_written(&writer.into_inner(), ROW);
+    (ended, reader.into_inner().calls, is_written)
+}
+
 /// The header is read, and the next read fails.
 #[test]
 fn a_read_fails(rt: HostRuntime) {
-    let mut reader = Faulty::metered(TRACE.as_bytes(), 80, 1);
-    let mut writer = Metered::new(Vec::new(rt.alloc()));
-    let ended = explain::<Whole, _, _>(rt.alloc(), &mut reader, &mut writer);
-    assert_eq!(rt; ended, Err(AuditFault::Read));
-    assert_eq!(rt; writer.into_inner().as_slice(), ROW.as_bytes());
-    assert_eq!(rt; reader.into_inner().calls, 2);
+    let found = explain_to_a_failed_read(rt.alloc());
+    assert_eq!(rt; found, (Err(AuditFault::Read), 2, true));
+}
+
+/// How an audit ends whose sixth write fails, how often it has written, and whether five bytes.
+fn audit_to_a_failed_write(alloc: Global) -> (Result<Outcome, AuditFault>, u64, bool) {
+    let mut reader = Metered::new(TRACE.as_bytes());
+    let mut writer = Faulty::metered(Vec::new(alloc), 1, 5);
+    let ended = audit::<Whole, _, _>(alloc, &mut reader, &mut writer);
+    let writer = writer.into_inner();
+    (ended, writer.calls, has_written(&writer.inner, "accep"))
 }
 
 /// Five bytes are written, and the next write fails.
 #[test]
 fn a_write_fails(rt: HostRuntime) {
-    let mut reader = Metered::new(TRACE.as_bytes());
-    let mut writer = Faulty::metered(Vec::new(rt.alloc()), 1, 5);
-    let ended = audit::<Whole, _, _>(rt.alloc(), &mut reader, &mut writer);
-    let writer = writer.into_inner();
-    assert_eq!(rt; ended, Err(AuditFault::Write));
-    assert_eq!(rt; writer.inner.as_slice(), b"accep".as_slice());
-    assert_eq!(rt; writer.calls, 6);
+    let found = audit_to_a_failed_write(rt.alloc());
+    assert_eq!(rt; found, (Err(AuditFault::Write), 6, true));
 }
 
 /// A ledger that is out of memory at each event.
@@ -132,22 +147,32 @@ impl Ledger for Deaf {
     }
 }
 
+/// How an audit by it ends, and whether nothing is written.
+fn audit_without_memory(alloc: Global) -> (Result<Outcome, AuditFault>, bool) {
+    let mut reader = Metered::new(TRACE.as_bytes());
+    let mut writer = Metered::new(Vec::new(alloc));
+    let ended = audit::<Deaf, _, _>(alloc, &mut reader, &mut writer);
+    (ended, has_written(&writer.into_inner(), ""))
+}
+
 /// Nothing is written, so the ledger that is named is the one that is asked.
 #[test]
 fn an_audit_has_a_ledger_out_of_memory(rt: HostRuntime) {
+    let found = audit_without_memory(rt.alloc());
+    assert_eq!(rt; found, (Err(AuditFault::OutOfMemory), true));
+}
+
+/// How an explanation by it ends, and whether the header's row is written.
+fn explain_without_memory(alloc: Global) -> (Result<Outcome, AuditFault>, bool) {
     let mut reader = Metered::new(TRACE.as_bytes());
-    let mut writer = Metered::new(Vec::new(rt.alloc()));
-    let ended = audit::<Deaf, _, _>(rt.alloc(), &mut reader, &mut writer);
-    assert_eq!(rt; ended, Err(AuditFault::OutOfMemory));
-    assert!(rt; writer.into_inner().is_empty());
+    let mut writer = Metered::new(Vec::new(alloc));
+    let ended = explain::<Deaf, _, _>(alloc, &mut reader, &mut writer);
+    (ended, has_written(&writer.into_inner(), ROW))
 }
 
 /// The header is taken in, and the packet is not.
 #[test]
 fn an_explanation_has_a_ledger_out_of_memory(rt: HostRuntime) {
-    let mut reader = Metered::new(TRACE.as_bytes());
-    let mut writer = Metered::new(Vec::new(rt.alloc()));
-    let ended = explain::<Deaf, _, _>(rt.alloc(), &mut reader, &mut writer);
-    assert_eq!(rt; ended, Err(AuditFault::OutOfMemory));
-    assert_eq!(rt; writer.into_inner().as_slice(), ROW.as_bytes());
+    let found = explain_without_memory(rt.alloc());
+    assert_eq!(rt; found, (Err(AuditFault::OutOfMemory), true));
 }

@@ -4,13 +4,16 @@ use qa_check::report;
 use qa_format::{Fault, Verdict};
 use std::test::Fail;
 
+/// Whether packet numbers rise as they should.
+fn numbers_rise() -> Option<bool> {
+    Some(PacketNumber::new(999)? < PacketNumber::new(1000)?)
+}
+
 #[test]
-fn spaces_and_numbers_are_ordered(rt: HostRuntime) -> Result<(), Fail> {
-    let first = PacketNumber::new(999).ok_or("a packet number")?;
-    let second = PacketNumber::new(1000).ok_or("a packet number")?;
+fn spaces_and_numbers_are_ordered(rt: HostRuntime) {
     let spaces = Space::Initial < Space::Handshake && Space::Handshake < Space::App;
-    assert!(rt; spaces && Ticks::of(999) < Ticks::of(1000) && first < second);
-    Ok(())
+    assert!(rt; spaces && Ticks::of(999) < Ticks::of(1000));
+    assert_eq!(rt; numbers_rise(), Some(true));
 }
 
 /// A trace with that many lines is too long for the corpus.

@@ -10,6 +10,7 @@ use qa_check::Judge;
 use qa_departures::{Finding, Table, amount, is_in_bytes};
 use qa_ledger::{Ledger, LedgerFault};
 use qa_running::Running;
+use std::alloc::Global;
 use std::test::Fail;
 
 /// An ack-eliciting probe of 1,200 bytes at time 0, which breaks V8 where no probe timeout came before.
@@ -71,39 +72,91 @@ fn owes_a_space(judge: &Bearing<Running>) -> Option<bool> {
     Some(judge.owed().ok()?.space.is_some())
 }
 
+/// A server's header.
+fn server() -> Option<Header> {
+    Header::new(Role::Server, 1200, None, None, None).ok()
+}
+
+/// The rule that the last event broke, and the allowance that it went past.
+type Latest = (Option<Rule>, Option<(u64, Option<u128>)>);
+
+/// What a judge keeps of the last event.
+fn latest(judge: &Bearing<Running>) -> Latest {
+    (first_latest(judge), latest_allowance(judge))
+}
+
+/// Has the judge judge a probe, and returns what it answers, and what it keeps then.
+fn judged_probe(judge: &mut Bearing<Running>) -> (Option<Result<(), LedgerFault>>, Latest)
+    requires few { judge.old.ledger.connection.events < max_lines }
+    ensures { judge.new.ledger.connection.events ≤ judge.old.ledger.connection.events + 1 }
+{
+    let answer = judged(judge, probe(0));
+    (answer, latest(judge))
+}
+
+/// The allowance that a first probe would go past, by a judge before any event.
+fn first_allowance(alloc: Global) -> Option<(u64, Option<u128>)> {
+    let header = server()?;
+    next_allowance(&Bearing::<Running>::under(alloc, header), probe(0))
+}
+
+/// What a judge keeps before any event, and what it answers to a probe and to another of the same number.
+fn judged_twice(alloc: Global) -> Option<(Latest, [(Option<Result<(), LedgerFault>>, Latest); 2])> {
+    let header = server()?;
+    let mut judge = Bearing::<Running>::under(alloc, header);
+    let before = latest(&judge);
+    let answers = [judged_probe(&mut judge), judged_probe(&mut judge)];
+    Some((before, answers))
+}
+
+/// Why a probe that is not admitted yet would depart is told.
+#[test]
+fn a_departure_is_told_before_it_is_admitted(rt: HostRuntime) {
+    assert_eq!(rt; first_allowance(rt.alloc()), Some((2400, None)));
+}
+
 /// A probe before any probe timeout is admitted, with the facts before it; a second packet of the same
 /// number is refused, and what the last admitted event broke stays.
 #[test]
-fn a_departure_is_kept_with_its_facts(rt: HostRuntime) -> Result<(), Fail> {
-    let header = Header::new(Role::Server, 1200, None, None, None)?;
-    let mut judge = Bearing::<Running>::under(rt.alloc(), header);
-    assert_eq!(rt; first_latest(&judge), None);
-    assert_eq!(rt; next_allowance(&judge, probe(0)), Some((2400, None)));
-    assert_eq!(rt; judged(&mut judge, probe(0)), Some(Ok(())));
-    assert_eq!(rt; first_latest(&judge), Some(Rule::PastProbe));
-    assert_eq!(rt; latest_allowance(&judge), Some((2400, None)));
-    assert_eq!(rt;
-        judged(&mut judge, probe(0)),
-        Some(Err(LedgerFault::Broken(Rule::NumberNotHigher)))
-    );
-    assert_eq!(rt; first_latest(&judge), Some(Rule::PastProbe));
-    Ok(())
+fn a_departure_is_kept_with_its_facts(rt: HostRuntime) {
+    let kept = (Some(Rule::PastProbe), Some((2400, None)));
+    let refused = Err(LedgerFault::Broken(Rule::NumberNotHigher));
+    let answers = [(Some(Ok(())), kept), (Some(refused), kept)];
+    let found = judged_twice(rt.alloc());
+    assert_eq!(rt; found, Some(((None, None), answers)));
+}
+
+/// The bytes in flight by the judge's ledger and by its state.
+fn bytes_in_flight(judge: &Bearing<Running>) -> (u64, u64) {
+    (
+        judge.ledger().totals().bytes_in_flight,
+        judge.state().bytes_in_flight,
+    )
+}
+
+/// Whether the judge owes a loss, whether in a space, and whether its times are in microseconds.
+fn conduct(judge: &Bearing<Running>) -> (bool, Option<bool>, bool) {
+    let is_in_microseconds = matches!(judge.unit(), TimeUnit::Microseconds);
+    (judge.is_owing(), owes_a_space(judge), is_in_microseconds)
+}
+
+/// What a judge answers after a probe: the bytes in flight, its conduct, and when the timer is due.
+fn answers_after_a_probe(
+    alloc: Global,
+) -> Option<((u64, u64), (bool, Option<bool>, bool), Option<u128>)> {
+    let header = server()?;
+    let mut judge = Bearing::<Running>::under(alloc, header);
+    judged(&mut judge, probe(0));
+    Some((bytes_in_flight(&judge), conduct(&judge), due(&judge)))
 }
 
 /// What is asked of a judge is answered by its ledger: after one packet nothing is owed, and its probe
 /// timeout is due at 999 ms, which is 333 ms and four times 166.5 ms (RFC 9002, section 6.2.1).
 #[test]
-fn a_judge_answers_by_its_ledger(rt: HostRuntime) -> Result<(), Fail> {
-    let header = Header::new(Role::Server, 1200, None, None, None)?;
-    let mut judge = Bearing::<Running>::under(rt.alloc(), header);
-    assert_eq!(rt; judged(&mut judge, probe(0)), Some(Ok(())));
-    assert_eq!(rt; judge.ledger().totals().bytes_in_flight, 1200);
-    assert_eq!(rt; judge.state().bytes_in_flight, 1200);
-    assert!(rt; !judge.is_owing());
-    assert_eq!(rt; owes_a_space(&judge), Some(false));
-    assert!(rt; matches!(judge.unit(), TimeUnit::Microseconds));
-    assert_eq!(rt; due(&judge), Some(999_000));
-    Ok(())
+fn a_judge_answers_by_its_ledger(rt: HostRuntime) {
+    let conduct = (false, Some(false), true);
+    let found = answers_after_a_probe(rt.alloc());
+    assert_eq!(rt; found, Some(((1200, 1200), conduct, Some(999_000))));
 }
 
 /// By how much a probe departs for this cause.
@@ -122,11 +175,9 @@ fn a_probe_departs_by_bytes(rt: HostRuntime) {
     assert!(rt; is_in_bytes(Rule::PastProbe));
 }
 
-/// Two packets past the window, by 1,068 bytes at most, and a timer 200 microseconds early.
-#[test]
-fn the_table_has_a_row_for_each_kind(rt: HostRuntime) -> Result<(), Fail> {
+/// A table of two packets past the window, by 1,068 bytes at most, and a timer 200 microseconds early.
+fn table() -> Table {
     let mut table = Table::new();
-    assert!(rt; table.is_empty());
     table.note(&Finding {
         line: 34,
         rule: Rule::PastWindow,
@@ -142,9 +193,25 @@ fn the_table_has_a_row_for_each_kind(rt: HostRuntime) -> Result<(), Fail> {
         rule: Rule::PastWindow,
         amount: Some(132),
     });
-    assert!(rt; table.has(Rule::TimerEarly));
-    assert!(rt; !table.has(Rule::ProbeOwed));
-    let text = table.text(rt.alloc(), TimeUnit::Microseconds, 70)?;
+    table
+}
+
+/// The table has the kinds that were noted, and no others.
+#[test]
+fn the_table_has_what_was_noted(rt: HostRuntime) {
+    let table = table();
+    let found = [
+        Table::new().is_empty(),
+        table.has(Rule::TimerEarly),
+        table.has(Rule::ProbeOwed),
+    ];
+    assert_eq!(rt; found, [true, true, false]);
+}
+
+/// The table has a row for each kind.
+#[test]
+fn the_table_has_a_row_for_each_kind(rt: HostRuntime) -> Result<(), Fail> {
+    let text = table().text(rt.alloc(), TimeUnit::Microseconds, 70)?;
     assert_eq!(rt;
         text.as_str(),
         ": departs 3 times in 70 events\n  V7 past-window: 2 times, lines 34 to 61, by at most 1068 bytes\n  V13 timer-early: once, line 50, by 200 us\n"
