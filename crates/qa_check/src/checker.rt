@@ -1,5 +1,5 @@
 //! The verdict of lines that come one after another.
-ghost use Rattle.std.specs.Prelude.{◌≡◌, ◌≢◌, ◌≤◌, ◌<◌, ◌+◌, ◌++◌, [], ◌∷◌, length, List, ℕ, true, false, Some, None, Option, Ok, Err, OnOk, IfOk, not, is_some, IsSome, option_map};
+ghost use Rattle.std.specs.Prelude.{◌≡◌, ◌≢◌, ◌≤◌, ◌<◌, ◌+◌, ◌++◌, [], ◌∷◌, length, List, ℕ, true, false, Some, None, Option, Ok, Err, OnOk, IfOk, IsOk, not, is_some, IsSome, option_map};
 ghost use Rattle.std.specs.Option.{ForSome, option_copied};
 ghost use Rattle.qa_base.specs.declared.event.Event.{Event as AnEvent};
 ghost use Rattle.qa_format.specs.format.Lines.{line_limit};
@@ -91,10 +91,11 @@ impl<L: Judge + Drop> Checker<L> {
             → AddsBad L.judges self.old self.new bytes.now }
         ensures kept { (result ≡ Err Stop.Decided) → self.new.ledger ≡ self.old.ledger }
     {
-        if let Err(stop) = self.push_line_said(bytes) {
+        if let Err(stop) = self.expect_bytes(bytes) {
             return Err(stop);
         }
-        Ok(())
+        let read = read_line(self.alloc, bytes);
+        self.take_read(&read)
     }
 
     /// Takes the next line as `push_line` does, and returns what it says.
@@ -111,7 +112,10 @@ impl<L: Judge + Drop> Checker<L> {
             return Err(stop);
         }
         let read = read_line(self.alloc, bytes);
-        self.take_read(read)
+        match self.take_read(&read) {
+            Ok(()) => said_by(read),
+            Err(stop) => Err(stop),
+        }
     }
 
     /// Takes the next line by what it says, as `push_line` takes each line that is read as this.
@@ -246,30 +250,25 @@ impl<L: Judge + Drop> Checker<L> {
         Ok(())
     }
 
-    /// Takes in what was read of the next line, and returns what it says.
-    fn take_read(&mut self, read: Result<Line, LineFault>) -> Result<Line, Stop>
+    /// Takes in what was read of the next line.
+    fn take_read(&mut self, read: &Result<Line, LineFault>) -> Result<(), Stop>
         requires whole { self.old.failed ≡ false }
         requires undecided { self.old.verdict ≡ None }
         requires few { self.old.lines < max_lines }
-        requires fitting { IfOk read (λ line. line_fits line ≡ true) }
-        ensures said { IfOk result (λ said. read ≡ Ok said) }
+        requires fitting { IfOk read.now (λ line. line_fits line ≡ true) }
+        ensures said { OnOk result (IsOk read.now) }
         ensures fails { (result ≡ Err Stop.OutOfMemory) → self.new.failed ≡ true }
         ensures good { OnOk result ((l : List ℕ) → length l ≤ line_limit
-            → Gives (λ line. line) read (reading l)
+            → Gives (λ line. line) read.now (reading l)
             → AddsGood L.judges self.old self.new l) }
         ensures decided { (result ≡ Err Stop.Decided) → (l : List ℕ) → length l ≤ line_limit
-            → Gives (λ line. line) read (reading l)
+            → Gives (λ line. line) read.now (reading l)
             → AddsBad L.judges self.old self.new l }
         ensures kept { (result ≡ Err Stop.Decided) → self.new.ledger ≡ self.old.ledger }
     {
         match read {
-            Ok(line) => {
-                if let Err(stop) = self.take(&line) {
-                    return Err(stop);
-                }
-                Ok(line)
-            }
-            Err(LineFault::Fault(fault)) => Err(self.stop(fault)),
+            Ok(line) => self.take(line),
+            Err(LineFault::Fault(fault)) => Err(self.stop(*fault)),
             Err(LineFault::OutOfMemory) => {
                 self.failed = true;
                 Err(Stop::OutOfMemory)
@@ -371,5 +370,17 @@ impl<L: Judge + Drop> Checker<L> {
         let totals = self.totals();
         self.verdict = Some(Verdict::Unreadable(self.lines + 1, fault, totals));
         Stop::Decided
+    }
+}
+
+/// What a line says that was read.
+fn said_by(read: Result<Line, LineFault>) -> Result<Line, Stop>
+    requires read { IsOk read }
+    ensures said { IfOk result (λ said. read ≡ Ok said) }
+    ensures ok { IsOk result }
+{
+    match read {
+        Ok(line) => Ok(line),
+        Err(_) => unreachable!(),
     }
 }

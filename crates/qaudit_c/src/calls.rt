@@ -60,11 +60,11 @@ pub fn header_line(header: Option<Header>) -> Option<Line>
 }
 
 /// Hands the line in, where there is one and there was memory for it.
-fn hand_to(session: &mut Session, built: Result<Option<Line>, AllocError>) -> u32
-    requires fitting { IfOk built (λ line. IfSome line (λ x. line_fits x ≡ true)) }
-    ensures handed { (x : Option ALine) → IfOk built (λ line. line ≡ x)
+fn hand_to(session: &mut Session, built: &Result<Option<Line>, AllocError>) -> u32
+    requires fitting { IfOk built.now (λ line. IfSome line (λ x. line_fits x ≡ true)) }
+    ensures handed { (x : Option ALine) → IfOk built.now (λ line. line ≡ x)
         → calls.HandsRun x result session.old session.new }
-    ensures memory { OnOk built (result ≢ 6) }
+    ensures memory { OnOk built.now (result ≢ 6) }
 {
     match session.phase() {
         Phase::Open => hand_open(session, built),
@@ -75,20 +75,20 @@ fn hand_to(session: &mut Session, built: Result<Option<Line>, AllocError>) -> u3
 }
 
 /// Hands the line in to a session that is open.
-fn hand_open(session: &mut Session, built: Result<Option<Line>, AllocError>) -> u32
+fn hand_open(session: &mut Session, built: &Result<Option<Line>, AllocError>) -> u32
     requires open { session.old.finished ≡ false }
-    requires fitting { IfOk built (λ line. IfSome line (λ x. line_fits x ≡ true)) }
+    requires fitting { IfOk built.now (λ line. IfSome line (λ x. line_fits x ≡ true)) }
     ensures inside { is_between session.old.audit ≡ false
         → (result ≡ 7) × (session.new ≡ session.old) }
     ensures between { is_between session.old.audit ≡ true → (x : Option ALine)
-        → IfOk built (λ line. line ≡ x) → calls.Took x result session.old session.new }
-    ensures memory { OnOk built (result ≢ 6) }
+        → IfOk built.now (λ line. line ≡ x) → calls.Took x result session.old session.new }
+    ensures memory { OnOk built.now (result ≢ 6) }
 {
     if !session.is_between_lines() {
         return INSIDE_LINE;
     }
     match built {
-        Ok(Some(line)) => number(session.push_said(&line)),
+        Ok(Some(line)) => number(session.push_said(line)),
         Ok(None) => OUT_OF_RANGE,
         Err(_) => NOT_TAKEN,
     }
@@ -104,7 +104,7 @@ pub fn hand(alloc: Global, qaudit: &mut Qaudit, built: Result<Option<Line>, Allo
     let Some(mut session) = take(alloc, qaudit) else {
         return CLOSED;
     };
-    let status = hand_to(&mut session, built);
+    let status = hand_to(&mut session, &built);
     put(qaudit, session);
     status
 }

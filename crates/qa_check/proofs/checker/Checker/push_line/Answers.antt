@@ -1,27 +1,30 @@
-use Rattle.std.proofs.Common.{◌∙◌, Err, sym, ap}
+use Rattle.std.proofs.Common.{◌∙◌, Err, false, sym, ap}
 use Rattle.std.proofs.lemmas.Bool.{false≢true}
-use Rattle.qa_check.proofs.Faults.{error_of, ok_is_no_err}
+use Rattle.std.proofs.lemmas.Result.{on_ok_weaker}
+use Rattle.qa_check.proofs.Faults.{error_of}
+use Rattle.qa_check.proofs.Growing.{whole_of}
 use Rattle.qa_check.proofs.checker.Checker.push_line.Goals as goal
 
 pub returns-in-Err : goal.returns-in-Err
 returns-in-Err g c =
-    let said = c.push_line_said.ensures in
+    let expected = c.expect_bytes.ensures in
     record {
-      failed = λ is. ap Err (error_of (sym c.in-Err.is ∙ said.failed is));
-      fails = λ is. said.fails (c.in-Err.is ∙ ap Err (error_of is));
+      failed = λ is. ap Err (error_of (sym c.in-Err.is ∙ expected.failed is));
+      fails = λ is. (expected.fails (c.in-Err.is ∙ ap Err (error_of is))).1;
       good = tt;
-      decided = λ is. said.decided (c.in-Err.is ∙ ap Err (error_of is));
-      kept = λ is. said.kept (c.in-Err.is ∙ ap Err (error_of is));
+      decided = λ is. expected.decided (c.in-Err.is ∙ ap Err (error_of is));
+      kept = λ is. expected.kept (c.in-Err.is ∙ ap Err (error_of is));
     }
 
 pub returns : goal.returns
 returns g c =
-    let said = c.push_line_said.ensures in
-    let good = c.in_default.ensures.good in
+    let open_yet = c.in_default.ensures.ok in
+    let gives = c.read_line-read.ensures.read in
+    let taken = c.take_read.ensures in
     record {
-      failed = λ is. absurd (false≢true (sym good.0 ∙ said.fails (said.failed is)));
-      fails = λ is. absurd (ok_is_no_err is);
-      good = good;
-      decided = λ is. absurd (ok_is_no_err is);
-      kept = λ is. absurd (ok_is_no_err is);
+      failed = λ is. absurd (false≢true (sym (whole_of _ _ open_yet.0 false open_yet.1) ∙ is));
+      fails = taken.fails;
+      good = rw open_yet.0 at (on_ok_weaker c.take_read.result (λ adds. adds c.args.bytes.now open_yet.4 gives) taken.good);
+      decided = λ is. rw open_yet.0 at (taken.decided is c.args.bytes.now open_yet.4 gives);
+      kept = λ is. taken.kept is ∙ ap (λ k. k.ledger) open_yet.0;
     }

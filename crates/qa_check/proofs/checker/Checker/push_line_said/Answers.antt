@@ -1,6 +1,5 @@
-use Rattle.std.proofs.Common.{◌≡◌, ◌∙◌, Result, Ok, Err, IfOk, false, true, sym, ap}
+use Rattle.std.proofs.Common.{◌≡◌, ◌∙◌, Result, Ok, Err, IfOk, IsOk, OnOk, false, true, sym, ap}
 use Rattle.std.proofs.lemmas.Bool.{false≢true}
-use Rattle.std.proofs.lemmas.Result.{on_ok_weaker}
 use Rattle.qa_format.specs.declared.fault.Fault.{Fault}
 use Rattle.qa_format.specs.declared.line.Line.{Line}
 use Rattle.qa_format.specs.format.Written.{line_fits}
@@ -10,6 +9,14 @@ use Rattle.qa_check.specs.declared.checker.Stop.{Stop}
 use Rattle.qa_check.proofs.Faults.{error_of}
 use Rattle.qa_check.proofs.Growing.{whole_of}
 use Rattle.qa_check.proofs.checker.Checker.push_line_said.Goals as goal
+
+ok_is_no_err : (r : Result Line Stop) (stop : Stop) → IsOk r → r ≡ Err stop → ⊥
+ok_is_no_err (Ok line) stop ok is = cc
+ok_is_no_err (Err s) stop ok is = absurd (false≢true ok)
+
+on_ok : (P : Type 0) (r : Result Line Stop) → P → OnOk r P
+on_ok P (Ok line) p = p
+on_ok P (Err s) p = tt
 
 -- what was read says what is returned
 says : (read : Result Line LineFault) (gives : Result Line Fault) (r : Result Line Stop) → Gives (λ line. line) read gives → IfOk read (λ line. line_fits line ≡ true)
@@ -33,16 +40,16 @@ returns-in-Err g c =
       kept = λ is. expected.kept (c.in-Err.is ∙ ap Err (error_of is));
     }
 
-pub returns : goal.returns
-returns g c =
+pub returns-in-Ok : goal.returns-in-Ok
+returns-in-Ok g c =
     let open_yet = c.in_default.ensures.ok in
     let read = c.read_line-read.ensures in
-    let taken = c.take_read.ensures in
+    let ok = c.said_by.ensures.ok in
     record {
-      said = says c.read_line-read.result _ c.take_read.result read.read read.fitting taken.said;
+      said = says c.read_line-read.result _ c.said_by.result read.read read.fitting c.said_by.ensures.said;
       failed = λ is. absurd (false≢true (sym (whole_of _ _ open_yet.0 false open_yet.1) ∙ is));
-      fails = taken.fails;
-      good = rw open_yet.0 at (on_ok_weaker c.take_read.result (λ adds. adds c.args.bytes.now open_yet.4 read.read) taken.good);
-      decided = λ is. rw open_yet.0 at (taken.decided is c.args.bytes.now open_yet.4 read.read);
-      kept = λ is. taken.kept is ∙ ap (λ k. k.ledger) open_yet.0;
+      fails = λ is. absurd (ok_is_no_err _ _ ok is);
+      good = on_ok _ c.said_by.result (rw open_yet.0 at (c.in-Ok.ensures.good c.args.bytes.now open_yet.4 read.read));
+      decided = λ is. absurd (ok_is_no_err _ _ ok is);
+      kept = λ is. absurd (ok_is_no_err _ _ ok is);
     }
