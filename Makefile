@@ -158,7 +158,7 @@ conformance-rows:
 	conformance/rows $(program_why)
 	conformance/rows --all $(program_why)
 
-# All departures from the rules of conduct. No program writes them as JSON yet.
+# All departures from the rules of conduct, as a text and as objects.
 conformance-departures:
 	conformance/departures $(program_why)
 	conformance/departures --json $(program_why)

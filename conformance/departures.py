@@ -20,6 +20,7 @@ from typing import NamedTuple
 from constants import METRICS, METRICS_IN_BYTES, MOST_DOUBLINGS, OF_CONDUCT, Rule
 from faults import fault_of
 from objects import Facts, Object, broken, owed_at_end, unit_of, unreadable
+from names import shown_name
 from sender import Event, Sender
 from why import (
     Verdict,
@@ -269,7 +270,7 @@ def table_of(name: str, course: Course) -> Iterator[str]:
     """The lines of the table of a course; none where it has no departures."""
     if not course.departures:
         return
-    yield f"{name}: departs {times(len(course.departures))} in {course.events} events\n"
+    yield f"{shown_name(name)}: departs {times(len(course.departures))} in {course.events} events\n"
     for what in KINDS:
         found = [it for it in course.departures if it.what == what]
         if found:

@@ -16,6 +16,7 @@ from constants import (
     OF_THE_CONTROLLER,
     Rule,
 )
+from names import shown_name
 from sender import Deadline, Event, Ranges, Sender
 
 SHOWN_BYTES = 200
@@ -167,7 +168,7 @@ def why(name: str, trace: bytes, report: str) -> bytes:
 
 def accepted(name: str, events: int) -> bytes:
     """What is written of a trace that is accepted with so many events."""
-    return f"{name}: accepted, {events} events\n".encode()
+    return f"{shown_name(name)}: accepted, {events} events\n".encode()
 
 
 def not_read(name: str, verdict: Verdict, lines: list[bytes]) -> bytes:
@@ -180,7 +181,7 @@ def not_read(name: str, verdict: Verdict, lines: list[bytes]) -> bytes:
 
 def head_of(name: str, line: int, word: str, what: str) -> bytes:
     """What a text begins with that is about a line of a trace."""
-    return f"{name}:{line}: {word} {what}: ".encode()
+    return f"{shown_name(name)}:{line}: {word} {what}: ".encode()
 
 
 def shown(number: int, line: bytes) -> bytes:

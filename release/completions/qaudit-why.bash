@@ -3,7 +3,7 @@
 _qaudit_why() {
     local current=${COMP_WORDS[COMP_CWORD]}
     if [[ $current == -* ]]; then
-        mapfile -t COMPREPLY < <(compgen -W '--all --json --quiet --rows --help --version' -- "$current")
+        mapfile -t COMPREPLY < <(compgen -W '--all --around --json --quiet --rows --warn --help --version' -- "$current")
     else
         compopt -o filenames
         mapfile -t COMPREPLY < <(compgen -f -- "$current")

@@ -145,16 +145,3 @@ named_after-snoc before (g ∷ fs) f =
 
 pub named-snoc : (fs : List Finding) (f : Finding) → named (fs ++ f ∷ []) ≡ named fs ++ named_behind fs f
 named-snoc fs f = named_after-snoc [] fs f
-
--- where there is a departure, one more is not the first
-pub first_stays : (ds : List Departed) (d : Departed) (noted : ℕ) → nat_eq noted 0 ≡ false → noted ≡ counted (length (findings ds)) → first_members ds ≡ first_members (ds ++ d ∷ [])
-first_stays [] d noted some count = let none : nat_eq noted 0 ≡ true = ap (λ n. nat_eq n 0) count in cc
-first_stays (e ∷ ds) d noted some count = refl
-
-not_none : (n : ℕ) → nat_eq (counted (suc n)) 0 ≡ false
-not_none n = ne_eqb (counted (suc n)) 0 (λ is. omega arith)
-
--- where there is none, it is the first
-pub first_of_none : (ds : List Departed) (d : Departed) (noted : ℕ) → nat_eq noted 0 ≡ true → noted ≡ counted (length (findings ds)) → first_members (d ∷ []) ≡ first_members (ds ++ d ∷ [])
-first_of_none [] d noted none count = refl
-first_of_none (e ∷ ds) d noted none count = let some : nat_eq noted 0 ≡ false = ap (λ n. nat_eq n 0) count ∙ not_none (length (findings ds)) in cc

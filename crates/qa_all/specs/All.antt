@@ -1,5 +1,5 @@
 -- What is told of all departures of a trace from the rules of conduct.
-use Rattle.std.specs.Prelude.{◌≡◌, ℕ, Bool, codes, length, map, List, [], ◌∷◌, ◌++◌, Option, if◌then◌else◌}
+use Rattle.std.specs.Prelude.{◌≡◌, ℕ, Bool, codes, length, List, [], ◌∷◌, ◌++◌, Option, if◌then◌else◌}
 use Rattle.std.specs.Io.KnownBytes.{Appends}
 use Rattle.qa_all.specs.Departed.{Departed, all_departed, finding_of, findings, history_in, unit_of}
 use Rattle.qa_all.specs.Objects.{course_members}
@@ -8,12 +8,12 @@ use Rattle.qa_base.specs.machine.Departures.{first_unborne}
 use Rattle.qa_check.specs.Audit.{outcome_of}
 use Rattle.qa_check.specs.declared.auditing.Outcome.{Outcome}
 use Rattle.qa_check.specs.declared.auditing.Outcome.TheVariants.{Accepted, Refused}
-use Rattle.qa_departures.specs.Table.{is_known}
+use Rattle.qa_departures.specs.Table.{are_known}
 use Rattle.qa_departures.specs.Texts.{table_text}
 use Rattle.qa_departures.specs.declared.finding.Finding.{Finding}
 use Rattle.qa_format.specs.format.Reading.{reading}
 use Rattle.qa_format.specs.verdicts.Verdict.{Judging, header_in, verdict}
-use Rattle.qa_why_trace.specs.Lines.{visible}
+use Rattle.qa_names.specs.Names.{shown_name}
 use Rattle.qa_why_trace.specs.Texts.{broken_text}
 use Rattle.qa_why_trace.specs.Why.{good_lines, unless_accepted, whole, why_by}
 use Rattle.qa_why_trace.specs.declared.form.Form.{Form}
@@ -30,7 +30,7 @@ departed_text name d = broken_text (codes "departure") name d.line d.departure.r
 
 -- it is told of a departure, where none of its kind was found before
 abbrev pub first_text : List ℕ → List Finding → Departed → List ℕ
-first_text name before d = if is_known d.departure.rule before then [] else departed_text name d
+first_text name before d = if are_known 1 d.departure.rule before then [] else departed_text name d
 
 abbrev pub firsts_after : List ℕ → List Finding → List Departed → List ℕ
 firsts_after name before [] = []
@@ -45,7 +45,7 @@ firsts name ds = firsts_after name [] ds
 -- the table behind the name; nothing where there is no departure
 abbrev pub table_of : List ℕ → TimeUnit → ℕ → List Finding → List ℕ
 table_of name unit events [] = []
-table_of name unit events (f ∷ fs) = map visible name ++ table_text unit events (f ∷ fs)
+table_of name unit events (f ∷ fs) = shown_name name ++ table_text unit events (f ∷ fs)
 
 -- ---- the end
 

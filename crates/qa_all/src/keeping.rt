@@ -18,7 +18,8 @@ use qa_check::{Judge, Outcome};
 use qa_departures::{Finding, Table, amount};
 use qa_format::Line;
 use qa_ledger::Bears;
-use qa_why_trace::{Why, broken, extend, shown_name};
+use qa_names::shown_name;
+use qa_why_trace::{Why, broken, extend};
 use std::alloc::{AllocError, Global};
 
 /// What is kept of the departures of a trace: what is told of the first of each kind, and the table,

@@ -1,3 +1,4 @@
 pub mod Sums
 pub mod Sets
+mod Accepted
 mod Breaking

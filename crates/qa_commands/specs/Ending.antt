@@ -4,7 +4,7 @@ use Rattle.qa_check.specs.declared.auditing.Outcome.{Outcome}
 use Rattle.qa_check.specs.declared.auditing.Outcome.TheVariants.{Accepted, Refused, Unreadable}
 use Rattle.qa_check.specs.declared.auditing.AuditFault.{AuditFault}
 use Rattle.qa_check.specs.declared.auditing.AuditFault.TheVariants as faults
-use Rattle.qa_commands.specs.Names.{shown_name}
+use Rattle.qa_names.specs.Names.{shown_name}
 use Rattle.qa_commands.specs.Writes.{Writes}
 use Rattle.qa_commands.specs.declared.ending.Failure.{Failure}
 use Rattle.qa_commands.specs.declared.ending.Failure.TheVariants.{Arguments, Open, Read, Write, OutOfMemory}

@@ -1,10 +1,12 @@
 //! Lines that end in the name of a file.
-ghost use Rattle.std.specs.Prelude.{◌≡◌, ◌<◌, true, is_err, flat_map};
-ghost use Rattle.qa_commands.specs.Names as names;
-ghost use Rattle.qa_commands.specs.Names.{shown_character, shown_name, line_with};
+ghost use Rattle.std.specs.Prelude.{◌≡◌, true, is_err, flat_map};
+ghost use Rattle.qa_commands.specs.Names.{line_with};
+ghost use Rattle.qa_names.specs.Names as names;
+ghost use Rattle.qa_names.specs.Names.{shown_character, shown_name};
 ghost use Rattle.qa_commands.specs.Writes.{Writes};
 
 use qa_check::{AuditFault, Sink, write_whole};
+use qa_names::{escaped, is_hidden};
 
 /// Writes a line: what it begins with, a name as it is shown, and LF. Takes no memory.
 pub fn write_line<S: Sink>(beginning: &str, name: &str, sink: &mut S) -> Result<(), AuditFault>
@@ -52,18 +54,6 @@ fn write_character<S: Sink>(character: char, sink: &mut S) -> Result<(), AuditFa
     }
 }
 
-/// Whether a character is shown by its bytes: the control characters, and those that end lines or
-/// turn the order of a text around.
-fn is_hidden(character: char) -> bool
-    ensures { result ≡ names.is_hidden character }
-{
-    character.is_control()
-        || matches!(
-            character,
-            '\u{61C}' | '\u{200E}'..='\u{200F}' | '\u{2028}'..='\u{202E}' | '\u{2066}'..='\u{2069}'
-        )
-}
-
 /// Writes each byte as `\x` and two digits of base 16.
 fn write_escaped<S: Sink>(bytes: &[u8], sink: &mut S) -> Result<(), AuditFault>
     ensures { Writes (is_err result) (S.held sink.old) (S.held sink.new)
@@ -74,25 +64,6 @@ fn write_escaped<S: Sink>(bytes: &[u8], sink: &mut S) -> Result<(), AuditFault>
         write_bytes(&escaped(*byte), sink)?;
     }
     Ok(())
-}
-
-/// A byte as `\x` and two digits of base 16.
-fn escaped(byte: u8) -> [u8; 4]
-    ensures { result ≡ names.escaped byte }
-{
-    [b'\\', b'x', hex_digit(byte / 16), hex_digit(byte % 16)]
-}
-
-/// A digit of base 16, with letters in upper case.
-fn hex_digit(value: u8) -> u8
-    requires { value < 16 }
-    ensures { result ≡ names.hex_digit value }
-{
-    if value < 10 {
-        b'0' + value
-    } else {
-        b'A' + (value - 10)
-    }
 }
 
 /// Writes all of the bytes.

@@ -95,14 +95,6 @@ rows_of fs = map (λ r. row_of r fs) kinds
 abbrev pub table : List Finding → List Row
 table fs = filter has_findings (rows_of fs)
 
--- the row is of this kind, which was found
-abbrev pub is_row : Rule → Row → Bool
-is_row r row = is_kind row.rule r && has_findings row
-
--- a departure of this kind is among the findings
-abbrev pub is_known : Rule → List Finding → Bool
-is_known r fs = list_any (is_row r) (rows_of fs)
-
 -- the row is of this kind, of which so many were found or more
 abbrev pub is_row_of : ℕ → Rule → Row → Bool
 is_row_of many r row = is_kind row.rule r && nat_le many row.count

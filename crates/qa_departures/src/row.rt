@@ -115,14 +115,6 @@ pub(crate) fn note_in(rows: &mut [Row], finding: &Finding)
     }
 }
 
-/// Whether a row is of this kind, which was found.
-pub(crate) fn has_row(rows: &[Row], rule: Rule) -> bool
-    ensures { result ≡ list_any (tables.is_row rule) rows.now }
-{
-    rows.iter()
-        .any(|row| is_kind(row.rule, rule) && 0 < row.count)
-}
-
 /// Whether a row is of this kind, of which so many were found or more.
 pub(crate) fn has_many_in(rows: &[Row], many: u64, rule: Rule) -> bool
     ensures { result ≡ list_any (tables.is_row_of many rule) rows.now }

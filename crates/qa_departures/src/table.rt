@@ -1,12 +1,12 @@
 //! The table of departures.
 ghost use Rattle.std.specs.Prelude.{◌≡◌, List, [], ◌∷◌, ◌++◌, IfOk, OnOk, nat_eq, string_bytes};
 ghost use Rattle.qa_departures.specs.declared.finding.Finding.{Finding as AFinding};
-ghost use Rattle.qa_departures.specs.Table.{Holds, are_known, is_known, rows_of};
+ghost use Rattle.qa_departures.specs.Table.{Holds, are_known, rows_of};
 ghost use Rattle.qa_departures.specs.Steps.{one_more};
 ghost use Rattle.qa_departures.specs.Texts.{table_text};
 
 use crate::finding::Finding;
-use crate::row::{Row, has_many_in, has_row, note_in};
+use crate::row::{Row, has_many_in, note_in};
 use crate::texts::{push_head, push_rows};
 use qa_base::{Field, Rule, TimeUnit};
 use std::alloc::{AllocError, Global};
@@ -79,9 +79,9 @@ impl Table {
 
     /// Whether it was told of a departure from this rule of conduct, and for a metric of the same value.
     pub fn has(&self, rule: Rule) -> bool
-        ensures { (fs : List AFinding) → Holds self.now fs → result ≡ is_known rule fs }
+        ensures { (fs : List AFinding) → Holds self.now fs → result ≡ are_known 1 rule fs }
     {
-        has_row(&self.rows, rule)
+        self.has_many(1, rule)
     }
 
     /// Whether it was told of so many departures from this rule of conduct or more, for a metric of the

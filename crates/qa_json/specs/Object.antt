@@ -58,7 +58,7 @@ each_run (run ∷ runs) = run_tokens run ++ each_run runs
 unfoldable pub runs_at : List ℕ → List (ℕ × ℕ) → List Token
 runs_at key runs = list_begin key ++ each_run runs ++ list_end
 
--- ---- a text, and a line
+-- ---- a text
 
 abbrev pub text_of_all : List Token → List ℕ
 text_of_all ts = print ts
@@ -66,10 +66,3 @@ text_of_all ts = print ts
 -- the text of an object that these tokens begin
 abbrev pub text_of : List Token → List ℕ
 text_of ts = text_of_all (ts ++ closed)
-
-abbrev pub line_of_all : List Token → List ℕ
-line_of_all ts = text_of_all ts ++ 10 ∷ []
-
--- the line of an object that these tokens begin
-abbrev pub line_of : List Token → List ℕ
-line_of ts = line_of_all (ts ++ closed)

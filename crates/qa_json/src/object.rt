@@ -213,28 +213,12 @@ impl Object {
 
     // ---- the end
 
-    /// The object as a line, where no list is open.
-    pub fn finish(mut self) -> Result<Vec<u8>, AllocError>
-        ensures { IfOk result (λ line. line.items ≡ text.line_of self) }
-    {
-        self.end_object()?;
-        self.into_line()
-    }
-
     /// The object's text alone, where no list is open.
     pub fn into_text(mut self) -> Result<Vec<u8>, AllocError>
         ensures { IfOk result (λ bytes. bytes.items ≡ text.text_of self) }
     {
         self.end_object()?;
         Ok(self.into_bytes())
-    }
-
-    fn into_line(self) -> Result<Vec<u8>, AllocError>
-        ensures { IfOk result (λ line. line.items ≡ text.line_of_all self) }
-    {
-        let mut line = self.into_bytes();
-        line.push(b'\n')?;
-        Ok(line)
     }
 
     /// The text as it stands, with no brace behind it.

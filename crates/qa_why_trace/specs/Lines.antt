@@ -1,13 +1,9 @@
--- How a line of a trace is shown, and the name of its file.
-use Rattle.std.specs.Prelude.{ℕ, ◌==◌, ◌&&◌, ◌||◌, nat_le, nat_lt, codes, decimal, length, map, take, List, ◌++◌, if◌then◌else◌}
+-- How a line of a trace is shown.
+use Rattle.std.specs.Prelude.{ℕ, ◌&&◌, nat_le, nat_lt, codes, decimal, length, map, take, List, ◌++◌, if◌then◌else◌}
 
 -- the byte as it is shown: a printable character of ASCII, or a question mark
 abbrev pub printable : ℕ → ℕ
 printable byte = if nat_le 32 byte && nat_le byte 126 then byte else 63
-
--- the byte of a name as it is shown: no control character
-abbrev pub visible : ℕ → ℕ
-visible byte = if nat_lt byte 32 || byte == 127 then 63 else byte
 
 -- the most bytes of a line that are shown
 abbrev pub shown_bytes : ℕ

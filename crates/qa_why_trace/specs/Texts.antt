@@ -1,5 +1,5 @@
 -- What is written of a trace, by its verdict.
-use Rattle.std.specs.Prelude.{ℕ, Bool, false, codes, map, List, [], ◌++◌, Option, Some, None}
+use Rattle.std.specs.Prelude.{ℕ, Bool, false, codes, List, [], ◌++◌, Option, Some, None}
 use Rattle.qa_base.specs.declared.event.Event.{Event}
 use Rattle.qa_base.specs.declared.rule.Rule.{Rule}
 use Rattle.qa_base.specs.declared.rule.Rule.TheVariants as rule
@@ -10,6 +10,7 @@ use Rattle.qa_causes.specs.declared.cause.Owed.{Owed}
 use Rattle.qa_format.specs.declared.fault.Fault.{Fault}
 use Rattle.qa_format.specs.declared.fault.Fault.TheVariants.{LineTooLong, TooManyLines}
 use Rattle.qa_format.specs.verdicts.Report.{fault_text}
+use Rattle.qa_names.specs.Names.{shown_name}
 use Rattle.qa_why.specs.Facts.{facts_text}
 use Rattle.qa_why.specs.Pieces.{named, numbered}
 use Rattle.qa_why.specs.Predicates.{predicate}
@@ -18,7 +19,7 @@ use Rattle.qa_why.specs.Sources.{source}
 use Rattle.qa_why.specs.Subjects.{subject}
 use Rattle.qa_why_trace.specs.Faults.{fault_sentence}
 use Rattle.qa_why_trace.specs.Hints.{hint}
-use Rattle.qa_why_trace.specs.Lines.{line_text, visible}
+use Rattle.qa_why_trace.specs.Lines.{line_text}
 use Rattle.qa_why_trace.specs.Values.{wrong_value}
 
 -- the line that a verdict is about, the verdict in a word, and the rule or the fault
@@ -26,7 +27,7 @@ unfoldable pub head_tail : ℕ → List ℕ → List ℕ → List ℕ
 head_tail n word what = numbered (codes ":") n ++ named (codes ": ") word ++ named (codes " ") what ++ codes ": "
 
 unfoldable pub head : List ℕ → ℕ → List ℕ → List ℕ → List ℕ
-head name n word what = map visible name ++ head_tail n word what
+head name n word what = shown_name name ++ head_tail n word what
 
 -- ---- accepted
 
@@ -34,7 +35,7 @@ unfoldable pub accepted_tail : ℕ → List ℕ
 accepted_tail events = numbered (codes ": accepted, ") events ++ (codes " events\n")
 
 unfoldable pub accepted_text : List ℕ → Totals → List ℕ
-accepted_text name t = map visible name ++ accepted_tail t.events
+accepted_text name t = shown_name name ++ accepted_tail t.events
 
 -- ---- refused
 

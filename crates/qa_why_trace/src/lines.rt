@@ -1,4 +1,4 @@
-//! How a line of a trace is shown, and the name of its file.
+//! How a line of a trace is shown.
 ghost use Rattle.std.specs.Prelude.{◌≡◌, ◌++◌, IfOk, OnOk, map, string_bytes};
 ghost use Rattle.qa_why_trace.specs.Lines as text;
 
@@ -20,23 +20,6 @@ fn printable(byte: u8) -> u8
     } else {
         b'?'
     }
-}
-
-/// The byte of a name as it is shown: no control character.
-fn visible(byte: u8) -> u8
-    ensures { result ≡ text.visible byte }
-{
-    if byte < 32 || byte == 127 { b'?' } else { byte }
-}
-
-/// The name of a file as it is shown.
-pub fn shown_name(alloc: Global, name: &str) -> Result<Vec<u8>, AllocError>
-    ensures { IfOk result (λ shown. shown.items ≡ map text.visible name.now) }
-{
-    name.as_bytes()
-        .iter()
-        .map(|byte| visible(*byte))
-        .collect(alloc)
 }
 
 /// Bytes as they are shown.

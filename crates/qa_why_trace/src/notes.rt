@@ -52,3 +52,26 @@ impl<J: Judge> Notes<J> for NoNotes {
         Ok(())
     }
 }
+
+/// Notes of two kinds, taken of the same lines.
+#[derive(Drop)]
+pub struct Both<A, B> {
+    pub first: A,
+    pub second: B,
+}
+
+impl<J: Judge, A: Notes<J>, B: Notes<J>> Notes<J> for Both<A, B> {
+    ghost covers = { λ name both ls. A.covers name both.first ls × B.covers name both.second ls };
+
+    fn note(
+        &mut self,
+        name: &str,
+        n: u64,
+        line: &[u8],
+        said: &Line,
+        judge: Option<&J>,
+    ) -> Result<(), AllocError> {
+        self.first.note(name, n, line, said, judge)?;
+        self.second.note(name, n, line, said, judge)
+    }
+}

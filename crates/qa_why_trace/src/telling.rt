@@ -7,15 +7,15 @@ ghost use Rattle.qa_check.specs.Failures.{failures_after};
 ghost use Rattle.qa_check.specs.Following.{IsReady};
 ghost use Rattle.qa_check.specs.Standing.{StandsFor, by};
 ghost use Rattle.qa_format.specs.format.Reading.{reading};
-ghost use Rattle.qa_format.specs.verdicts.Verdict.{AreGood, IsFixed};
+ghost use Rattle.qa_format.specs.verdicts.Verdict.{AreGood, IsFixed, strict};
 ghost use Rattle.qa_split.specs.Stream.{HasNoLine};
 ghost use Rattle.qa_why_trace.specs.Noting.{Follows, NotesGood, TellsBad, TellsNoted};
 ghost use Rattle.qa_why_trace.specs.Why as defined;
-ghost use Rattle.qa_why_trace.specs.Why.{Writes, written};
+ghost use Rattle.qa_why_trace.specs.Why.{Writes, good_lines, written};
 
 use crate::causes::{Why, whole, why_of};
 use crate::form::Form;
-use crate::notes::{NoNotes, Notes};
+use crate::notes::Notes;
 use crate::reasons::Reasons;
 use qa_causes::Explains;
 use qa_check::{AuditFault, Checker, Outcome, Sink, Source, Stop, write_whole};
@@ -30,24 +30,30 @@ const PIECE: usize = 4096;
 /// sequence of bytes that a reader returns, one text in each form. Where it is to be quiet, it writes nothing of an
 /// accepted trace.
 ///
-/// It reads what `audit` reads, and fails where that fails. Beside what `audit` holds it takes memory
-/// for the text alone, once the verdict is fixed.
-pub fn why<L: Explains + Drop, R: Source, W: Sink>(
+/// It takes notes of the good lines for the caller, and returns them with the kind of the verdict. It
+/// reads what `audit` reads, and fails where that fails. Beside what `audit` and the notes hold it takes
+/// memory for the text alone, once the verdict is fixed.
+pub fn why<L: Explains + Drop, N: Notes<L> + Drop, R: Source, W: Sink>(
     alloc: Global,
     form: Form,
     name: &str,
     quiet: bool,
+    mut notes: N,
     reader: &mut R,
     writer: &mut W,
-) -> Result<Outcome, AuditFault>
-    // For a reader that tells its bytes: the text for them was written, and the kind of their verdict is returned.
+) -> Result<(Outcome, N), AuditFault>
+    requires fresh { N.covers name.now notes [] }
+
+    // For a reader that tells its bytes: the text for them was written, the kind of their verdict is returned, and notes of their good lines.
     ensures told { (bytes : List ℕ) → R.left reader.old ≡ Some bytes
-        → IfOk result (λ outcome. Writes (W.held writer.old) (W.held writer.new) form quiet name.now outcome bytes) }
+        → IfOk result (λ told. Writes (W.held writer.old) (W.held writer.new) form quiet name.now told.0 bytes
+        × N.covers name.now told.1 (good_lines (strict reading) bytes)) }
 
     // For every reader: what was read decides, since it is all there is, or nothing behind it counts.
-    ensures ok { IfOk result (λ outcome. (bytes : List ℕ)
+    ensures ok { IfOk result (λ told. (bytes : List ℕ)
         × ReadsEnough (R.left reader.old) (R.left reader.new) (R.last_read reader.new) bytes
-        × Writes (W.held writer.old) (W.held writer.new) form quiet name.now outcome bytes) }
+        × Writes (W.held writer.old) (W.held writer.new) form quiet name.now told.0 bytes
+        × N.covers name.now told.1 (good_lines (strict reading) bytes)) }
 
     // The bytes before the last read did not fix the verdict, whatever the result.
     ensures reads { Reads (R.left reader.old) (R.left reader.new) (R.last_read reader.new) }
@@ -65,10 +71,10 @@ pub fn why<L: Explains + Drop, R: Source, W: Sink>(
     ensures write_failures { W.write_failures writer.new
         ≡ failures_after (is_write_fault result) (W.write_failures writer.old) }
 {
-    let told = find::<L, NoNotes, R>(alloc, form, name, reader, &mut NoNotes)?;
+    let told = find::<L, N, R>(alloc, form, name, reader, &mut notes)?;
     let why = whole(alloc, form, name, told)?;
     write_whole(writer, unless_accepted(quiet, why.outcome, &why.text))?;
-    Ok(why.outcome)
+    Ok((why.outcome, notes))
 }
 
 /// The text; where it is to be quiet, nothing of an accepted trace.

@@ -5,11 +5,12 @@ ghost use Rattle.qa_why_trace.specs.Texts as text;
 
 use crate::faults::push_fault;
 use crate::hints::hint;
-use crate::lines::{extend, push_line, shown_name};
+use crate::lines::{extend, push_line};
 use crate::values::push_wrong_value;
 use qa_base::{Event, Rule, Totals};
 use qa_causes::{Cause, Owed};
 use qa_format::Fault;
+use qa_names::shown_name;
 use qa_why::{
     push_facts, push_name, push_number, push_owed, push_predicate, push_subject, push_words, source,
 };

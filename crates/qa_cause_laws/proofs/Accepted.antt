@@ -1,0 +1,169 @@
+-- An accepted trace departs from nothing.
+use Rattle.std.proofs.Common.{◌≡◌, ◌∙◌, ◌+◌, ℕ, List, [], ◌∷◌, ◌++◌, length, Option, Some, None, Result, Ok, Err, refl, sym, ap, ap₂}
+use Rattle.std.proofs.lemmas.List.{append-nil}
+use Rattle.std.specs.Option.{option_or}
+use Rattle.std.specs.Prelude.{map, option_map, unwrap_or}
+use Rattle.qa_all.specs.All.{all_outcome, all_text, course_in, outcome_with, past_conduct, told_by}
+use Rattle.qa_all.specs.Bearing.{explained}
+use Rattle.qa_all.specs.Departed.{Departed, all_departed, departed, departed_after, departed_at, departed_on, findings, history_in}
+use Rattle.qa_all.specs.Objects.{members_of_none}
+use Rattle.qa_base.proofs.machine.RunLaws.{unbroken_is_borne}
+use Rattle.qa_base.specs.declared.event.Event.{Event}
+use Rattle.qa_base.specs.declared.rule.Rule.{Rule}
+use Rattle.qa_base.specs.declared.totals.Totals.{Totals}
+use Rattle.qa_base.specs.machine.Departures.{first_unborne}
+use Rattle.qa_base.specs.machine.Packets.{history_of}
+use Rattle.qa_base.specs.machine.Rules.{first_broken}
+use Rattle.qa_base.specs.machine.State.{totals}
+use Rattle.qa_base.specs.values.Settings.{Settings}
+use Rattle.qa_cause_laws.proofs.Breaking.{no_departures}
+use Rattle.qa_check.specs.Audit.{outcome_of}
+use Rattle.qa_check.specs.declared.auditing.Outcome.{Outcome}
+use Rattle.qa_check.specs.declared.auditing.Outcome.TheVariants as outcomes
+use Rattle.qa_format.proofs.verdicts.Stops.{or_parts, said_reading}
+use Rattle.qa_format.specs.declared.fault.Fault.{Fault}
+use Rattle.qa_format.specs.declared.line.Line.{Line}
+use Rattle.qa_format.specs.declared.line.Line.TheVariants as line
+use Rattle.qa_format.specs.declared.verdict.Verdict.{Verdict}
+use Rattle.qa_format.specs.declared.verdict.Verdict.TheVariants.{Accepted, Refused}
+use Rattle.qa_format.specs.format.Lines.{lines}
+use Rattle.qa_format.specs.format.Reading.{reading}
+use Rattle.qa_format.specs.verdicts.Verdict.{AreGood, end_of, event_said, events_in, first_stop, header_in, said, stop_after, stop_at, strict, verdict, verdict_of}
+use Rattle.qa_why_trace.proofs.Told.{good_at_end, why_at_end}
+use Rattle.qa_why_trace.specs.Objects.{object_line}
+use Rattle.qa_why_trace.specs.Why.{good_lines, told, whole, why, why_by}
+use Rattle.qa_why_trace.specs.declared.form.Form.{Form}
+use Rattle.qa_why_trace.specs.declared.form.Form.TheVariants as forms
+
+-- ---- a verdict of accepted is that of the end
+
+not_refused : (o : Option Rule) (n : ℕ) (u t : Totals) → option_map (λ r. Refused n r u) o ≡ Some (Accepted t) → ⊥
+not_refused None n u t is = cc
+not_refused (Some r) n u t is = cc
+
+no_stop_accepts : (n : ℕ) (header : Option Settings) (h : List Event) (s : Result Line Fault) (t : Totals) → stop_at first_broken n header h s ≡ Some (Accepted t) → ⊥
+no_stop_accepts n header h (Err f) t is = cc
+no_stop_accepts n None h (Ok line.Blank) t is = cc
+no_stop_accepts n (Some c) h (Ok line.Blank) t is = cc
+no_stop_accepts n None h (Ok (line.Header c)) t is = cc
+no_stop_accepts n (Some d) h (Ok (line.Header c)) t is = cc
+no_stop_accepts n None h (Ok (line.Event e)) t is = cc
+no_stop_accepts n (Some c) h (Ok (line.Event e)) t is = not_refused (first_broken c h e) n (totals c h) t is
+
+no_line_accepts : (before : List (List ℕ)) (l : List ℕ) (t : Totals) → stop_after (strict reading) before l ≡ Some (Accepted t) → ⊥
+unfolding stop_after
+no_line_accepts before l t is = no_stop_accepts (length before + 1) (header_in reading before) (history_of (events_in reading before)) (said reading (length before) l) t is
+
+neither : (o p : Option Verdict) (v : Verdict) → (o ≡ Some v → ⊥) → (p ≡ Some v → ⊥) → option_or o p ≡ Some v → ⊥
+neither None p v first second is = second is
+neither (Some w) p v first second is = first is
+
+no_lines_accept : (before ls : List (List ℕ)) (t : Totals) → first_stop (strict reading) before ls ≡ Some (Accepted t) → ⊥
+no_lines_accept before [] t is = cc
+no_lines_accept before (l ∷ ls) t is =
+    neither (stop_after (strict reading) before l) (first_stop (strict reading) (before ++ l ∷ []) ls) (Accepted t) (no_line_accepts before l t) (no_lines_accept (before ++ l ∷ []) ls t) is
+
+at_end : (o : Option Verdict) (v : Verdict) (t : Totals) → (o ≡ Some (Accepted t) → ⊥) → unwrap_or o v ≡ Accepted t → o ≡ None
+at_end None v t not is = refl
+at_end (Some w) v t not is = absurd (not (ap Some is))
+
+pub accepted_is_good : (bytes : List ℕ) (t : Totals) → verdict (strict reading) bytes ≡ Accepted t → AreGood (strict reading) (lines bytes)
+unfolding verdict_of
+accepted_is_good bytes t is = at_end (first_stop (strict reading) [] (lines bytes)) (end_of reading (lines bytes)) t (no_lines_accept [] (lines bytes) t) is
+
+-- ---- good lines depart from nothing
+
+none_broken : (n : ℕ) (t : Totals) (o : Option Rule) → option_map (λ r. Refused n r t) o ≡ None → o ≡ None
+none_broken n t None good = refl
+none_broken n t (Some r) good = cc
+
+borne_at : (n : ℕ) (header : Option Settings) (h : List Event) (s : Result Line Fault) → stop_at first_broken n header h s ≡ None → stop_at first_unborne n header h s ≡ None
+borne_at n header h (Err f) good = cc
+borne_at n None h (Ok line.Blank) good = refl
+borne_at n (Some c) h (Ok line.Blank) good = refl
+borne_at n None h (Ok (line.Header c)) good = refl
+borne_at n (Some d) h (Ok (line.Header c)) good = cc
+borne_at n None h (Ok (line.Event e)) good = cc
+borne_at n (Some c) h (Ok (line.Event e)) good =
+    ap (λ (o : Option Rule). option_map (λ r. Refused n r (totals c h)) o) (unbroken_is_borne c h e (none_broken n (totals c h) (first_broken c h e) good))
+
+none_at : (n m : ℕ) (l : List ℕ) (header : Option Settings) (h : List Event) (s : Result Line Fault) → stop_at first_broken n header h s ≡ None → departed_at m l header h (event_said s) ≡ []
+none_at n m l header h (Err f) good = cc
+none_at n m l None h (Ok line.Blank) good = refl
+none_at n m l (Some c) h (Ok line.Blank) good = refl
+none_at n m l None h (Ok (line.Header c)) good = refl
+none_at n m l (Some d) h (Ok (line.Header c)) good = cc
+none_at n m l None h (Ok (line.Event e)) good = cc
+none_at n m l (Some c) h (Ok (line.Event e)) good =
+    ap (λ (rules : List Rule). map (departed c.unit m l e) (explained c h e rules)) (no_departures c h e (none_broken n (totals c h) (first_broken c h e) good))
+
+-- a line that is good was read
+read_so : (n : ℕ) (header : Option Settings) (h : List Event) (count : ℕ) (l : List ℕ) (s : Result Line Fault) → said reading count l ≡ s → stop_at first_broken n header h s ≡ None → reading l ≡ s
+read_so n header h count l (Err f) is good = cc
+read_so n header h count l (Ok x) is good = said_reading reading count l is
+
+pub borne_after : (before : List (List ℕ)) (l : List ℕ) → stop_after (strict reading) before l ≡ None → stop_after past_conduct before l ≡ None
+unfolding stop_after
+borne_after before l good = borne_at (length before + 1) (header_in reading before) (history_of (events_in reading before)) (said reading (length before) l) good
+
+pub none_on : (before : List (List ℕ)) (l : List ℕ) → stop_after (strict reading) before l ≡ None → departed_on before l ≡ []
+unfolding stop_after
+none_on before l good =
+    let s = said reading (length before) l in
+    let read = read_so (length before + 1) (header_in reading before) (history_of (events_in reading before)) (length before) l s refl good in
+    ap (λ (r : Result Line Fault). departed_at (length before + 1) l (header_in reading before) (history_in before) (event_said r)) read
+    ∙ none_at (length before + 1) (length before + 1) l (header_in reading before) (history_in before) s good
+
+pub borne_lines : (before ls : List (List ℕ)) → first_stop (strict reading) before ls ≡ None → first_stop past_conduct before ls ≡ None
+borne_lines before [] good = refl
+borne_lines before (l ∷ ls) good =
+    let parts = or_parts (stop_after (strict reading) before l) (first_stop (strict reading) (before ++ l ∷ []) ls) good in
+    ap₂ (λ (o p : Option Verdict). option_or o p) (borne_after before l parts.0) (borne_lines (before ++ l ∷ []) ls parts.1)
+
+none_departed : (before ls : List (List ℕ)) → first_stop (strict reading) before ls ≡ None → departed_after before ls ≡ []
+none_departed before [] good = refl
+none_departed before (l ∷ ls) good =
+    let parts = or_parts (stop_after (strict reading) before l) (first_stop (strict reading) (before ++ l ∷ []) ls) good in
+    ap₂ (λ (ds es : List Departed). ds ++ es) (none_on before l parts.0) (none_departed (before ++ l ∷ []) ls parts.1)
+
+-- ---- what is told
+
+verdict_same : (ls : List (List ℕ)) → first_stop (strict reading) [] ls ≡ None → first_stop past_conduct [] ls ≡ None → verdict_of past_conduct ls ≡ verdict_of (strict reading) ls
+unfolding verdict_of
+verdict_same ls good borne = ap (λ (o : Option Verdict). unwrap_or o (end_of reading ls)) (borne ∙ sym good)
+
+why_same : (form : Form) (name bytes : List ℕ) → AreGood (strict reading) (lines bytes) → why_by past_conduct form name bytes ≡ why_by (strict reading) form name bytes
+why_same form name bytes good =
+    let ls = lines bytes in
+    let borne = borne_lines [] ls good in
+    why_at_end past_conduct form name bytes ls borne refl
+    ∙ (ap (λ v. told form name v (header_in reading ls) (history_of (events_in reading ls)) None) (verdict_same ls good borne) ∙ sym (why_at_end (strict reading) form name bytes ls good refl))
+
+told_same : (form : Form) (name bytes : List ℕ) → AreGood (strict reading) (lines bytes)
+    → told_by form name bytes ≡ course_in form name (lines bytes) (outcome_of (verdict past_conduct bytes)) (why_by (strict reading) form name bytes)
+unfolding told_by
+told_same form name bytes good =
+    let borne = borne_lines [] (lines bytes) good in
+    ap₂ (λ (ls : List (List ℕ)) (text : List ℕ). course_in form name ls (outcome_of (verdict past_conduct bytes)) text) (good_at_end past_conduct bytes (lines bytes) borne refl) (why_same form name bytes good)
+
+pub text_of_accepted : (name bytes : List ℕ) (t : Totals) → verdict (strict reading) bytes ≡ Accepted t → all_text forms.Text name bytes ≡ why forms.Text name bytes
+text_of_accepted name bytes t is =
+    let good = accepted_is_good bytes t is in
+    let none : all_departed (lines bytes) ≡ [] = none_departed [] (lines bytes) good in
+    told_same forms.Text name bytes good ∙ (rw none (append-nil (why_by (strict reading) forms.Text name bytes)))
+
+pub object_of_accepted : (name bytes : List ℕ) (t : Totals) → verdict (strict reading) bytes ≡ Accepted t
+    → all_text forms.Json name bytes ≡ object_line name (members_of_none (why_by (strict reading) forms.Json name bytes))
+object_of_accepted name bytes t is =
+    let good = accepted_is_good bytes t is in
+    let none : all_departed (lines bytes) ≡ [] = none_departed [] (lines bytes) good in
+    ap (object_line name) (told_same forms.Json name bytes good ∙ (rw none refl))
+
+pub outcome_of_accepted : (bytes : List ℕ) (t : Totals) → verdict (strict reading) bytes ≡ Accepted t → all_outcome bytes ≡ outcomes.Accepted
+unfolding all_outcome
+outcome_of_accepted bytes t is =
+    let good = accepted_is_good bytes t is in
+    let borne = borne_lines [] (lines bytes) good in
+    let none : all_departed (lines bytes) ≡ [] = none_departed [] (lines bytes) good in
+    let kind : outcome_of (verdict past_conduct bytes) ≡ outcomes.Accepted = ap outcome_of (verdict_same (lines bytes) good borne ∙ is) in
+    ap₂ (λ (ls : List (List ℕ)) (outcome : Outcome). outcome_with (findings (all_departed ls)) outcome) (good_at_end past_conduct bytes (lines bytes) borne refl) kind ∙ (rw none refl)
