@@ -1,4 +1,4 @@
-use Rattle.std.proofs.Common.{◌∙◌, sym, ap, [], ◌∷◌}
+use Rattle.std.proofs.Common.{◌∙◌, sym, ap}
 use Rattle.qa_departures.specs.Steps.{all_after, one_more}
 use Rattle.qa_departures.proofs.Noted.{count_noted, rows_noted}
 use Rattle.qa_departures.proofs.table.Table.note.Goals as goal
