@@ -18,7 +18,7 @@ use std::alloc::{AllocError, Global};
 impl<L: Bears + Explains + Drop> Notes<Bearing<L>> for Listed {
     ghost use Rattle.qa_all.specs.Keeping.{CoversListed};
 
-    ghost covers = { CoversListed };
+    ghost covers = { λ name begun. CoversListed name };
 
     fn note(
         &mut self,
@@ -38,7 +38,7 @@ impl<L: Bears + Explains + Drop> Notes<Bearing<L>> for Listed {
 impl<L: Bears + Explains + Drop> Notes<Bearing<L>> for Kept {
     ghost use Rattle.qa_all.specs.Keeping.{Covers};
 
-    ghost covers = { Covers };
+    ghost covers = { λ name begun. Covers name };
 
     fn note(
         &mut self,

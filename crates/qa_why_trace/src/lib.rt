@@ -17,7 +17,7 @@ mod values;
 pub use causes::{Why, whole, why_of};
 pub use form::Form;
 pub use lines::{extend, shown_name};
-pub use notes::{NoNotes, Notes};
+pub use notes::{Both, NoNotes, Notes};
 pub use objects::{push_rule, refused_members};
 pub use reasons::Reasons;
 pub use telling::{find, unless_accepted, why};
