@@ -131,8 +131,8 @@ def warnings_in(lines: list[bytes]) -> Iterator[tuple[int, bytes]]:
 
 
 def keys_of(line: bytes) -> list[str]:
-    """The keys of the object of a line."""
-    return list(json.loads(line))
+    """The keys of the object of a line, in the order of their bytes."""
+    return sorted(json.loads(line), key=lambda key: key.encode("utf-8", "surrogatepass"))
 
 
 def shown_key(key: str) -> bytes:

@@ -1,9 +1,10 @@
 //! From a reader of bytes to all departures of a trace, on a writer.
-ghost use Rattle.std.specs.Prelude.{◌≡◌, ◌≢◌, ◌++◌, ℕ, List, false, Some, Err, OnErr, IfOk, take};
+ghost use Rattle.std.specs.Prelude.{[], ◌≡◌, ◌≢◌, ◌++◌, ℕ, List, false, Some, Err, OnErr, IfOk, take};
 ghost use Rattle.std.specs.Io.KnownBytes.{Appends};
 ghost use Rattle.qa_all.specs.All.{WritesAll, all_outcome, all_written, past_conduct, told_by};
 ghost use Rattle.qa_check.specs.Audit.{ReadsBy, ReadsEnoughBy, is_read_fault, is_write_fault};
 ghost use Rattle.qa_check.specs.Failures.{failures_after};
+ghost use Rattle.qa_why_trace.specs.Why.{good_lines};
 
 use crate::bearing::Bearing;
 use crate::keeping::Kept;
@@ -12,13 +13,13 @@ use qa_causes::Explains;
 use qa_check::{AuditFault, Outcome, Sink, Source, write_whole};
 use qa_format::Line;
 use qa_ledger::Bears;
-use qa_why_trace::{Form, Notes, Why, find, unless_accepted, whole};
+use qa_why_trace::{Both, Form, Notes, Why, find, unless_accepted, whole};
 use std::alloc::{AllocError, Global};
 
 impl<L: Bears + Explains + Drop> Notes<Bearing<L>> for Listed {
     ghost use Rattle.qa_all.specs.Keeping.{CoversListed};
 
-    ghost covers = { CoversListed };
+    ghost covers = { λ name begun. CoversListed name };
 
     fn note(
         &mut self,
@@ -38,7 +39,7 @@ impl<L: Bears + Explains + Drop> Notes<Bearing<L>> for Listed {
 impl<L: Bears + Explains + Drop> Notes<Bearing<L>> for Kept {
     ghost use Rattle.qa_all.specs.Keeping.{Covers};
 
-    ghost covers = { Covers };
+    ghost covers = { λ name begun. Covers name };
 
     fn note(
         &mut self,
@@ -59,25 +60,32 @@ impl<L: Bears + Explains + Drop> Notes<Bearing<L>> for Kept {
 /// facts; how it ends past them, unless it is accepted but for them; and a table of all. Where it is to
 /// be quiet, it writes nothing of a trace that is accepted and departs from nothing.
 ///
-/// A trace that departs is `Outcome::Refused`, or `Outcome::Unreadable` where it ends so. It reads up to
-/// the line that ends the trace past its departures, and fails where a stream fails or memory runs out.
-/// Beside what `audit` holds it takes memory for the text alone, which is bounded.
-pub fn why_all<L: Bears + Explains + Drop, R: Source, W: Sink>(
+/// A trace that departs is `Outcome::Refused`, or `Outcome::Unreadable` where it ends so. Further notes
+/// are taken of the good lines, and handed back with the kind of the verdict; `NoNotes` where none are
+/// wanted. It reads up to the line that ends the trace past its departures, and fails where a stream
+/// fails, or memory runs out. Beside what `audit` and those notes hold it takes memory for the text
+/// alone, which is bounded.
+pub fn why_all<L: Bears + Explains + Drop, N: Notes<Bearing<L>> + Drop, R: Source, W: Sink>(
     alloc: Global,
     form: Form,
     name: &str,
     quiet: bool,
+    notes: N,
     reader: &mut R,
     writer: &mut W,
-) -> Result<Outcome, AuditFault>
-    // For a reader that tells its bytes: the text for them was written, and the kind of their verdict is returned.
+) -> Result<(Outcome, N), AuditFault>
+    requires fresh { N.covers name.now notes notes [] }
+
+    // For a reader that tells its bytes: the text for them was written, the kind of their verdict is returned, and these are notes of their good lines.
     ensures told { (bytes : List ℕ) → R.left reader.old ≡ Some bytes
-        → IfOk result (λ outcome. WritesAll (W.held writer.old) (W.held writer.new) form quiet name.now outcome bytes) }
+        → IfOk result (λ told. WritesAll (W.held writer.old) (W.held writer.new) form quiet name.now told.0 bytes
+        × N.covers name.now notes told.1 (good_lines past_conduct bytes)) }
 
     // For every reader: what was read decides, since it is all there is, or nothing behind it counts.
-    ensures ok { IfOk result (λ outcome. (bytes : List ℕ)
+    ensures ok { IfOk result (λ told. (bytes : List ℕ)
         × ReadsEnoughBy past_conduct (R.left reader.old) (R.left reader.new) (R.last_read reader.new) bytes
-        × WritesAll (W.held writer.old) (W.held writer.new) form quiet name.now outcome bytes) }
+        × WritesAll (W.held writer.old) (W.held writer.new) form quiet name.now told.0 bytes
+        × N.covers name.now notes told.1 (good_lines past_conduct bytes)) }
 
     // The bytes before the last read did not fix how the trace ends, whatever the result.
     ensures reads { ReadsBy past_conduct (R.left reader.old) (R.left reader.new) (R.last_read reader.new) }
@@ -95,73 +103,90 @@ pub fn why_all<L: Bears + Explains + Drop, R: Source, W: Sink>(
     ensures write_failures { W.write_failures writer.new
         ≡ failures_after (is_write_fault result) (W.write_failures writer.old) }
 {
-    let told = find_all::<L, R>(alloc, form, name, reader)?;
+    let (told, notes) = find_all::<L, N, R>(alloc, form, name, notes, reader)?;
     let all = whole(alloc, form, name, told)?;
     write_whole(writer, unless_accepted(quiet, all.outcome, &all.text))?;
-    Ok(all.outcome)
+    Ok((all.outcome, notes))
 }
 
-/// What is told of all departures of what is read, in a form.
-fn find_all<L: Bears + Explains + Drop, R: Source>(
+/// What is told of all departures of what is read, in a form, and the notes of its good lines.
+fn find_all<L: Bears + Explains + Drop, N: Notes<Bearing<L>> + Drop, R: Source>(
     alloc: Global,
     form: Form,
     name: &str,
+    notes: N,
     reader: &mut R,
-) -> Result<Why, AuditFault>
-    ensures told { IfOk result (λ why. (bytes : List ℕ)
+) -> Result<(Why, N), AuditFault>
+    requires fresh { N.covers name.now notes notes [] }
+    ensures told { IfOk result (λ told. (bytes : List ℕ)
         × ReadsEnoughBy past_conduct (R.left reader.old) (R.left reader.new) (R.last_read reader.new) bytes
-        × (why.text.items ≡ told_by form name.now bytes) × (why.outcome ≡ all_outcome bytes)) }
+        × (told.0.text.items ≡ told_by form name.now bytes) × (told.0.outcome ≡ all_outcome bytes)
+        × N.covers name.now notes told.1 (good_lines past_conduct bytes)) }
     ensures reads { ReadsBy past_conduct (R.left reader.old) (R.left reader.new) (R.last_read reader.new) }
     ensures read_failures { R.read_failures reader.new
         ≡ failures_after (is_read_fault result) (R.read_failures reader.old) }
     ensures written { is_write_fault result ≡ false }
 {
     match form {
-        Form::Text => find_texts::<L, R>(alloc, name, reader),
-        Form::Json => find_members::<L, R>(alloc, name, reader),
+        Form::Text => find_texts::<L, N, R>(alloc, name, notes, reader),
+        Form::Json => find_members::<L, N, R>(alloc, name, notes, reader),
     }
 }
 
 /// The text of all departures of what is read.
-fn find_texts<L: Bears + Explains + Drop, R: Source>(
+fn find_texts<L: Bears + Explains + Drop, N: Notes<Bearing<L>> + Drop, R: Source>(
     alloc: Global,
     name: &str,
+    notes: N,
     reader: &mut R,
-) -> Result<Why, AuditFault>
-    ensures told { IfOk result (λ why. (bytes : List ℕ)
+) -> Result<(Why, N), AuditFault>
+    requires fresh { N.covers name.now notes notes [] }
+    ensures told { IfOk result (λ told. (bytes : List ℕ)
         × ReadsEnoughBy past_conduct (R.left reader.old) (R.left reader.new) (R.last_read reader.new) bytes
-        × (why.text.items ≡ told_by Form.Text name.now bytes) × (why.outcome ≡ all_outcome bytes)) }
+        × (told.0.text.items ≡ told_by Form.Text name.now bytes) × (told.0.outcome ≡ all_outcome bytes)
+        × N.covers name.now notes told.1 (good_lines past_conduct bytes)) }
     ensures reads { ReadsBy past_conduct (R.left reader.old) (R.left reader.new) (R.last_read reader.new) }
     ensures read_failures { R.read_failures reader.new
         ≡ failures_after (is_read_fault result) (R.read_failures reader.old) }
     ensures written { is_write_fault result ≡ false }
 {
-    let mut kept = Kept::new(alloc);
-    let end = find::<Bearing<L>, Kept, R>(alloc, Form::Text, name, reader, &mut kept)?;
-    match kept.finish(name, end) {
-        Ok(all) => Ok(all),
+    let mut both = Both {
+        first: Kept::new(alloc),
+        second: notes,
+    };
+    let end = find::<Bearing<L>, Both<Kept, N>, R>(alloc, Form::Text, name, reader, &mut both)?;
+    let Both { first, second } = both;
+    match first.finish(name, end) {
+        Ok(all) => Ok((all, second)),
         Err(_) => Err(AuditFault::OutOfMemory),
     }
 }
 
 /// The members of an object that tell of all departures of what is read.
-fn find_members<L: Bears + Explains + Drop, R: Source>(
+fn find_members<L: Bears + Explains + Drop, N: Notes<Bearing<L>> + Drop, R: Source>(
     alloc: Global,
     name: &str,
+    notes: N,
     reader: &mut R,
-) -> Result<Why, AuditFault>
-    ensures told { IfOk result (λ why. (bytes : List ℕ)
+) -> Result<(Why, N), AuditFault>
+    requires fresh { N.covers name.now notes notes [] }
+    ensures told { IfOk result (λ told. (bytes : List ℕ)
         × ReadsEnoughBy past_conduct (R.left reader.old) (R.left reader.new) (R.last_read reader.new) bytes
-        × (why.text.items ≡ told_by Form.Json name.now bytes) × (why.outcome ≡ all_outcome bytes)) }
+        × (told.0.text.items ≡ told_by Form.Json name.now bytes) × (told.0.outcome ≡ all_outcome bytes)
+        × N.covers name.now notes told.1 (good_lines past_conduct bytes)) }
     ensures reads { ReadsBy past_conduct (R.left reader.old) (R.left reader.new) (R.last_read reader.new) }
     ensures read_failures { R.read_failures reader.new
         ≡ failures_after (is_read_fault result) (R.read_failures reader.old) }
     ensures written { is_write_fault result ≡ false }
 {
-    let mut listed = Listed::new(alloc);
-    let end = find::<Bearing<L>, Listed, R>(alloc, Form::Json, name, reader, &mut listed)?;
-    match listed.finish(end) {
-        Ok(all) => Ok(all),
+    let mut both = Both {
+        first: Listed::new(alloc),
+        second: notes,
+    };
+    let end = find::<Bearing<L>, Both<Listed, N>, R>(alloc, Form::Json, name, reader, &mut both)?;
+    let Both { first, second } = both;
+    match first.finish(end) {
+        Ok(all) => Ok((all, second)),
         Err(_) => Err(AuditFault::OutOfMemory),
     }
 }

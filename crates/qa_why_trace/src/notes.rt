@@ -12,8 +12,8 @@ use std::alloc::AllocError;
 
 /// Who takes notes of the lines of a trace that are good, one after another.
 pub trait Notes<J: Judge> {
-    // Under a name, they are notes of these lines, in their order.
-    ghost covers: { List ℕ → Self → List (List ℕ) → Type 0 };
+    // Under a name, notes that were begun as the first are as the second after these lines, in their order.
+    ghost covers: { List ℕ → Self → Self → List (List ℕ) → Type 0 };
 
     /// Takes notes of line n of the trace of this name, which is good and says this, with the judge after
     /// it; there is none before a header.
@@ -29,9 +29,9 @@ pub trait Notes<J: Judge> {
     ) -> Result<(), AllocError>
         requires says { reading line.now ≡ Ok said.now }
         requires works { ForSome (option_copied judge) (λ j. J.has_failed j ≡ false) }
-        ensures { OnOk result ((ls : List (List ℕ)) → covers name.now self.old ls → n ≡ length ls + 1
+        ensures { OnOk result ((begun : Self) (ls : List (List ℕ)) → covers name.now begun self.old ls → n ≡ length ls + 1
             → HoldsRun J.judges (option_copied judge.entry) (header_in reading (ls ++ line.now ∷ [])) (history_of (events_in reading (ls ++ line.now ∷ [])))
-            → covers name.now self.new (ls ++ line.now ∷ [])) };
+            → covers name.now begun self.new (ls ++ line.now ∷ [])) };
 }
 
 /// No notes are taken.
@@ -39,7 +39,7 @@ pub trait Notes<J: Judge> {
 pub struct NoNotes;
 
 impl<J: Judge> Notes<J> for NoNotes {
-    ghost covers = { λ name notes ls. Unit {0} };
+    ghost covers = { λ name begun notes ls. Unit {0} };
 
     fn note(
         &mut self,
@@ -61,7 +61,7 @@ pub struct Both<A, B> {
 }
 
 impl<J: Judge, A: Notes<J>, B: Notes<J>> Notes<J> for Both<A, B> {
-    ghost covers = { λ name both ls. A.covers name both.first ls × B.covers name both.second ls };
+    ghost covers = { λ name begun both ls. A.covers name begun.first both.first ls × B.covers name begun.second both.second ls };
 
     fn note(
         &mut self,

@@ -42,18 +42,18 @@ pub fn why<L: Explains + Drop, N: Notes<L> + Drop, R: Source, W: Sink>(
     reader: &mut R,
     writer: &mut W,
 ) -> Result<(Outcome, N), AuditFault>
-    requires fresh { N.covers name.now notes [] }
+    requires fresh { N.covers name.now notes notes [] }
 
     // For a reader that tells its bytes: the text for them was written, the kind of their verdict is returned, and notes of their good lines.
     ensures told { (bytes : List ℕ) → R.left reader.old ≡ Some bytes
         → IfOk result (λ told. Writes (W.held writer.old) (W.held writer.new) form quiet name.now told.0 bytes
-        × N.covers name.now told.1 (good_lines (strict reading) bytes)) }
+        × N.covers name.now notes told.1 (good_lines (strict reading) bytes)) }
 
     // For every reader: what was read decides, since it is all there is, or nothing behind it counts.
     ensures ok { IfOk result (λ told. (bytes : List ℕ)
         × ReadsEnough (R.left reader.old) (R.left reader.new) (R.last_read reader.new) bytes
         × Writes (W.held writer.old) (W.held writer.new) form quiet name.now told.0 bytes
-        × N.covers name.now told.1 (good_lines (strict reading) bytes)) }
+        × N.covers name.now notes told.1 (good_lines (strict reading) bytes)) }
 
     // The bytes before the last read did not fix the verdict, whatever the result.
     ensures reads { Reads (R.left reader.old) (R.left reader.new) (R.last_read reader.new) }
@@ -99,10 +99,10 @@ pub fn find<J: Reasons + Drop, N: Notes<J>, R: Source>(
     reader: &mut R,
     notes: &mut N,
 ) -> Result<Why, AuditFault>
-    requires fresh { N.covers name.now notes.old [] }
+    requires fresh { N.covers name.now notes.old notes.old [] }
     ensures told { IfOk result (λ why. (bytes : List ℕ)
         × ReadsEnoughBy (by J.judges) (R.left reader.old) (R.left reader.new) (R.last_read reader.new) bytes
-        × TellsNoted (by J.judges) (N.covers name.now) form name.now why.outcome why.text.items notes.new bytes) }
+        × TellsNoted (by J.judges) (N.covers name.now notes.old) form name.now why.outcome why.text.items notes.new bytes) }
     ensures reads { ReadsBy (by J.judges) (R.left reader.old) (R.left reader.new) (R.last_read reader.new) }
     ensures read_failures { R.read_failures reader.new
         ≡ failures_after (is_read_fault result) (R.read_failures reader.old) }
@@ -132,10 +132,10 @@ fn take_pieces<J: Reasons + Drop, N: Notes<J>, R: Source>(
     notes: &mut N,
 ) -> Result<Why, AuditFault>
     requires more { TakesMore splitter.old checker.old }
-    requires first { Follows J.judges (N.covers name.now) splitter.old.bytes checker.old notes.old [] }
+    requires first { Follows J.judges (N.covers name.now notes.old) splitter.old.bytes checker.old notes.old [] }
     ensures told { IfOk result (λ why. (bytes : List ℕ)
         × ReadsEnoughBy (by J.judges) (R.left reader.old) (R.left reader.new) (R.last_read reader.new) bytes
-        × TellsNoted (by J.judges) (N.covers name.now) form name.now why.outcome why.text.items notes.new bytes) }
+        × TellsNoted (by J.judges) (N.covers name.now notes.old) form name.now why.outcome why.text.items notes.new bytes) }
     ensures reads { ReadsBy (by J.judges) (R.left reader.old) (R.left reader.new) (R.last_read reader.new) }
     ensures read_failures { R.read_failures reader.new
         ≡ failures_after (is_read_fault result) (R.read_failures reader.old) }
@@ -172,13 +172,13 @@ fn take_piece<J: Reasons + Drop, N: Notes<J>>(
     requires ready { IsReady splitter.old }
     requires whole { checker.old.failed ≡ false }
     ensures more { IfOk result (λ found. IfNone found (TakesMore splitter.new checker.new)) }
-    ensures good { IfOk result (λ found. IfNone found ((bytes : List ℕ)
-        → Follows J.judges (N.covers name.now) splitter.old.bytes checker.old notes.old bytes
-        → Follows J.judges (N.covers name.now) splitter.new.bytes checker.new notes.new (bytes ++ piece.now))) }
-    ensures bad { IfOk result (λ found. IfSome found (λ why. (bytes : List ℕ)
-        → Follows J.judges (N.covers name.now) splitter.old.bytes checker.old notes.old bytes
+    ensures good { IfOk result (λ found. IfNone found ((begun : N) (bytes : List ℕ)
+        → Follows J.judges (N.covers name.now begun) splitter.old.bytes checker.old notes.old bytes
+        → Follows J.judges (N.covers name.now begun) splitter.new.bytes checker.new notes.new (bytes ++ piece.now))) }
+    ensures bad { IfOk result (λ found. IfSome found (λ why. (begun : N) (bytes : List ℕ)
+        → Follows J.judges (N.covers name.now begun) splitter.old.bytes checker.old notes.old bytes
         → IsFixed (by J.judges) (bytes ++ piece.now)
-        × TellsNoted (by J.judges) (N.covers name.now) form name.now why.outcome why.text.items notes.new (bytes ++ piece.now))) }
+        × TellsNoted (by J.judges) (N.covers name.now begun) form name.now why.outcome why.text.items notes.new (bytes ++ piece.now))) }
     ensures memory { IfErr result (λ fault. fault ≡ AuditFault.OutOfMemory) }
 {
     let Ok(()) = splitter.feed(piece) else {
@@ -199,13 +199,13 @@ fn take_lines<J: Reasons + Drop, N: Notes<J>>(
     requires ready { IsReady splitter.old }
     requires whole { checker.old.failed ≡ false }
     ensures more { IfOk result (λ found. IfNone found (TakesMore splitter.new checker.new)) }
-    ensures good { IfOk result (λ found. IfNone found ((bytes : List ℕ)
-        → Follows J.judges (N.covers name.now) splitter.old.bytes checker.old notes.old bytes
-        → Follows J.judges (N.covers name.now) splitter.new.bytes checker.new notes.new bytes)) }
-    ensures bad { IfOk result (λ found. IfSome found (λ why. (bytes : List ℕ)
-        → Follows J.judges (N.covers name.now) splitter.old.bytes checker.old notes.old bytes
+    ensures good { IfOk result (λ found. IfNone found ((begun : N) (bytes : List ℕ)
+        → Follows J.judges (N.covers name.now begun) splitter.old.bytes checker.old notes.old bytes
+        → Follows J.judges (N.covers name.now begun) splitter.new.bytes checker.new notes.new bytes)) }
+    ensures bad { IfOk result (λ found. IfSome found (λ why. (begun : N) (bytes : List ℕ)
+        → Follows J.judges (N.covers name.now begun) splitter.old.bytes checker.old notes.old bytes
         → IsFixed (by J.judges) bytes
-        × TellsNoted (by J.judges) (N.covers name.now) form name.now why.outcome why.text.items notes.new bytes)) }
+        × TellsNoted (by J.judges) (N.covers name.now begun) form name.now why.outcome why.text.items notes.new bytes)) }
     ensures memory { IfErr result (λ fault. fault ≡ AuditFault.OutOfMemory) }
 {
     'lines: loop {
@@ -236,7 +236,7 @@ fn take_line<J: Reasons + Drop, N: Notes<J>>(
 ) -> Result<Option<Why>, AuditFault>
     ensures whole { IfOk result (λ found. checker.new.failed ≡ false) }
     ensures good { IfOk result (λ found. IfNone found
-        (NotesGood J.judges (N.covers name.now) checker.old checker.new notes.old notes.new line.now)) }
+        ((begun : N) → NotesGood J.judges (N.covers name.now begun) checker.old checker.new notes.old notes.new line.now)) }
     ensures bad { IfOk result (λ found. IfSome found (λ why.
         TellsBad J.judges checker.old checker.new form name.now line.now why.outcome why.text.items
         × (notes.new ≡ notes.old))) }
@@ -259,10 +259,10 @@ fn note<J: Reasons + Drop, N: Notes<J>>(
 ) -> Result<Option<Why>, AuditFault>
     requires whole { checker.now.failed ≡ false }
     requires says { reading line.now ≡ Ok said.now }
-    ensures noted { IfOk result (λ found. (found ≡ None) × ((ls : List (List ℕ)) → N.covers name.now notes.old ls
+    ensures noted { IfOk result (λ found. (found ≡ None) × ((begun : N) (ls : List (List ℕ)) → N.covers name.now begun notes.old ls
         → StandsFor J.judges checker.now (ls ++ line.now ∷ [])
         → AreGood (by J.judges) (ls ++ line.now ∷ [])
-        → N.covers name.now notes.new (ls ++ line.now ∷ []))) }
+        → N.covers name.now begun notes.new (ls ++ line.now ∷ []))) }
     ensures memory { IfErr result (λ fault. fault ≡ AuditFault.OutOfMemory) }
 {
     match notes.note(name, checker.line_count(), line, said, checker.ledger()) {
@@ -295,9 +295,9 @@ fn conclude<J: Reasons + Drop, N: Notes<J>>(
     requires ready { IsReady splitter.old }
     requires empty { HasNoLine splitter.old }
     requires whole { checker.old.failed ≡ false }
-    ensures told { IfOk result (λ why. (bytes : List ℕ)
-        → Follows J.judges (N.covers name.now) splitter.old.bytes checker.old notes.old bytes
-        → TellsNoted (by J.judges) (N.covers name.now) form name.now why.outcome why.text.items notes.new bytes) }
+    ensures told { IfOk result (λ why. (begun : N) (bytes : List ℕ)
+        → Follows J.judges (N.covers name.now begun) splitter.old.bytes checker.old notes.old bytes
+        → TellsNoted (by J.judges) (N.covers name.now begun) form name.now why.outcome why.text.items notes.new bytes) }
     ensures memory { IfErr result (λ fault. fault ≡ AuditFault.OutOfMemory) }
 {
     splitter.close();

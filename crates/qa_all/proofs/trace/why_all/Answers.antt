@@ -1,7 +1,8 @@
 use Rattle.std.proofs.Common.{◌≡◌, ◌∙◌, List, ℕ, ap, ap₂, subst, sym}
 use Rattle.std.specs.Io.KnownBytes.{Appends}
 use Rattle.qa_all.proofs.Staying.{told_outcome, told_text}
-use Rattle.qa_all.specs.All.{all_outcome, all_written}
+use Rattle.qa_all.specs.All.{all_outcome, all_written, past_conduct}
+use Rattle.qa_why_trace.proofs.Told.{told_good}
 use Rattle.qa_why_trace.specs.Why.{unless_accepted, whole}
 use Rattle.qa_all.proofs.trace.why_all.Goals as goal
 
@@ -12,4 +13,7 @@ returns-clause-told g c = λ bytes tells.
     let words = told_text c.args.form c.args.name.now _ _ found.0 bytes tells found.1 in
     let all : c.unless_accepted.result.now ≡ all_written c.args.form c.args.quiet c.args.name.now bytes =
     c.unless_accepted.ensures ∙ ap₂ (unless_accepted c.args.quiet) outcome (c.deref.ensures.value ∙ (c.in_ok-all.ensures.whole.0 ∙ ap (whole c.args.form c.args.name.now) (found.2 ∙ sym words))) in
-    (subst (λ (text : List ℕ). Appends (g.W.Sink.held c.args.writer.now) (g.W.Sink.held c.write_whole.new.writer) text) all c.in_ok-write_whole.ensures.ok, outcome)
+    let good = told_good past_conduct _ _ found.0 bytes tells found.1 in (
+      (subst (λ (text : List ℕ). Appends (g.W.Sink.held c.args.writer.now) (g.W.Sink.held c.write_whole.new.writer) text) all c.in_ok-write_whole.ensures.ok, outcome),
+      subst (λ (ls : List (List ℕ)). g.N.Notes.covers c.args.name.now c.args.notes c.in_ok-told.notes ls) (sym good) found.4,
+    )

@@ -10,10 +10,10 @@ use Rattle.qa_why_trace.proofs.telling.note.Goals as goal
 pub returns-in-Ok-clause-noted : goal.returns-in-Ok-clause-noted
 returns-in-Ok-clause-noted g c = (
   refl,
-  λ ls covers stands good.
+  λ begun ls covers stands good.
       let all = ls ++ c.args.line.now ∷ [] in
       let held = holds_of_good g.J.Judge.judges c.args.checker.now all stands good in
       let there = subst (λ (ledger : Option _). HoldsRun g.J.Judge.judges ledger (header_in reading all) (history_of (events_in reading all))) (sym c.ledger.ensures.ledger) held in
       let count = c.line_count.ensures ∙ (lines_of_good g.J.Judge.judges c.args.checker.now all stands good ∙ length-append ls (c.args.line.now ∷ [])) in
-      c.in-Ok.ensures ls covers count there,
+      c.in-Ok.ensures begun ls covers count there,
 )

@@ -7,7 +7,7 @@ abbrev pub invariant-lines : goal.invariant-lines
 invariant-lines g l = record {
   ready : IsReady l.splitter;
   whole : l.checker.failed ≡ false;
-  follows : (bytes : List ℕ) → Follows g.J.Judge.judges (g.N.Notes.covers l.fn.name) l.fn.splitter.bytes l.fn.checker l.fn.notes bytes → Follows g.J.Judge.judges (g.N.Notes.covers l.fn.name) l.splitter.bytes l.checker l.notes bytes;
+  follows : (begun : _) (bytes : List ℕ) → Follows g.J.Judge.judges (g.N.Notes.covers l.fn.name begun) l.fn.splitter.bytes l.fn.checker l.fn.notes bytes → Follows g.J.Judge.judges (g.N.Notes.covers l.fn.name begun) l.splitter.bytes l.checker l.notes bytes;
 }
 
 abbrev pub decreases-lines : goal.decreases-lines

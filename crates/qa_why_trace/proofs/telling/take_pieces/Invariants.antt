@@ -9,5 +9,5 @@ invariant-pieces g l = record {
   more : TakesMore l.splitter l.checker;
   unfailed_read : g.R.Source.read_failures l.reader ≡ g.R.Source.read_failures l.fn.reader;
   read : (bytes : List ℕ) × Consumes (g.R.Source.left l.fn.reader) (g.R.Source.left l.reader) bytes
-      × Follows g.J.Judge.judges (g.N.Notes.covers l.fn.name) l.splitter.bytes l.checker l.notes bytes × (l._i ≤ length bytes);
+      × Follows g.J.Judge.judges (g.N.Notes.covers l.fn.name l.fn.notes) l.splitter.bytes l.checker l.notes bytes × (l._i ≤ length bytes);
 }

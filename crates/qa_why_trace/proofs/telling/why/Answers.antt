@@ -16,5 +16,5 @@ returns-clause-told g c = λ bytes tells.
     let all : c.unless_accepted.result.now ≡ written c.args.form c.args.quiet c.args.name.now bytes =
     c.unless_accepted.ensures ∙ ap₂ (unless_accepted c.args.quiet) outcome (c.deref.ensures.value ∙ (c.in_ok-why.ensures.whole.0 ∙ ap (whole c.args.form c.args.name.now) (found.2.0.0 ∙ sym words))) in (
       (subst (λ (text : List ℕ). Appends (g.W.Sink.held c.args.writer.now) (g.W.Sink.held c.write_whole.new.writer) text) all c.in_ok-write_whole.ensures.ok, outcome),
-      subst (λ (ls : List (List ℕ)). g.N.Notes.covers c.args.name.now c.find-told.new.notes ls) (sym good) found.2.1,
+      subst (λ (ls : List (List ℕ)). g.N.Notes.covers c.args.name.now c.args.notes c.find.new.notes ls) (sym good) found.2.1,
     )

@@ -1,0 +1,5 @@
+mod Rows
+mod Headed
+mod Noted
+mod Staying
+pub mod Laws

@@ -1,0 +1,4 @@
+pub mod Texts
+pub mod Rows
+pub mod Keeping
+pub mod Around

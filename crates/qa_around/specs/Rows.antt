@@ -1,0 +1,57 @@
+-- The rows of the good lines of a trace: of each that is not blank one, by the header and the history up to and with it.
+use Rattle.std.specs.Prelude.{ℕ, ◌+◌, ◌-◌, drop, length, List, [], ◌∷◌, ◌++◌, Option, Some, None, Result, Ok}
+use Rattle.qa_around.specs.Texts.{rows_text}
+use Rattle.qa_around.specs.declared.row.Row.{Row}
+use Rattle.qa_base.specs.declared.event.Event.{Event}
+use Rattle.qa_base.specs.declared.line_kind.LineKind.{LineKind}
+use Rattle.qa_base.specs.declared.line_kind.LineKind.TheVariants as kinds
+use Rattle.qa_base.specs.machine.Packets.{history_of}
+use Rattle.qa_base.specs.machine.State.{totals}
+use Rattle.qa_base.specs.machine.Timer.{deadline}
+use Rattle.qa_base.specs.values.Events.{time_of}
+use Rattle.qa_base.specs.values.Kinds.{event_kind}
+use Rattle.qa_base.specs.values.Settings.{Settings}
+use Rattle.qa_format.specs.declared.fault.Fault.{Fault}
+use Rattle.qa_format.specs.declared.line.Line.{Line}
+use Rattle.qa_format.specs.declared.line.Line.TheVariants as line
+use Rattle.qa_format.specs.format.Reading.{reading}
+use Rattle.qa_format.specs.verdicts.Verdict.{events_in, header_in}
+
+-- ---- of a line
+
+-- of line n, which is of this kind and has this time, and behind which the trace has this header and this history
+abbrev pub row : ℕ → LineKind → Option ℕ → Settings → List Event → Row
+row n kind time c h = record { line = n; kind = kind; time = time; totals = totals c h; due = deadline c h }
+
+-- of line n, which says this; a blank line has none
+abbrev pub row_of : ℕ → Line → Settings → List Event → List Row
+row_of n line.Blank c h = []
+row_of n (line.Header s) c h = row n kinds.Header None c h ∷ []
+row_of n (line.Event e) c h = row n (event_kind e) (Some (time_of e)) c h ∷ []
+
+abbrev pub row_said : ℕ → Result Line Fault → Option Settings → List Event → List Row
+row_said n (Ok l) (Some c) h = row_of n l c h
+row_said n said header h = []
+
+-- of a line behind these
+abbrev pub row_on : List (List ℕ) → List ℕ → List Row
+row_on before l = row_said (length before + 1) (reading l) (header_in reading (before ++ l ∷ [])) (history_of (events_in reading (before ++ l ∷ [])))
+
+-- ---- of lines
+
+abbrev pub rows_after : List (List ℕ) → List (List ℕ) → List Row
+rows_after before [] = []
+rows_after before (l ∷ ls) = row_on before l ++ rows_after (before ++ l ∷ []) ls
+
+abbrev pub rows : List (List ℕ) → List Row
+rows ls = rows_after [] ls
+
+-- the last of them, up to so many
+abbrev pub last_of : ℕ → List Row → List Row
+last_of count rs = drop (length rs - count) rs
+
+-- ---- the text
+
+-- the last rows of good lines, up to so many
+abbrev pub rows_before : ℕ → List (List ℕ) → List ℕ
+rows_before count ls = rows_text (last_of count (rows ls))

@@ -1,0 +1,127 @@
+//! The rows of the last good lines of a trace, which are kept while it is judged.
+ghost use Rattle.std.specs.Prelude.{◌≡◌, ◌<◌, ◌++◌, [], ◌∷◌, ℕ, List, false, IfOk, OnOk, string_bytes};
+ghost use Rattle.qa_around.specs.Keeping.{Covers, Keeps, room_in};
+ghost use Rattle.qa_around.specs.Rows.{row, row_of, rows, rows_before};
+ghost use Rattle.qa_around.specs.Texts as text;
+ghost use Rattle.qa_around.specs.declared.latest.Latest.{Latest as ALatest};
+ghost use Rattle.qa_around.specs.declared.row.Row.{Row as ARow};
+ghost use Rattle.qa_base.specs.declared.event.Event.{Event as AnEvent};
+ghost use Rattle.qa_base.specs.values.Settings.{Settings};
+
+use crate::row::{Row, push_row};
+use qa_base::LineKind;
+use qa_causes::Explains;
+use qa_format::Line;
+use qa_why::push_words;
+use std::alloc::{AllocError, Global};
+use std::collections::VecDeque;
+
+/// The rows of the last good lines of a trace that are not blank, up to so many: of each its number,
+/// its kind and time, and the state of the machine behind it.
+///
+/// It takes memory for so many rows, and none for a line that comes after them.
+#[derive(Drop)]
+pub struct Latest {
+    pub(crate) count: u16,
+    pub(crate) rows: VecDeque<Row>,
+}
+
+impl Latest {
+    /// The last rows up to so many, of no lines. Takes no memory.
+    pub fn new(alloc: Global, count: u16) -> Latest
+        ensures count { result.count ≡ count }
+        ensures fresh { (name : List ℕ) → Covers name result result [] }
+    {
+        Latest {
+            count,
+            rows: VecDeque::new(alloc),
+        }
+    }
+
+    /// Keeps the row of a line of this kind and this time, by the ledger behind it, in place of the first
+    /// where there are so many.
+    fn keep<L: Explains>(
+        &mut self,
+        line: u64,
+        kind: LineKind,
+        time: Option<u64>,
+        ledger: &L,
+    ) -> Result<(), AllocError>
+        requires some { 0 < self.old.count }
+        requires works { L.has_failed ledger.now ≡ false }
+        ensures count { OnOk result (self.new.count ≡ self.old.count) }
+        ensures kept { OnOk result ((rs : List ARow) (c : Settings) (h : List AnEvent)
+            → Keeps self.old rs → L.stands ledger.now c h
+            → Keeps self.new (rs ++ row line kind time c h ∷ [])) }
+    {
+        make_room(&mut self.rows, usize::from(self.count));
+        self.rows.reserve(1)?;
+        self.rows
+            .push_back_reserved(Row::of(line, kind, time, ledger));
+        Ok(())
+    }
+
+    /// Keeps the row of a good line, by the ledger behind it.
+    pub(crate) fn note_said<L: Explains>(
+        &mut self,
+        n: u64,
+        said: &Line,
+        ledger: &L,
+    ) -> Result<(), AllocError>
+        requires some { 0 < self.old.count }
+        requires works { L.has_failed ledger.now ≡ false }
+        ensures count { OnOk result (self.new.count ≡ self.old.count) }
+        ensures kept { OnOk result ((rs : List ARow) (c : Settings) (h : List AnEvent)
+            → Keeps self.old rs → L.stands ledger.now c h
+            → Keeps self.new (rs ++ row_of n said.now c h)) }
+    {
+        match said {
+            Line::Blank => Ok(()),
+            Line::Header(_) => self.keep(n, LineKind::Header, None, ledger),
+            Line::Event(event) => self.keep(n, event.kind(), Some(event.time().get()), ledger),
+        }
+    }
+
+    /// The rows with a heading; empty where there are none. `AllocError` comes where it is out of
+    /// memory.
+    pub fn text(&self, alloc: Global) -> Result<Vec<u8>, AllocError>
+        ensures { IfOk result (λ text. (ls : List (List ℕ)) → Keeps self.now (rows ls)
+            → text.items ≡ rows_before self.now.count ls) }
+    {
+        let mut text = String::new(alloc);
+        push_under_heading(&mut text, &self.rows)?;
+        Ok(text.into_bytes())
+    }
+}
+
+/// Drops the first row, where there are so many.
+fn make_room(rows: &mut VecDeque<Row>, count: usize)
+    ensures { rows.new.items ≡ room_in count rows.old.items }
+{
+    if rows.len() >= count {
+        rows.pop_front();
+    }
+}
+
+/// Appends the rows with a heading, where there are some.
+fn push_under_heading(out: &mut String, rows: &VecDeque<Row>) -> Result<(), AllocError>
+    ensures { OnOk result (string_bytes out.new
+        ≡ string_bytes out.old ++ text.rows_text rows.now.items) }
+{
+    if rows.is_empty() {
+        return Ok(());
+    }
+    push_words(out, "  before it:\n")?;
+    push_each(out, rows)
+}
+
+/// Appends the rows.
+fn push_each(out: &mut String, rows: &VecDeque<Row>) -> Result<(), AllocError>
+    ensures { OnOk result (string_bytes out.new
+        ≡ string_bytes out.old ++ text.each_text rows.now.items) }
+{
+    for row in rows {
+        push_row(out, row)?;
+    }
+    Ok(())
+}

@@ -1,0 +1,10 @@
+//! What stands around a trace's end: the rows of the last good lines before it is refused or cannot be
+//! read, each with the state of the machine behind it.
+#![tactic(auto)]
+
+mod latest;
+mod row;
+mod trace;
+
+pub use latest::Latest;
+pub use trace::why_around;
