@@ -1,0 +1,3 @@
+pub mod KeyTables
+pub mod OtherNames
+pub mod Near
