@@ -2,8 +2,8 @@
 ghost use Rattle.std.specs.Prelude.{◌≡◌, IfOk};
 ghost use Rattle.qa_near.specs.Near as spec;
 
-use crate::tables::keys_of;
 use crate::other_names::other_name;
+use crate::tables::keys_of;
 use qa_base::{Key, LineKind, Version};
 use std::alloc::{AllocError, Global};
 use strsim::levenshtein;

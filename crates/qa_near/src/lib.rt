@@ -2,8 +2,10 @@
 #![tactic(auto)]
 
 mod guess;
+mod missing;
 mod other_names;
 mod tables;
 
 pub use guess::near;
+pub use missing::stands_for;
 pub use tables::{is_key, keys_of};

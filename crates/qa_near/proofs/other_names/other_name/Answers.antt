@@ -1,6 +1,5 @@
-use Rattle.std.proofs.Common.{◌≡◌, ◌∙◌, ◌++◌, ap, ap₂, inl, inr, sym}
+use Rattle.std.proofs.Common.{◌∙◌, ◌++◌, ap₂, inl, inr, sym}
 use Rattle.std.specs.Option.{option_or}
-use Rattle.qa_base.specs.values.Names.{named}
 use Rattle.qa_near.proofs.Named.{named-append}
 use Rattle.qa_near.specs.OtherNames.{of_ack, of_event, of_metrics, of_packet, of_space}
 use Rattle.qa_near.proofs.other_names.other_name.Goals as goal
