@@ -16,9 +16,10 @@ mod values;
 
 pub use causes::{Why, whole, why_of};
 pub use form::Form;
-pub use lines::extend;
+pub use lines::{extend, first_bytes, printed};
 pub use notes::{Both, NoNotes, Notes};
 pub use objects::{push_rule, refused_members};
 pub use reasons::Reasons;
 pub use telling::{find, unless_accepted, why};
 pub use texts::broken;
+pub use values::data_of;

@@ -11,9 +11,10 @@ use qa_format::Fault;
 use serde_json::Value;
 use std::alloc::{AllocError, Global};
 
-/// The JSON value that the bytes are; None where they are none.
+/// The JSON value that the bytes are; None where they are none. `AllocError` comes where it is out of
+/// memory.
 #[tactic(auto, unfolding(crate::specs::Values::data_of))]
-fn data_of(alloc: Global, line: &[u8]) -> Result<Option<Value>, AllocError>
+pub fn data_of(alloc: Global, line: &[u8]) -> Result<Option<Value>, AllocError>
     ensures { IfOk result (λ found. option_map view found ≡ text.data_of line.now) }
 {
     let Ok(text) = str::from_utf8(line) else {

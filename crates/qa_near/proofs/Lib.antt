@@ -1,0 +1,2 @@
+mod Named
+pub mod KeysOf

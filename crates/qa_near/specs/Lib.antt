@@ -1,0 +1,4 @@
+pub mod KeyTables
+pub mod OtherNames
+pub mod Near
+pub mod StandsFor

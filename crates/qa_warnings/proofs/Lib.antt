@@ -1,0 +1,3 @@
+mod Firsts
+mod Found
+mod Telling

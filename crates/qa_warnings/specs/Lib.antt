@@ -1,0 +1,5 @@
+pub mod Strange
+pub mod Found
+pub mod Texts
+pub mod Warnings
+pub mod Keeping
