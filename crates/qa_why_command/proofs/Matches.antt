@@ -1,5 +1,5 @@
 -- What is read of the matches.
-use Rattle.std.proofs.Common.{◌≡◌, ◌∙◌, ℕ, Bool, true, false, List, [], ◌∷◌, length, Option, Some, None, ◌⊎◌, inl, inr, IfOk, IsErr, refl, sym, ap, codes, bytes_eq, ◌&&◌, ltb-true, lt-ltb}
+use Rattle.std.proofs.Common.{◌≡◌, ◌∙◌, ℕ, Bool, true, false, List, [], ◌∷◌, length, Option, Some, None, refl, sym, ap, codes, bytes_eq, ◌&&◌, ltb-true, lt-ltb}
 use Rattle.std.specs.Prelude.{find, option_map, option_and_then, unwrap_or, nat_lt, Ok, Err, Result, ◌^◌}
 use Rattle.std.specs.List.{list_all}
 use Rattle.std.specs.Borrow.{Bor}
@@ -15,12 +15,7 @@ use Rattle.clap.specs.Walk.{Row, Text, all_of, row_of, rows_of}
 use Rattle.clap.specs.declared.parser.matches.Found.{Found}
 use Rattle.clap.specs.declared.parser.matches.MatchedArg.{MatchedArg}
 use Rattle.clap.specs.declared.parser.matches.ValueSource.{ValueSource}
-use Rattle.clap.specs.Kinds.{IsAmong, Kinds}
-use Rattle.clap.specs.declared.error.kind.ErrorKind.{ErrorKind}
-use Rattle.clap.specs.declared.error.kind.ErrorKind.TheVariants.{OutOfMemory}
-use Rattle.std.specs.declared.alloc.AllocError.{AllocError}
-use Rattle.qa_why_command.specs.declared.arguments.Asked.{Asked}
-use Rattle.qa_why_command.specs.Asked.{AskedBy, asked_in, by_words, is_given, flag_in, number_in, number_or_zero, request, request_of_kind}
+use Rattle.qa_why_command.specs.Asked.{by_words, is_given, flag_in, number_in, number_or_zero}
 
 -- ---- names of files
 
@@ -115,18 +110,3 @@ number_found G f name r only none value =
 
 abbrev pub names_of_pair : Bor Text × Bor Text → Text × Text
 names_of_pair pair = (pair.0.now, pair.1.now)
-
--- ---- what is asked for
-
-pub asked_with : (result : Result Asked AllocError) (k : ErrorKind) (faults : Kinds) (rows : List Row) → (k ≡ OutOfMemory → IsErr result)
-    → IfOk result (λ asked. request asked ≡ request_of_kind k) → (k ≡ OutOfMemory) ⊎ IsAmong k faults
-    → IfOk result (λ asked. AskedBy faults rows (request asked))
-asked_with (Err fault) k faults rows memory shown fails = tt
-asked_with (Ok asked) k faults rows memory shown (inl is) = (let bad = memory is in cc)
-asked_with (Ok asked) k [] rows memory shown (inr among) = absurd among
-asked_with (Ok asked) k (kind ∷ more) rows memory shown (inr among) = (k, among, shown)
-
-pub asked_without : (result : Result Asked AllocError) (faults : Kinds) (rows found : List Row) → faults ≡ [] → found ≡ rows
-    → IfOk result (λ asked. request asked ≡ asked_in found) → IfOk result (λ asked. AskedBy faults rows (request asked))
-asked_without (Err fault) faults rows found none same is = tt
-asked_without (Ok asked) faults rows found none same is = rw none (is ∙ ap asked_in same)

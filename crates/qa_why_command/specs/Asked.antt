@@ -1,9 +1,8 @@
 -- What the arguments ask for, and the parser that reads them.
-use Rattle.std.specs.Prelude.{◌≡◌, ◌^◌, ◌++◌, ◌&&◌, ℕ, Bool, pos, true, false, List, [], ◌∷◌, map, codes, find, nat_lt, Option, Some, is_some, option_and_then, unwrap_or, if◌then◌else◌}
+use Rattle.std.specs.Prelude.{◌^◌, ◌++◌, ◌&&◌, ℕ, Bool, pos, true, false, List, [], ◌∷◌, map, codes, find, nat_lt, Option, Some, is_some, option_and_then, unwrap_or, if◌then◌else◌}
 use Rattle.std.specs.Option.{option_map_or}
 use Rattle.std.specs.Str.{bytes_eq}
 use Rattle.std.specs.Str.Parse.{digits_value, without_leading_plus}
-use Rattle.clap.specs.Kinds.{IsAmong, Kinds}
 use Rattle.clap.specs.Simple.{App, new_app, new_rule, on_top, with_rule}
 use Rattle.clap.specs.ValueTests.{is_numeral}
 use Rattle.clap.specs.Walk.{Row, Rule, all_of, one_of}
@@ -149,8 +148,3 @@ request_of_kind kind = if is_shown kind then shows else refuses
 -- what matches ask for: nothing, where two options exclude each other
 abbrev pub asked_in : List Row → Request
 asked_in rows = if is_some (clash_in rows) then refuses else tells (wanted_in rows)
-
--- what is asked for where the parser finds these faults, or none and these matches
-abbrev pub AskedBy : Kinds → List Row → Request → Type 0
-AskedBy [] rows r = r ≡ asked_in rows
-AskedBy (first ∷ more) rows r = (kind : ErrorKind) × IsAmong kind (first ∷ more) × (r ≡ request_of_kind kind)

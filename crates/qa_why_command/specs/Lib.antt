@@ -1,3 +1,4 @@
 pub mod Tally
 pub mod Commands
 pub mod Asked
+pub mod Words

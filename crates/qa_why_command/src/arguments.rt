@@ -1,8 +1,11 @@
 //! What the arguments ask for.
-ghost use Rattle.std.specs.Prelude.{◌≡◌, false, IfOk, IsErr, List, ℕ, [], codes, map, option_map, string_bytes, unwrap_or};
-ghost use Rattle.clap.specs.Words.{all_of, app_of, fault_of, found_of, kind_of, matches_of, rows_of, rule_of, FailsBy, HasMatchesOf};
+ghost use Rattle.std.specs.Prelude.{◌≡◌, false, IfOk, IsErr, List, ℕ, [], codes, map};
+ghost use Rattle.std.specs.Prelude.{option_map, string_bytes, unwrap_or};
+ghost use Rattle.clap.specs.Words.{all_of, app_of, fault_of, found_of, kind_of, rows_of, rule_of};
+ghost use Rattle.clap.specs.Words.{FailsBy, HasMatchesOf};
 ghost use Rattle.clap.specs.declared.error.kind.ErrorKind.TheVariants as kinds;
 ghost use Rattle.qa_why_command.specs.Asked as defined;
+ghost use Rattle.qa_why_command.specs.Words as words;
 
 use clap::error::ErrorKind;
 use clap::parser::ValueSource;
@@ -81,11 +84,12 @@ pub enum Asked<'a> {
     Nothing(String),
 }
 
-/// Reads what the arguments behind the program's name ask for. `AllocError` comes where it is out of
-/// memory.
+/// Reads what the arguments behind the program's name ask for.
+///
+/// `AllocError` comes where it is out of memory, and only there.
 pub fn parse<'a>(alloc: Global, arguments: &'a [String]) -> Result<Asked<'a>, AllocError>
-    ensures { IfOk result (λ asked. defined.AskedBy (fault_of defined.parser_of_arguments (map string_bytes arguments.now))
-        (matches_of defined.parser_of_arguments (map string_bytes arguments.now)) (defined.request asked)) }
+    ensures { IfOk result (λ asked. defined.request asked
+        ≡ words.asked (map string_bytes arguments.now)) }
 {
     match matches_of(alloc, arguments) {
         Ok(matches) => asked_of(alloc, &matches),
@@ -95,15 +99,18 @@ pub fn parse<'a>(alloc: Global, arguments: &'a [String]) -> Result<Asked<'a>, Al
 
 /// What the parser finds in the arguments.
 fn matches_of<'a>(alloc: Global, arguments: &'a [String]) -> Result<ArgMatches<'a>, Error>
-    ensures matches { IfOk result (HasMatchesOf defined.parser_of_arguments (map string_bytes arguments.now)) }
-    ensures kinds { FailsBy (fault_of defined.parser_of_arguments (map string_bytes arguments.now)) result }
+    ensures matches { IfOk result (HasMatchesOf defined.parser_of_arguments
+        (map string_bytes arguments.now)) }
+    ensures kinds { FailsBy (fault_of defined.parser_of_arguments
+        (map string_bytes arguments.now)) result }
 {
     parser(alloc)?.try_get_matches_from(arguments)
 }
 
 /// What the matches ask for: nothing, where two options exclude each other.
 fn asked_of<'a>(alloc: Global, matches: &ArgMatches<'a>) -> Result<Asked<'a>, AllocError>
-    ensures { IfOk result (λ asked. defined.request asked ≡ defined.asked_in (rows_of (found_of matches.now))) }
+    ensures { IfOk result (λ asked. defined.request asked
+        ≡ defined.asked_in (rows_of (found_of matches.now))) }
 {
     if let Some((one, other)) = clash(matches) {
         return Ok(Asked::Nothing(clash_text(alloc, one, other)?));
@@ -113,7 +120,8 @@ fn asked_of<'a>(alloc: Global, matches: &ArgMatches<'a>) -> Result<Asked<'a>, Al
 
 /// The first two options that were given and exclude each other.
 fn clash(matches: &ArgMatches<'_>) -> Option<(&'static str, &'static str)>
-    ensures { option_map (λ pair. (pair.0.now, pair.1.now)) result ≡ defined.clash_in (rows_of (found_of matches.now)) }
+    ensures { option_map (λ pair. (pair.0.now, pair.1.now)) result
+        ≡ defined.clash_in (rows_of (found_of matches.now)) }
 {
     for (one, other) in EXCLUSIVE {
         if is_given(matches, one) && is_given(matches, other) {
@@ -151,7 +159,8 @@ fn clash_text(alloc: Global, one: &str, other: &str) -> Result<String, AllocErro
 
 /// What the matches ask to be told.
 fn inquiry_of<'a>(alloc: Global, matches: &ArgMatches<'a>) -> Result<Inquiry<'a>, AllocError>
-    ensures { IfOk result (λ inquiry. defined.wanted inquiry ≡ defined.wanted_in (rows_of (found_of matches.now))) }
+    ensures { IfOk result (λ inquiry. defined.wanted inquiry
+        ≡ defined.wanted_in (rows_of (found_of matches.now))) }
 {
     Ok(Inquiry {
         told: told_by(matches),
@@ -207,7 +216,8 @@ fn files<'a>(alloc: Global, matches: &ArgMatches<'a>) -> Result<Vec<&'a str>, Al
 /// The text by which the parser ends. An error of its own that says it is out of memory is no text.
 fn text_of<'a>(alloc: Global, error: &Error) -> Result<Asked<'a>, AllocError>
     ensures memory { kind_of error.now ≡ kinds.OutOfMemory → IsErr result }
-    ensures shown { IfOk result (λ asked. defined.request asked ≡ defined.request_of_kind (kind_of error.now)) }
+    ensures shown { IfOk result (λ asked. defined.request asked
+        ≡ defined.request_of_kind (kind_of error.now)) }
 {
     match error.kind() {
         ErrorKind::OutOfMemory => Err(AllocError),
