@@ -17,6 +17,7 @@ from constants import (
     Rule,
 )
 from names import shown_name
+from near import meant
 from sender import Deadline, Event, Ranges, Sender
 
 SHOWN_BYTES = 200
@@ -202,7 +203,17 @@ def unreadable(verdict: Verdict, line: bytes | None) -> bytes:
     if line is None:
         return text
     hint = "" if verdict.is_headed else hint_of(line)
-    return text + shown(verdict.line, line) + (f"  Hint: {hint}\n".encode() if hint else b"")
+    file_hint = f"  Hint: {hint}\n".encode() if hint else b""
+    return text + shown(verdict.line, line) + key_hint(fault, key, line) + file_hint
+
+
+def key_hint(fault: str, key: list[str], line: bytes) -> bytes:
+    """What stands in a line in place of a key that is missing."""
+    name = meant(line, key[0]) if fault == "missing" else None
+    if name is None:
+        return b""
+    front = b"  Hint: the key " + printed(name.encode("utf-8", "surrogatepass")[:SHOWN_OF_STRING])
+    return front + f" stands there; is it {key[0]}?\n".encode()
 
 
 def sentence_of(verdict: Verdict, fault: str, key: list[str], line: bytes | None) -> str:

@@ -1,7 +1,1 @@
-mod Finish
-mod Letters
-mod Matches
-mod Meaning
-mod Rows
-mod Turns
-mod Walking
+mod Warned

@@ -1,4 +1,3 @@
 pub mod Tally
 pub mod Commands
-pub mod Asked
-pub mod Words
+pub mod Telling

@@ -2,20 +2,21 @@
 ghost use Rattle.std.specs.Prelude.{◌≡◌, ℕ, List, Some, Ok, IfOk, codes};
 ghost use Rattle.qa_all.specs.All.{WritesAll};
 ghost use Rattle.qa_all.specs.Rows.{WritesAllRows};
-ghost use Rattle.qa_why_command.specs.Commands as defined;
 ghost use Rattle.qa_rows.specs.Rows.{WritesRows};
-ghost use Rattle.qa_why_trace.specs.Why.{Writes};
+ghost use Rattle.qa_why_command.specs.Commands as defined;
+ghost use Rattle.qa_why_command.specs.Telling.{WarnsAll, WarnsWhy, WritesWhy};
 ghost use Rattle.qa_why_trace.specs.declared.form.Form.{Form as AForm};
 
-use crate::arguments::{Asked, Inquiry, Told, parse};
 use crate::tally::Tally;
-use qa_all::{rows_all, why_all};
+use crate::telling::{tell_all, tell_why};
+use qa_all::rows_all;
 use qa_arguments::ArgumentsFault;
 use qa_check::{AuditFault, Metered, Outcome, Sink, Source, write_whole};
 use qa_commands::write_line;
 use qa_rows::rows;
 use qa_running::Running;
-use qa_why_trace::{Form, why};
+use qa_why_arguments::{Asked, Inquiry, Told, parse};
+use qa_why_trace::Form;
 use std::alloc::Global;
 use std::fs;
 use std::rt::Files;
@@ -125,11 +126,11 @@ fn tell<R: Files, I: Source, O: Sink, E: Sink>(
     let mut tally = Tally::new();
     match inquiry.files.as_slice() {
         [] => {
-            let told = tell_input(alloc, inquiry, input, output);
+            let told = tell_input(alloc, inquiry, input, output, error);
             count(STANDARD_INPUT, told, error, &mut tally);
         }
         [name] => {
-            let told = tell_of(rt, alloc, inquiry, name, input, output);
+            let told = tell_of(rt, alloc, inquiry, name, input, output, error);
             count(name, told, error, &mut tally);
         }
         names => tell_several(rt, alloc, inquiry, names, input, output, error, &mut tally),
@@ -149,7 +150,7 @@ fn tell_several<R: Files, I: Source, O: Sink, E: Sink>(
     tally: &mut Tally,
 ) {
     for name in names {
-        let told = tell_of(rt, alloc, inquiry, name, input, output);
+        let told = tell_of(rt, alloc, inquiry, name, input, output, error);
         count(name, told, error, tally);
         if stops(told) {
             return;
@@ -198,74 +199,82 @@ fn write_tally<O: Sink>(alloc: Global, tally: &Tally, output: &mut O) -> Result<
 }
 
 /// Tells of the trace of this name.
-fn tell_of<R: Files, I: Source, O: Sink>(
+fn tell_of<R: Files, I: Source, O: Sink, E: Sink>(
     rt: &R,
     alloc: Global,
     inquiry: &Inquiry<'_>,
     name: &str,
     input: &mut I,
     output: &mut O,
+    error: &mut E,
 ) -> Result<Outcome, Failure> {
     if name == STANDARD_INPUT {
-        return tell_input(alloc, inquiry, input, output);
+        return tell_input(alloc, inquiry, input, output, error);
     }
     let Ok(file) = fs::open(rt, name) else {
         return Err(Failure::Open);
     };
     let mut reader = Metered::new(file);
-    tell_read(alloc, inquiry, name, &mut reader, output)
+    tell_read(alloc, inquiry, name, &mut reader, output, error)
 }
 
 /// Tells of the trace on standard input.
-fn tell_input<I: Source, O: Sink>(
+fn tell_input<I: Source, O: Sink, E: Sink>(
     alloc: Global,
     inquiry: &Inquiry<'_>,
     input: &mut I,
     output: &mut O,
+    error: &mut E,
 ) -> Result<Outcome, Failure>
     ensures why { (form : AForm) (bytes : List ℕ) → inquiry.now.told ≡ Told.Why form
         → I.left input.old ≡ Some bytes
-        → IfOk result (λ outcome. Writes (O.held output.old) (O.held output.new) form inquiry.now.quiet (codes "-") outcome bytes) }
+        → IfOk result (λ outcome. WritesWhy (O.held output.old) (O.held output.new) form inquiry.now.around inquiry.now.quiet (codes "-") outcome bytes
+        × WarnsWhy inquiry.now.warn (E.held error.old) (E.held error.new) (E.write_failures error.old) (E.write_failures error.new) (codes "-") bytes) }
     ensures all { (form : AForm) (bytes : List ℕ) → inquiry.now.told ≡ Told.All form
         → I.left input.old ≡ Some bytes
-        → IfOk result (λ outcome. WritesAll (O.held output.old) (O.held output.new) form inquiry.now.quiet (codes "-") outcome bytes) }
+        → IfOk result (λ outcome. WritesAll (O.held output.old) (O.held output.new) form inquiry.now.quiet (codes "-") outcome bytes
+        × WarnsAll inquiry.now.warn (E.held error.old) (E.held error.new) (E.write_failures error.old) (E.write_failures error.new) (codes "-") bytes) }
     ensures rows { (bytes : List ℕ) → inquiry.now.told ≡ Told.Rows
         → I.left input.old ≡ Some bytes
-        → IfOk result (λ outcome. WritesRows (O.held output.old) (O.held output.new) outcome bytes) }
+        → IfOk result (λ outcome. WritesRows (O.held output.old) (O.held output.new) outcome bytes
+        × (error.new ≡ error.old)) }
     ensures all_rows { (bytes : List ℕ) → inquiry.now.told ≡ Told.AllRows
         → I.left input.old ≡ Some bytes
-        → IfOk result (λ outcome. WritesAllRows (O.held output.old) (O.held output.new) outcome bytes) }
+        → IfOk result (λ outcome. WritesAllRows (O.held output.old) (O.held output.new) outcome bytes
+        × (error.new ≡ error.old)) }
 {
-    tell_read(alloc, inquiry, STANDARD_INPUT, input, output)
+    tell_read(alloc, inquiry, STANDARD_INPUT, input, output, error)
 }
 
 /// Tells of the trace of this name that is read.
-fn tell_read<R: Source, O: Sink>(
+fn tell_read<R: Source, O: Sink, E: Sink>(
     alloc: Global,
     inquiry: &Inquiry<'_>,
     name: &str,
     reader: &mut R,
     output: &mut O,
+    error: &mut E,
 ) -> Result<Outcome, Failure>
     ensures why { (form : AForm) (bytes : List ℕ) → inquiry.now.told ≡ Told.Why form
         → R.left reader.old ≡ Some bytes
-        → IfOk result (λ outcome. Writes (O.held output.old) (O.held output.new) form inquiry.now.quiet name.now outcome bytes) }
+        → IfOk result (λ outcome. WritesWhy (O.held output.old) (O.held output.new) form inquiry.now.around inquiry.now.quiet name.now outcome bytes
+        × WarnsWhy inquiry.now.warn (E.held error.old) (E.held error.new) (E.write_failures error.old) (E.write_failures error.new) name.now bytes) }
     ensures all { (form : AForm) (bytes : List ℕ) → inquiry.now.told ≡ Told.All form
         → R.left reader.old ≡ Some bytes
-        → IfOk result (λ outcome. WritesAll (O.held output.old) (O.held output.new) form inquiry.now.quiet name.now outcome bytes) }
+        → IfOk result (λ outcome. WritesAll (O.held output.old) (O.held output.new) form inquiry.now.quiet name.now outcome bytes
+        × WarnsAll inquiry.now.warn (E.held error.old) (E.held error.new) (E.write_failures error.old) (E.write_failures error.new) name.now bytes) }
     ensures rows { (bytes : List ℕ) → inquiry.now.told ≡ Told.Rows
         → R.left reader.old ≡ Some bytes
-        → IfOk result (λ outcome. WritesRows (O.held output.old) (O.held output.new) outcome bytes) }
+        → IfOk result (λ outcome. WritesRows (O.held output.old) (O.held output.new) outcome bytes
+        × (error.new ≡ error.old)) }
     ensures all_rows { (bytes : List ℕ) → inquiry.now.told ≡ Told.AllRows
         → R.left reader.old ≡ Some bytes
-        → IfOk result (λ outcome. WritesAllRows (O.held output.old) (O.held output.new) outcome bytes) }
+        → IfOk result (λ outcome. WritesAllRows (O.held output.old) (O.held output.new) outcome bytes
+        × (error.new ≡ error.old)) }
 {
-    let quiet = inquiry.quiet;
     match inquiry.told {
-        Told::Why(form) => judged(why::<Running, R, O>(alloc, form, name, quiet, reader, output)),
-        Told::All(form) => judged(why_all::<Running, R, O>(
-            alloc, form, name, quiet, reader, output,
-        )),
+        Told::Why(form) => judged(tell_why(alloc, inquiry, form, name, reader, output, error)),
+        Told::All(form) => judged(tell_all(alloc, inquiry, form, name, reader, output, error)),
         Told::Rows => judged(rows::<Running, R, O>(alloc, reader, output)),
         Told::AllRows => judged(rows_all::<Running, R, O>(alloc, reader, output)),
     }

@@ -2,10 +2,9 @@
 //! cannot be read, each failure on standard error, and returns the exit status.
 #![tactic(auto)]
 
-mod arguments;
 mod commanding;
 mod tally;
+mod telling;
 
-pub use arguments::{Asked, Inquiry, parse};
 pub use commanding::{command, refuse};
 pub use tally::Tally;

@@ -20,6 +20,7 @@ use Rattle.qa_why.specs.Subjects.{subject}
 use Rattle.qa_why_trace.specs.Faults.{fault_sentence}
 use Rattle.qa_why_trace.specs.Hints.{hint}
 use Rattle.qa_why_trace.specs.Lines.{line_text}
+use Rattle.qa_why_trace.specs.Meant.{meant}
 use Rattle.qa_why_trace.specs.Values.{wrong_value}
 
 -- the line that a verdict is about, the verdict in a word, and the rule or the fault
@@ -80,7 +81,7 @@ hint_text false (Some l) = hint l
 hint_text headed line = []
 
 unfoldable pub unreadable_tail : Fault → Bool → ℕ → Option (List ℕ) → List ℕ
-unreadable_tail f headed n line = fault_sentence f headed n line ++ wrong_value f line ++ codes "\n" ++ seen_text n line ++ hint_text headed line
+unreadable_tail f headed n line = fault_sentence f headed n line ++ wrong_value f line ++ codes "\n" ++ seen_text n line ++ meant f line ++ hint_text headed line
 
 -- why line n cannot be read, behind a header or not
 unfoldable pub unreadable_text : List ℕ → ℕ → Fault → Bool → Option (List ℕ) → List ℕ

@@ -7,6 +7,7 @@ mod faults;
 mod form;
 mod hints;
 mod lines;
+mod meant;
 mod notes;
 mod objects;
 mod reasons;

@@ -6,6 +6,7 @@ ghost use Rattle.qa_why_trace.specs.Texts as text;
 use crate::faults::push_fault;
 use crate::hints::hint;
 use crate::lines::{extend, push_line};
+use crate::meant::push_meant;
 use crate::values::push_wrong_value;
 use qa_base::{Event, Rule, Totals};
 use qa_causes::{Cause, Owed};
@@ -197,6 +198,7 @@ fn push_unreadable(
     push_wrong_value(alloc, out, fault, line)?;
     extend(out, b"\n")?;
     push_seen(alloc, out, n, line)?;
+    push_meant(alloc, out, fault, line)?;
     extend(out, hint_text(headed, line).as_bytes())
 }
 

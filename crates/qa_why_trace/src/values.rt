@@ -47,7 +47,7 @@ fn wrong_key(fault: Fault) -> Option<Key>
 // ---- a value
 
 /// The most bytes of a string that are shown.
-const SHOWN_OF_STRING: usize = 40;
+pub const SHOWN_OF_STRING: usize = 40;
 
 #[tactic(auto, unfolding(crate::specs::Values::closing_quote))]
 fn closing_quote(count: usize) -> &'static str

@@ -1,8 +1,9 @@
-use Rattle.std.proofs.Common.{◌≡◌, Result, Ok, Err, IfOk, subst}
+use Rattle.std.proofs.Common.{◌≡◌, Result, Ok, Err, IfOk, refl, subst}
+use Rattle.std.proofs.lemmas.Result.{IfOk-weaker}
 use Rattle.qa_check.specs.declared.auditing.AuditFault.{AuditFault}
 use Rattle.qa_check.specs.declared.auditing.Outcome.{Outcome}
-use Rattle.qa_why_command.specs.declared.arguments.Told.{Told}
-use Rattle.qa_why_command.specs.declared.arguments.Told.TheVariants.{All, Why}
+use Rattle.qa_why_arguments.specs.declared.arguments.Told.{Told}
+use Rattle.qa_why_arguments.specs.declared.arguments.Told.TheVariants.{All, Why}
 use Rattle.qa_why_command.specs.declared.commanding.Failure.{Failure}
 use Rattle.qa_why_trace.specs.declared.form.Form.{Form}
 use Rattle.qa_why_command.proofs.commanding.tell_read.Goals as goal
@@ -21,15 +22,17 @@ same_form_of_all told form asked is wanted = cc
 pub returns-in-Why-clause-why : goal.returns-in-Why-clause-why
 returns-in-Why-clause-why g c = λ form bytes is tells.
     let same = same_form c.args.inquiry.now.told c.in-Why.form form c.in-Why.is is in
-    passed _ c.why.result c.judged.result c.judged.ensures (rw same at (c.why.ensures.told bytes tells))
+    passed _ c.tell_why.result c.judged.result c.judged.ensures (rw same at (c.tell_why.ensures bytes tells))
 
 pub returns-in-Rows-clause-rows : goal.returns-in-Rows-clause-rows
-returns-in-Rows-clause-rows g c = λ bytes is tells. passed _ c.rows.result c.judged-in-Rows.result c.judged-in-Rows.ensures (c.rows.ensures.told bytes tells)
+returns-in-Rows-clause-rows g c = λ bytes is tells.
+    passed _ c.rows.result c.judged-in-Rows.result c.judged-in-Rows.ensures (IfOk-weaker c.rows.result _ _ (λ outcome written. (written, refl)) (c.rows.ensures.told bytes tells))
 
 pub returns-in-All-clause-all : goal.returns-in-All-clause-all
 returns-in-All-clause-all g c = λ form bytes is tells.
     let same = same_form_of_all c.args.inquiry.now.told c.in-All.form form c.in-All.is is in
-    passed _ c.why_all.result c.judged-in-All.result c.judged-in-All.ensures (rw same at (c.why_all.ensures.told bytes tells))
+    passed _ c.tell_all.result c.judged-in-All.result c.judged-in-All.ensures (rw same at (c.tell_all.ensures bytes tells))
 
 pub returns-in-AllRows-clause-all_rows : goal.returns-in-AllRows-clause-all_rows
-returns-in-AllRows-clause-all_rows g c = λ bytes is tells. passed _ c.rows_all.result c.judged-in-AllRows.result c.judged-in-AllRows.ensures (c.rows_all.ensures.told bytes tells)
+returns-in-AllRows-clause-all_rows g c = λ bytes is tells.
+    passed _ c.rows_all.result c.judged-in-AllRows.result c.judged-in-AllRows.ensures (IfOk-weaker c.rows_all.result _ _ (λ outcome written. (written, refl)) (c.rows_all.ensures.told bytes tells))
