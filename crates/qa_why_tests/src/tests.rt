@@ -1,3 +1,4 @@
 //! The tests, by what they are about.
 mod all;
+mod around;
 mod departures;

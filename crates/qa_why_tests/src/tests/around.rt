@@ -1,0 +1,61 @@
+//! The rows of the last good lines before a trace is refused.
+use qa_around::why_around;
+use qa_check::{Metered, Outcome};
+use qa_running::Running;
+use qa_why_trace::NoNotes;
+use std::test::Fail;
+
+/// A packet number that is sent twice, which breaks V6, behind a blank line.
+const TRACE: &str =
+    "{\"event\":\"header\",\"version\":1,\"role\":\"client\",\"max_datagram_size\":1200}\n{\"event\":\"sent\",\"time\":10,\"space\":\"initial\",\"number\":0,\"size\":1200,\"eliciting\":true,\"in_flight\":true}\n\n{\"event\":\"sent\",\"time\":11,\"space\":\"initial\",\"number\":0,\"size\":1200,\"eliciting\":true,\"in_flight\":true}\n";
+
+/// Why it is refused.
+const REFUSED: &str =
+    "a:4: refused V6 number-not-higher: packet 0 of initial is not above all that were sent in its space\n  4 | {\"event\":\"sent\",\"time\":11,\"space\":\"initial\",\"number\":0,\"size\":1200,\"eliciting\":true,\"in_flight\":true}\n  greatest sent: initial 0\n  RFC 9000, 12.3; RFC 9002, 4.2: packet numbers of a space rise.\n  before it:\n";
+
+const HEADER: &str =
+    "  line 1 header: window 12000 bytes_in_flight 0 ssthresh none latest_rtt 0 min_rtt 0 smoothed_rtt 333000 rttvar 166500 pto_count 0 owed 0 no timer\n";
+
+/// The timer is set for a probe timeout: 333,000 and four times 166,500 after the packet.
+const SENT: &str =
+    "  line 2 sent at 10: window 12000 bytes_in_flight 1200 ssthresh none latest_rtt 0 min_rtt 0 smoothed_rtt 333000 rttvar 166500 pto_count 0 owed 0 timer pto initial 999010\n";
+
+/// The last line that is not blank stands behind the text, and no more where one row is asked for.
+#[test]
+fn one_row_stands_before(rt: HostRuntime) -> Result<(), Fail> {
+    let mut reader = Metered::new(TRACE.as_bytes());
+    let mut writer = Metered::new(Vec::new(rt.alloc()));
+    let ended = why_around::<Running, _, _, _>(
+        rt.alloc(),
+        1,
+        "a",
+        false,
+        NoNotes,
+        &mut reader,
+        &mut writer,
+    );
+    assert!(rt; ended.is_ok_and(|told| told.0 == Outcome::Refused));
+    let text = format!(in rt.alloc(); "{REFUSED}{SENT}")?;
+    assert_eq!(rt; writer.into_inner().as_slice(), text.as_bytes());
+    Ok(())
+}
+
+/// Of all lines there is a row, where they are fewer than are asked for.
+#[test]
+fn all_rows_stand_before(rt: HostRuntime) -> Result<(), Fail> {
+    let mut reader = Metered::new(TRACE.as_bytes());
+    let mut writer = Metered::new(Vec::new(rt.alloc()));
+    let ended = why_around::<Running, _, _, _>(
+        rt.alloc(),
+        5,
+        "a",
+        false,
+        NoNotes,
+        &mut reader,
+        &mut writer,
+    );
+    assert!(rt; ended.is_ok_and(|told| told.0 == Outcome::Refused));
+    let text = format!(in rt.alloc(); "{REFUSED}{HEADER}{SENT}")?;
+    assert_eq!(rt; writer.into_inner().as_slice(), text.as_bytes());
+    Ok(())
+}
