@@ -11,7 +11,8 @@ use Rattle.clap.specs.declared.parser.matches.ValueSource.{ValueSource}
 use Rattle.clap.specs.declared.parser.matches.ValueSource.TheVariants.{CommandLine, DefaultValue}
 use Rattle.qa_why_arguments.specs.Asked.{are_given, asked_in, by_words, clash_in, exclusive, flag_in, is_given, number_in, number_or_zero, wanted_in, tells, told_of, refuses, Wanted}
 use Rattle.qa_why_arguments.specs.Words.{Item, all, around, asked_behind, file, files_in, has, have, inquiry, json, lines_in, name_of, quiet, rows, shown, warn, wrong}
-use Rattle.qa_why_arguments.proofs.Rows.{Holds, around_built, files_built, find_other, find_row, find_same, flag_built, fold_some, has_row-find, or_none, row_behind, row_in, rule_for, rules, same_text, shape, value_of}
+use Rattle.qa_why_arguments.proofs.Matches.{number_is}
+use Rattle.qa_why_arguments.proofs.Rows.{AreCounted, Holds, around_built, files_built, find_other, find_row, find_same, flag_built, fold_some, has_row-find, or_none, row_behind, row_in, rule_for, rules, same_text, shape, value_of}
 
 -- ---- defaults
 
@@ -173,20 +174,20 @@ lines_stay value more (file name ∷ done) = lines_stay value more done
 lines_stay value more (shown ∷ done) = lines_stay value more done
 lines_stay value more (wrong ∷ done) = lines_stay value more done
 
-lines_row : (done : List Item) → number_of (row_in (codes "around") done) ≡ lines_in done
-lines_row [] = refl
-lines_row (all ∷ done) = lines_row done
-lines_row (json ∷ done) = lines_row done
-lines_row (quiet ∷ done) = lines_row done
-lines_row (rows ∷ done) = lines_row done
-lines_row (warn ∷ done) = lines_row done
-lines_row (around value ∷ done) = lines_stay value [] done
-lines_row (file name ∷ done) = lines_row done
-lines_row (shown ∷ done) = lines_row done
-lines_row (wrong ∷ done) = lines_row done
+lines_row : (done : List Item) → AreCounted done → number_of (row_in (codes "around") done) ≡ lines_in done
+lines_row [] counted = refl
+lines_row (all ∷ done) counted = lines_row done counted.1
+lines_row (json ∷ done) counted = lines_row done counted.1
+lines_row (quiet ∷ done) counted = lines_row done counted.1
+lines_row (rows ∷ done) counted = lines_row done counted.1
+lines_row (warn ∷ done) counted = lines_row done counted.1
+lines_row (around value ∷ done) counted = lines_stay value [] done ∙ number_is value counted.0
+lines_row (file name ∷ done) counted = lines_row done counted.1
+lines_row (shown ∷ done) counted = lines_row done counted.1
+lines_row (wrong ∷ done) counted = lines_row done counted.1
 
-pub lines_end : (done : List Item) (end : List Row) → find_row (codes "around") end ≡ row_in (codes "around") done → number_in (codes "around") end ≡ lines_in done
-lines_end done end is = ap number_of is ∙ lines_row done
+pub lines_end : (done : List Item) (end : List Row) → AreCounted done → find_row (codes "around") end ≡ row_in (codes "around") done → number_in (codes "around") end ≡ lines_in done
+lines_end done end counted is = ap number_of is ∙ lines_row done counted
 
 -- ---- the names of files
 
@@ -269,33 +270,33 @@ module _ (done : List Item) (found : List Row) (holds : Holds done found) where
   end_all : Ended (codes "all") done (end_of found)
   end_all = under (codes "warn") (codes "all") 119 four _ refl (under (codes "rows") (codes "all") 114 three _ refl
       (under (codes "quiet") (codes "all") 113 two _ refl (under (codes "json") (codes "all") 106 one _ refl
-      (here (codes "all") 97 found _ (holds (codes "all"))))))
+      (here (codes "all") 97 found _ (holds.are (codes "all"))))))
 
   end_json : Ended (codes "json") done (end_of found)
   end_json = under (codes "warn") (codes "json") 119 four _ refl (under (codes "rows") (codes "json") 114 three _ refl
       (under (codes "quiet") (codes "json") 113 two _ refl (here (codes "json") 106 one _
-      (under (codes "all") (codes "json") 97 found _ refl (holds (codes "json"))))))
+      (under (codes "all") (codes "json") 97 found _ refl (holds.are (codes "json"))))))
 
   end_quiet : Ended (codes "quiet") done (end_of found)
   end_quiet = under (codes "warn") (codes "quiet") 119 four _ refl (under (codes "rows") (codes "quiet") 114 three _ refl
       (here (codes "quiet") 113 two _ (under (codes "json") (codes "quiet") 106 one _ refl
-      (under (codes "all") (codes "quiet") 97 found _ refl (holds (codes "quiet"))))))
+      (under (codes "all") (codes "quiet") 97 found _ refl (holds.are (codes "quiet"))))))
 
   end_rows : Ended (codes "rows") done (end_of found)
   end_rows = under (codes "warn") (codes "rows") 119 four _ refl (here (codes "rows") 114 three _
       (under (codes "quiet") (codes "rows") 113 two _ refl (under (codes "json") (codes "rows") 106 one _ refl
-      (under (codes "all") (codes "rows") 97 found _ refl (holds (codes "rows"))))))
+      (under (codes "all") (codes "rows") 97 found _ refl (holds.are (codes "rows"))))))
 
   end_warn : Ended (codes "warn") done (end_of found)
   end_warn = here (codes "warn") 119 four _ (under (codes "rows") (codes "warn") 114 three _ refl
       (under (codes "quiet") (codes "warn") 113 two _ refl (under (codes "json") (codes "warn") 106 one _ refl
-      (under (codes "all") (codes "warn") 97 found _ refl (holds (codes "warn"))))))
+      (under (codes "all") (codes "warn") 97 found _ refl (holds.are (codes "warn"))))))
 
   end_other : (name : Text) → bytes_eq (codes "all") name ≡ false → bytes_eq (codes "json") name ≡ false → bytes_eq (codes "quiet") name ≡ false
       → bytes_eq (codes "rows") name ≡ false → bytes_eq (codes "warn") name ≡ false → find_row name (end_of found) ≡ row_in name done
   end_other name no_all no_json no_quiet no_rows no_warn = under (codes "warn") name 119 four _ no_warn (under (codes "rows") name 114 three _ no_rows
       (under (codes "quiet") name 113 two _ no_quiet (under (codes "json") name 106 one _ no_json
-      (under (codes "all") name 97 found _ no_all (holds name)))))
+      (under (codes "all") name 97 found _ no_all (holds.are name)))))
 
   end_around : find_row (codes "around") (end_of found) ≡ row_in (codes "around") done
   end_around = end_other (codes "around") refl refl refl refl refl
@@ -346,7 +347,7 @@ module _ (done : List Item) (found : List Row) (holds : Holds done found) where
       (flag_ends (codes "json") done (end_of found) (refl, refl) end_json)
       (flag_ends (codes "quiet") done (end_of found) (refl, refl) end_quiet)
       (flag_ends (codes "warn") done (end_of found) (refl, refl) end_warn)
-      (lines_end done (end_of found) end_around)
+      (lines_end done (end_of found) holds.counted end_around)
       (files_end done (end_of found) end_file)
 
   pub asked_ends : asked_in (end_of found) ≡ asked_behind done []

@@ -1,13 +1,21 @@
 -- What is read of the matches.
-use Rattle.std.proofs.Common.{◌≡◌, ◌∙◌, ℕ, Bool, true, false, List, [], ◌∷◌, length, Option, Some, None, refl, sym, ap, codes, bytes_eq, ◌&&◌, ltb-true, lt-ltb}
-use Rattle.std.specs.Prelude.{find, option_map, option_and_then, unwrap_or, nat_lt, Ok, Err, Result, ◌^◌}
+use Rattle.std.proofs.Common.{◌<◌, ◌==◌, cond, drop, arith, ◌≡◌, ◌∙◌, ℕ, Bool, true, false, List, [], ◌∷◌, length, Option, Some, None, refl, sym, ap, codes, bytes_eq, ◌&&◌, ltb-true, lt-ltb}
+use Rattle.std.specs.Prelude.{pos, find, option_map, option_and_then, unwrap_or, nat_lt, Ok, Err, Result, ◌^◌}
 use Rattle.std.specs.List.{list_all}
 use Rattle.std.specs.Borrow.{Bor}
 use Rattle.std.specs.Option.{option_map_or}
 use Rattle.std.specs.Char.{digit_value}
-use Rattle.std.specs.Str.Parse.{AllDigits, ParsesBool, ParsesUnsigned, digits_value, without_leading_plus}
+use Rattle.std.specs.Str.Parse.{AllDigits, IsNumeral, ParsesBool, ParsesUnsigned, digits_value, starts_with_minus, without_leading_plus, without_leading_sign}
+use Rattle.std.proofs.lemmas.Bool.{ne_eqb}
+use Rattle.std.proofs.lemmas.Str.Parse.{digit_from_value}
+use Rattle.std.proofs.lemmas.Int.{ints}
+use Rattle.clap.specs.Lexer.{without_minus}
+use Rattle.clap.specs.Values.{IsSignedIn}
+use Rattle.clap.specs.declared.builder.value_parser.ValueParser.TheVariants.{Signed}
+use Rattle.qa_why_arguments.specs.Words.{is_lines}
 use Rattle.std.proofs.lemmas.Slice.Eq.{bytes_eq-Decides}
 use Rattle.clap.proofs.WalkLemmas.{both, find_row, one_text-rows, raw_values-rows}
+use Rattle.clap.proofs.ValueTestLemmas.{accepts-Accepts}
 use Rattle.clap.specs.Facts.{Entry}
 use Rattle.clap.specs.Matches.{ReadsOne, matched_of, one_text, raw_values}
 use Rattle.clap.specs.ValueTests.{is_numeral}
@@ -105,6 +113,42 @@ pub number_found : {E : Type 0} (G : Text → Result ℕ E → Type 0) (f : Foun
     → (one_text f name ≡ None → r ≡ None) → ((t : Text) → one_text f name ≡ Some t → ReadsOne G t r) → unwrap_or r 0 ≡ number_in name (rows_of f)
 number_found G f name r only none value =
     number_of G (one_text f name) r only none value ∙ ap (λ (o : Option Text). option_map_or number_or_zero o 0) (one_text-rows f name)
+
+minus_off : (t : Text) → without_minus t ≡ cond (starts_with_minus t) (drop 1 t) t
+minus_off [] = refl
+minus_off (x ∷ xs) = go (x == 45)
+  where
+    go : (b : Bool) → unwrap_or (cond b (Some xs) None) (x ∷ xs) ≡ cond b xs (x ∷ xs)
+    go true = refl
+    go false = refl
+
+no_plus : (ds : List ℕ) → IsNumeral 10 ds → without_leading_plus ds ≡ ds
+no_plus [] h = refl
+no_plus (d ∷ ds) h =
+    let plus : (d == 43) ≡ false = ne_eqb _ _ (λ e. omega (arith, digit_from_value d h.1.0)) in
+    ap (λ (b : Bool). drop (cond b 1 0) (d ∷ ds)) plus
+
+number_at : (t : Text) → IsNumeral 10 (without_leading_plus t) → digits_value 10 (without_leading_plus t) < 2 ^ 16
+    → number_or_zero t ≡ digits_value 10 (without_leading_plus t)
+number_at t numeral small = sym (number_some ℕ t _ ((numeral, small), refl))
+
+-- a number of lines is the number that its digits write
+pub number_is : (t : Text) → is_lines t ≡ true → number_or_zero (without_minus t) ≡ digits_value 10 (without_leading_sign t)
+number_is t lines = go (starts_with_minus t) refl (accepts-Accepts false (Signed (pos 0) (pos 1000)) t lines)
+  where
+    go : (b : Bool) → starts_with_minus t ≡ b → IsSignedIn (pos 0) (pos 1000) t → number_or_zero (without_minus t) ≡ digits_value 10 (without_leading_sign t)
+    go true minus passed =
+        let low_ok = rw minus at passed.2 in
+        let numeral : IsNumeral 10 (drop 1 t) = rw minus at passed.0 in
+        let same = no_plus (drop 1 t) numeral in
+        let small : digits_value 10 (drop 1 t) < 2 ^ 16 = omega (arith, ints) in
+        rw (minus_off t, minus) (number_at (drop 1 t) (rw same numeral) (rw same small) ∙ ap (digits_value 10) same)
+    go false minus passed =
+        let low_ok = rw minus at passed.2 in
+        let high_ok = rw minus at passed.3 in
+        let numeral = rw minus at passed.0 in
+        let small : digits_value 10 (without_leading_plus t) < 2 ^ 16 = omega (arith, ints) in
+        rw (minus_off t, minus) (number_at t numeral small)
 
 -- ---- two options
 

@@ -8,7 +8,7 @@ use Rattle.clap.specs.declared.builder.value_parser.Reading.{Reading}
 use Rattle.clap.specs.declared.parser.matches.ValueSource.{ValueSource}
 use Rattle.clap.specs.declared.parser.matches.ValueSource.TheVariants.{CommandLine}
 use Rattle.qa_why_arguments.specs.Asked.{around_rule, files_rule, flag_rule, parser_of_arguments}
-use Rattle.qa_why_arguments.specs.Words.{Item, all, around, file, has, json, name_of, quiet, rows, shown, warn, wrong}
+use Rattle.qa_why_arguments.specs.Words.{Item, all, around, file, has, is_lines, json, name_of, quiet, rows, shown, warn, wrong}
 
 abbrev pub shape : Shape
 shape = (built parser_of_arguments).top
@@ -60,9 +60,19 @@ row_in name done = fold (row_behind name) None done
 abbrev pub find_row : Text → List Row → Option Row
 find_row name found = find (λ r. bytes_eq r.id name) found
 
+-- each number of lines is one
+abbrev pub IsCounted : Item → Type 0
+IsCounted (around value) = is_lines value ≡ true
+IsCounted _ = Unit {0}
+
+abbrev pub AreCounted : List Item → Type 0
+AreCounted [] = Unit {0}
+AreCounted (item ∷ done) = IsCounted item × AreCounted done
+
 -- the rows are those of the items
-abbrev pub Holds : List Item → List Row → Type 0
-Holds done found = (name : Text) → find_row name found ≡ row_in name done
+pub record Holds (done : List Item) (found : List Row) : Type 0 where
+  pub are : (name : Text) → find_row name found ≡ row_in name done
+  pub counted : AreCounted done
 
 -- ---- searches in rows
 
@@ -121,19 +131,24 @@ added_by : (done : List Item) (found : List Row) (item : Item) (name : Text) →
 added_by done found item name holds true is =
     let same = same_text (name_of item) name is in
     rw (is, ← same) (find_same (name_of item) (reading_by (rule_for item)) CommandLine (value_of item) found
-    ∙ ap (λ (o : Option Row). Some (row_more (name_of item) (reading_by (rule_for item)) CommandLine (value_of item) o)) (holds (name_of item)))
+    ∙ ap (λ (o : Option Row). Some (row_more (name_of item) (reading_by (rule_for item)) CommandLine (value_of item) o)) (holds.are (name_of item)))
 added_by done found item name holds false is =
-    rw is (find_other (name_of item) name (reading_by (rule_for item)) CommandLine (value_of item) found is ∙ holds name)
+    rw is (find_other (name_of item) name (reading_by (rule_for item)) CommandLine (value_of item) found is ∙ holds.are name)
 
-added : (done : List Item) (found : List Row) (item : Item) → Holds done found
-    → Holds (done ++ item ∷ []) (with_values (name_of item) (reading_by (rule_for item)) CommandLine (value_of item ∷ []) found)
-added done found item holds = λ name. added_by done found item name holds _ refl ∙ sym (fold_end name None done item)
+added : (done : List Item) (found : List Row) (item : Item) → Holds done found → (name : Text)
+    → find_row name (with_values (name_of item) (reading_by (rule_for item)) CommandLine (value_of item ∷ []) found) ≡ row_in name (done ++ item ∷ [])
+added done found item holds name = added_by done found item name holds _ refl ∙ sym (fold_end name None done item)
+
+counted_more : (done : List Item) (item : Item) → AreCounted done → IsCounted item → AreCounted (done ++ item ∷ [])
+counted_more [] item counted one = (one, tt)
+counted_more (first ∷ done) item counted one = (counted.0, counted_more done item counted.1 one)
 
 -- an item that says something, and once if it is an option
 abbrev pub Says : Item → List Row → Type 0
 Says shown found = ⊥
 Says wrong found = ⊥
 Says (file name) found = Unit {0}
+Says (around value) found = (find_row (codes "around") found ≡ None) × (is_lines value ≡ true)
 Says item found = find_row (name_of item) found ≡ None
 
 at_once : (id : Text) (how : Reading) (value : Text) (found : List Row) → find_row id found ≡ None
@@ -147,15 +162,29 @@ used_is json found none = at_once _ _ _ found none
 used_is quiet found none = at_once _ _ _ found none
 used_is rows found none = at_once _ _ _ found none
 used_is warn found none = at_once _ _ _ found none
-used_is (around value) found none = at_once _ _ _ found none
+used_is (around value) found none = at_once _ _ _ found none.0
 used_is (file name) found none = refl
 used_is shown found none = absurd none
 used_is wrong found none = absurd none
 
+says_counted : (item : Item) (found : List Row) → Says item found → IsCounted item
+says_counted all found says = tt
+says_counted json found says = tt
+says_counted quiet found says = tt
+says_counted rows found says = tt
+says_counted warn found says = tt
+says_counted (around value) found says = says.1
+says_counted (file name) found says = tt
+says_counted shown found says = tt
+says_counted wrong found says = tt
+
 -- what holds of the rows once an item is used
 pub one_more : (done : List Item) (found : List Row) (item : Item) → Says item found → Holds done found
     → Holds (done ++ item ∷ []) (used (rule_for item) (values_for item) found)
-one_more done found item says holds = rw (used_is item found says) (added done found item holds)
+one_more done found item says holds = record {
+  are = λ name. ap (find_row name) (used_is item found says) ∙ added done found item holds name;
+  counted = counted_more done item holds.counted (says_counted item found says);
+}
 
 -- ---- whether an option was given
 
@@ -180,4 +209,4 @@ or_none true = refl
 or_none false = refl
 
 pub given_has : (name : Text) (done : List Item) (found : List Row) → Holds done found → is_some (find_row name found) ≡ has name done
-given_has name done found holds = ap is_some (holds name) ∙ (fold_some name None done ∙ or_none (has name done))
+given_has name done found holds = ap is_some (holds.are name) ∙ (fold_some name None done ∙ or_none (has name done))

@@ -124,7 +124,7 @@ right had found (around number) holds acts is = go (has (codes "around") had) re
     go false was false lines = let bad : true ≡ false = rw (was, lines) at is in cc
     go false was true lines = record {
       fine = rw (has_is had found (codes "around") false holds was, lines) refl;
-      says = once had found (codes "around") holds was;
+      says = (once had found (codes "around") holds was, lines);
     }
 right had found (file name) holds acts is = record { fine = refl; says = tt }
 right had found shown holds acts is = absurd acts

@@ -452,7 +452,7 @@ reads_all [] texts = reads_none
 reads_all (word ∷ words) texts = reads_more word words texts.0 texts.1 (reads_all words texts.1)
 
 pub walk_gives : (words : List Text) → AreTexts words → Gives (at [] None idle false) words (asked words)
-walk_gives words texts = (reads_all words texts).later [] [] None idle (record { fine = refl; holds = λ name. refl }) tt
+walk_gives words texts = (reads_all words texts).later [] [] None idle (record { fine = refl; holds = record { are = λ name. refl; counted = tt } }) tt
 
 -- ---- what a parse gives
 

@@ -2,9 +2,10 @@
 use Rattle.std.specs.Prelude.{◌++◌, ◌==◌, ◌&&◌, ◌||◌, ℕ, Bool, not, pos, true, false, List, [], ◌∷◌, map, codes, find, Option, Some, None, is_some, if◌then◌else◌}
 use Rattle.std.specs.List.{list_any}
 use Rattle.std.specs.Str.{bytes_eq}
-use Rattle.clap.specs.Lexer.{long_of, short_of, without_minus}
+use Rattle.std.specs.Str.Parse.{digits_value, without_leading_sign}
+use Rattle.clap.specs.Lexer.{long_of, short_of}
 use Rattle.clap.specs.ValueTests.{is_signed_in}
-use Rattle.qa_why_arguments.specs.Asked.{Request, Wanted, exclusive, number_or_zero, refuses, shows, tells, told_of}
+use Rattle.qa_why_arguments.specs.Asked.{Request, Wanted, exclusive, refuses, shows, tells, told_of}
 
 -- what words say: an option that stands alone, the option `around` with its value, a file, that the help or the version is wanted, or what means nothing
 pub data Item : Type 0 where
@@ -98,7 +99,7 @@ is_lines text = is_signed_in (pos 0) (pos 1000) text
 -- the number of lines that is asked for, or 0
 abbrev pub lines_in : List Item → ℕ
 lines_in [] = 0
-lines_in (around value ∷ rest) = number_or_zero (without_minus value)
+lines_in (around value ∷ rest) = digits_value 10 (without_leading_sign value)
 lines_in (item ∷ rest) = lines_in rest
 
 abbrev pub files_in : List Item → List (List ℕ)

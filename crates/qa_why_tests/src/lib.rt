@@ -1,5 +1,5 @@
-//! Tests of what is told of departures from the rules of conduct: the table of them, the judge that goes on
-//! past them, and all that is written of a trace.
+//! Tests of what is told of traces: the table of departures from the rules of conduct, the judge that goes on
+//! past them, all that is written of a trace, the lines before a refusal, and warnings.
 //!
 //! They stand apart from `qa_tests`, so that its proof does not wait for the crates above the checker.
 #![tactic(auto)]

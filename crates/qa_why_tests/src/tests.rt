@@ -2,3 +2,4 @@
 mod all;
 mod around;
 mod departures;
+mod warnings;

@@ -2,7 +2,7 @@
 use qa_all::{rows_all, why_all};
 use qa_check::{Metered, Outcome};
 use qa_running::Running;
-use qa_why_trace::Form;
+use qa_why_trace::{Form, NoNotes};
 
 /// A probe before any probe timeout, which breaks V8.
 const TRACE: &str =
@@ -25,15 +25,16 @@ const ROWS: &str =
 fn a_trace_departs(rt: HostRuntime) {
     let mut reader = Metered::new(TRACE.as_bytes());
     let mut writer = Metered::new(Vec::new(rt.alloc()));
-    let ended = why_all::<Running, _, _>(
+    let ended = why_all::<Running, _, _, _>(
         rt.alloc(),
         Form::Text,
         "a",
         true,
+        NoNotes,
         &mut reader,
         &mut writer,
     );
-    assert_eq!(rt; ended, Ok(Outcome::Refused));
+    assert!(rt; ended.is_ok_and(|told| told.0 == Outcome::Refused));
     assert_eq!(rt; writer.into_inner().as_slice(), TEXT.as_bytes());
 }
 
@@ -42,15 +43,16 @@ fn a_trace_departs(rt: HostRuntime) {
 fn a_trace_departs_as_an_object(rt: HostRuntime) {
     let mut reader = Metered::new(TRACE.as_bytes());
     let mut writer = Metered::new(Vec::new(rt.alloc()));
-    let ended = why_all::<Running, _, _>(
+    let ended = why_all::<Running, _, _, _>(
         rt.alloc(),
         Form::Json,
         "a",
         true,
+        NoNotes,
         &mut reader,
         &mut writer,
     );
-    assert_eq!(rt; ended, Ok(Outcome::Refused));
+    assert!(rt; ended.is_ok_and(|told| told.0 == Outcome::Refused));
     assert_eq!(rt; writer.into_inner().as_slice(), OBJECT.as_bytes());
 }
 
@@ -60,15 +62,16 @@ fn a_trace_departs_from_nothing(rt: HostRuntime) {
     let header = &TRACE.as_bytes()[..72];
     let mut reader = Metered::new(header);
     let mut writer = Metered::new(Vec::new(rt.alloc()));
-    let ended = why_all::<Running, _, _>(
+    let ended = why_all::<Running, _, _, _>(
         rt.alloc(),
         Form::Text,
         "a",
         true,
+        NoNotes,
         &mut reader,
         &mut writer,
     );
-    assert_eq!(rt; ended, Ok(Outcome::Accepted));
+    assert!(rt; ended.is_ok_and(|told| told.0 == Outcome::Accepted));
     assert!(rt; writer.into_inner().is_empty());
 }
 
