@@ -39,8 +39,12 @@ name_meant missing d = among missing (kind_in d) (as_object d)
 unfoldable pub question : Key → List ℕ
 question k = named (codes " stands there; is it ") (key_name k) ++ codes "?\n"
 
+-- some words and then the first bytes of a name
+unfoldable pub shown_name : List ℕ → List ℕ → List ℕ
+shown_name words name = words ++ map printable (first_bytes shown_of_string name)
+
 unfoldable pub meant_line : List ℕ → Key → List ℕ
-meant_line name k = codes "  Hint: the key " ++ map printable (first_bytes shown_of_string name) ++ question k
+meant_line name k = shown_name (codes "  Hint: the key ") name ++ question k
 
 abbrev pub meant_text : Option (List ℕ) → Key → List ℕ
 meant_text None k = []

@@ -67,14 +67,22 @@ fn question(alloc: Global, missing: Key) -> Result<String, AllocError>
     Ok(question)
 }
 
+/// Some words and then the first bytes of a name.
+#[tactic(auto, unfolding(crate::specs::Meant::shown_name))]
+fn push_shown(alloc: Global, out: &mut Vec<u8>, words: &str, name: &str) -> Result<(), AllocError>
+    ensures { OnOk result (out.new.items ≡ out.old.items ++ text.shown_name words.now name.now) }
+{
+    let shown = printed(alloc, first_bytes(name.as_bytes(), SHOWN_OF_STRING))?;
+    extend(out, words.as_bytes())?;
+    extend(out, &shown)
+}
+
 #[tactic(auto, unfolding(crate::specs::Meant::meant_line))]
 fn push_line(alloc: Global, out: &mut Vec<u8>, name: &str, missing: Key) -> Result<(), AllocError>
     ensures { OnOk result (out.new.items ≡ out.old.items ++ text.meant_line name.now missing) }
 {
-    let shown = printed(alloc, first_bytes(name.as_bytes(), SHOWN_OF_STRING))?;
     let question = question(alloc, missing)?;
-    extend(out, b"  Hint: the key ")?;
-    extend(out, &shown)?;
+    push_shown(alloc, out, "  Hint: the key ", name)?;
     extend(out, question.as_bytes())
 }
 
