@@ -1,5 +1,5 @@
 //! Laws of what is told of a refused event: the sums that deadlines are, the numbers of runs, and which
-//! of the rules that it breaks comes first; and that nothing is told of an accepted trace beside that.
+//! of the rules that it breaks comes first; and of what is told of a trace in more than one way.
 //!
 //! Each is the contract of a function that does nothing.
 #![tactic(auto)]

@@ -1,7 +1,8 @@
-//! What is told of all departures of a trace that is accepted.
+//! What is told of a trace in more than one way.
 ghost use Rattle.std.specs.Prelude.{◌≡◌, List, ℕ};
 ghost use Rattle.qa_all.specs.All.{all_outcome, all_text};
 ghost use Rattle.qa_all.specs.Objects.{members_of_none};
+ghost use Rattle.qa_around.specs.Around.{around_text};
 ghost use Rattle.qa_base.specs.declared.totals.Totals.{Totals};
 ghost use Rattle.qa_check.specs.declared.auditing.Outcome.TheVariants as outcomes;
 ghost use Rattle.qa_format.specs.declared.verdict.Verdict.TheVariants.{Accepted};
@@ -21,4 +22,9 @@ pub fn accepted_departs_from_nothing()
         ≡ object_line name (members_of_none (why_by (strict reading) forms.Json name bytes)) }
     ensures outcome { (bytes : List ℕ) (t : Totals) → verdict (strict reading) bytes ≡ Accepted t
         → all_outcome bytes ≡ outcomes.Accepted }
+{}
+
+/// With no lines before, the same text is told of a trace as without.
+pub fn no_lines_before_tell_nothing()
+    ensures { (name bytes : List ℕ) → around_text 0 name bytes ≡ why forms.Text name bytes }
 {}

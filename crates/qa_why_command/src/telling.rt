@@ -34,7 +34,15 @@ pub fn tell_why<R: Source, O: Sink, E: Sink>(
         × WarnsWhy inquiry.now.warn (E.held error.old) (E.held error.new) (E.write_failures error.old) (E.write_failures error.new) name.now bytes) }
 {
     if inquiry.warn {
-        let noted = why_noted(alloc, inquiry, form, name, Warnings::new(alloc), reader, output);
+        let noted = why_noted(
+            alloc,
+            inquiry,
+            form,
+            name,
+            Warnings::new(alloc),
+            reader,
+            output,
+        );
         return warned(noted, error);
     }
     match why_noted(alloc, inquiry, form, name, NoNotes, reader, output) {

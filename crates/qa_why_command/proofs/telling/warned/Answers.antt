@@ -6,5 +6,5 @@ pub returns-in-Ok : goal.returns-in-Ok
 returns-in-Ok g c = (
   c.in-Ok.warnings,
   c.in-Ok.is,
-  λ name ls covers. rw (c.text.ensures name ls covers) at (told_whole c.write_whole.result _ _ _ _ _ c.write_whole.ensures.ok c.write_whole.ensures.err c.write_whole.ensures.failures c.write_whole.ensures.write),
+  λ name ls covers. rw (c.text.ensures name ls covers) at (told_whole c.write_whole-begun.result _ _ _ _ _ c.write_whole-begun.ensures.ok c.write_whole-begun.ensures.err c.write_whole-begun.ensures.failures c.write_whole-begun.ensures.write),
 )
