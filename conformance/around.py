@@ -1,4 +1,4 @@
-"""The rows that stand before the line at which a trace ends, for people, in the words of docs/why.md.
+"""The rows that stand before the line at which a trace ends, in the words of docs/why.md.
 
 A row has the number of a line, its kind and time, and the state of the machine behind it. The state
 is that of the sender of sender.py, which shares nothing with the proved program.
@@ -27,7 +27,7 @@ VALUES = (
 
 
 def rows_before(trace: bytes, report: str, count: int) -> bytes:
-    """The last rows, at most so many, before the line that a report names, which is not accepted."""
+    """The last rows, up to so many, before the end that a report names, which is no acceptance."""
     last = deque(rows_of(trace, first_not_good(trace, report)), count)
     return (HEADING + "".join(last)).encode() if last else b""
 

@@ -1,7 +1,7 @@
 """Which key of a line a wrong key is probably meant to be, in the words of docs/why.md.
 
-The tables are those of docs/format.md and docs/why.md, written down here anew; nothing is shared with
-the proved program.
+The tables are those of docs/format.md and docs/why.md, written down here anew; nothing is shared
+with the proved program.
 """
 
 import json
@@ -89,14 +89,14 @@ OTHERS = {
 
 
 def keys_of_kind(kind: str, version: int) -> tuple[str, ...]:
-    """The keys of a line of a kind, in the order of its table, where the header has this version."""
+    """The keys of a line of a kind, in the order of its table, under a header of a version."""
     if kind != "header":
         return KEYS[kind]
     return tuple(key for first in range(1, version + 1) for key in HEADER_KEYS[first])
 
 
 def edits(one: str, other: str) -> int:
-    """How many characters are put in, taken out or changed to make one of the other."""
+    """How many characters are put in, taken out or changed to make one of another."""
     row = list(range(len(other) + 1))
     for i, a in enumerate(one, 1):
         above, row[0] = row[0], i

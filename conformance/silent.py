@@ -1,5 +1,5 @@
-"""What does nothing silently in a trace, in the words of docs/why.md: the warnings that `--warn` asks
-for.
+"""What does nothing silently in a trace, in the words of docs/why.md: the warnings that `--warn`
+asks for.
 
 Nothing is shared with the proved program.
 """
@@ -13,13 +13,16 @@ from why import said_by
 
 MOST = 100
 SHOWN_OF_KEY = 40
+
+
 def warnings_of(name: str, trace: bytes, report: str) -> bytes:
     """What is told on standard error of a trace whose report is this, under a name."""
     lines = trace.split(b"\n")
     last = first_not_good(trace, report)
     good = lines if last is None else lines[: last - 1]
     told = list(warnings_in(good))[:MOST]
-    return b"".join(f"{shown_name(name)}:{n}: warning: ".encode() + text + b"\n" for n, text in told)
+    front = shown_name(name)
+    return b"".join(f"{front}:{n}: warning: ".encode() + text + b"\n" for n, text in told)
 
 
 def warnings_in(lines: list[bytes]) -> Iterator[tuple[int, bytes]]:

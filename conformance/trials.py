@@ -12,9 +12,11 @@ from pathlib import Path
 from types import TracebackType
 from typing import NamedTuple, Self
 
+from around import rows_before
 from constants import MAX_LINE_LENGTH
 from processes import Outcome, Words, differences, joined, status_of
 from runners import Parser, Result, Results, tell_of
+from silent import warnings_of
 from why import why
 
 ALL = 2**62
@@ -163,6 +165,12 @@ class Command(NamedTuple):
         return self.whole.text().removesuffix(last).splitlines(keepends=True)
 
 
+# Traces that a program that says why is also given with options: one with warnings, one with lines
+# before its refusal, and one with a hint; and how many lines before are asked for.
+WITH_OPTIONS = ("silent-keys", "loss-timer-early", "misspelled-key")
+LINES_BEFORE = 2
+
+
 class Auditor(NamedTuple):
     """A program that audits traces, the library that is loaded before it, and what it writes to
     standard error."""
@@ -192,6 +200,8 @@ class Auditor(NamedTuple):
             text = why(STANDARD_INPUT, data, report.decode())
             whole = Outcome(status_of(report), text, b"")
             yield Command(f"why {trace.stem}", [], data, report, whole, text)
+            if trace.stem in WITH_OPTIONS:
+                yield with_options(trace.stem, data, report)
         for word in self.subcommands:
             wanted = trace.with_suffix(".explain" if word == "explain" else ".report")
             text = wanted.read_bytes() if wanted.exists() else self.written([word], data)
@@ -202,6 +212,17 @@ class Auditor(NamedTuple):
         """What it writes where nothing fails."""
         with self.held(arguments, data) as held:
             return held.run().outcome.text()
+
+
+def with_options(name: str, data: bytes, report: bytes) -> Command:
+    """A trace that is told of with the lines before, and with its warnings on standard error."""
+    is_accepted = report.startswith(b"accepted")
+    rows = b"" if is_accepted else rows_before(data, report.decode(), LINES_BEFORE)
+    text = why(STANDARD_INPUT, data, report.decode()) + rows
+    told = warnings_of(STANDARD_INPUT, data, report.decode())
+    arguments = ["--warn", "--around", str(LINES_BEFORE)]
+    whole = Outcome(status_of(report), text, told)
+    return Command(f"why {name} {' '.join(arguments)}", arguments, data, report, whole, text)
 
 
 def silent(program: str, library: Path) -> Auditor:
