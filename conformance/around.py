@@ -7,23 +7,13 @@ is that of the sender of sender.py, which shares nothing with the proved program
 from collections import deque
 from collections.abc import Iterator
 
-from rows import first_not_good
+from constants import METRICS_IN_MICROSECONDS
+from rows import first_not_good, followed
 from sender import Sender
-from why import said_by
 
 HEADING = "  before it:\n"
 # The values of a row, in their order.
-VALUES = (
-    "window",
-    "bytes_in_flight",
-    "ssthresh",
-    "latest_rtt",
-    "min_rtt",
-    "smoothed_rtt",
-    "rttvar",
-    "pto_count",
-    "owed",
-)
+VALUES = ("window", "bytes_in_flight", "ssthresh", *METRICS_IN_MICROSECONDS, "pto_count", "owed")
 
 
 def rows_before(trace: bytes, report: str, count: int) -> bytes:
@@ -34,20 +24,9 @@ def rows_before(trace: bytes, report: str, count: int) -> bytes:
 
 def rows_of(trace: bytes, last: int | None) -> Iterator[str]:
     """The rows of the lines of a trace before this one, or of all."""
-    sender = None
-    for number, line in enumerate(trace.split(b"\n"), 1):
-        if number == last:
-            return
-        if not line.strip(b" \t\r"):
-            continue
-        event = said_by(line)
-        if sender is None:
-            sender = Sender(event)
-            front = f"  line {number} header"
-        else:
-            sender.follow(event)
-            front = f"  line {number} {event['event']} at {event['time']}"
-        yield f"{front}:{values(sender)}{timer(sender)}\n"
+    for number, sender, event in followed(trace, last):
+        at = "" if event["event"] == "header" else f" at {event['time']}"
+        yield f"  line {number} {event['event']}{at}:{values(sender)}{timer(sender)}\n"
 
 
 def values(sender: Sender) -> str:

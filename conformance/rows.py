@@ -78,9 +78,9 @@ STORED_ALL = (
 SUFFIX, SUFFIX_ALL = ".rows", ".all.rows"
 
 
-def rows_of(trace: bytes, last: int | None) -> Iterator[bytes]:
-    """The rows of the lines of a trace before this one, or of all."""
-    sender, unit = None, "us"
+def followed(trace: bytes, last: int | None) -> Iterator[tuple[int, Sender, Event]]:
+    """The lines of a trace before this one, or all: number, sender behind it, and what it says."""
+    sender = None
     for number, line in enumerate(trace.split(b"\n"), 1):
         if number == last:
             return
@@ -88,10 +88,19 @@ def rows_of(trace: bytes, last: int | None) -> Iterator[bytes]:
             continue
         event = said_by(line)
         if sender is None:
-            sender, unit = Sender(event), unit_of(event)
-            said = header_written(event, sender)
+            sender = Sender(event)
         else:
             sender.follow(event)
+        yield number, sender, event
+
+
+def rows_of(trace: bytes, last: int | None) -> Iterator[bytes]:
+    """The rows of the lines of a trace before this one, or of all."""
+    unit = "us"
+    for number, sender, event in followed(trace, last):
+        if event["event"] == "header":
+            unit, said = unit_of(event), header_written(event, sender)
+        else:
             said = event_written(event)
         row = {"line": number, "event": said, "state": state_of(sender, unit)}
         yield json.dumps(row, separators=(",", ":")).encode() + b"\n"

@@ -23,7 +23,7 @@ from mutants import mutant
 import departing
 from constants import METRICS_IN_BYTES
 from departures import course_of
-from rows import first_not_followed, first_not_good
+from rows import first_not_followed, first_not_good, followed
 from sender import Event, Sender
 from why import said_by
 
@@ -45,18 +45,7 @@ def states(
     data: bytes, report: str, *, is_strict: bool = False
 ) -> Iterator[tuple[int, Sender, dict[str, Any]]]:
     """Each judged line with the sender behind it."""
-    sender, last = None, (first_not_good if is_strict else last_past)(data, report)
-    for number, line in enumerate(data.split(b"\n"), 1):
-        if number == last:
-            return
-        if not line.strip(b" \t\r"):
-            continue
-        event = said_by(line)
-        if sender is None:
-            sender = Sender(event)
-        else:
-            sender.follow(event)
-        yield number, sender, event
+    return followed(data, (first_not_good if is_strict else last_past)(data, report))
 
 
 def wanted_state(sender: Sender) -> tuple[object, ...]:
