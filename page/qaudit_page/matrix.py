@@ -62,7 +62,9 @@ def judged(job: Job) -> Result:
         if job.page is None:
             verdict, fault = verdict_of(find(job.program), read(job.trace)), ""
         else:
-            verdict, text = page_of(Wanted(job.trace, job.program, job.dygraphs, job.key))
+            # Other traces have the other processors.
+            wanted = Wanted(job.trace, job.program, job.dygraphs, job.key, readers=0)
+            verdict, text = page_of(wanted)
             write(job.page, text)
             fault = ""
     except Failure as failure:

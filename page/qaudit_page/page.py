@@ -15,17 +15,8 @@ from .facts import Facts, facts_of
 from .files import name_of, read
 from .library import dygraphs, licence, resource, script
 from .payload import Part, packed, part_of, payload, shown, text_of
-from .program import (
-    PAST,
-    STRICT,
-    Mode,
-    Run,
-    UnknownOptionError,
-    Verdict,
-    find,
-    rows_by,
-    verdict_by,
-)
+from .program import PAST, STRICT, Mode, Run, UnknownOptionError, Verdict, find, verdict_by
+from .rows import rows_by
 from .rules import meaning_of
 from .texts import count, html, link, milliseconds, pairs, plural
 from .trace import Trace, trace_of
@@ -46,6 +37,8 @@ class Wanted:
     title: str | None = None
     first: int | None = None
     last: int | None = None
+    # How many processes read rows beside this one.
+    readers: int = 2
 
     @property
     def name(self) -> str:
@@ -56,25 +49,25 @@ class Wanted:
 def page_of(wanted: Wanted) -> tuple[Verdict, str]:
     """The page of a trace, and its verdict."""
     library, program = dygraphs(wanted.dygraphs), find(wanted.program)
-    verdict, trace = audited(program, read(wanted.trace))
+    verdict, trace = audited(program, read(wanted.trace), wanted.readers)
     part = part_of(trace, verdict, wanted.first, wanted.last)
     return verdict, written(wanted, library, trace, verdict, part)
 
 
-def audited(program: str, data: bytes) -> tuple[Verdict, Trace]:
+def audited(program: str, data: bytes, readers: int) -> tuple[Verdict, Trace]:
     """What a program says of a trace: past departures, where it knows how to go on."""
     try:
-        return audited_as(PAST, program, data)
+        return audited_as(PAST, program, data, readers)
     except UnknownOptionError:
-        return audited_as(STRICT, program, data)
+        return audited_as(STRICT, program, data, readers)
 
 
-def audited_as(mode: Mode, program: str, data: bytes) -> tuple[Verdict, Trace]:
+def audited_as(mode: Mode, program: str, data: bytes, readers: int) -> tuple[Verdict, Trace]:
     """What a program says of a trace that is asked in this way."""
     with Run(program, mode.verdict, data) as judging, Run(program, mode.rows, data) as telling:
         verdict = verdict_by(judging)
         with without_collector():
-            return verdict, trace_of(data, rows_by(telling), verdict.first_unjudged)
+            return verdict, trace_of(data, rows_by(telling, readers), verdict.first_unjudged)
 
 
 @contextmanager

@@ -2,18 +2,20 @@
 
 import base64
 import zlib
-from collections.abc import Iterable, Sequence
+from bisect import bisect_left, bisect_right
+from collections.abc import Callable, Iterable, Sequence
 from dataclasses import dataclass
 from itertools import chain, compress
-from operator import sub
-from typing import cast
+from operator import itemgetter, sub
+from typing import Any, cast
 
 from .departures import Departures, departures_of
 from .failure import Failure, Status
 from .lenient import METRICS, SPACES
 from .program import Object, Verdict
+from .rows import AMOUNTS
 from .texts import count, decoded
-from .trace import AMOUNTS, ELICITING, Trace
+from .trace import ELICITING, Trace
 
 # What a page takes; docs/page.md has what it costs.
 MAX_LINES = 500_000
@@ -88,6 +90,11 @@ def part_that_fits(trace: Trace, verdict: Verdict, part: Part) -> Part:
 # Columns.
 
 
+def shown_of(part: Part, rows: Sequence[Any], line: Callable[[Any], int] | None = None) -> slice:
+    """Which of some rows are shown; their lines rise, and are the rows where none is asked for."""
+    return slice(bisect_left(rows, part.first, key=line), bisect_right(rows, part.last, key=line))
+
+
 def differences(values: Iterable[int]) -> list[int]:
     """Each value less the one before it."""
     listed = values if isinstance(values, list) else list(values)
@@ -122,66 +129,63 @@ def digits(codes: bytes | bytearray) -> str:
 def state_of(trace: Trace, part: Part) -> Object:
     """The state behind the lines of a part that have a row."""
     state = trace.state
-    kept = [place for place, line in enumerate(state.line) if part.has(line)]
-    begin, end = (kept[0], kept[-1] + 1) if kept else (0, 0)
-    amounts = {name: state.amounts[name][begin:end] for name in AMOUNTS}
+    rows = shown_of(part, state.line)
+    lines = state.line[rows]
+    amounts = {name: state.amounts[name][rows] for name in AMOUNTS}
     deadlines = amounts.pop("deadline")
     found: Object = {name: column(values) for name, values in amounts.items()}
-    found["deadline"] = remaining(trace, begin, deadlines)
-    found["line"] = differences(state.line[begin:end])
-    found["timer"] = digits(state.timer[begin:end])
-    found["owed"] = differences(state.owed[begin:end])
+    found["deadline"] = remaining(trace, lines, deadlines)
+    found["line"] = differences(lines)
+    found["timer"] = digits(state.timer[rows])
+    found["owed"] = differences(state.owed[rows])
     owed = state.owed_text.items()
-    found["owed_text"] = {row - begin: text for row, text in owed if begin <= row < end}
+    found["owed_text"] = {
+        row - rows.start: text for row, text in owed if rows.start <= row < rows.stop
+    }
     return found
 
 
-def remaining(trace: Trace, begin: int, deadlines: Sequence[int | None]) -> Object:
+def remaining(trace: Trace, lines: list[int], deadlines: Sequence[int | None]) -> Object:
     """How long after each line the timer is set for, which repeats where deadlines rise."""
-    times, lines = trace.time, trace.state.line[begin : begin + len(deadlines)]
+    times = trace.time
     pairs = zip(lines, deadlines, strict=True)
     after = [0 if due is None else min(due, EXACT) - times[line - 1] for line, due in pairs]
     return {"by": differences(after), "exact": exact(deadlines)}
 
 
 def packets_of(trace: Trace, part: Part) -> Object:
-    """The packets of a part, with those from before it that were not ended there."""
+    """The packets of a part, behind those from before it that were not ended there."""
     packets = trace.packets
-    kept: Sequence[int] = range(len(packets.line))
-    if part != Part(1, len(trace.lines)):
-        kept = [place for place in kept if is_kept(trace, part, place)]
-    numbers = [packets.number[place] for place in kept]
-    spaces = [packets.space[place] for place in kept]
+    shown = shown_of(part, packets.line)
+    before = [place for place in range(shown.start) if is_open_at(trace, part, place)]
+
+    def kept(values: list[int]) -> list[int]:
+        return [values[place] for place in before] + values[shown]
+
+    lines, numbers, spaces = kept(packets.line), kept(packets.number), kept(packets.space)
     # Numbers count from the least of their space, and so stay exact where they are great.
     least = [
         min(compress(numbers, map(space.__eq__, spaces)), default=0) for space in range(len(SPACES))
     ]
-    from_least = [number - least[space] for number, space in zip(numbers, spaces, strict=True)]
     found: Object = {
-        "line": differences(packets.line[place] for place in kept),
+        "line": differences(lines),
         "space": digits(bytes(spaces)),
         "least": [str(number) for number in least],
-        "number": column(from_least),
-        "size": differences(packets.size[place] for place in kept),
-        "flags": "".join(f"{packets.flags[place]:x}" for place in kept),
-        "before": [
-            trace.time[packets.line[place] - 1]
-            for place in kept
-            if packets.line[place] < part.first
-        ],
+        "number": column(list(map(sub, numbers, map(least.__getitem__, spaces)))),
+        "size": differences(kept(packets.size)),
+        # A digit in base 16 each.
+        "flags": bytes(kept(packets.flags)).hex()[1::2],
+        "before": [trace.time[line - 1] for line in lines[: len(before)]],
     }
     for name in ("acked", "lost", "gone"):
-        ends: list[int] = getattr(packets, name)
-        found[name] = [ends[place] - packets.line[place] if ends[place] else 0 for place in kept]
+        ends = zip(kept(getattr(packets, name)), lines, strict=False)
+        found[name] = [end - line if end else 0 for end, line in ends]
     return found
 
 
-def is_kept(trace: Trace, part: Part, place: int) -> bool:
-    """Whether a packet is in a part, or was sent before it and is open where it begins."""
+def is_open_at(trace: Trace, part: Part, place: int) -> bool:
+    """Whether a packet that was sent before a part is open where it begins."""
     packets = trace.packets
-    line = packets.line[place]
-    if line >= part.first:
-        return line <= part.last
     ends = [it for it in (packets.acked[place], packets.lost[place], packets.gone[place]) if it]
     is_awaited = bool(packets.flags[place] & ELICITING)
     return min(ends) >= part.first if ends else is_awaited
@@ -189,17 +193,18 @@ def is_kept(trace: Trace, part: Part, place: int) -> bool:
 
 def acks_of(trace: Trace, part: Part, least: list[int]) -> Object:
     """The greatest number of each acknowledgment, from the least of its space that is shown."""
-    acks = [ack for ack in trace.acks if part.has(ack[0])]
+    acks = trace.acks[shown_of(part, trace.acks, itemgetter(0))]
     found: Object = {"line": differences(line for line, _ in acks)}
     spaces = [trace.space[line - 1] for line, _ in acks]
-    numbers = (greatest for _, greatest in acks)
-    from_least = [max(0, n - least[space]) for n, space in zip(numbers, spaces, strict=True)]
+    from_least = [
+        max(0, greatest - least[space]) for (_, greatest), space in zip(acks, spaces, strict=True)
+    ]
     return found | {"greatest": column(from_least)}
 
 
 def metrics_of(trace: Trace, part: Part) -> Object:
     """The reported values, a column each."""
-    reports = [report for report in trace.metrics if part.has(report[0])]
+    reports = trace.metrics[shown_of(part, trace.metrics, itemgetter(0))]
     found: Object = {"line": differences(line for line, _ in reports)}
     for place, name in enumerate(METRICS):
         found[name] = column([values[place] for _, values in reports])

@@ -176,13 +176,3 @@ def verdict_of(program: str, data: bytes) -> Verdict:
     """What the program says of the bytes of a trace."""
     with Run(program, STRICT.verdict, data) as run:
         return verdict_by(run)
-
-
-def rows_by(run: Run) -> Iterator[list[Object]]:
-    """The rows of a run with `--rows`, some at a time."""
-    for piece in run.lines():
-        try:
-            rows: list[Object] = json.loads(b"[" + b",".join(piece) + b"]")
-        except ValueError as fault:
-            raise Failure(f"{run.program} wrote rows that are not JSON: {fault}") from fault
-        yield rows

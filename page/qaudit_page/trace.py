@@ -4,13 +4,10 @@ packet by the lines."""
 from array import array
 from bisect import bisect_left
 from collections.abc import Callable, Iterable
-from dataclasses import dataclass, field
-from operator import itemgetter
 
 from .failure import Failure
 from .lenient import METRICS, SPACES, Event, read
-from .program import Object
-from .texts import runs
+from .rows import NO_SPACE, TIMERS, Rows, State
 
 # How the kind of a line is written, a character a line.
 KINDS = {
@@ -27,29 +24,8 @@ KINDS = {
 BLANK, OTHER = "b", "u"
 CODES = {name: ord(kind) for name, kind in KINDS.items()}
 SPACE_OF = {name: space for space, name in enumerate(SPACES)}
-NO_SPACE = 3
-# Beside the space of a line: that a timer is the one for losses.
-OF_LOSS = 4
 ELICITING, IN_FLIGHT, PROBE, RECOVERY = 1, 2, 4, 8
 LEAVES = {"probe": PROBE, "recovery": RECOVERY}
-# The amounts of a state and their keys in a row, for the unit of its times.
-AMOUNTS = {
-    "window": "window_bytes",
-    "ssthresh": "ssthresh_bytes",
-    "in_flight": "in_flight_bytes",
-    "latest_rtt": "latest_rtt_{}",
-    "min_rtt": "min_rtt_{}",
-    "smoothed_rtt": "smoothed_rtt_{}",
-    "rttvar": "rttvar_{}",
-    "pto_count": "pto_count",
-    "deadline": "deadline_{}",
-}
-# How it is written what the timer is set for.
-TIMERS: dict[tuple[str | None, str | None], int] = {
-    (None, None): NO_SPACE,
-    **{("pto", name): space for space, name in enumerate(SPACES)},
-    **{("loss", name): space + OF_LOSS for space, name in enumerate(SPACES)},
-}
 
 
 class Numbers:
@@ -112,21 +88,6 @@ class Packets:
         self.gone = [0] * lines
 
 
-@dataclass
-class State:
-    """The state behind each line that has a row."""
-
-    line: list[int] = field(default_factory=list)
-    amounts: dict[str, list[int | None]] = field(
-        default_factory=lambda: {name: [] for name in AMOUNTS}
-    )
-    # The kind and the space of the timer that is set, as with lines that say timers; 3 for none.
-    timer: bytearray = field(default_factory=bytearray)
-    # How many packets are owed, and which, by the row.
-    owed: list[int] = field(default_factory=list)
-    owed_text: dict[int, str] = field(default_factory=dict)
-
-
 class Trace:
     """The columns of a trace, whose lines are numbered from 1."""
 
@@ -147,6 +108,8 @@ class Trace:
         self.metrics: list[tuple[int, list[int | None]]] = []
         self.state = State()
         self.now = 0
+        # The first line of which nothing is known yet.
+        self.next_line = 1
         self.takes: dict[str, Callable[[int, Event], None]] = {
             "sent": self.sent,
             "ack": self.acknowledged,
@@ -163,6 +126,7 @@ class Trace:
         is_blank = not self.lines[line - 1].strip(b" \t\r")
         self.kind[line - 1] = ord(BLANK if is_blank else OTHER)
         self.time[line - 1] = self.now
+        self.next_line = line + 1
 
     def event(self, line: int, said: Event) -> None:
         """What a line says."""
@@ -174,6 +138,7 @@ class Trace:
             if take is not None:
                 take(line, said)
         self.time[line - 1] = self.now
+        self.next_line = line + 1
 
     def sent(self, line: int, said: Event) -> None:
         """A packet."""
@@ -225,47 +190,29 @@ class Trace:
 
     # Rows.
 
-    def row(self, row: Object) -> None:
-        """What the line of a row says."""
-        said = row["event"]
-        if said["event"] == "header":
-            self.header = said
-            self.unit = said.get("unit", "us")
-        self.event(row["line"], said)
-        self.state.line.append(row["line"])
-
-    def hold(self, states: list[Object]) -> None:
-        """The states of rows."""
-        state, begin = self.state, len(self.state.owed)
-        for name, key in AMOUNTS.items():
-            column = map(itemgetter(key.format(self.unit)), states)
-            state.amounts[name].extend(column)
-        codes = map(itemgetter("set_kind", "set_space"), states)
-        state.timer.extend(map(TIMERS.__getitem__, codes))
-        for place, held in enumerate(states, begin):
-            owed = held["owed"]
-            state.owed.append(sum(high - low + 1 for low, high in owed) if owed else 0)
-            if owed:
-                state.owed_text[place] = f"{held['owed_space']} {runs(owed)}"
+    def take(self, rows: Rows) -> None:
+        """What the lines of rows say, with the lines between them, which say nothing."""
+        for line, said in zip(rows.state.line, rows.events, strict=True):
+            while self.next_line < line:
+                self.blank(self.next_line)
+            if said["event"] == "header":
+                self.header = said
+                self.unit = said.get("unit", "us")
+            self.event(line, said)
+        self.state.extend(rows.state)
 
 
-def trace_of(data: bytes, rows: Iterable[list[Object]], first_unjudged: int | None) -> Trace:
+def trace_of(data: bytes, rows: Iterable[Rows], first_unjudged: int | None) -> Trace:
     """The columns of the bytes of a trace whose rows are these, some at a time. Lines from the
     first unjudged one on have none and are read as they seem."""
-    trace, next_line = Trace(data), 1
+    trace = Trace(data)
     try:
         for piece in rows:
-            for row in piece:
-                while next_line < row["line"]:
-                    trace.blank(next_line)
-                    next_line += 1
-                trace.row(row)
-                next_line += 1
-            trace.hold([row["state"] for row in piece])
+            trace.take(piece)
     except (KeyError, TypeError, ValueError, IndexError, AttributeError) as fault:
-        text = f"qaudit-why wrote an unknown row before line {next_line}: {fault!r}"
+        text = f"qaudit-why wrote an unknown row behind line {trace.next_line - 1}: {fault!r}"
         raise Failure(text) from fault
-    for line in range(next_line, len(trace.lines) + 1):
+    for line in range(trace.next_line, len(trace.lines) + 1):
         said = None
         if first_unjudged is not None and line >= first_unjudged:
             said = read(trace.lines[line - 1])

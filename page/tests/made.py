@@ -26,6 +26,7 @@ from qaudit_page.library import PLACE, dygraphs  # noqa: E402
 from qaudit_page.page import Wanted, written  # noqa: E402
 from qaudit_page.payload import part_of  # noqa: E402
 from qaudit_page.program import Verdict  # noqa: E402
+from qaudit_page.rows import columns_of  # noqa: E402
 from qaudit_page.trace import Trace, trace_of  # noqa: E402
 from stand_in import judged  # noqa: E402
 
@@ -76,7 +77,7 @@ def seen(
     verdict = Verdict(json.loads(said))
     rows = [json.loads(row) for row in rows_of(data, last)]
     # In pieces, as from a program.
-    pieces = [rows[place : place + 7] for place in range(0, len(rows), 7)]
+    pieces = [columns_of(rows[place : place + 7]) for place in range(0, len(rows), 7)]
     return trace_of(data, pieces, verdict.first_unjudged), verdict
 
 

@@ -3,6 +3,7 @@
 import base64
 import hashlib
 import json
+import os
 import re
 import subprocess
 import sys
@@ -30,10 +31,11 @@ from tests.made import (
     summed,
 )
 
-from qaudit_page import payload
+from qaudit_page import payload, rows
 from qaudit_page.departures import departures_of, section_of
 from qaudit_page.failure import Failure, Status
-from qaudit_page.program import PAST, Verdict
+from qaudit_page.program import PAST, Run, Verdict
+from qaudit_page.rows import AMOUNTS, Rows, rows_by
 from qaudit_page.rules import FAULTS, RULES
 from qaudit_page.texts import milliseconds, runs
 
@@ -381,6 +383,72 @@ class Limits(unittest.TestCase):
         with mock.patch("qaudit_page.payload.MAX_BYTES", 350):
             with self.assertRaisesRegex(Failure, "--from 1 --to 3 would do"):
                 self.part(data)
+
+
+def row(line: int) -> str:
+    """A row, as the program writes it."""
+    state: dict[str, Any] = {key.format("us"): line for key in AMOUNTS.values()}
+    owed = [[line - 1, line]] if line % 1_000 == 0 else []
+    state |= {"owed": owed, "owed_space": "app", "set_kind": "pto", "set_space": "app"}
+    said = {"event": "keys", "time": line, "space": "app"}
+    return json.dumps({"line": line, "event": said, "state": state})
+
+
+HERE, READ = os.getpid(), rows.read
+
+
+def read_here(lines: list[bytes]) -> Rows:
+    """Reads rows in this process; another one ends."""
+    if os.getpid() != HERE:
+        os._exit(1)
+    return READ(lines)
+
+
+class LongTraces(unittest.TestCase):
+    """The rows of a long trace, most of which other processes read."""
+
+    def setUp(self) -> None:
+        folder = tempfile.TemporaryDirectory()
+        self.addCleanup(folder.cleanup)
+        self.program, self.told = Path(folder.name, "program"), Path(folder.name, "rows")
+        self.program.write_text(f"#!/bin/sh\ncat {self.told}\n")
+        self.program.chmod(0o755)
+
+    def rows(self, lines: list[str], readers: int) -> list[Rows]:
+        """What is read of lines that a program writes."""
+        self.told.write_text("".join(f"{line}\n" for line in lines))
+        with Run(str(self.program), (), b"") as run:
+            return list(rows_by(run, readers))
+
+    def test_each_row_stands_in_its_order(self) -> None:
+        lines = [row(line) for line in range(1, 30_001)]
+        alone = self.rows(lines, 0)
+        self.assertGreater(len(alone), rows.AHEAD + 2)
+        read = [line for piece in alone for line in piece.state.line]
+        self.assertEqual(read, list(range(1, 30_001)))
+        for readers in (1, 3):
+            self.assertEqual(self.rows(lines, readers), alone)
+
+    def test_states_are_joined(self) -> None:
+        state = rows.State()
+        for piece in self.rows([row(line) for line in range(1, 9_001)], 2):
+            state.extend(piece.state)
+        self.assertEqual(state.amounts["window"], list(range(1, 9_001)))
+        self.assertEqual(state.owed_text[1_999], "app 1999-2000")
+        self.assertEqual((sum(state.owed), len(state.owed_text), len(state.timer)), (18, 9, 9_000))
+
+    def test_what_is_no_row_behind_many(self) -> None:
+        lines = [row(line) for line in range(1, 20_001)]
+        for readers in (0, 2):
+            with self.assertRaisesRegex(Failure, "rows that are not JSON"):
+                self.rows([*lines, "{"], readers)
+            with self.assertRaises(KeyError):
+                self.rows([*lines, '{"line":20001}'], readers)
+
+    def test_a_reader_that_ends(self) -> None:
+        told = "a process that reads the rows failed"
+        with mock.patch.object(rows, "read", read_here), self.assertRaisesRegex(Failure, told):
+            self.rows([row(line) for line in range(1, 20_001)], 2)
 
 
 @unittest.skipIf(NO_LIBRARY, NO_LIBRARY)

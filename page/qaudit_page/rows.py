@@ -1,0 +1,130 @@
+"""The rows that qaudit-why writes of a trace, as columns."""
+
+import json
+from collections import deque
+from collections.abc import Callable, Iterable, Iterator
+from concurrent.futures import Future, ProcessPoolExecutor
+from concurrent.futures.process import BrokenProcessPool
+from dataclasses import dataclass, field
+from itertools import islice
+from multiprocessing import get_context
+from operator import itemgetter
+
+from .failure import Failure
+from .lenient import SPACES, Event
+from .program import Object, Run
+from .texts import runs
+
+NO_SPACE = 3
+# Beside the space of a line: that a timer is the one for losses.
+OF_LOSS = 4
+# How it is written what a timer is set for.
+TIMERS: dict[tuple[str | None, str | None], int] = {
+    (None, None): NO_SPACE,
+    **{("pto", name): space for space, name in enumerate(SPACES)},
+    **{("loss", name): space + OF_LOSS for space, name in enumerate(SPACES)},
+}
+# The amounts of a state and their keys in a row, for the unit of its times.
+AMOUNTS = {
+    "window": "window_bytes",
+    "ssthresh": "ssthresh_bytes",
+    "in_flight": "in_flight_bytes",
+    "latest_rtt": "latest_rtt_{}",
+    "min_rtt": "min_rtt_{}",
+    "smoothed_rtt": "smoothed_rtt_{}",
+    "rttvar": "rttvar_{}",
+    "pto_count": "pto_count",
+    "deadline": "deadline_{}",
+}
+# How many pieces are read before the first of them is wanted.
+AHEAD = 8
+
+
+@dataclass
+class State:
+    """The state behind each line that has a row."""
+
+    line: list[int] = field(default_factory=list)
+    amounts: dict[str, list[int | None]] = field(
+        default_factory=lambda: {name: [] for name in AMOUNTS}
+    )
+    # The kind and the space of the timer that is set, as with lines that say timers; 3 for none.
+    timer: bytearray = field(default_factory=bytearray)
+    # How many packets are owed, and which, by the row.
+    owed: list[int] = field(default_factory=list)
+    owed_text: dict[int, str] = field(default_factory=dict)
+
+    def extend(self, later: "State") -> None:
+        """The states of rows behind these."""
+        begin = len(self.line)
+        self.line.extend(later.line)
+        for name, values in later.amounts.items():
+            self.amounts[name].extend(values)
+        self.timer.extend(later.timer)
+        self.owed.extend(later.owed)
+        self.owed_text.update({begin + place: text for place, text in later.owed_text.items()})
+
+
+@dataclass
+class Rows:
+    """Some rows: what their lines say, and the states behind them."""
+
+    events: list[Event]
+    state: State
+
+
+def columns_of(rows: list[Object]) -> Rows:
+    """Rows as columns. KeyError, TypeError or ValueError where one is no row."""
+    held = list(map(itemgetter("state"), rows))
+    state = State(line=list(map(itemgetter("line"), rows)))
+    unit = "ns" if held and "latest_rtt_ns" in held[0] else "us"
+    for name, key in AMOUNTS.items():
+        state.amounts[name] = list(map(itemgetter(key.format(unit)), held))
+    state.timer.extend(map(TIMERS.__getitem__, map(itemgetter("set_kind", "set_space"), held)))
+    for place, owing in enumerate(held):
+        owed = owing["owed"]
+        state.owed.append(sum(high - low + 1 for low, high in owed) if owed else 0)
+        if owed:
+            state.owed_text[place] = f"{owing['owed_space']} {runs(owed)}"
+    return Rows(list(map(itemgetter("event"), rows)), state)
+
+
+def read(lines: list[bytes]) -> Rows:
+    """Lines that the program wrote, a row each."""
+    try:
+        rows: list[Object] = json.loads(b"[" + b",".join(lines) + b"]")
+    except ValueError as fault:
+        raise Failure(f"qaudit-why wrote rows that are not JSON: {fault}") from fault
+    return columns_of(rows)
+
+
+def rows_by(run: Run, readers: int) -> Iterator[Rows]:
+    """The rows of a run with `--rows`, some at a time. All but the first few are read by so many
+    other processes, where that is not 0."""
+    pieces = run.lines()
+    if not readers:
+        yield from map(read, pieces)
+        return
+    yield from map(read, islice(pieces, 1))
+    try:
+        second = next(pieces, None)
+        if second is None:
+            return
+        with ProcessPoolExecutor(readers, get_context("fork")) as pool:
+            yield read(second)
+            yield from ahead(lambda piece: pool.submit(read, piece), pieces)
+    except (BrokenProcessPool, OSError) as fault:
+        raise Failure(f"a process that reads the rows failed: {fault}") from fault
+
+
+def ahead(
+    begin: Callable[[list[bytes]], Future[Rows]], pieces: Iterable[list[bytes]]
+) -> Iterator[Rows]:
+    """What is begun with each piece, in order, while some behind it are worked on."""
+    begun: deque[Future[Rows]] = deque()
+    for piece in pieces:
+        begun.append(begin(piece))
+        if len(begun) == AHEAD:
+            yield begun.popleft().result()
+    for one in begun:
+        yield one.result()
