@@ -12,6 +12,7 @@ from pathlib import Path
 
 from .departures import section_of
 from .facts import Facts, facts_of
+from .failure import Failure
 from .files import name_of, read
 from .library import dygraphs, licence, resource, script
 from .payload import Part, packed, part_of, payload, shown, text_of
@@ -65,9 +66,16 @@ def audited(program: str, data: bytes, readers: int) -> tuple[Verdict, Trace]:
 def audited_as(mode: Mode, program: str, data: bytes, readers: int) -> tuple[Verdict, Trace]:
     """What a program says of a trace that is asked in this way."""
     with Run(program, mode.verdict, data) as judging, Run(program, mode.rows, data) as telling:
-        verdict = verdict_by(judging)
         with without_collector():
-            return verdict, trace_of(data, rows_by(telling, readers), verdict.first_unjudged)
+            try:
+                trace = trace_of(data, rows_by(telling, readers))
+            except Failure:
+                # What is wrong with the verdict, if anything, tells more.
+                verdict_by(judging)
+                raise
+            verdict = verdict_by(judging)
+            trace.read_rest(verdict.first_unjudged)
+            return verdict, trace
 
 
 @contextmanager

@@ -201,10 +201,21 @@ class Trace:
             self.event(line, said)
         self.state.extend(rows.state)
 
+    def read_rest(self, first_unjudged: int | None) -> None:
+        """The lines behind the last row. From the first unjudged one on they are read as they seem;
+        those before it say nothing."""
+        for line in range(self.next_line, len(self.lines) + 1):
+            said = None
+            if first_unjudged is not None and line >= first_unjudged:
+                said = read(self.lines[line - 1])
+            if said is None:
+                self.blank(line)
+            else:
+                self.event(line, said)
 
-def trace_of(data: bytes, rows: Iterable[Rows], first_unjudged: int | None) -> Trace:
-    """The columns of the bytes of a trace whose rows are these, some at a time. Lines from the
-    first unjudged one on have none and are read as they seem."""
+
+def trace_of(data: bytes, rows: Iterable[Rows]) -> Trace:
+    """The columns of the bytes of a trace up to the last of its rows, which come some at a time."""
     trace = Trace(data)
     try:
         for piece in rows:
@@ -212,12 +223,4 @@ def trace_of(data: bytes, rows: Iterable[Rows], first_unjudged: int | None) -> T
     except (KeyError, TypeError, ValueError, IndexError, AttributeError) as fault:
         text = f"qaudit-why wrote an unknown row behind line {trace.next_line - 1}: {fault!r}"
         raise Failure(text) from fault
-    for line in range(trace.next_line, len(trace.lines) + 1):
-        said = None
-        if first_unjudged is not None and line >= first_unjudged:
-            said = read(trace.lines[line - 1])
-        if said is None:
-            trace.blank(line)
-        else:
-            trace.event(line, said)
     return trace

@@ -78,12 +78,12 @@ def seen(
     rows = [json.loads(row) for row in rows_of(data, last)]
     # In pieces, as from a program.
     pieces = [columns_of(rows[place : place + 7]) for place in range(0, len(rows), 7)]
-    return trace_of(data, pieces, verdict.first_unjudged), verdict
+    trace = trace_of(data, pieces)
+    trace.read_rest(verdict.first_unjudged)
+    return trace, verdict
 
 
-def made(
-    data: bytes, report: str | None = None, *, is_strict: bool = False, **wanted: Any
-) -> str:
+def made(data: bytes, report: str | None = None, *, is_strict: bool = False, **wanted: Any) -> str:
     """The page of a trace."""
     trace, verdict = seen(data, report, is_strict=is_strict)
     fields: dict[str, Any] = {"trace": Path("made.trace"), **wanted}

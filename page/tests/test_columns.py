@@ -264,9 +264,7 @@ class Departures(unittest.TestCase):
             return set()
         page = Page(made(data, report))
         columns = page.data()
-        marked = {
-            f"{it['rule']} {it['name']}": summed(it["lines"]) for it in columns["departures"]
-        }
+        marked = {f"{it['rule']} {it['name']}": summed(it["lines"]) for it in columns["departures"]}
         lines = {what: [line for line, _ in told] for what, told in found.items()}
         self.assertEqual(marked, lines)
         rows = {what: row_by(what, told, columns["unit"]) for what, told in found.items()}
@@ -331,7 +329,8 @@ class Mutated(unittest.TestCase):
         said = {"verdict": "unreadable", "line": 1, "fault": "F1", "name": "not-json"}
         verdict, met = Verdict(said), set()
         for seed in range(200):
-            trace = trace_of(mutant(seed), [], 1)
+            trace = trace_of(mutant(seed), [])
+            trace.read_rest(1)
             part = part_of(trace, verdict, None, None)
             columns = payload(trace, verdict, part)
             met |= set(columns["kind"])
