@@ -1,5 +1,5 @@
 -- The traces so far, and those to come.
-use Rattle.std.proofs.Common.{◌≡◌, ◌∙◌, ◌<◌, ◌≤◌, ◌+◌, ◌-◌, ◌^◌, ◌++◌, ◌∷◌, ℕ, zero, suc, Bool, true, false, List, [], Ok, Err, cond, length, drop, get_or, map, max, min, arith, refl, sym, ap, subst, append_assoc, append-nil, sum_by, count_by}
+use Rattle.std.proofs.Common.{◌≡◌, ◌∙◌, ◌<◌, ◌≤◌, ◌+◌, ◌++◌, ◌∷◌, ℕ, zero, suc, Bool, true, false, List, [], Ok, Err, cond, length, drop, get_or, map, max, arith, refl, sym, ap, subst, append_assoc, append-nil, count_by}
 use Rattle.std.specs.Prelude.{◌||◌}
 use Rattle.std.specs.Borrow.{Bor}
 use Rattle.std.specs.List.{list_any}

@@ -1,7 +1,7 @@
 -- What was told of a trace, by the contracts of the calls that read it.
-use Rattle.std.proofs.Common.{◌≡◌, ℕ, Bool, true, false, List, Option, Some, Result, Ok, Err, IfOk, take, refl, subst}
+use Rattle.std.proofs.Common.{◌≡◌, ℕ, true, false, List, Option, Some, Result, Ok, Err, IfOk, take, refl, subst}
 use Rattle.std.specs.Io.KnownBytes.{Appends}
-use Rattle.std.specs.Prelude.{OnOk, OnErr, IfErr, ◌&&◌, is_err, not}
+use Rattle.std.specs.Prelude.{OnOk, OnErr, IfErr, ◌&&◌, not}
 use Rattle.qa_all.specs.All.{past_conduct}
 use Rattle.qa_check.proofs.Writing.{begins_taken}
 use Rattle.qa_check.specs.Audit.{ReadsBy, ReadsEnoughBy, is_read_fault, is_write_fault, outcome_of}
@@ -19,6 +19,7 @@ use Rattle.qa_warnings.specs.declared.warnings.Warnings.{Warnings}
 use Rattle.qa_why_arguments.specs.Asked.{Wanted}
 use Rattle.qa_why_arguments.specs.declared.arguments.Told.{Told}
 use Rattle.qa_why_arguments.specs.declared.arguments.Told.TheVariants.{AllRows, Rows}
+use Rattle.qa_why_command.specs.Commands.{Refuses}
 use Rattle.qa_why_command.specs.Noted.{TellsNoted, WasWarned, unnoted}
 use Rattle.qa_why_command.specs.Streams.{Stream, WasTold, streams}
 use Rattle.qa_why_command.specs.Telling.{Counts, CountsFaults, StoppedRows, TellsRead, Warns, are_rows, judging_of, outcome_by, text_of}
@@ -29,6 +30,10 @@ pub told_whole : (r : Result (Unit {0}) AuditFault) (a b : Option (List ℕ)) (n
     → n' ≡ failures_after (is_write_fault r) n → IfErr r (λ fault. fault ≡ faults.Write) → WasTold (a, n) (b, n') bytes
 told_whole (Ok u) a b n n' bytes ok err count is = (false, record { wrote = ok; counted = count })
 told_whole (Err fault) a b n n' bytes ok err count is = (true, record { wrote = begins_taken a b bytes err; counted = rw is at count })
+
+-- of arguments that were refused
+pub refused_by : (text : List ℕ) (input output error error' : Stream) → WasTold error error' text → Refuses 64 (streams input output error) (streams input output error')
+refused_by text input output error error' told = (refl, (text, (refl, refl, told)))
 
 -- ---- texts
 

@@ -8,7 +8,7 @@ use Rattle.qa_check.specs.Failures.{failures_after}
 use Rattle.qa_check.specs.Writing.{Begins}
 use Rattle.qa_check.specs.declared.auditing.AuditFault.TheVariants as faults
 use Rattle.qa_commands.specs.Names.{line_with}
-use Rattle.qa_why_arguments.specs.Asked.{Request, Wanted, refuses, shows, tells}
+use Rattle.qa_why_arguments.specs.Asked.{Request, refuses, shows, tells}
 use Rattle.qa_why_arguments.specs.Words.{asked}
 use Rattle.qa_why_command.specs.Ending.{failure_line}
 use Rattle.qa_why_command.specs.Streams.{Stream, Streams, WasTold}

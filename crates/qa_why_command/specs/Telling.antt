@@ -1,5 +1,5 @@
 -- What is told of one trace.
-use Rattle.std.specs.Prelude.{◌≡◌, ◌&&◌, ℕ, Bool, not, true, false, List, Option, Some, None, Result, Ok, Err, if◌then◌else◌}
+use Rattle.std.specs.Prelude.{◌≡◌, ◌&&◌, ℕ, Bool, not, true, false, List, Option, Some, Result, Ok, Err}
 use Rattle.std.specs.Io.KnownBytes.{Appends}
 use Rattle.qa_all.specs.All.{all_outcome, all_written, past_conduct}
 use Rattle.qa_around.specs.Around.{around_written}
