@@ -1,1 +1,2 @@
-mod Warned
+mod Endings
+mod Noted

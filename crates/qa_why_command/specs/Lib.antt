@@ -1,3 +1,7 @@
-pub mod Tally
 pub mod Commands
+pub mod Ending
+pub mod Noted
+pub mod Streams
+pub mod Tally
 pub mod Telling
+pub mod Traces

@@ -1,8 +1,11 @@
 -- How many traces came to which verdict, and the exit status.
-use Rattle.std.specs.Prelude.{ℕ, ◌+◌, ◌-◌, ◌^◌, max, min, codes, List, ◌++◌, []}
+use Rattle.std.specs.Prelude.{ℕ, ◌+◌, ◌-◌, ◌^◌, Bool, true, false, max, min, map, codes, List, ◌++◌, [], Ok, Err}
+use Rattle.std.specs.List.{count_by}
 use Rattle.qa_check.specs.declared.auditing.Outcome.{Outcome}
 use Rattle.qa_check.specs.declared.auditing.Outcome.TheVariants.{Accepted, Refused, Unreadable}
+use Rattle.qa_commands.specs.Ending.{greatest}
 use Rattle.qa_why.specs.Pieces.{numbered}
+use Rattle.qa_why_command.specs.Ending.{Ended, status_of}
 use Rattle.qa_why_command.specs.declared.tally.Tally.{Tally}
 
 -- one more, but no more than 64 bits hold
@@ -20,6 +23,44 @@ with_outcome t Unreadable = record t { unreadable = one_more t.unreadable; statu
 
 abbrev pub failed : Tally → Tally
 failed t = record t { status = max t.status 3 }
+
+-- a trace with a verdict counts by it, and one without as a failure
+abbrev pub counted : Tally → Ended → Tally
+counted t (Ok outcome) = with_outcome t outcome
+counted t (Err failure) = failed t
+
+-- ---- of all traces
+
+abbrev pub is_accepted : Ended → Bool
+is_accepted (Ok Accepted) = true
+is_accepted (Ok Refused) = false
+is_accepted (Ok Unreadable) = false
+is_accepted (Err failure) = false
+
+abbrev pub is_refused : Ended → Bool
+is_refused (Ok Accepted) = false
+is_refused (Ok Refused) = true
+is_refused (Ok Unreadable) = false
+is_refused (Err failure) = false
+
+abbrev pub is_unreadable : Ended → Bool
+is_unreadable (Ok Accepted) = false
+is_unreadable (Ok Refused) = false
+is_unreadable (Ok Unreadable) = true
+is_unreadable (Err failure) = false
+
+-- how many traces came to a verdict, but no more than 64 bits hold
+abbrev pub count_of : (Ended → Bool) → List Ended → ℕ
+count_of came endings = min (count_by came endings) (2 ^ 64 - 1)
+
+-- of traces that ended so, how many came to which verdict, and the greatest of their exit statuses
+abbrev pub tally_of : List Ended → Tally
+tally_of endings = record {
+  accepted = count_of is_accepted endings;
+  refused = count_of is_refused endings;
+  unreadable = count_of is_unreadable endings;
+  status = greatest (map status_of endings);
+}
 
 unfoldable pub tally_line : Tally → List ℕ
 tally_line t =

@@ -3,8 +3,11 @@
 #![tactic(auto)]
 
 mod commanding;
+mod ending;
 mod tally;
 mod telling;
+mod traces;
 
 pub use commanding::{command, refuse};
+pub use ending::Failure;
 pub use tally::Tally;

@@ -2,6 +2,7 @@
 ghost use Rattle.std.specs.Prelude.{◌≡◌, IfOk, string_bytes};
 ghost use Rattle.qa_why_command.specs.Tally as defined;
 
+use crate::ending::Failure;
 use qa_check::Outcome;
 use qa_why::{push_number, push_wide, push_words};
 use std::alloc::{AllocError, Global};
@@ -25,6 +26,16 @@ impl Tally {
             refused: 0,
             unreadable: 0,
             status: 0,
+        }
+    }
+
+    /// One trace more, which ended so.
+    pub fn count(&mut self, ended: &Result<Outcome, Failure>)
+        ensures { self.new ≡ defined.counted self.old ended.now }
+    {
+        match ended {
+            Ok(outcome) => self.add(*outcome),
+            Err(_) => self.fail(),
         }
     }
 

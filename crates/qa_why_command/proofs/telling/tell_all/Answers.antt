@@ -1,24 +1,25 @@
-use Rattle.std.proofs.Common.{ℕ, List}
-use Rattle.std.proofs.lemmas.Result.{IfOk-weaker}
-use Rattle.qa_all.specs.All.{WritesAll, past_conduct}
-use Rattle.qa_check.specs.declared.auditing.Outcome.{Outcome}
+use Rattle.std.proofs.Common.{refl}
+use Rattle.qa_all.specs.All.{past_conduct}
 use Rattle.qa_warnings.specs.Keeping.{Covers}
-use Rattle.qa_warnings.specs.Warnings.{warnings}
-use Rattle.qa_warnings.specs.declared.warnings.Warnings.{Warnings}
-use Rattle.qa_why_command.specs.Telling.{WasTold}
-use Rattle.qa_why_trace.specs.Why.{good_lines}
-use Rattle.qa_why_command.proofs.Warned.{both}
+use Rattle.qa_why_arguments.specs.Asked.{wanted}
+use Rattle.qa_why_arguments.specs.declared.arguments.Told.TheVariants.{All}
+use Rattle.qa_why_command.proofs.Noted.{noted_by, read_unwarned, read_warned}
+use Rattle.qa_why_command.specs.Telling.{outcome_by, text_of}
 use Rattle.qa_why_command.proofs.telling.tell_all.Goals as goal
 
 pub why_all-noted-requires : goal.why_all-noted-requires
-why_all-noted-requires g c = record { fresh = c.new.ensures c.args.name.now }
+why_all-noted-requires g c = record { fresh = c.new-warnings.ensures c.args.name.now }
 
 pub returns-then-inquiry : goal.returns-then-inquiry
-returns-then-inquiry g c = λ bytes tells.
-    let name = c.args.name.now in
-    let ls = good_lines past_conduct bytes in
-    rw c.if-inquiry.true
-    (both (λ (outcome : Outcome). WritesAll (g.O.Sink.held c.args.output.now) (g.O.Sink.held c.why_all-noted.new.writer) c.args.form c.args.inquiry.now.quiet name outcome bytes)
-    (λ (w : Warnings). Covers name w ls)
-    (WasTold (g.E.Sink.held c.args.error.now) (g.E.Sink.held c.warned.new.error) (g.E.Sink.write_failures c.args.error.now) (g.E.Sink.write_failures c.warned.new.error) (warnings name ls))
-    c.why_all-noted.result c.warned.result (IfOk-weaker c.warned.result _ _ (λ outcome k. (k.0, k.1, k.2 name ls)) c.warned.ensures) (c.why_all-noted.ensures.told bytes tells))
+returns-then-inquiry g c =
+    read_warned (All c.args.form) (wanted c.args.inquiry.now) c.args.name.now _ _ _ _ _ _ _ _ refl c.if-inquiry.true c.warned.ensures.outcome c.warned.ensures.told
+    (noted_by past_conduct (text_of (All c.args.form) (wanted c.args.inquiry.now) c.args.name.now) (outcome_by (All c.args.form)) (Covers c.args.name.now)
+    _ _ _ _ _ _ _ _ _ _ c.why_all-noted.ensures.told c.why_all-noted.ensures.ok c.why_all-noted.ensures.reads c.why_all-noted.ensures.beginning c.why_all-noted.ensures.unwritten
+    c.why_all-noted.ensures.read_failures c.why_all-noted.ensures.write_failures)
+
+pub returns : goal.returns
+returns g c =
+    read_unwarned (All c.args.form) (wanted c.args.inquiry.now) c.args.name.now (λ notes ls. Unit {0}) _ _ _ _ _ _ _ _ refl c.if-inquiry.false c.without_notes.ensures refl
+    (noted_by past_conduct (text_of (All c.args.form) (wanted c.args.inquiry.now) c.args.name.now) (outcome_by (All c.args.form)) (λ notes ls. Unit {0})
+    _ _ _ _ _ _ _ _ _ _ c.why_all-told.ensures.told c.why_all-told.ensures.ok c.why_all-told.ensures.reads c.why_all-told.ensures.beginning c.why_all-told.ensures.unwritten
+    c.why_all-told.ensures.read_failures c.why_all-told.ensures.write_failures)

@@ -1,10 +1,7 @@
-use Rattle.std.proofs.Common.{refl}
-use Rattle.qa_why_command.proofs.Warned.{told_whole}
+use Rattle.qa_why_command.proofs.Noted.{told_whole}
 use Rattle.qa_why_command.proofs.telling.warned.Goals as goal
 
-pub returns-in-Ok : goal.returns-in-Ok
-returns-in-Ok g c = (
-  c.in-Ok.warnings,
-  c.in-Ok.is,
-  λ name ls covers. rw (c.text.ensures name ls covers) at (told_whole c.write_whole-begun.result _ _ _ _ _ c.write_whole-begun.ensures.ok c.write_whole-begun.ensures.err c.write_whole-begun.ensures.failures c.write_whole-begun.ensures.write),
-)
+pub returns-in-Ok-clause-told : goal.returns-in-Ok-clause-told
+returns-in-Ok-clause-told g c =
+    rw c.in-Ok.is
+    (λ name ls covers. rw (c.text.ensures name ls covers) at (told_whole c.write_whole-begun.result _ _ _ _ _ c.write_whole-begun.ensures.ok c.write_whole-begun.ensures.err c.write_whole-begun.ensures.failures c.write_whole-begun.ensures.write))
