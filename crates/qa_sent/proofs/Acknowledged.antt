@@ -149,3 +149,10 @@ covered_behind s ranges d ps next b =
       none = subst (NoneFlies s) (sym (take-map (covered_by s ranges) (next - d) ps))
           (each_map (λ p. is_flying s p ≡ false) (λ p. is_flying s p ≡ false) (covered_by s ranges) (λ p out. grounded_if s (is_waiting s p && is_named ranges p.number) p out) (take (next - d) ps) b.none);
     }
+
+-- ranges that name the same numbers
+pub covered_named : (s : Space) (ranges others : List (ℕ × ℕ)) (ps : List SentPacket) → ((n : ℕ) → is_named ranges n ≡ is_named others n) → map (covered_by s ranges) ps ≡ map (covered_by s others) ps
+covered_named s ranges others [] same = refl
+covered_named s ranges others (p ∷ ps) same =
+    ap (λ b. (if is_waiting s p && b then with_fate Acknowledged p else p) ∷ map (covered_by s ranges) ps) (same p.number)
+    ∙ ap (λ qs. covered_by s others p ∷ qs) (covered_named s ranges others ps same)

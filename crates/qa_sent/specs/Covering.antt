@@ -16,14 +16,14 @@ abbrev pub first_between : ℕ → ℕ → List (ℕ × ℕ) → Option (ℕ × 
 first_between lo hi [] = None
 first_between lo hi (e ∷ es) = if is_between lo hi e.0 then Some e else first_between lo hi es
 
--- the number of the first of these entries, and above all numbers where there is none
-abbrev pub first_number : List (ℕ × ℕ) → ℕ
-first_number [] = 18446744073709551615
-first_number (e ∷ es) = e.0
+-- the first entry with this number or a higher one
+abbrev pub first_from : ℕ → List (ℕ × ℕ) → Option (ℕ × ℕ)
+first_from lo [] = None
+first_from lo (e ∷ es) = if nat_le lo e.0 then Some e else first_from lo es
 
--- each of these entries has this number or a higher one
-abbrev pub AreFrom : ℕ → List (ℕ × ℕ) → Type 0
-AreFrom n es = AllByRecursion (λ e. n ≤ e.0) es
+-- of these entries none from one number on is below another
+abbrev pub AreClear : ℕ → ℕ → List (ℕ × ℕ) → Type 0
+AreClear lo least es = AllByRecursion (λ e. lo ≤ e.0 → least ≤ e.0) es
 
 abbrev pub covered_in : Space → ℕ → ℕ → SentPacket → SentPacket
 covered_in s lo hi p = if is_waiting s p && is_between lo hi p.number then with_fate Acknowledged p else p

@@ -1,0 +1,12 @@
+use Rattle.std.proofs.Common.{◌≡◌, ◌++◌, length}
+use Rattle.qa_sent.specs.Unacknowledged.{EntriesRise}
+use Rattle.qa_sent.proofs.unacknowledged.part_queue.Given as goal
+
+abbrev pub invariant-loop-gaps : goal.invariant-loop-gaps
+invariant-loop-gaps l = record {
+  same : l.gaps.entries ++ l.recent.items ≡ l.fn.gaps.entries ++ l.fn.recent.items;
+  rising : EntriesRise (l.gaps.entries ++ l.recent.items);
+}
+
+abbrev pub decreases-loop-gaps : goal.decreases-loop-gaps
+decreases-loop-gaps l = length l.recent.items
