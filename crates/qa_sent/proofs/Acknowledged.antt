@@ -17,7 +17,7 @@ use Rattle.qa_sent.proofs.Parts.{each_map}
 
 -- ---- one packet
 
-stays_by : (waits within : Bool) (p : SentPacket) → (waits ≡ true → within ≡ false) → (if waits && within then with_fate Acknowledged p else p) ≡ p
+pub stays_by : (waits within : Bool) (p : SentPacket) → (waits ≡ true → within ≡ false) → (if waits && within then with_fate Acknowledged p else p) ≡ p
 stays_by true true p none = let no' : true ≡ false = none refl in cc
 stays_by true false p none = refl
 stays_by false within p none = refl

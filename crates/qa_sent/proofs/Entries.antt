@@ -21,7 +21,7 @@ use Rattle.qa_sent.specs.declared.packet.SentPacket.{SentPacket}
 
 -- ---- entries by their numbers
 
-from_test : (lo q : ℕ) → range_contains nat_cmp (Included lo) Unbounded q ≡ nat_le lo q
+pub from_test : (lo q : ℕ) → range_contains nat_cmp (Included lo) Unbounded q ≡ nat_le lo q
 from_test lo q = grind (arith, nat_tests)
 
 first_if : (e : ℕ × ℕ) (es : List (ℕ × ℕ)) (o : Option (ℕ × ℕ)) (b : Bool) → o ≡ slice_get es 0 → (if b then Some e else o) ≡ slice_get (if b then e ∷ es else es) 0

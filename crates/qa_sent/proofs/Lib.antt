@@ -19,3 +19,4 @@ pub mod Totals
 pub mod Taken
 pub mod Rising
 pub mod Newly
+pub mod Passing

@@ -19,7 +19,7 @@ use Rattle.qa_sent.proofs.Pushed.{space_same}
 
 -- ---- which packets a range newly acknowledges
 
-open_unacknowledged : (f : Fate) → is_open f ≡ true → is_unacknowledged f ≡ true
+pub open_unacknowledged : (f : Fate) → is_open f ≡ true → is_unacknowledged f ≡ true
 open_unacknowledged Open e = refl
 open_unacknowledged Owed e = cc
 open_unacknowledged DeclaredLost e = cc
@@ -136,7 +136,7 @@ begins_above : (n : ℕ) (ranges : List (ℕ × ℕ)) → AreApartFrom (n + 1) r
 begins_above n [] apart = tt
 begins_above n (r ∷ rs) apart = let low = apart.0 in omega (arith, low)
 
-rests_apart : (n : ℕ) (ranges : List (ℕ × ℕ)) → BeginsAbove n ranges → AreApart ranges → AreApartFrom (n + 1) ranges
+pub rests_apart : (n : ℕ) (ranges : List (ℕ × ℕ)) → BeginsAbove n ranges → AreApart ranges → AreApartFrom (n + 1) ranges
 rests_apart n [] above apart = tt
 rests_apart n (r ∷ rs) above apart = (omega (arith, above), rests_apart r.1 rs apart.0 apart.1)
 

@@ -132,7 +132,7 @@ above_each lo m [] all = tt
 above_each lo m (e ∷ es) all = (λ low. let more = all.0 in omega (arith, more), above_each lo m es all.1)
 
 -- below the first of them
-clear_first : (lo : ℕ) (es : List (ℕ × ℕ)) (x : ℕ × ℕ) → EntriesRise es → first_from lo es ≡ Some x → AreClear lo x.0 es
+pub clear_first : (lo : ℕ) (es : List (ℕ × ℕ)) (x : ℕ × ℕ) → EntriesRise es → first_from lo es ≡ Some x → AreClear lo x.0 es
 clear_first lo [] x rising is = cc
 clear_first lo (e ∷ es) x rising is = elim (cases_Bool (nat_le lo e.0)) [
   | inl y ↦ (

@@ -1,5 +1,5 @@
 -- An acknowledgment of the numbers of one range, by which those of all its ranges are acknowledged.
-use Rattle.std.specs.Prelude.{ℕ, ◌+◌, ◌&&◌, nat_le, Bool, List, [], ◌∷◌, Option, Some, None, if◌then◌else◌, ◌<◌, ◌≤◌}
+use Rattle.std.specs.Prelude.{◌≡◌, ℕ, ◌+◌, ◌&&◌, nat_le, Bool, List, [], ◌∷◌, Option, Some, None, if◌then◌else◌, ◌<◌, ◌≤◌}
 use Rattle.std.specs.List.{AllByRecursion}
 use Rattle.qa_base.specs.declared.space.Space.{Space}
 use Rattle.qa_base.specs.values.Events.{is_space}
@@ -24,6 +24,10 @@ first_from lo (e ∷ es) = if nat_le lo e.0 then Some e else first_from lo es
 -- of these entries none from one number on is below another
 abbrev pub AreClear : ℕ → ℕ → List (ℕ × ℕ) → Type 0
 AreClear lo least es = AllByRecursion (λ e. lo ≤ e.0 → least ≤ e.0) es
+
+-- the range names none of them
+abbrev pub NamesNone : List (ℕ × ℕ) → ℕ × ℕ → Type 0
+NamesNone es range = (range.0 ≤ range.1) × (first_between range.0 range.1 es ≡ None)
 
 abbrev pub covered_in : Space → ℕ → ℕ → SentPacket → SentPacket
 covered_in s lo hi p = if is_waiting s p && is_between lo hi p.number then with_fate Acknowledged p else p

@@ -156,8 +156,9 @@ pub(crate) fn cover_spans(
     ensures indexed { IsIndexed space dropped packets.new.items lane.new }
     ensures next { lane.new.next ≡ lane.old.next }
 {
+    let passed = lane.unacknowledged.passed(spans, falling);
     let mut least = 0;
-    for at in 0..spans.len() {
+    for at in passed..spans.len() {
         let span = NamedNumbers::nth(spans, falling, at);
         least = pass_span(packets, dropped, lane, space, span, least, found);
     }

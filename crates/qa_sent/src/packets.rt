@@ -86,6 +86,8 @@ pub struct SentPackets {
     pub(crate) packets: VecDeque<SentPacket>,
     pub(crate) lanes: PerSpace<Lane>,
     pub(crate) losses: Losses,
+    /// Memory for what the next acknowledgment finds.
+    pub(crate) list: Vec<SentPacket>,
 }
 
 impl Model for SentPackets {
@@ -118,6 +120,7 @@ impl SentPackets {
                 from: 0,
                 to: 0,
             },
+            list: Vec::new(alloc),
         }
     }
 
@@ -183,6 +186,25 @@ impl SentPackets {
             falling,
             found,
         )
+    }
+
+    /// An empty list for what an acknowledgment finds. It has the memory of the list that was handed
+    /// back last, so that mostly an acknowledgment takes none.
+    pub fn lend_list(&mut self) -> Vec<SentPacket>
+        ensures empty { result.items ≡ [] }
+        ensures same { self.new ≡ self.old }
+    {
+        let mut list = std::mem::replace(&mut self.list, Vec::new(self.alloc));
+        list.clear();
+        list
+    }
+
+    /// Takes such a list back, and keeps its memory alone.
+    pub fn take_back(&mut self, list: Vec<SentPacket>)
+        ensures { self.new ≡ self.old }
+    {
+        self.list = list;
+        self.list.clear();
     }
 
     /// Looks for losses in a space: the packets in flight that are past a threshold are owed

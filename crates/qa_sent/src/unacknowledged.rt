@@ -1,13 +1,16 @@
 //! The packets of a space that an acknowledgment would still cover, by their numbers.
-ghost use Rattle.std.specs.Prelude.{◌≡◌, ◌≤◌, ◌<◌, ◌++◌, ◌∷◌, [], true, length, remove, IfSome, MatchOption, OnErr, OnOk};
+ghost use Rattle.std.specs.Prelude.{◌≡◌, ◌≤◌, ◌<◌, ◌++◌, ◌∷◌, [], ℕ, false, true, length, remove, slice_index_or, take, IfSome, MatchOption, OnErr, OnOk};
 ghost use Rattle.std.specs.List.{AllByRecursion};
 ghost use Rattle.std.specs.Map.{remove_entry};
 ghost use Rattle.std.specs.BTreeMap.{is_at};
 ghost use Rattle.std.specs.Ordering.{nat_cmp};
 ghost use Rattle.qa_base.specs.values.Limits.{max_lines};
-ghost use Rattle.qa_sent.specs.Covering.{AreClear, first_between, first_from};
+ghost use Rattle.qa_sent.specs.Covering.{AreApart, AreClear, NamesNone, first_between, first_from};
+ghost use Rattle.qa_sent.specs.Naming.{turned};
 ghost use Rattle.qa_sent.specs.Unacknowledged.{BeginsWith, EntriesRise};
 
+use crate::named::NamedNumbers;
+use qa_base::Span;
 use std::alloc::{AllocError, Global};
 use std::collections::{BTreeMap, VecDeque};
 use std::marker::Model;
@@ -78,6 +81,17 @@ impl Unacknowledged {
         ensures { self.new.entries ≡ self.old.entries }
     {
         part_queue(&mut self.gaps, &mut self.recent, number)
+    }
+
+    /// How many of the spans, which rise as they are taken, are passed before the first that may name an
+    /// entry: those name none. It is one walk along the spans and the map, and costs no more than a
+    /// few steps for each span.
+    pub(crate) fn passed(&self, spans: &[Span], falling: bool) -> usize
+        requires { AreApart (turned falling spans.now) }
+        ensures within { result ≤ length spans.now }
+        ensures none { AllByRecursion (NamesNone self.now.entries) (take result (turned falling spans.now)) }
+    {
+        passed_by(&self.gaps, &self.recent, spans, falling)
     }
 
     /// The first entry with this number or a higher one.
@@ -161,6 +175,43 @@ fn move_first(
     gaps.insert(number, place)?;
     recent.pop_front();
     Ok(())
+}
+
+/// How many of the spans, as they are taken, end below the entry of the map at which the walk ends, and
+/// name none before it: at that entry the next span begins, or the walk is long enough.
+fn passed_by(
+    gaps: &BTreeMap<u64, u64>,
+    recent: &VecDeque<(u64, u64)>,
+    spans: &[Span],
+    falling: bool,
+) -> usize
+    requires rising { EntriesRise (gaps.now.entries ++ recent.now.items) }
+    requires apart { AreApart (turned falling spans.now) }
+    ensures within { result ≤ length spans.now }
+    ensures none { AllByRecursion (NamesNone (gaps.now.entries ++ recent.now.items)) (take result (turned falling spans.now)) }
+{
+    if spans.len() < 2 || gaps.is_empty() {
+        return 0;
+    }
+    let lowest = NamedNumbers::nth(spans, falling, 0).lo().get();
+    let mut passed = 0;
+    let mut steps = 0;
+    for (number, _) in gaps.range(lowest..) {
+        passed = NamedNumbers::first_left(spans, falling, passed, *number);
+        if steps == spans.len() || begins_by(spans, falling, passed, *number) {
+            return passed;
+        }
+        steps += 1;
+    }
+    passed
+}
+
+/// Whether the span at this place begins at the number or below it, or there is none.
+fn begins_by(spans: &[Span], falling: bool, at: usize, number: u64) -> bool
+    ensures { result ≡ false → (at < length spans.now)
+        × ((span : ℕ × ℕ) → span ≡ slice_index_or (turned falling spans.now) at span → number < span.0) }
+{
+    spans.len() <= at || NamedNumbers::nth(spans, falling, at).lo().get() <= number
 }
 
 /// The first entry of the map with this number or a higher one.

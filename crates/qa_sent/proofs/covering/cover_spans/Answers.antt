@@ -1,21 +1,29 @@
-use Rattle.std.proofs.Common.{◌≡◌, ◌≤◌, ◌<◌, ◌∙◌, ◌+◌, ℕ, [], ◌∷◌, ◌++◌, filter, length, take, sym, refl, ap, subst}
-use Rattle.qa_sent.specs.Covering.{is_new_in}
+use Rattle.std.proofs.Common.{◌≡◌, ◌≤◌, ◌<◌, ◌∙◌, ◌+◌, ℕ, List, [], ◌∷◌, ◌++◌, filter, length, take, sym, refl, ap, subst}
+use Rattle.std.specs.List.{AllByRecursion}
+use Rattle.qa_sent.specs.Covering.{NamesNone, is_new_in}
 use Rattle.qa_sent.specs.Fates.{is_new}
+use Rattle.qa_sent.specs.Held.{unacknowledged_in}
 use Rattle.qa_sent.specs.Naming.{turned}
-use Rattle.qa_sent.proofs.Acknowledged.{cover_next, cover_none, take_more}
-use Rattle.qa_sent.proofs.Newly.{new_apart, new_none, next_above}
+use Rattle.qa_sent.proofs.Acknowledged.{cover_next, take_more}
+use Rattle.qa_sent.proofs.Newly.{new_apart, next_above}
 use Rattle.qa_sent.proofs.Opened.{ends_below, new_more}
-use Rattle.qa_sent.proofs.Parts.{each_more}
+use Rattle.qa_sent.proofs.Parts.{each_more, each_weaker}
+use Rattle.qa_sent.proofs.Passing.{covers_none, finds_none}
 use Rattle.qa_sent.proofs.Rising.{clear_all}
 use Rattle.qa_sent.proofs.Stretches.{length_turned}
 use Rattle.qa_sent.proofs.covering.cover_spans.Goals as goal
 
 pub loop-at-init : goal.loop-at-init
-loop-at-init c = record {
+loop-at-init c =
+    let s = c.args.space in
+    let ps = c.args.packets.now.items in
+    let front = take c.passed-passed.result (turned c.args.falling c.args.spans.now) in
+    let none : AllByRecursion (NamesNone (unacknowledged_in s c.args.dropped ps)) front =
+    subst (λ (es : List (ℕ × ℕ)). AllByRecursion (NamesNone es) front) c.requires.indexed.entries c.passed-passed.ensures.none in record {
   indexed = c.requires.indexed;
-  packets = sym (cover_none c.args.space c.args.packets.now.items);
-  new = c.requires.none ∙ sym (new_none c.args.space c.args.packets.now.items);
-  forward = tt;
+  packets = sym (covers_none s c.args.dropped front ps none);
+  new = c.requires.none ∙ sym (finds_none s c.args.dropped front ps none);
+  forward = each_weaker (NamesNone (unacknowledged_in s c.args.dropped ps)) (λ (r : ℕ × ℕ). r.0 ≤ r.1) (λ r names. names.0) front none;
   clear = λ r within is. clear_all r.0 c.args.lane.now.unacknowledged.entries;
   room = c.requires.room;
   next = refl;
