@@ -1,5 +1,5 @@
 //! What each kind of event does to the state of a sender.
-ghost use Rattle.std.specs.Prelude.{◌≡◌, ◌≤◌, ◌<◌, ◌+◌, [], ◌∷◌, ℕ, List, length, filter, map, true, false, Some, OnOk, OnErr};
+ghost use Rattle.std.specs.Prelude.{◌≡◌, ◌≤◌, ◌<◌, ◌+◌, [], ◌∷◌, ℕ, List, length, filter, map, true, false, Some, IfOk, OnOk, OnErr};
 ghost use Rattle.std.specs.List.{AllByRecursion};
 ghost use Rattle.qa_base.specs.declared.event.Event.{Event as AnEvent};
 ghost use Rattle.qa_base.specs.declared.event.Event.TheVariants as events;
@@ -85,10 +85,10 @@ impl Machine {
     {
         let largest = ranges.greatest();
         let ranges = ranges.as_slice();
-        let mut acknowledged = Vec::new(alloc);
-        cover(alloc, &mut self.packets, space, ranges, &mut acknowledged)?;
+        let acknowledged = cover(alloc, &mut self.packets, space, ranges)?;
         self.connection.acknowledge(space, largest);
         if acknowledged.is_empty() {
+            self.packets.take_back(acknowledged);
             self.finish(time, None);
             return Ok(());
         }
@@ -98,6 +98,7 @@ impl Machine {
             .detected(space, time.get(), time, &acknowledged);
         self.find_losses(space, time.get(), time);
         self.connection.grow(&acknowledged, app_limited);
+        self.packets.take_back(acknowledged);
         self.connection.restart(time);
         self.finish(time, Some(detection));
         Ok(())
@@ -341,7 +342,7 @@ fn trim(packets: &mut SentPackets)
     packets.drop_closed();
 }
 
-/// Covers the packets of the space that some span names, and finds which of them were open, in the
+/// Covers the packets of the space that some span names. Returns those of them that were open, in the
 /// order of sending. Nothing may be owed. `AllocError` comes where it is out of memory, and leaves the
 /// packets as they were.
 fn cover(
@@ -349,21 +350,22 @@ fn cover(
     packets: &mut SentPackets,
     space: Space,
     spans: &[Span],
-    found: &mut Vec<SentPacket>,
-) -> Result<(), AllocError>
+) -> Result<Vec<SentPacket>, AllocError>
     requires settled { NoneOwed packets.old.packets }
-    requires none { found.old.items ≡ [] }
     ensures ok { OnOk result (packets.new ≡ record { dropped = packets.old.dropped; packets = map (covered_by space spans.now) packets.old.packets }) }
-    ensures found { OnOk result (found.new.items
+    ensures found { IfOk result (λ found. found.items
         ≡ filter (is_new space spans.now) packets.old.packets) }
     ensures err { OnErr result (packets.new ≡ packets.old) }
 {
+    let mut found = packets.lend_list();
     if are_falling(spans) {
         // They mostly do, and are in order by themselves, which takes no memory.
-        return packets.acknowledge(space, spans, true, found);
+        packets.acknowledge(space, spans, true, &mut found)?;
+        return Ok(found);
     }
     let in_order = Ranges::of_spans(alloc, spans)?;
-    packets.acknowledge(space, in_order.as_slice(), false, found)
+    packets.acknowledge(space, in_order.as_slice(), false, &mut found)?;
+    Ok(found)
 }
 
 /// As of when a loss timer looks for losses that goes off at a time: when it is due, if that is later,

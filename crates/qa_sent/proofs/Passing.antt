@@ -1,5 +1,5 @@
 -- Spans that are passed by a walk along the entries of the map: they name none.
-use Rattle.std.proofs.Common.{◌≡◌, ◌∙◌, ℕ, zero, suc, ◌+◌, ◌≤◌, ◌<◌, Bool, true, false, cond, ◌&&◌, ◌||◌, List, [], ◌∷◌, ◌++◌, length, get_or, map, take, filter, refl, sym, ap, arith, inl, inr, Option, Some, None}
+use Rattle.std.proofs.Common.{◌≡◌, ◌∙◌, ℕ, zero, suc, ◌+◌, ◌≤◌, ◌<◌, Bool, true, false, cond, ◌&&◌, ◌||◌, List, [], ◌∷◌, ◌++◌, length, get_or, map, take, filter, refl, sym, ap, arith, Option, Some, None}
 use Rattle.std.specs.Prelude.{if◌then◌else◌, nat_le}
 use Rattle.std.specs.List.{AllByRecursion}
 use Rattle.std.specs.BTreeMap.Range.{entries_between}
@@ -118,9 +118,10 @@ from_here : (Q : ℕ × ℕ → Type 0) (g low m : ℕ) (ranges : List (ℕ × �
     → ((range : ℕ × ℕ) → low ≤ range.0 → EndsBelow g range → Q range) → AllByRecursion Q (take m ranges)
 from_here Q g low zero ranges apart ends goes = tt
 from_here Q g low (suc m) [] apart ends goes = tt
-from_here Q g low (suc m) (r ∷ ranges) apart ends goes =
-    (goes r apart.0 ends.0,
-    from_here Q g (r.1 + 1) m ranges apart.1 ends.1 (λ range more e. goes range (let first = apart.0 in let order = ends.0.0 in omega (arith, first, order, more)) e))
+from_here Q g low (suc m) (r ∷ ranges) apart ends goes = (
+  goes r apart.0 ends.0,
+  from_here Q g (r.1 + 1) m ranges apart.1 ends.1 (λ range more e. goes range (let first = apart.0 in let order = ends.0.0 in omega (arith, first, order, more)) e),
+)
 
 each_passed : (Q : ℕ × ℕ → Type 0) (g from k m : ℕ) (ranges : List (ℕ × ℕ)) → AreApart ranges → AllByRecursion Q (take k ranges) → AllByRecursion (EndsBelow g) (take m ranges)
     → ((range : ℕ × ℕ) → k < length ranges → range ≡ get_or ranges k range → from ≤ range.0)
@@ -128,9 +129,10 @@ each_passed : (Q : ℕ × ℕ → Type 0) (g from k m : ℕ) (ranges : List (ℕ
 each_passed Q g from k zero ranges apart all ends low goes = tt
 each_passed Q g from k (suc m) [] apart all ends low goes = tt
 each_passed Q g from zero (suc m) (r ∷ ranges) apart all ends low goes =
-    let first = low r (omega arith) refl in
-    (goes r first ends.0,
-    from_here Q g (r.1 + 1) m ranges (rests_apart r.1 ranges apart.0 apart.1) ends.1 (λ range more e. goes range (let order = ends.0.0 in omega (arith, first, order, more)) e))
+    let first = low r (omega arith) refl in (
+      goes r first ends.0,
+      from_here Q g (r.1 + 1) m ranges (rests_apart r.1 ranges apart.0 apart.1) ends.1 (λ range more e. goes range (let order = ends.0.0 in omega (arith, first, order, more)) e),
+    )
 each_passed Q g from (suc k) (suc m) (r ∷ ranges) apart all ends low goes =
     (all.0, each_passed Q g from k m ranges apart.1 all.1 ends.1 (λ range some at. low range (omega (arith, some)) at) goes)
 

@@ -43,8 +43,7 @@ pub(crate) fn add(
 {
     let place = dropped + packets.len() as u64;
     packets.reserve(1)?;
-    lane.unacknowledged
-        .enter(packet.number.get(), place)?;
+    lane.unacknowledged.enter(packet.number.get(), place)?;
     lane.put_on(&packet);
     packets.push_back_reserved(packet);
     advance(packets, dropped, lane, packet.space);

@@ -111,13 +111,7 @@ impl Unacknowledged {
     {
         match self.first_from(number) {
             None => None,
-            Some(found) => {
-                if found.0 == number {
-                    Some(found)
-                } else {
-                    None
-                }
-            }
+            Some(found) => { if found.0 == number { Some(found) } else { None } }
         }
     }
 
@@ -177,8 +171,9 @@ fn move_first(
     Ok(())
 }
 
-/// How many of the spans, as they are taken, end below the entry of the map at which the walk ends, and
-/// name none before it: at that entry the next span begins, or the walk is long enough.
+/// How many of the spans, as they are taken, a walk along the entries of the map passes: they name
+/// none. It ends at an entry that the next span may name, or where it came by more entries than there
+/// are spans.
 fn passed_by(
     gaps: &BTreeMap<u64, u64>,
     recent: &VecDeque<(u64, u64)>,
@@ -227,8 +222,8 @@ fn first_gap(gaps: &BTreeMap<u64, u64>, lo: u64) -> Option<(u64, u64)>
     }
 }
 
-/// The first entry of the queue with this number or a higher one. It is the first of all, unless an
-/// acknowledgment named no packet as high as it.
+/// The first entry of the queue with this number or a higher one. The queue begins no lower than the
+/// highest span of an acknowledgment, so that mostly it is the first of all.
 fn first_recent(recent: &VecDeque<(u64, u64)>, lo: u64) -> Option<(u64, u64)>
     ensures { result ≡ first_from lo recent.now.items }
 {

@@ -1,10 +1,6 @@
-use Rattle.std.proofs.Common.{◌≡◌, ◌∙◌, List, ℕ, ap, sym, subst}
+use Rattle.std.proofs.Common.{List, ℕ, sym, subst}
 use Rattle.qa_running.proofs.Acks.{apart_rise}
-use Rattle.qa_sent.proofs.Acknowledged.{covered_named}
-use Rattle.qa_sent.proofs.Opened.{new_alike}
 use Rattle.qa_sent.specs.Covering.{AreApart}
-use Rattle.qa_sent.specs.Held.{Held}
-use Rattle.qa_sent.specs.declared.packet.SentPacket.{SentPacket}
 use Rattle.qa_running.proofs.machine.cover.Goals as goal
 
 pub acknowledge-requires-2-clause-apart : goal.acknowledge-requires-2-clause-apart

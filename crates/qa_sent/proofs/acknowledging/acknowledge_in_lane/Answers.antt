@@ -1,7 +1,5 @@
 use Rattle.std.proofs.Common.{length, ap, arith, sym, ◌∙◌}
-use Rattle.std.proofs.lemmas.List.{length-map}
 use Rattle.qa_sent.specs.Naming.{turned}
-use Rattle.qa_sent.specs.Steps.{covered_by}
 use Rattle.qa_sent.proofs.Acknowledged.{covered_behind, covered_named}
 use Rattle.qa_sent.proofs.Entries.{fewer_entries}
 use Rattle.qa_sent.proofs.Opened.{new_alike}

@@ -20,14 +20,14 @@ loop-at-init c =
     let front = take c.passed-passed.result (turned c.args.falling c.args.spans.now) in
     let none : AllByRecursion (NamesNone (unacknowledged_in s c.args.dropped ps)) front =
     subst (λ (es : List (ℕ × ℕ)). AllByRecursion (NamesNone es) front) c.requires.indexed.entries c.passed-passed.ensures.none in record {
-  indexed = c.requires.indexed;
-  packets = sym (covers_none s c.args.dropped front ps none);
-  new = c.requires.none ∙ sym (finds_none s c.args.dropped front ps none);
-  forward = each_weaker (NamesNone (unacknowledged_in s c.args.dropped ps)) (λ (r : ℕ × ℕ). r.0 ≤ r.1) (λ r names. names.0) front none;
-  clear = λ r within is. clear_all r.0 c.args.lane.now.unacknowledged.entries;
-  room = c.requires.room;
-  next = refl;
-}
+      indexed = c.requires.indexed;
+      packets = sym (covers_none s c.args.dropped front ps none);
+      new = c.requires.none ∙ sym (finds_none s c.args.dropped front ps none);
+      forward = each_weaker (NamesNone (unacknowledged_in s c.args.dropped ps)) (λ (r : ℕ × ℕ). r.0 ≤ r.1) (λ r names. names.0) front none;
+      clear = λ r within is. clear_all r.0 c.args.lane.now.unacknowledged.entries;
+      room = c.requires.room;
+      next = refl;
+    }
 
 pub pass_span-least-requires-clause-clear : goal.pass_span-least-requires-clause-clear
 pass_span-least-requires-clause-clear c =

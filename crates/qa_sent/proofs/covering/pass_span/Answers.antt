@@ -1,4 +1,4 @@
-use Rattle.std.proofs.Common.{◌≡◌, ◌≤◌, ◌<◌, ◌∙◌, None, filter, refl, sym, ap, arith}
+use Rattle.std.proofs.Common.{◌≡◌, ◌<◌, ◌∙◌, None, filter, refl, sym, ap, arith}
 use Rattle.qa_sent.specs.Covering.{first_between, is_new_in}
 use Rattle.qa_sent.proofs.Acknowledged.{nothing_left}
 use Rattle.qa_sent.proofs.Newly.{nothing_new, with_none}

@@ -1,6 +1,5 @@
 use Rattle.std.proofs.Common.{◌≡◌, ◌∙◌, ◌++◌, ◌∷◌, ℕ, List, take, sym, subst, arith, rules}
 use Rattle.std.specs.List.{AllByRecursion}
-use Rattle.qa_sent.specs.Covering.{NamesNone}
 use Rattle.qa_sent.specs.Naming.{EndsBelow, turned}
 use Rattle.qa_sent.proofs.Passing.{IsWalked, ends_on, none_end, part_from, passed_none, walk_begins, walk_goes_on}
 use Rattle.qa_sent.proofs.unacknowledged.passed_by.Goals as goal
