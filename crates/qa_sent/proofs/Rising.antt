@@ -1,6 +1,6 @@
 -- Entries whose numbers rise, in two parts.
 use Rattle.std.proofs.Common.{◌≡◌, ◌∙◌, ℕ, suc, ◌+◌, ◌<◌, ◌≤◌, Bool, true, false, cond, List, [], ◌∷◌, ◌++◌, length, get_or, take, drop, refl, sym, ap, subst, arith, append_assoc, add-one, inl, inr, Option, Some, None}
-use Rattle.std.specs.Prelude.{if◌then◌else◌, nat_eq, nat_le, IfSome}
+use Rattle.std.specs.Prelude.{if◌then◌else◌, nat_eq, nat_le, nat_lt, IfSome}
 use Rattle.std.specs.List.{AllByRecursion}
 use Rattle.std.specs.Map.{remove_entry, lookup}
 use Rattle.std.specs.BTreeMap.{is_at}
@@ -9,7 +9,7 @@ use Rattle.std.proofs.lemmas.Bool.{cases_Bool, leb-false, leb-true, le-leb, lt-l
 use Rattle.std.proofs.lemmas.Bool.Decides.{nat_tests}
 use Rattle.std.proofs.lemmas.List.{drop_more}
 use Rattle.qa_sent.specs.Covering.{AreClear, first_between, first_from, is_between}
-use Rattle.qa_sent.specs.Unacknowledged.{BeginsWith, EntriesRise}
+use Rattle.qa_sent.specs.Unacknowledged.{BeginsBelow, BeginsWith, EntriesRise}
 use Rattle.qa_sent.proofs.Entries.{alone, at_key}
 
 -- ---- what holds of each
@@ -18,7 +18,7 @@ all_at : (P : ℕ × ℕ → Type 0) (es : List (ℕ × ℕ)) (x : ℕ × ℕ) (
 all_at P [] x fs all = all.0
 all_at P (e ∷ es) x fs all = all_at P es x fs all.1
 
-all_more : (P : ℕ × ℕ → Type 0) (es : List (ℕ × ℕ)) (x : ℕ × ℕ) → AllByRecursion P es → P x → AllByRecursion P (es ++ x ∷ [])
+pub all_more : (P : ℕ × ℕ → Type 0) (es : List (ℕ × ℕ)) (x : ℕ × ℕ) → AllByRecursion P es → P x → AllByRecursion P (es ++ x ∷ [])
 all_more P [] x all one = (one, tt)
 all_more P (e ∷ es) x all one = (all.0, all_more P es x all.1 one)
 
@@ -26,7 +26,7 @@ all_if : (P : ℕ × ℕ → Type 0) (b : Bool) (e : ℕ × ℕ) (es fs : List (
 all_if P true e es fs here all rest = all
 all_if P false e es fs here all rest = (here, rest)
 
-all_left : (P : ℕ × ℕ → Type 0) (t : ℕ → Bool) (es : List (ℕ × ℕ)) → AllByRecursion P es → AllByRecursion P (remove_entry t es)
+pub all_left : (P : ℕ × ℕ → Type 0) (t : ℕ → Bool) (es : List (ℕ × ℕ)) → AllByRecursion P es → AllByRecursion P (remove_entry t es)
 all_left P t [] all = tt
 all_left P t (e ∷ es) all = all_if P (t e.0) e es (remove_entry t es) all.0 all.1 (all_left P t es all.1)
 
@@ -74,6 +74,25 @@ pub begins_with : (n : ℕ) (fs : List (ℕ × ℕ)) (x : ℕ × ℕ) → 0 < le
 begins_with n [] x some first same = absurd (omega arith)
 begins_with n (e ∷ es) x some first same = ap (λ (y : ℕ × ℕ). y.0) (sym first) ∙ equal x.0 n same
 
+less : (m n : ℕ) → nat_lt m n ≡ true → m < n
+less m n is = grind (arith, nat_tests)
+
+pub begins_below : (n : ℕ) (fs : List (ℕ × ℕ)) (x : ℕ × ℕ) → 0 < length fs → x ≡ get_or fs 0 x → nat_lt x.0 n ≡ true → BeginsBelow n fs
+begins_below n [] x some first is = absurd (omega arith)
+begins_below n (e ∷ es) x some first is = let same = ap (λ (y : ℕ × ℕ). y.0) first in let under = less x.0 n is in omega (arith, same, under)
+
+pub some_below : (n : ℕ) (fs : List (ℕ × ℕ)) → BeginsBelow n fs → 0 < length fs
+some_below n [] begins = absurd begins
+some_below n (e ∷ es) begins = omega arith
+
+pub first_below : (n : ℕ) (fs : List (ℕ × ℕ)) (x : ℕ × ℕ) → BeginsBelow n fs → x ≡ get_or fs 0 x → x.0 < n
+first_below n [] x begins first = absurd begins
+first_below n (e ∷ es) x begins first = let same = ap (λ (y : ℕ × ℕ). y.0) first in omega (arith, same, begins)
+
+pub all_higher : (n m : ℕ) (es : List (ℕ × ℕ)) → n ≤ m → AllByRecursion (λ e. e.0 < n) es → AllByRecursion (λ e. e.0 < m) es
+all_higher n m [] more all = tt
+all_higher n m (e ∷ es) more all = (let under = all.0 in omega (arith, under, more), all_higher n m es more all.1)
+
 no_hit : (n q : ℕ) → q < n → is_at (nat_cmp n) q ≡ false
 no_hit n q less = grind (arith, nat_tests)
 
@@ -113,6 +132,15 @@ first_right lo [] fs none = refl
 first_right lo (e ∷ es) fs none =
     let parts = first_if (nat_le lo e.0) e (first_from lo es) none in
     rw parts.0 (first_right lo es fs parts.1)
+
+-- where all are below an end, none is at or above it
+pub first_beyond : (end lo : ℕ) (es : List (ℕ × ℕ)) → AllByRecursion (λ e. e.0 < end) es → end ≤ lo → first_from lo es ≡ None
+first_beyond end lo [] below more = refl
+first_beyond end lo (e ∷ es) below more = let under = below.0 in rw (lt-leb lo e.0 (omega (arith, under, more))) (first_beyond end lo es below.1 more)
+
+pub first_of_none : (lo : ℕ) (es : List (ℕ × ℕ)) → length es ≡ 0 → first_from lo es ≡ None
+first_of_none lo [] none = refl
+first_of_none lo (e ∷ es) none = absurd (omega (arith, none))
 
 -- a look along the second part
 pub passed_below : (lo i : ℕ) (fs : List (ℕ × ℕ)) (e : ℕ × ℕ) → i < length fs → e ≡ get_or fs i e → e.0 < lo → first_from lo (drop (i + 1) fs) ≡ first_from lo (drop i fs)

@@ -7,7 +7,7 @@ ghost use Rattle.std.specs.Ordering.{nat_cmp};
 ghost use Rattle.qa_base.specs.values.Limits.{max_lines};
 ghost use Rattle.qa_sent.specs.Covering.{AreApart, AreClear, NamesNone, first_between, first_from};
 ghost use Rattle.qa_sent.specs.Naming.{turned};
-ghost use Rattle.qa_sent.specs.Unacknowledged.{BeginsWith, EntriesRise};
+ghost use Rattle.qa_sent.specs.Unacknowledged.{BeginsBelow, BeginsWith, EntriesRise};
 
 use crate::named::NamedNumbers;
 use qa_base::Span;
@@ -23,18 +23,20 @@ use std::marker::Model;
 #[derive(Drop)]
 pub(crate) struct Unacknowledged {
     gaps: BTreeMap<u64, u64>,
+    /// Above the numbers in the map, so that a higher one is not looked up there.
+    end: u64,
     recent: VecDeque<(u64, u64)>,
 }
 
 impl Model for Unacknowledged {
     ghost use Rattle.std.specs.Prelude.{◌++◌};
-    ghost use Rattle.qa_sent.specs.Unacknowledged.{EntriesRise, Entries};
+    ghost use Rattle.qa_sent.specs.Unacknowledged.{AreParted, Entries};
 
     ghost Value = { Entries };
 
     ghost view = { λ u. record { entries = u.gaps.entries ++ u.recent.items } };
 
-    ghost invariant = { λ u. EntriesRise (u.gaps.entries ++ u.recent.items) };
+    ghost invariant = { λ u. AreParted u.gaps.entries u.recent.items u.end };
 }
 
 impl Unacknowledged {
@@ -44,6 +46,7 @@ impl Unacknowledged {
     {
         Unacknowledged {
             gaps: BTreeMap::new(alloc),
+            end: 0,
             recent: VecDeque::new(alloc),
         }
     }
@@ -53,6 +56,7 @@ impl Unacknowledged {
         ensures empty { self.new.entries ≡ [] }
     {
         self.gaps.clear();
+        self.end = 0;
         self.recent.clear();
     }
 
@@ -80,6 +84,7 @@ impl Unacknowledged {
     pub(crate) fn part(&mut self, number: u64) -> Result<(), AllocError>
         ensures { self.new.entries ≡ self.old.entries }
     {
+        self.end = self.end.max(number);
         part_queue(&mut self.gaps, &mut self.recent, number)
     }
 
@@ -99,7 +104,7 @@ impl Unacknowledged {
         ensures first { result ≡ first_from lo self.now.entries }
         ensures clear { IfSome result (λ e. AreClear lo e.0 self.now.entries) }
     {
-        if let Some(found) = first_gap(&self.gaps, lo) {
+        if let Some(found) = first_gap(&self.gaps, self.end, lo) {
             return Some(found);
         }
         first_recent(&self.recent, lo)
@@ -137,17 +142,19 @@ fn part_queue(
     number: u64,
 ) -> Result<(), AllocError>
     requires { EntriesRise (gaps.old.entries ++ recent.old.items) }
-    ensures { gaps.new.entries ++ recent.new.items ≡ gaps.old.entries ++ recent.old.items }
+    ensures entries { gaps.new.entries ++ recent.new.items ≡ gaps.old.entries ++ recent.old.items }
+    ensures below { (end : ℕ) → number ≤ end → AllByRecursion (λ e. e.0 < end) gaps.old.entries
+        → AllByRecursion (λ e. e.0 < end) gaps.new.entries }
 {
     while is_first_below(recent, number) {
-        move_first(gaps, recent)?;
+        move_first(gaps, recent, number)?;
     }
     Ok(())
 }
 
 /// Whether the queue begins with an entry below the number.
 fn is_first_below(recent: &VecDeque<(u64, u64)>, number: u64) -> bool
-    ensures { result ≡ true → 0 < length recent.now.items }
+    ensures { result ≡ true → BeginsBelow number recent.now.items }
 {
     match recent.front() {
         None => false,
@@ -155,18 +162,21 @@ fn is_first_below(recent: &VecDeque<(u64, u64)>, number: u64) -> bool
     }
 }
 
-/// The first entry of the queue moves behind those of the map.
+/// The first entry of the queue, which is below the number, moves behind those of the map.
 fn move_first(
     gaps: &mut BTreeMap<u64, u64>,
     recent: &mut VecDeque<(u64, u64)>,
+    number: u64,
 ) -> Result<(), AllocError>
-    requires some { 0 < length recent.old.items }
+    requires begins { BeginsBelow number recent.old.items }
     requires rising { EntriesRise (gaps.old.entries ++ recent.old.items) }
     ensures entries { gaps.new.entries ++ recent.new.items ≡ gaps.old.entries ++ recent.old.items }
+    ensures below { (end : ℕ) → number ≤ end → AllByRecursion (λ e. e.0 < end) gaps.old.entries
+        → AllByRecursion (λ e. e.0 < end) gaps.new.entries }
     ensures fewer { OnOk result (length recent.new.items < length recent.old.items) }
 {
-    let (number, place) = recent[0];
-    gaps.insert(number, place)?;
+    let (first, place) = recent[0];
+    gaps.insert(first, place)?;
     recent.pop_front();
     Ok(())
 }
@@ -209,11 +219,12 @@ fn begins_by(spans: &[Span], falling: bool, at: usize, number: u64) -> bool
     spans.len() <= at || NamedNumbers::nth(spans, falling, at).lo().get() <= number
 }
 
-/// The first entry of the map with this number or a higher one.
-fn first_gap(gaps: &BTreeMap<u64, u64>, lo: u64) -> Option<(u64, u64)>
+/// The first entry of the map with this number or a higher one. All of them are below the end.
+fn first_gap(gaps: &BTreeMap<u64, u64>, end: u64, lo: u64) -> Option<(u64, u64)>
+    requires { AllByRecursion (λ e. e.0 < end) gaps.now.entries }
     ensures { result ≡ first_from lo gaps.now.entries }
 {
-    if gaps.is_empty() {
+    if end <= lo || gaps.is_empty() {
         return None;
     }
     match gaps.range(lo..).next() {

@@ -10,7 +10,7 @@ returns-in-Some c =
     ∙ ap (λ (u : Entries). first_from c.args.lo u.entries) c.self.view_is in
     record {
       first = is;
-      clear = clear_found c.args.lo c.args.self.now.entries _ (subst EntriesRise (ap (λ (u : Entries). u.entries) c.self.view_is) c.self.invariant) (sym is);
+      clear = clear_found c.args.lo c.args.self.now.entries _ (subst EntriesRise (ap (λ (u : Entries). u.entries) c.self.view_is) c.self.invariant.rising) (sym is);
     }
 
 pub returns : goal.returns
@@ -20,5 +20,5 @@ returns c =
     ∙ ap (λ (u : Entries). first_from c.args.lo u.entries) c.self.view_is) in
     record {
       first = is;
-      clear = clear_found c.args.lo c.args.self.now.entries c.first_recent.result (subst EntriesRise (ap (λ (u : Entries). u.entries) c.self.view_is) c.self.invariant) (sym is);
+      clear = clear_found c.args.lo c.args.self.now.entries c.first_recent.result (subst EntriesRise (ap (λ (u : Entries). u.entries) c.self.view_is) c.self.invariant.rising) (sym is);
     }
