@@ -36,7 +36,7 @@ first_of_part lo (e ∷ es) = rw (from_test lo e.0) (first_if e (entries_between
 pub at_key : (n q : ℕ) → is_eq (nat_cmp n q) ≡ is_between n n q
 at_key n q = grind (arith, nat_tests)
 
-between_one : (n q : ℕ) → is_between n n q ≡ true → q ≡ n
+pub between_one : (n q : ℕ) → is_between n n q ≡ true → q ≡ n
 between_one n q e = grind (arith, nat_tests)
 
 first_other : (lo hi n q : ℕ) → is_between lo hi q ≡ false → lo ≤ n → n ≤ hi → is_between n n q ≡ false
@@ -70,10 +70,10 @@ first_alone lo hi (x ∷ es) n place e = elim (cases_Bool (is_between lo hi x.0)
       (rw other rest.0, rest.1, rest.2))
 ]
 
-removes : (n : ℕ) (x : ℕ × ℕ) (es : List (ℕ × ℕ)) → is_between n n x.0 ≡ true → remove_entry (is_at (nat_cmp n)) (x ∷ es) ≡ es
+pub removes : (n : ℕ) (x : ℕ × ℕ) (es : List (ℕ × ℕ)) → is_between n n x.0 ≡ true → remove_entry (is_at (nat_cmp n)) (x ∷ es) ≡ es
 removes n x es k = ap (λ b. cond b es (x ∷ remove_entry (is_at (nat_cmp n)) es)) (at_key n x.0 ∙ k)
 
-leaves : (n : ℕ) (x : ℕ × ℕ) (es : List (ℕ × ℕ)) → is_between n n x.0 ≡ false → remove_entry (is_at (nat_cmp n)) (x ∷ es) ≡ x ∷ remove_entry (is_at (nat_cmp n)) es
+pub leaves : (n : ℕ) (x : ℕ × ℕ) (es : List (ℕ × ℕ)) → is_between n n x.0 ≡ false → remove_entry (is_at (nat_cmp n)) (x ∷ es) ≡ x ∷ remove_entry (is_at (nat_cmp n)) es
 leaves n x es k = ap (λ b. cond b es (x ∷ remove_entry (is_at (nat_cmp n)) es)) (at_key n x.0 ∙ k)
 
 pub removed_length : (n : ℕ) (es : List (ℕ × ℕ)) (e : ℕ × ℕ) → first_between n n es ≡ Some e → length (remove_entry (is_at (nat_cmp n)) es) + 1 ≡ length es

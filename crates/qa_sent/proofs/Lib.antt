@@ -20,3 +20,4 @@ pub mod Taken
 pub mod Rising
 pub mod Newly
 pub mod Passing
+pub mod Counted

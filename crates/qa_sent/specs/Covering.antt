@@ -1,5 +1,5 @@
 -- An acknowledgment of the numbers of one range, by which those of all its ranges are acknowledged.
-use Rattle.std.specs.Prelude.{◌≡◌, ℕ, ◌+◌, ◌&&◌, nat_le, Bool, List, [], ◌∷◌, Option, Some, None, if◌then◌else◌, ◌<◌, ◌≤◌}
+use Rattle.std.specs.Prelude.{◌≡◌, ℕ, suc, ◌+◌, ◌&&◌, nat_le, Bool, List, [], ◌∷◌, Option, Some, None, if◌then◌else◌, ◌<◌, ◌≤◌}
 use Rattle.std.specs.List.{AllByRecursion}
 use Rattle.qa_base.specs.declared.space.Space.{Space}
 use Rattle.qa_base.specs.values.Events.{is_space}
@@ -24,6 +24,15 @@ first_from lo (e ∷ es) = if nat_le lo e.0 then Some e else first_from lo es
 -- of these entries none from one number on is below another
 abbrev pub AreClear : ℕ → ℕ → List (ℕ × ℕ) → Type 0
 AreClear lo least es = AllByRecursion (λ e. lo ≤ e.0 → least ≤ e.0) es
+
+-- how many of these entries have no number above this one
+abbrev pub count_to : ℕ → List (ℕ × ℕ) → ℕ
+count_to hi [] = 0
+count_to hi (e ∷ es) = if nat_le e.0 hi then suc (count_to hi es) else count_to hi es
+
+-- there is room behind so many for the entries of each of these ranges and below it
+abbrev pub HasRoom : (used room : ℕ) → List (ℕ × ℕ) → List (ℕ × ℕ) → Type 0
+HasRoom used room es ranges = AllByRecursion (λ range. used + count_to range.1 es ≤ room) ranges
 
 -- the range names none of them
 abbrev pub NamesNone : List (ℕ × ℕ) → ℕ × ℕ → Type 0

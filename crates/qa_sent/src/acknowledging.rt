@@ -1,8 +1,9 @@
 //! What an acknowledgment covers, and what of that it newly acknowledges.
 ghost use Rattle.std.specs.Prelude.{◌≡◌, ◌≤◌, ◌+◌, [], filter, length, map, reverse, true, OnErr, OnOk};
 ghost use Rattle.std.specs.Vec.{vec_capacity, vec_len};
+ghost use Rattle.qa_base.specs.machine.Numbers.{AreRanges};
 ghost use Rattle.qa_base.specs.values.Limits.{max_lines};
-ghost use Rattle.qa_sent.specs.Covering.{AreApart};
+ghost use Rattle.qa_sent.specs.Covering.{AreApart, HasRoom};
 ghost use Rattle.qa_sent.specs.Fates.{is_new};
 ghost use Rattle.qa_sent.specs.Held.{AreOrdered, IsLane};
 ghost use Rattle.qa_sent.specs.Naming.{turned};
@@ -21,6 +22,7 @@ use std::collections::VecDeque;
 pub fn are_falling(spans: &[Span]) -> bool
     ensures apart { result ≡ true → AreApart (reverse spans.now) }
     ensures each { AreApart (reverse spans.now) → result ≡ true }
+    ensures ranges { AreRanges (reverse spans.now) }
 {
     let mut falling = true;
     let mut next = 0;
@@ -49,6 +51,7 @@ pub(crate) fn acknowledge_in_lane(
     requires lane { IsLane space dropped packets.old.items lane.old }
     requires ordered { AreOrdered packets.old.items }
     requires apart { AreApart (turned falling spans.now) }
+    requires ranges { AreRanges (turned falling spans.now) }
     requires none { found.old.items ≡ [] }
     ensures packets { OnOk result (packets.new.items
         ≡ map (covered_by space spans.now) packets.old.items) }
@@ -63,28 +66,28 @@ pub(crate) fn acknowledge_in_lane(
     Ok(())
 }
 
-/// Takes the memory that an acknowledgment needs: for those that it may find, and for the entries that
-/// it passes over, which lie below its highest span.
+/// Takes the memory that an acknowledgment needs: for the entries that it passes over, which lie below
+/// its highest span, and for those that it may find.
 fn make_ready(
     lane: &mut Lane,
     spans: &[Span],
     falling: bool,
     found: &mut Vec<SentPacket>,
 ) -> Result<(), AllocError>
-    requires { length lane.old.unacknowledged.entries ≤ max_lines }
+    requires few { length lane.old.unacknowledged.entries ≤ max_lines }
+    requires apart { AreApart (turned falling spans.now) }
+    requires ranges { AreRanges (turned falling spans.now) }
     ensures entries { lane.new.unacknowledged.entries ≡ lane.old.unacknowledged.entries }
     ensures next { lane.new.next ≡ lane.old.next }
     ensures in_flight { lane.new.in_flight ≡ lane.old.in_flight }
     ensures awaiting { lane.new.awaiting ≡ lane.old.awaiting }
     ensures items { found.new.items ≡ found.old.items }
-    ensures room { OnOk result (vec_len found.new + length lane.new.unacknowledged.entries
-        ≤ vec_capacity found.new) }
+    ensures room { OnOk result (HasRoom (vec_len found.new) (vec_capacity found.new) lane.new.unacknowledged.entries (turned falling spans.now)) }
 {
-    found.reserve(lane.unacknowledged.len())?;
     if spans.is_empty() {
         return Ok(());
     }
     let highest = NamedNumbers::nth(spans, falling, spans.len() - 1);
     lane.unacknowledged.part(highest.lo().get())?;
-    Ok(())
+    found.reserve(lane.unacknowledged.most_to(highest.hi().get()))
 }

@@ -2,7 +2,8 @@
 //! of them that were open are newly acknowledged.
 ghost use Rattle.std.specs.Prelude.{◌≡◌, ◌≤◌, ◌<◌, ◌+◌, ◌++◌, ◌∷◌, [], ℕ, Some, filter, length, map};
 ghost use Rattle.std.specs.Vec.{vec_capacity, vec_len};
-ghost use Rattle.qa_sent.specs.Covering.{AreApart, AreClear, covered_in, first_between, is_new_in};
+ghost use Rattle.qa_base.specs.machine.Numbers.{AreRanges};
+ghost use Rattle.qa_sent.specs.Covering.{AreApart, AreClear, HasRoom, count_to, covered_in, first_between, is_new_in};
 ghost use Rattle.qa_sent.specs.Fates.{is_new, is_open};
 ghost use Rattle.qa_sent.specs.Held.{AreOrdered, IsIndexed};
 ghost use Rattle.qa_sent.specs.Naming.{turned};
@@ -42,8 +43,7 @@ pub(crate) fn cover_one(
     requires indexed { IsIndexed space dropped packets.old.items lane.old }
     requires there { first_between number number lane.old.unacknowledged.entries
         ≡ Some (number, place) }
-    requires room { vec_len found.old + length lane.old.unacknowledged.entries
-        ≤ vec_capacity found.old }
+    requires room { vec_len found.old < vec_capacity found.old }
     ensures packets { (lo hi : ℕ) → lo ≤ number → number ≤ hi
         → map (covered_in space lo hi) packets.new.items
         ≡ map (covered_in space lo hi) packets.old.items }
@@ -53,8 +53,11 @@ pub(crate) fn cover_one(
         ≡ found.old.items ++ filter (is_new_in space lo hi) packets.old.items }
     ensures fewer { length lane.new.unacknowledged.entries + 1
         ≡ length lane.old.unacknowledged.entries }
-    ensures room { vec_len found.new + length lane.new.unacknowledged.entries
-        ≤ vec_capacity found.new }
+    ensures counted { (hi : ℕ) → number ≤ hi
+        → count_to hi lane.new.unacknowledged.entries + 1
+        ≡ count_to hi lane.old.unacknowledged.entries }
+    ensures len { vec_len found.new ≤ vec_len found.old + 1 }
+    ensures capacity { vec_capacity found.new ≡ vec_capacity found.old }
     ensures indexed { IsIndexed space dropped packets.new.items lane.new }
     ensures next { lane.new.next ≡ lane.old.next }
 {
@@ -78,13 +81,15 @@ pub(crate) fn cover_span(
     found: &mut Vec<SentPacket>,
 ) -> u64
     requires indexed { IsIndexed space dropped packets.old.items lane.old }
-    requires room { vec_len found.old + length lane.old.unacknowledged.entries
+    requires room { vec_len found.old + count_to span.1 lane.old.unacknowledged.entries
         ≤ vec_capacity found.old }
     ensures packets { packets.new.items ≡ map (covered_in space span.0 span.1) packets.old.items }
     ensures new { found.new.items
         ≡ found.old.items ++ filter (is_new_in space span.0 span.1) packets.old.items }
-    ensures room { vec_len found.new + length lane.new.unacknowledged.entries
-        ≤ vec_capacity found.new }
+    ensures room { (top : ℕ) → span.1 ≤ top
+        → vec_len found.new + count_to top lane.new.unacknowledged.entries
+        ≤ vec_len found.old + count_to top lane.old.unacknowledged.entries }
+    ensures capacity { vec_capacity found.new ≡ vec_capacity found.old }
     ensures indexed { IsIndexed space dropped packets.new.items lane.new }
     ensures next { lane.new.next ≡ lane.old.next }
     ensures clear { AreClear span.0 result lane.new.unacknowledged.entries }
@@ -112,15 +117,17 @@ pub(crate) fn pass_span(
     found: &mut Vec<SentPacket>,
 ) -> u64
     requires indexed { IsIndexed space dropped packets.old.items lane.old }
-    requires room { vec_len found.old + length lane.old.unacknowledged.entries
+    requires room { vec_len found.old + count_to span.1 lane.old.unacknowledged.entries
         ≤ vec_capacity found.old }
     requires clear { AreClear span.0 least lane.old.unacknowledged.entries }
     ensures order { span.0 ≤ span.1 }
     ensures packets { packets.new.items ≡ map (covered_in space span.0 span.1) packets.old.items }
     ensures new { found.new.items
         ≡ found.old.items ++ filter (is_new_in space span.0 span.1) packets.old.items }
-    ensures room { vec_len found.new + length lane.new.unacknowledged.entries
-        ≤ vec_capacity found.new }
+    ensures room { (top : ℕ) → span.1 ≤ top
+        → vec_len found.new + count_to top lane.new.unacknowledged.entries
+        ≤ vec_len found.old + count_to top lane.old.unacknowledged.entries }
+    ensures capacity { vec_capacity found.new ≡ vec_capacity found.old }
     ensures indexed { IsIndexed space dropped packets.new.items lane.new }
     ensures next { lane.new.next ≡ lane.old.next }
     ensures clear { (n : ℕ) → span.1 < n → AreClear n result lane.new.unacknowledged.entries }
@@ -144,11 +151,11 @@ pub(crate) fn cover_spans(
     found: &mut Vec<SentPacket>,
 )
     requires apart { AreApart (turned falling spans.now) }
+    requires ranges { AreRanges (turned falling spans.now) }
     requires indexed { IsIndexed space dropped packets.old.items lane.old }
     requires ordered { AreOrdered packets.old.items }
     requires none { found.old.items ≡ [] }
-    requires room { vec_len found.old + length lane.old.unacknowledged.entries
-        ≤ vec_capacity found.old }
+    requires room { HasRoom (vec_len found.old) (vec_capacity found.old) lane.old.unacknowledged.entries (turned falling spans.now) }
     ensures packets { packets.new.items
         ≡ map (covered_by space (turned falling spans.now)) packets.old.items }
     ensures new { found.new.items

@@ -1,6 +1,6 @@
 //! The packets that are kept, and where each can be found.
 ghost use Rattle.qa_base.specs.declared.space.Space.TheVariants.{Initial, Handshake, App};
-ghost use Rattle.qa_base.specs.machine.Numbers.{names_between};
+ghost use Rattle.qa_base.specs.machine.Numbers.{AreRanges, names_between};
 ghost use Rattle.qa_base.specs.values.Events.{is_named};
 ghost use Rattle.qa_base.specs.values.Limits.{max_lines, max_packet_size};
 ghost use Rattle.qa_sent.specs.Covering.{AreApart};
@@ -170,6 +170,7 @@ impl SentPackets {
     ) -> Result<(), AllocError>
         requires settled { AllByRecursion (λ p. is_owed p.fate ≡ false) self.old.packets }
         requires apart { AreApart (turned falling spans.now) }
+        requires ranges { AreRanges (turned falling spans.now) }
         requires none { found.old.items ≡ [] }
         ensures ok { OnOk result (self.new ≡ record { dropped = self.old.dropped; packets = map (covered_by space spans.now) self.old.packets }) }
         ensures found { OnOk result (found.new.items

@@ -5,7 +5,7 @@ ghost use Rattle.std.specs.Map.{remove_entry};
 ghost use Rattle.std.specs.BTreeMap.{is_at};
 ghost use Rattle.std.specs.Ordering.{nat_cmp};
 ghost use Rattle.qa_base.specs.values.Limits.{max_lines};
-ghost use Rattle.qa_sent.specs.Covering.{AreApart, AreClear, NamesNone, first_between, first_from};
+ghost use Rattle.qa_sent.specs.Covering.{AreApart, AreClear, NamesNone, count_to, first_between, first_from};
 ghost use Rattle.qa_sent.specs.Naming.{turned};
 ghost use Rattle.qa_sent.specs.Unacknowledged.{BeginsBelow, BeginsWith, EntriesRise};
 
@@ -66,6 +66,23 @@ impl Unacknowledged {
         ensures len { result ≡ length self.now.entries }
     {
         self.gaps.len() + self.recent.len()
+    }
+
+    /// At least as many as there are with this number or a lower one: all of the map, and of the queue
+    /// as many as there are numbers.
+    pub(crate) fn most_to(&self, number: u64) -> usize
+        requires { length self.now.entries ≤ max_lines }
+        ensures { count_to number self.now.entries ≤ result }
+    {
+        match self.recent.front() {
+            None => self.gaps.len(),
+            Some((first, _)) => {
+                let behind = number
+                    .saturating_sub(*first)
+                    .min(self.recent.len() as u64 - 1);
+                self.gaps.len() + behind as usize + 1
+            }
+        }
     }
 
     /// Puts an entry behind all others. `AllocError` comes where it is out of memory, and leaves them

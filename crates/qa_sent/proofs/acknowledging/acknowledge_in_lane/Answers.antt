@@ -6,8 +6,8 @@ use Rattle.qa_sent.proofs.Opened.{new_alike}
 use Rattle.qa_sent.proofs.Stretches.{named_turned}
 use Rattle.qa_sent.proofs.acknowledging.acknowledge_in_lane.Goals as goal
 
-pub make_ready-requires : goal.make_ready-requires
-make_ready-requires c =
+pub make_ready-requires-clause-few : goal.make_ready-requires-clause-few
+make_ready-requires-clause-few c =
     let fewer = fewer_entries c.args.space c.args.dropped c.args.packets.now.items in
     let same = ap length c.requires.lane.indexed.entries in
     omega (arith, fewer, same, c.requires.few)

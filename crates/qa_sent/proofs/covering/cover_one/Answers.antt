@@ -3,12 +3,13 @@ use Rattle.std.specs.Map.{remove_entry}
 use Rattle.std.specs.BTreeMap.{is_at}
 use Rattle.std.specs.Ordering.{nat_cmp}
 use Rattle.std.specs.VecDeque.{deque_len}
-use Rattle.qa_sent.specs.Covering.{first_between, is_between, is_new_in}
+use Rattle.qa_sent.specs.Covering.{count_to, first_between, is_between, is_new_in}
 use Rattle.qa_sent.specs.Fates.{is_open}
 use Rattle.qa_sent.specs.Steps.{with_fate}
 use Rattle.qa_sent.specs.declared.fate.Fate.TheVariants.{Acknowledged}
 use Rattle.qa_sent.specs.declared.packet.SentPacket.{SentPacket}
 use Rattle.qa_sent.proofs.Acknowledged.{cover_written}
+use Rattle.qa_sent.proofs.Counted.{count_removed}
 use Rattle.qa_sent.proofs.Entries.{found_at, found_here, in_range, removed_length}
 use Rattle.qa_sent.proofs.Newly.{new_written}
 use Rattle.qa_sent.proofs.Sums.{entry_closed, weighed}
@@ -65,11 +66,6 @@ returns-clause-indexed c =
     (c.remove.ensures.entries ∙ ap (remove_entry (is_at (nat_cmp c.args.number))) c.take_off.ensures.entries)
     c.take_off.ensures.in_flight c.take_off.ensures.awaiting
 
-pub push_open-requires : goal.push_open-requires
-push_open-requires c =
-    let less = removed_length c.args.number c.args.lane.now.unacknowledged.entries (c.args.number, c.args.place) c.requires.there in
-    omega (arith, less, c.requires.room)
-
 pub returns-clause-new : goal.returns-clause-new
 returns-clause-new c = λ lo hi first.
     let at = c.args.place - c.args.dropped in
@@ -84,9 +80,7 @@ returns-clause-new c = λ lo hi first.
     ∙ ap (λ ys. c.args.found.now.items ++ ys)
     (new_written c.args.space c.args.dropped lo hi c.args.number c.args.place at ps p (ap (first_between lo hi) (sym c.requires.indexed.entries) ∙ first) there c.index_mut-packet.ensures.value))
 
-pub returns-clause-room : goal.returns-clause-room
-returns-clause-room c =
-    let less = removed_length c.args.number c.args.lane.now.unacknowledged.entries (c.args.number, c.args.place) c.requires.there in
-    let is : length c.remove.new.self.entries ≡ length (remove_entry (is_at (nat_cmp c.args.number)) c.args.lane.now.unacknowledged.entries) =
-    ap length (c.remove.ensures.entries ∙ ap (remove_entry (is_at (nat_cmp c.args.number))) c.take_off.ensures.entries) in
-    omega (arith, less, is, c.push_open.ensures.len, c.push_open.ensures.capacity, c.requires.room)
+pub returns-clause-counted : goal.returns-clause-counted
+returns-clause-counted c = λ hi high.
+    ap (λ es. count_to hi es + 1) (c.remove.ensures.entries ∙ ap (remove_entry (is_at (nat_cmp c.args.number))) c.take_off.ensures.entries)
+    ∙ count_removed c.args.number hi c.args.lane.now.unacknowledged.entries (c.args.number, c.args.place) c.requires.there high

@@ -1,6 +1,7 @@
 use Rattle.std.proofs.Common.{◌≡◌, ◌∙◌, ◌++◌, None, filter, map, sym, ap, subst, arith}
 use Rattle.qa_sent.specs.Covering.{AreClear, covered_in, first_between, is_new_in}
 use Rattle.qa_sent.proofs.Acknowledged.{nothing_left}
+use Rattle.qa_sent.proofs.Counted.{count_removed}
 use Rattle.qa_sent.proofs.Entries.{first_alone}
 use Rattle.qa_sent.proofs.Newly.{nothing_new, with_none}
 use Rattle.qa_sent.proofs.Rising.{clear_none, first_in, none_from, none_in}
@@ -14,6 +15,17 @@ cover_one-requires-clause-there c =
     let high = c.if-hi-number.false in
     (first_alone lo hi es c.in-Some.number c.in-Some.place (first_in lo hi es (c.in-Some.number, c.in-Some.place) (sym c.first_from.ensures.first ∙ c.in-Some.is) (omega (arith, high)))).0
 
+pub cover_one-requires-clause-room : goal.cover_one-requires-clause-room
+cover_one-requires-clause-room c =
+    let lo = c.get-lo.result in
+    let hi = c.get-hi.result in
+    let es = c.loop-number.lane.unacknowledged.entries in
+    let high = c.if-hi-number.false in
+    let at = first_alone lo hi es c.in-Some.number c.in-Some.place (first_in lo hi es (c.in-Some.number, c.in-Some.place) (sym c.first_from.ensures.first ∙ c.in-Some.is) (omega (arith, high))) in
+    let some = count_removed c.in-Some.number hi es (c.in-Some.number, c.in-Some.place) at.0 at.2 in
+    let fits = c.loop-number.invariant.fits in
+    omega (arith, some, fits)
+
 pub loop-number-preserved : goal.loop-number-preserved
 loop-number-preserved c =
     let lo = c.get-lo.result in
@@ -26,7 +38,16 @@ loop-number-preserved c =
       indexed = c.cover_one.ensures.indexed;
       packets = c.cover_one.ensures.packets lo hi at.1 at.2 ∙ c.loop-number.invariant.packets;
       new = c.cover_one.ensures.new lo hi found ∙ c.loop-number.invariant.new;
-      room = c.cover_one.ensures.room;
+      fits = (
+          let before = c.loop-number.invariant.fits in
+          let left = c.cover_one.ensures.counted hi at.2 in
+          omega (arith, before, left, c.cover_one.ensures.len, c.cover_one.ensures.capacity));
+      room = λ top high. (
+          let before = c.loop-number.invariant.room top high in
+          let above = at.2 in
+          let left = c.cover_one.ensures.counted top (omega (arith, above, high)) in
+          omega (arith, before, left, c.cover_one.ensures.len));
+      capacity = c.cover_one.ensures.capacity ∙ c.loop-number.invariant.capacity;
       next = c.cover_one.ensures.next ∙ c.loop-number.invariant.next;
     }
 

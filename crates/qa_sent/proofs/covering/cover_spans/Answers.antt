@@ -1,16 +1,19 @@
-use Rattle.std.proofs.Common.{◌≡◌, ◌≤◌, ◌<◌, ◌∙◌, ◌+◌, ℕ, List, [], ◌∷◌, ◌++◌, filter, length, take, sym, refl, ap, subst}
+use Rattle.std.proofs.Common.{◌≡◌, ◌≤◌, ◌<◌, ◌∙◌, ◌+◌, ℕ, List, [], ◌∷◌, ◌++◌, drop, filter, length, take, sym, refl, ap, subst}
 use Rattle.std.specs.List.{AllByRecursion}
-use Rattle.qa_sent.specs.Covering.{NamesNone, is_new_in}
+use Rattle.std.specs.Vec.{vec_capacity, vec_len}
+use Rattle.qa_base.specs.machine.Numbers.{AreRanges}
+use Rattle.qa_sent.specs.Covering.{AreApart, HasRoom, NamesNone, count_to, is_new_in}
 use Rattle.qa_sent.specs.Fates.{is_new}
 use Rattle.qa_sent.specs.Held.{unacknowledged_in}
 use Rattle.qa_sent.specs.Naming.{turned}
 use Rattle.qa_sent.proofs.Acknowledged.{cover_next, take_more}
+use Rattle.qa_sent.proofs.Counted.{apart_drop, behind_high, room_left}
 use Rattle.qa_sent.proofs.Newly.{new_apart, next_above}
 use Rattle.qa_sent.proofs.Opened.{ends_below, new_more}
-use Rattle.qa_sent.proofs.Parts.{each_more, each_weaker}
+use Rattle.qa_sent.proofs.Parts.{each_drop, each_more, each_weaker}
 use Rattle.qa_sent.proofs.Passing.{covers_none, finds_none}
 use Rattle.qa_sent.proofs.Rising.{clear_all}
-use Rattle.qa_sent.proofs.Stretches.{length_turned}
+use Rattle.qa_sent.proofs.Stretches.{left_from, length_turned}
 use Rattle.qa_sent.proofs.covering.cover_spans.Goals as goal
 
 pub loop-at-init : goal.loop-at-init
@@ -25,7 +28,7 @@ loop-at-init c =
       new = c.requires.none ∙ sym (finds_none s c.args.dropped front ps none);
       forward = each_weaker (NamesNone (unacknowledged_in s c.args.dropped ps)) (λ (r : ℕ × ℕ). r.0 ≤ r.1) (λ r names. names.0) front none;
       clear = λ r within is. clear_all r.0 c.args.lane.now.unacknowledged.entries;
-      room = c.requires.room;
+      room = each_drop (λ range. vec_len c.args.found.now + count_to range.1 c.args.lane.now.unacknowledged.entries ≤ vec_capacity c.args.found.now) (turned c.args.falling c.args.spans.now) c.passed-passed.result c.requires.room;
       next = refl;
     }
 
@@ -34,6 +37,14 @@ pass_span-least-requires-clause-clear c =
     let spans = turned c.args.falling c.args.spans.now in
     let within : c.loop-at.at < length spans = subst (λ count. c.loop-at.at < count) (sym (length_turned c.args.falling c.args.spans.now)) c.loop-at-test.true in
     c.loop-at.invariant.clear c.nth-span.result within c.nth-span.ensures
+
+pub pass_span-least-requires-clause-room : goal.pass_span-least-requires-clause-room
+pass_span-least-requires-clause-room c =
+    let spans = turned c.args.falling c.args.spans.now in
+    let i = c.loop-at.at in
+    let at : drop i spans ≡ c.nth-span.result ∷ drop (i + 1) spans = left_from c.args.falling c.args.spans.now i c.nth-span.result c.loop-at-test.true c.nth-span.ensures in
+    let here : HasRoom (vec_len c.loop-at.found) (vec_capacity c.loop-at.found) c.loop-at.lane.unacknowledged.entries (c.nth-span.result ∷ drop (i + 1) spans) = subst (HasRoom (vec_len c.loop-at.found) (vec_capacity c.loop-at.found) c.loop-at.lane.unacknowledged.entries) at c.loop-at.invariant.room in
+    here.0
 
 pub loop-at-preserved : goal.loop-at-preserved
 loop-at-preserved c =
@@ -57,6 +68,13 @@ loop-at-preserved c =
           ∙ ap (λ rs. filter (is_new s rs) ps) (sym step)))));
       forward = each_more (λ (r : ℕ × ℕ). r.0 ≤ r.1) spans i span within is c.pass_span-least.ensures.order c.loop-at.invariant.forward;
       clear = λ r inside at. c.pass_span-least.ensures.clear r.0 (next_above spans i span r c.requires.apart inside is at);
-      room = c.pass_span-least.ensures.room;
+      room = (
+          let at : drop i spans ≡ span ∷ drop (i + 1) spans = left_from c.args.falling c.args.spans.now i span c.loop-at-test.true is in
+          let here : HasRoom (vec_len c.loop-at.found) (vec_capacity c.loop-at.found) c.loop-at.lane.unacknowledged.entries (span ∷ drop (i + 1) spans) = subst (HasRoom (vec_len c.loop-at.found) (vec_capacity c.loop-at.found) c.loop-at.lane.unacknowledged.entries) at c.loop-at.invariant.room in
+          let apart : AreApart (span ∷ drop (i + 1) spans) = subst AreApart at (apart_drop i spans c.requires.apart) in
+          let ranges : AreRanges (span ∷ drop (i + 1) spans) = subst AreRanges at (each_drop (λ (r : ℕ × ℕ). r.0 ≤ r.1) spans i c.requires.ranges) in
+          rw c.pass_span-least.ensures.capacity
+          (room_left (vec_len c.loop-at.found) (vec_len c.pass_span-least.new.found) (vec_capacity c.loop-at.found) c.loop-at.lane.unacknowledged.entries c.pass_span-least.new.lane.unacknowledged.entries span (drop (i + 1) spans)
+          c.pass_span-least.ensures.room (behind_high span (drop (i + 1) spans) apart ranges.1) here.1));
       next = c.pass_span-least.ensures.next ∙ c.loop-at.invariant.next;
     }

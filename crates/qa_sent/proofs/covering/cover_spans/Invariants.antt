@@ -1,7 +1,7 @@
-use Rattle.std.proofs.Common.{◌≡◌, ◌≤◌, ◌<◌, ◌+◌, ℕ, filter, get_or, length, map, take}
+use Rattle.std.proofs.Common.{◌≡◌, ◌≤◌, ◌<◌, ℕ, filter, get_or, drop, length, map, take}
 use Rattle.std.specs.List.{AllByRecursion}
 use Rattle.std.specs.Vec.{vec_capacity, vec_len}
-use Rattle.qa_sent.specs.Covering.{AreClear}
+use Rattle.qa_sent.specs.Covering.{AreClear, HasRoom}
 use Rattle.qa_sent.specs.Fates.{is_new}
 use Rattle.qa_sent.specs.Held.{IsIndexed}
 use Rattle.qa_sent.specs.Naming.{turned}
@@ -15,6 +15,6 @@ invariant-loop-at l = record {
   new : l.found.items ≡ filter (is_new l.space (take l.at (turned l.falling l.spans))) l.fn.packets.items;
   forward : AllByRecursion (λ (r : ℕ × ℕ). r.0 ≤ r.1) (take l.at (turned l.falling l.spans));
   clear : (r : ℕ × ℕ) → l.at < length (turned l.falling l.spans) → r ≡ get_or (turned l.falling l.spans) l.at r → AreClear r.0 l.least l.lane.unacknowledged.entries;
-  room : vec_len l.found + length l.lane.unacknowledged.entries ≤ vec_capacity l.found;
+  room : HasRoom (vec_len l.found) (vec_capacity l.found) l.lane.unacknowledged.entries (drop l.at (turned l.falling l.spans));
   next : l.lane.next ≡ l.fn.lane.next;
 }

@@ -43,8 +43,8 @@ invariant_of-self-in-None c =
     let fs = c.self.inside.recent.items in
     record {
       rising = subst EntriesRise
-    (remove_right t es fs (sym c.remove.ensures.value ∙ c.in-None.is) ∙ (ap (λ r. es ++ r) (sym c.remove_recent.ensures) ∙ ap (λ e. e ++ c.remove_recent.new.recent.items) (sym c.in-None.ensures.unchanged)))
-    (rising_left t (es ++ fs) c.self.invariant.rising);
+          (remove_right t es fs (sym c.remove.ensures.value ∙ c.in-None.is) ∙ (ap (λ r. es ++ r) (sym c.remove_recent.ensures) ∙ ap (λ e. e ++ c.remove_recent.new.recent.items) (sym c.in-None.ensures.unchanged)))
+          (rising_left t (es ++ fs) c.self.invariant.rising);
       below = rw c.remove.ensures.entries (all_left (λ e. e.0 < c.self.inside.end) t es c.self.invariant.below);
     }
 
