@@ -74,10 +74,6 @@ pub named_more : (n : ℕ) (ranges : List (ℕ × ℕ)) (range : ℕ × ℕ) →
 named_more n [] range = or_false (is_between range.0 range.1 n)
 named_more n (x ∷ ranges) range = ap (λ b. is_between x.0 x.1 n || b) (named_more n ranges range) ∙ or_more (is_between x.0 x.1 n) (is_named ranges n) (is_between range.0 range.1 n)
 
-pub cover_none : (s : Space) (ps : List SentPacket) → map (covered_by s []) ps ≡ ps
-cover_none s [] = refl
-cover_none s (p ∷ ps) = ap (λ b. (if b then with_fate Acknowledged p else p) ∷ map (covered_by s []) ps) (and_false (is_waiting s p)) ∙ ap (λ xs. p ∷ xs) (cover_none s ps)
-
 by_both : (s : Space) (p : SentPacket) (range : ℕ × ℕ) (waits named within : Bool) → is_waiting s p ≡ waits → is_between range.0 range.1 p.number ≡ within
     → covered_in s range.0 range.1 (if waits && named then with_fate Acknowledged p else p) ≡ (if waits && (named || within) then with_fate Acknowledged p else p)
 by_both s p range true true within waits is =

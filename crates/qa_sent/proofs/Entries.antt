@@ -45,10 +45,10 @@ first_other lo hi n q out low high = grind (arith, nat_tests)
 pub alone : (n : ℕ) → is_between n n n ≡ true
 alone n = grind (arith, nat_tests)
 
-low_of : (lo hi n : ℕ) → is_between lo hi n ≡ true → lo ≤ n
+pub low_of : (lo hi n : ℕ) → is_between lo hi n ≡ true → lo ≤ n
 low_of lo hi n e = grind (arith, nat_tests)
 
-high_of : (lo hi n : ℕ) → is_between lo hi n ≡ true → n ≤ hi
+pub high_of : (lo hi n : ℕ) → is_between lo hi n ≡ true → n ≤ hi
 high_of lo hi n e = grind (arith, nat_tests)
 
 pub in_range : (lo hi n : ℕ) → lo ≤ n → n ≤ hi → is_between lo hi n ≡ true

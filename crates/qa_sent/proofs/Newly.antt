@@ -6,14 +6,14 @@ use Rattle.std.proofs.lemmas.Bool.{and_parts, cases_Bool}
 use Rattle.qa_base.specs.declared.space.Space.{Space}
 use Rattle.qa_base.specs.values.Events.{is_space, is_named}
 use Rattle.qa_sent.specs.Covering.{AreApart, first_between, is_between, is_new_in}
-use Rattle.qa_sent.specs.Fates.{is_new, is_open, is_waiting}
+use Rattle.qa_sent.specs.Fates.{is_open, is_waiting}
 use Rattle.qa_sent.specs.Held.{unacknowledged_in}
 use Rattle.qa_sent.specs.Steps.{covered_by, with_fate}
 use Rattle.qa_sent.specs.declared.fate.Fate.TheVariants.{Acknowledged}
 use Rattle.qa_sent.specs.declared.packet.SentPacket.{SentPacket}
 use Rattle.qa_sent.proofs.Entries.{first_alone, found_at}
 use Rattle.qa_sent.proofs.Rising.{below_out}
-use Rattle.qa_sent.proofs.Opened.{and_false, named_below, not_waiting_new, one_kept, outside_new, waiting_new}
+use Rattle.qa_sent.proofs.Opened.{named_below, not_waiting_new, one_kept, outside_new, waiting_new}
 
 -- ---- a packet that is covered
 
@@ -108,10 +108,6 @@ next_above ranges i range next apart within is is' =
     next_up ranges i range next apart (omega (arith, within)) is (subst (λ (k : ℕ). next ≡ get_or ranges k next) (add-one i) is')
 
 -- ---- those found
-
-pub new_none : (s : Space) (ps : List SentPacket) → filter (is_new s []) ps ≡ []
-new_none s [] = refl
-new_none s (p ∷ ps) = ap (λ b. cond b (p ∷ filter (is_new s []) ps) (filter (is_new s []) ps)) (and_false (is_space s p.space && is_open p.fate)) ∙ new_none s ps
 
 pub with_none : (xs ys : List SentPacket) → ys ≡ [] → xs ++ ys ≡ xs
 with_none [] ys none = none

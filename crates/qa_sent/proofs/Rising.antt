@@ -10,7 +10,7 @@ use Rattle.std.proofs.lemmas.Bool.Decides.{nat_tests}
 use Rattle.std.proofs.lemmas.List.{drop_more}
 use Rattle.qa_sent.specs.Covering.{AreClear, first_between, first_from, is_between}
 use Rattle.qa_sent.specs.Unacknowledged.{BeginsBelow, BeginsWith, EntriesRise}
-use Rattle.qa_sent.proofs.Entries.{alone, at_key}
+use Rattle.qa_sent.proofs.Entries.{alone, at_key, high_of, in_range, low_of}
 
 -- ---- what holds of each
 
@@ -193,15 +193,6 @@ clear_all n (e ∷ es) = (λ low. omega arith, clear_all n es)
 
 -- ---- those of a range
 
-low_of : (lo hi n : ℕ) → is_between lo hi n ≡ true → lo ≤ n
-low_of lo hi n e = grind (arith, nat_tests)
-
-high_of : (lo hi n : ℕ) → is_between lo hi n ≡ true → n ≤ hi
-high_of lo hi n e = grind (arith, nat_tests)
-
-within_is : (lo hi n : ℕ) → lo ≤ n → n ≤ hi → is_between lo hi n ≡ true
-within_is lo hi n low high = grind (arith, nat_tests)
-
 pub below_out : (lo hi n : ℕ) → n < lo → is_between lo hi n ≡ false
 below_out lo hi n below = grind (arith, nat_tests)
 
@@ -221,7 +212,7 @@ first_in lo hi (e ∷ es) x is high = elim (cases_Bool (nat_le lo e.0)) [
       let got : Some e ≡ Some x = rw y at is in
       let key : e.0 ≡ x.0 = ap (λ (o : Option (ℕ × ℕ)). elim o [ None ↦ 0 | Some z ↦ z.0 ]) got in
       let low = leb-true lo e.0 y in
-      rw (within_is lo hi e.0 low (omega (arith, key, high))) got)
+      rw (in_range lo hi e.0 low (omega (arith, key, high))) got)
   | inr out ↦ (
       let less = leb-false lo e.0 out in
       rw (below_out lo hi e.0 less) (first_in lo hi es x (rw out at is) high))
