@@ -5,7 +5,7 @@ use Rattle.std.specs.List.{AllByRecursion, filter}
 use Rattle.qa_base.specs.declared.event.Event.{Event}
 use Rattle.qa_base.specs.machine.Estimates.{sampled}
 use Rattle.qa_base.specs.machine.Loss.{is_persistent}
-use Rattle.qa_base.specs.machine.Numbers.{Names}
+use Rattle.qa_base.specs.machine.Numbers.{AreRanges, Names}
 use Rattle.qa_base.specs.machine.Packets.{Packet, is_of, packet_of, packets}
 use Rattle.qa_base.specs.machine.Rtt.{Estimate, persistent_after}
 use Rattle.qa_base.specs.machine.Departures.{IsCourse}
@@ -29,6 +29,10 @@ above_all hi (r ∷ later) all = omega (arith, all.0)
 pub apart_rise : (ranges : List (ℕ × ℕ)) → runs.AreApart ranges → AreApart ranges
 apart_rise [] apart = tt
 apart_rise (r ∷ later) apart = (above_all r.1 later apart.1, apart_rise later apart.2)
+
+pub apart_ordered : (ranges : List (ℕ × ℕ)) → runs.AreApart ranges → AreRanges ranges
+apart_ordered [] apart = tt
+apart_ordered (r ∷ later) apart = (apart.0, apart_ordered later apart.2)
 
 -- ---- persistent congestion
 

@@ -1,5 +1,5 @@
 //! What each kind of event does to the state of a sender.
-ghost use Rattle.std.specs.Prelude.{◌≡◌, ◌≤◌, ◌<◌, ◌+◌, [], ◌∷◌, ℕ, List, length, filter, true, false, Some, IfOk, OnOk, OnErr};
+ghost use Rattle.std.specs.Prelude.{◌≡◌, ◌≤◌, ◌<◌, ◌+◌, [], ◌∷◌, ℕ, List, length, filter, map, true, false, Some, IfOk, OnOk, OnErr};
 ghost use Rattle.std.specs.List.{AllByRecursion};
 ghost use Rattle.qa_base.specs.declared.event.Event.{Event as AnEvent};
 ghost use Rattle.qa_base.specs.declared.event.Event.TheVariants as events;
@@ -29,6 +29,7 @@ ghost use Rattle.qa_sent.specs.Fates.{is_new};
 ghost use Rattle.qa_sent.specs.Free.{AreOwedIn};
 ghost use Rattle.qa_sent.specs.Held.{IsBefore};
 ghost use Rattle.qa_sent.specs.Owing.{NoneOwed};
+ghost use Rattle.qa_sent.specs.Steps.{covered_by};
 ghost use Rattle.qa_sent.specs.declared.fate.Fate.TheVariants.{Open};
 
 use crate::answers::open_in;
@@ -84,10 +85,10 @@ impl Machine {
     {
         let largest = ranges.greatest();
         let ranges = ranges.as_slice();
-        let acknowledged = named(alloc, &self.packets, space, ranges)?;
+        let acknowledged = cover(alloc, &mut self.packets, space, ranges)?;
         self.connection.acknowledge(space, largest);
-        self.packets.cover(space, ranges);
         if acknowledged.is_empty() {
+            self.packets.take_back(acknowledged);
             self.finish(time, None);
             return Ok(());
         }
@@ -97,6 +98,7 @@ impl Machine {
             .detected(space, time.get(), time, &acknowledged);
         self.find_losses(space, time.get(), time);
         self.connection.grow(&acknowledged, app_limited);
+        self.packets.take_back(acknowledged);
         self.connection.restart(time);
         self.finish(time, Some(detection));
         Ok(())
@@ -340,22 +342,30 @@ fn trim(packets: &mut SentPackets)
     packets.drop_closed();
 }
 
-/// The open packets of the space that some span names, in the order of sending.
-fn named(
+/// Covers the packets of the space that some span names. Returns those of them that were open, in the
+/// order of sending. Nothing may be owed. `AllocError` comes where it is out of memory, and leaves the
+/// packets as they were.
+fn cover(
     alloc: Global,
-    packets: &SentPackets,
+    packets: &mut SentPackets,
     space: Space,
     spans: &[Span],
 ) -> Result<Vec<SentPacket>, AllocError>
-    ensures { IfOk result (λ found. found.items
-        ≡ filter (is_new space spans.now) packets.now.packets) }
+    requires settled { NoneOwed packets.old.packets }
+    ensures ok { OnOk result (packets.new ≡ record { dropped = packets.old.dropped; packets = map (covered_by space spans.now) packets.old.packets }) }
+    ensures found { IfOk result (λ found. found.items
+        ≡ filter (is_new space spans.now) packets.old.packets) }
+    ensures err { OnErr result (packets.new ≡ packets.old) }
 {
+    let mut found = packets.lend_list();
     if are_falling(spans) {
         // They mostly do, and are in order by themselves, which takes no memory.
-        return packets.newly_acknowledged_by_falling(space, spans);
+        packets.acknowledge(space, spans, true, &mut found)?;
+        return Ok(found);
     }
     let in_order = Ranges::of_spans(alloc, spans)?;
-    packets.newly_acknowledged(space, in_order.as_slice())
+    packets.acknowledge(space, in_order.as_slice(), false, &mut found)?;
+    Ok(found)
 }
 
 /// As of when a loss timer looks for losses that goes off at a time: when it is due, if that is later,

@@ -17,7 +17,7 @@ use Rattle.qa_sent.proofs.Parts.{each_map}
 
 -- ---- one packet
 
-stays_by : (waits within : Bool) (p : SentPacket) → (waits ≡ true → within ≡ false) → (if waits && within then with_fate Acknowledged p else p) ≡ p
+pub stays_by : (waits within : Bool) (p : SentPacket) → (waits ≡ true → within ≡ false) → (if waits && within then with_fate Acknowledged p else p) ≡ p
 stays_by true true p none = let no' : true ≡ false = none refl in cc
 stays_by true false p none = refl
 stays_by false within p none = refl
@@ -73,10 +73,6 @@ or_more false b t = refl
 pub named_more : (n : ℕ) (ranges : List (ℕ × ℕ)) (range : ℕ × ℕ) → is_named (ranges ++ range ∷ []) n ≡ (is_named ranges n || is_between range.0 range.1 n)
 named_more n [] range = or_false (is_between range.0 range.1 n)
 named_more n (x ∷ ranges) range = ap (λ b. is_between x.0 x.1 n || b) (named_more n ranges range) ∙ or_more (is_between x.0 x.1 n) (is_named ranges n) (is_between range.0 range.1 n)
-
-pub cover_none : (s : Space) (ps : List SentPacket) → map (covered_by s []) ps ≡ ps
-cover_none s [] = refl
-cover_none s (p ∷ ps) = ap (λ b. (if b then with_fate Acknowledged p else p) ∷ map (covered_by s []) ps) (and_false (is_waiting s p)) ∙ ap (λ xs. p ∷ xs) (cover_none s ps)
 
 by_both : (s : Space) (p : SentPacket) (range : ℕ × ℕ) (waits named within : Bool) → is_waiting s p ≡ waits → is_between range.0 range.1 p.number ≡ within
     → covered_in s range.0 range.1 (if waits && named then with_fate Acknowledged p else p) ≡ (if waits && (named || within) then with_fate Acknowledged p else p)
@@ -149,3 +145,10 @@ covered_behind s ranges d ps next b =
       none = subst (NoneFlies s) (sym (take-map (covered_by s ranges) (next - d) ps))
           (each_map (λ p. is_flying s p ≡ false) (λ p. is_flying s p ≡ false) (covered_by s ranges) (λ p out. grounded_if s (is_waiting s p && is_named ranges p.number) p out) (take (next - d) ps) b.none);
     }
+
+-- ranges that name the same numbers
+pub covered_named : (s : Space) (ranges others : List (ℕ × ℕ)) (ps : List SentPacket) → ((n : ℕ) → is_named ranges n ≡ is_named others n) → map (covered_by s ranges) ps ≡ map (covered_by s others) ps
+covered_named s ranges others [] same = refl
+covered_named s ranges others (p ∷ ps) same =
+    ap (λ b. (if is_waiting s p && b then with_fate Acknowledged p else p) ∷ map (covered_by s ranges) ps) (same p.number)
+    ∙ ap (λ qs. covered_by s others p ∷ qs) (covered_named s ranges others ps same)

@@ -1,56 +1,54 @@
--- The entries of a map of uncovered numbers: the packets that they lead to, and what changes them.
-use Rattle.std.proofs.Common.{◌≡◌, ◌∙◌, ℕ, zero, suc, ◌+◌, ◌-◌, ◌≤◌, ◌<◌, Bool, true, false, cond, ◌&&◌, List, [], ◌∷◌, ◌++◌, length, get_or, set, map, refl, sym, ap, subst, arith, inl, inr, Option, Some, None, option_map}
-use Rattle.std.specs.Prelude.{if◌then◌else◌, slice_get}
-use Rattle.std.specs.List.{All, AllByRecursion}
-use Rattle.std.specs.List.Sorted.{IsStrictlySortedBy}
-use Rattle.std.specs.declared.cmp.Ordering.TheVariants.{Greater, Less}
-use Rattle.std.specs.Map.{keys_of, lookup, remove_entry}
+-- The entries of the unacknowledged packets: where they lead, and what changes them.
+use Rattle.std.proofs.Common.{◌≡◌, ◌∙◌, ℕ, zero, suc, ◌+◌, ◌-◌, ◌≤◌, ◌<◌, Bool, true, false, cond, ◌&&◌, List, [], ◌∷◌, ◌++◌, length, get_or, set, refl, sym, ap, subst, arith, inl, inr, Option, Some, None}
+use Rattle.std.specs.Prelude.{if◌then◌else◌, nat_le, slice_get}
+use Rattle.std.specs.List.{AllByRecursion}
+use Rattle.std.specs.declared.cmp.Ordering.TheVariants.{Greater}
+use Rattle.std.specs.Map.{remove_entry}
 use Rattle.std.specs.BTreeMap.{is_at, insert_entry}
-use Rattle.std.specs.BTreeMap.Range.{IsLeBy, entries_between, range_contains}
-use Rattle.std.specs.Ordering.{nat_cmp, is_eq, is_gt, match_ordering}
-use Rattle.std.specs.declared.ops.Bound.TheVariants.{Included}
+use Rattle.std.specs.BTreeMap.Range.{entries_between, range_contains}
+use Rattle.std.specs.Ordering.{nat_cmp, is_eq, match_ordering}
+use Rattle.std.specs.declared.ops.Bound.TheVariants.{Included, Unbounded}
 use Rattle.std.proofs.lemmas.Bool.{cases_Bool, and_parts}
 use Rattle.std.proofs.lemmas.Bool.Decides.{nat_tests}
-use Rattle.std.proofs.lemmas.List.Elements.{recursion_from_All}
 use Rattle.qa_base.specs.declared.space.Space.{Space}
 use Rattle.qa_base.specs.values.Events.{is_space}
-use Rattle.qa_sent.specs.Covering.{AreFrom, covered_in, first_between, first_number, is_between}
+use Rattle.qa_sent.specs.Covering.{first_between, first_from, is_between}
 use Rattle.qa_sent.specs.Fates.{is_unacknowledged, is_waiting}
 use Rattle.qa_sent.specs.Held.{unacknowledged_in}
 use Rattle.qa_sent.specs.Steps.{with_fate}
 use Rattle.qa_sent.specs.declared.fate.Fate.{Fate}
-use Rattle.qa_sent.specs.declared.fate.Fate.TheVariants.{Acknowledged}
 use Rattle.qa_sent.specs.declared.packet.SentPacket.{SentPacket}
 
 -- ---- entries by their numbers
 
-pub same_test : (lo hi q : ℕ) → range_contains nat_cmp (Included lo) (Included hi) q ≡ is_between lo hi q
-same_test lo hi q = grind (arith, nat_tests)
+pub from_test : (lo q : ℕ) → range_contains nat_cmp (Included lo) Unbounded q ≡ nat_le lo q
+from_test lo q = grind (arith, nat_tests)
 
 first_if : (e : ℕ × ℕ) (es : List (ℕ × ℕ)) (o : Option (ℕ × ℕ)) (b : Bool) → o ≡ slice_get es 0 → (if b then Some e else o) ≡ slice_get (if b then e ∷ es else es) 0
 first_if e es o true is = refl
 first_if e es o false is = is
 
-pub first_of_part : (lo hi : ℕ) (es : List (ℕ × ℕ)) → first_between lo hi es ≡ slice_get (entries_between nat_cmp (Included lo) (Included hi) es) 0
-first_of_part lo hi [] = refl
-first_of_part lo hi (e ∷ es) = rw (same_test lo hi e.0) (first_if e (entries_between nat_cmp (Included lo) (Included hi) es) (first_between lo hi es) (is_between lo hi e.0) (first_of_part lo hi es))
+-- the first entry from a number on, as a map has it
+pub first_of_part : (lo : ℕ) (es : List (ℕ × ℕ)) → first_from lo es ≡ slice_get (entries_between nat_cmp (Included lo) Unbounded es) 0
+first_of_part lo [] = refl
+first_of_part lo (e ∷ es) = rw (from_test lo e.0) (first_if e (entries_between nat_cmp (Included lo) Unbounded es) (first_from lo es) (nat_le lo e.0) (first_of_part lo es))
 
-at_key : (n q : ℕ) → is_eq (nat_cmp n q) ≡ is_between n n q
+pub at_key : (n q : ℕ) → is_eq (nat_cmp n q) ≡ is_between n n q
 at_key n q = grind (arith, nat_tests)
 
-between_one : (n q : ℕ) → is_between n n q ≡ true → q ≡ n
+pub between_one : (n q : ℕ) → is_between n n q ≡ true → q ≡ n
 between_one n q e = grind (arith, nat_tests)
 
 first_other : (lo hi n q : ℕ) → is_between lo hi q ≡ false → lo ≤ n → n ≤ hi → is_between n n q ≡ false
 first_other lo hi n q out low high = grind (arith, nat_tests)
 
-alone : (n : ℕ) → is_between n n n ≡ true
+pub alone : (n : ℕ) → is_between n n n ≡ true
 alone n = grind (arith, nat_tests)
 
-low_of : (lo hi n : ℕ) → is_between lo hi n ≡ true → lo ≤ n
+pub low_of : (lo hi n : ℕ) → is_between lo hi n ≡ true → lo ≤ n
 low_of lo hi n e = grind (arith, nat_tests)
 
-high_of : (lo hi n : ℕ) → is_between lo hi n ≡ true → n ≤ hi
+pub high_of : (lo hi n : ℕ) → is_between lo hi n ≡ true → n ≤ hi
 high_of lo hi n e = grind (arith, nat_tests)
 
 pub in_range : (lo hi n : ℕ) → lo ≤ n → n ≤ hi → is_between lo hi n ≡ true
@@ -72,10 +70,10 @@ first_alone lo hi (x ∷ es) n place e = elim (cases_Bool (is_between lo hi x.0)
       (rw other rest.0, rest.1, rest.2))
 ]
 
-removes : (n : ℕ) (x : ℕ × ℕ) (es : List (ℕ × ℕ)) → is_between n n x.0 ≡ true → remove_entry (is_at (nat_cmp n)) (x ∷ es) ≡ es
+pub removes : (n : ℕ) (x : ℕ × ℕ) (es : List (ℕ × ℕ)) → is_between n n x.0 ≡ true → remove_entry (is_at (nat_cmp n)) (x ∷ es) ≡ es
 removes n x es k = ap (λ b. cond b es (x ∷ remove_entry (is_at (nat_cmp n)) es)) (at_key n x.0 ∙ k)
 
-leaves : (n : ℕ) (x : ℕ × ℕ) (es : List (ℕ × ℕ)) → is_between n n x.0 ≡ false → remove_entry (is_at (nat_cmp n)) (x ∷ es) ≡ x ∷ remove_entry (is_at (nat_cmp n)) es
+pub leaves : (n : ℕ) (x : ℕ × ℕ) (es : List (ℕ × ℕ)) → is_between n n x.0 ≡ false → remove_entry (is_at (nat_cmp n)) (x ∷ es) ≡ x ∷ remove_entry (is_at (nat_cmp n)) es
 leaves n x es k = ap (λ b. cond b es (x ∷ remove_entry (is_at (nat_cmp n)) es)) (at_key n x.0 ∙ k)
 
 pub removed_length : (n : ℕ) (es : List (ℕ × ℕ)) (e : ℕ × ℕ) → first_between n n es ≡ Some e → length (remove_entry (is_at (nat_cmp n)) es) + 1 ≡ length es
@@ -216,88 +214,3 @@ fewer_if false e es n is = omega (arith, is)
 pub fewer_entries : (s : Space) (d : ℕ) (ps : List SentPacket) → length (unacknowledged_in s d ps) ≤ length ps
 fewer_entries s d [] = omega arith
 fewer_entries s d (p ∷ ps) = fewer_if (is_waiting s p) (p.number, d) (unacknowledged_in s (suc d) ps) (length ps) (fewer_entries s (suc d) ps)
-
--- ---- the first of them
-
-below : (n lo hi q : ℕ) → hi < n → n ≤ q → is_between lo hi q ≡ false
-below n lo hi q less high = grind (arith, nat_tests)
-
-not_above : (n q : ℕ) → is_gt (nat_cmp n q) ≡ false → n ≤ q
-not_above n q out = grind (arith, nat_tests)
-
--- where they have a number or higher ones, none stands in a range that ends below it
-pub none_between : (n lo hi : ℕ) (es : List (ℕ × ℕ)) → hi < n → AreFrom n es → entries_between nat_cmp (Included lo) (Included hi) es ≡ []
-none_between n lo hi [] less from = refl
-none_between n lo hi (e ∷ es) less from =
-    ap (λ b. cond b (e ∷ entries_between nat_cmp (Included lo) (Included hi) es) (entries_between nat_cmp (Included lo) (Included hi) es)) (same_test lo hi e.0 ∙ below n lo hi e.0 less from.0)
-    ∙ none_between n lo hi es less from.1
-
-pub none_first : (n lo hi : ℕ) (es : List (ℕ × ℕ)) → hi < n → AreFrom n es → first_between lo hi es ≡ None
-none_first n lo hi es less from = first_of_part lo hi es ∙ ap (λ xs. slice_get xs 0) (none_between n lo hi es less from)
-
-pub first_is : (es : List (ℕ × ℕ)) (e : ℕ × ℕ) → slice_get es 0 ≡ Some e → e.0 ≡ first_number es
-first_is [] e is = cc
-first_is (x ∷ es) e is = sym (ap (λ (o : Option (ℕ × ℕ)). elim o [ None ↦ 0 | Some z ↦ z.0 ]) is)
-
-from_each : (n : ℕ) (es : List (ℕ × ℕ)) → AllByRecursion (IsLeBy nat_cmp n) (keys_of es) → AreFrom n es
-from_each n [] all = tt
-from_each n (e ∷ es) all = (not_above n e.0 all.0, from_each n es all.1)
-
--- they are those of a map's keys
-pub from_keys : (n : ℕ) (es : List (ℕ × ℕ)) → All (IsLeBy nat_cmp n) (keys_of es) → AreFrom n es
-from_keys n es all = from_each n es (recursion_from_All (IsLeBy nat_cmp n) (keys_of es) all)
-
-from_rest : (n : ℕ) (e : ℕ × ℕ) (es fs : List (ℕ × ℕ)) (b : Bool) → (AreFrom n es → AreFrom n fs) → AreFrom n (if b then e ∷ es else es) → AreFrom n fs × AreFrom n (if b then e ∷ fs else fs)
-from_rest n e es fs true goes all = (goes all.1, (all.0, goes all.1))
-from_rest n e es fs false goes all = (goes all, goes all)
-
-from_if : (s : Space) (n d : ℕ) (p : SentPacket) (es : List (ℕ × ℕ)) (b : Bool) → AreFrom n es → AreFrom n (if is_waiting s p then (p.number, d) ∷ es else es)
-    → AreFrom n (if is_waiting s (if b then with_fate Acknowledged p else p) then ((if b then with_fate Acknowledged p else p).number, d) ∷ es else es)
-from_if s n d p es true rest all = rw (not_waiting s Acknowledged p refl) rest
-from_if s n d p es false rest all = all
-
--- covering leaves them so
-pub covered_from : (s : Space) (n d lo hi : ℕ) (ps : List SentPacket) → AreFrom n (unacknowledged_in s d ps) → AreFrom n (unacknowledged_in s d (map (covered_in s lo hi) ps))
-covered_from s n d lo hi [] all = tt
-covered_from s n d lo hi (p ∷ ps) all =
-    let fs = unacknowledged_in s (suc d) (map (covered_in s lo hi) ps) in
-    let two = from_rest n (p.number, d) (unacknowledged_in s (suc d) ps) fs (is_waiting s p) (covered_from s n (suc d) lo hi ps) all in
-    from_if s n d p fs (is_waiting s p && is_between lo hi p.number) two.0 two.1
-
--- ---- the last of a range
-
-past : (lo n m q : ℕ) → m ≡ n → nat_cmp m q ≡ Less → is_between lo n q ≡ false
-past lo n m q at above = grind (arith, nat_tests)
-
-none_beyond : (lo n : ℕ) (x : ℕ × ℕ) (es : List (ℕ × ℕ)) → x.0 ≡ n → AllByRecursion (λ y. nat_cmp x.0 y ≡ Less) (keys_of es) → first_between lo n es ≡ None
-none_beyond lo n x [] at above = refl
-none_beyond lo n x (e ∷ es) at above = rw (past lo n x.0 e.0 at above.0) (none_beyond lo n x es at above.1)
-
--- where the first entry of a range has its last number, none is left once it is removed
-pub none_left : (lo n place : ℕ) (es : List (ℕ × ℕ)) → IsStrictlySortedBy nat_cmp (keys_of es) → first_between lo n es ≡ Some (n, place)
-    → first_between lo n (remove_entry (is_at (nat_cmp n)) es) ≡ None
-unfolding IsStrictlySortedBy
-none_left lo n place [] sorted is = cc
-none_left lo n place (x ∷ es) sorted is = elim (cases_Bool (is_between lo n x.0)) [
-  | inl y ↦ (
-      let got : Some x ≡ Some (n, place) = rw y at is in
-      let key : x.0 ≡ n = ap (λ (o : Option (ℕ × ℕ)). elim o [ None ↦ 0 | Some z ↦ z.0 ]) got in
-      let here : is_between n n x.0 ≡ true = ap (is_between n n) key ∙ alone n in
-      ap (first_between lo n) (removes n x es here) ∙ none_beyond lo n x es key sorted.0)
-  | inr out ↦ (
-      let range = first_alone lo n es n place (rw out at is) in
-      let other : is_between n n x.0 ≡ false = first_other lo n n x.0 out range.1 range.2 in
-      let rest : first_between lo n (remove_entry (is_at (nat_cmp n)) es) ≡ None = none_left lo n place es sorted.1 (rw out at is) in
-      ap (first_between lo n) (leaves n x es other) ∙ (ap (λ b. if b then Some x else first_between lo n (remove_entry (is_at (nat_cmp n)) es)) out ∙ rest))
-]
-
--- ---- the entry with a number
-
-pub first_at : (n : ℕ) (es : List (ℕ × ℕ)) → first_between n n es ≡ option_map (λ place. (n, place)) (lookup (is_at (nat_cmp n)) es)
-first_at n [] = refl
-first_at n (x ∷ es) =
-    let found : Bool → Option (ℕ × ℕ) = λ b. option_map (λ place. (n, place)) (cond b (Some x.1) (lookup (is_at (nat_cmp n)) es)) in
-    elim (cases_Bool (is_between n n x.0)) [
-      | inl k ↦ (ap (λ b. if b then Some x else first_between n n es) k ∙ (ap (λ (m : ℕ). Some (m, x.1)) (between_one n x.0 k) ∙ sym (ap found (at_key n x.0 ∙ k))))
-      | inr out ↦ (ap (λ b. if b then Some x else first_between n n es) out ∙ (first_at n es ∙ sym (ap found (at_key n x.0 ∙ out))))
-    ]

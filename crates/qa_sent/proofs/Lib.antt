@@ -17,3 +17,7 @@ pub mod Sound
 pub mod Sums
 pub mod Totals
 pub mod Taken
+pub mod Rising
+pub mod Newly
+pub mod Passing
+pub mod Counted

@@ -1,5 +1,5 @@
 -- Where nothing is owed, and packets of one space get another fate, by which nothing is owed: all is sound with the lane of that space.
-use Rattle.std.proofs.Common.{◌≡◌, ◌∙◌, ℕ, ◌+◌, ◌-◌, true, false, List, [], ◌∷◌, length, map, cond, count_by, sum_by, refl, sym, arith}
+use Rattle.std.proofs.Common.{◌≡◌, ◌∙◌, ℕ, ◌+◌, ◌-◌, true, false, List, [], ◌∷◌, length, map, cond, count_by, sum_by, refl, sym, arith, Result, Ok, Err, OnOk, OnErr}
 use Rattle.std.proofs.lemmas.List.{length-map}
 use Rattle.std.proofs.lemmas.List.Sums.{sum_by-cons}
 use Rattle.qa_base.specs.declared.space.Space.{Space}
@@ -9,10 +9,12 @@ use Rattle.qa_sent.specs.Fates.{is_owed}
 use Rattle.qa_sent.specs.Held.{AreLosses, IsLane, IsSound}
 use Rattle.qa_base.specs.values.PerSpace.{of_space, with_space}
 use Rattle.qa_sent.specs.Owing.{NoneOwed}
+use Rattle.qa_sent.specs.Steps.{covered_by}
 use Rattle.qa_sent.specs.declared.lane.Lane.{Lane}
 use Rattle.qa_base.specs.declared.per_space.PerSpace.{PerSpace}
 use Rattle.qa_sent.specs.declared.packet.SentPacket.{SentPacket}
 use Rattle.qa_sent.specs.declared.packets.Losses.{Losses}
+use Rattle.qa_sent.proofs.Acknowledged.{covered_alike, covered_not_owed, covered_same}
 use Rattle.qa_sent.proofs.Alike.{IsAlike, IsSame, lane_alike, ordered_same, sizes_same}
 use Rattle.qa_sent.proofs.Parts.{each_drop, each_map, each_take, each_weaker}
 use Rattle.qa_sent.proofs.Sound.{IsSoundBeside, beside, lane_sound, sound_with}
@@ -56,3 +58,11 @@ pub sound_settled : (d : ℕ) (ps : List SentPacket) (losses : Losses) (lanes : 
 sound_settled d ps losses lanes s lane f each closed alike none sound own =
     sound_with d (map f ps) losses lanes s lane (beside_settled d ps losses f each closed none (beside d ps losses lanes sound)) own
     (λ t out. lane_alike t f (alike t out) d ps (of_space t lanes) (lane_sound d ps losses lanes sound t))
+
+-- whether an acknowledgment was taken in or was out of memory
+pub sound_acknowledged : {E : Type 0} (result : Result (Unit {0}) E) (d : ℕ) (ps after : List SentPacket) (losses : Losses) (lanes : PerSpace Lane) (s : Space) (lane : Lane) (ranges : List (ℕ × ℕ)) → NoneOwed ps
+    → IsSound d ps losses lanes → OnOk result (after ≡ map (covered_by s ranges) ps) → OnErr result (after ≡ ps) → IsLane s d after lane → IsSound d after losses (with_space s lanes lane)
+sound_acknowledged (Ok _) d ps after losses lanes s lane ranges none sound covered same own =
+    rw covered (sound_settled d ps losses lanes s lane (covered_by s ranges) (covered_same s ranges) (covered_not_owed s ranges) (covered_alike s ranges) none sound (rw covered at own))
+sound_acknowledged (Err _) d ps after losses lanes s lane ranges none sound covered same own =
+    rw same (sound_with d ps losses lanes s lane (beside d ps losses lanes sound) (rw same at own) (λ t out. lane_sound d ps losses lanes sound t))

@@ -1,5 +1,5 @@
 -- An acknowledgment of the numbers of one range, by which those of all its ranges are acknowledged.
-use Rattle.std.specs.Prelude.{ℕ, ◌+◌, ◌&&◌, nat_le, Bool, List, [], ◌∷◌, Option, Some, None, if◌then◌else◌, ◌<◌, ◌≤◌}
+use Rattle.std.specs.Prelude.{◌≡◌, ℕ, suc, ◌+◌, ◌&&◌, nat_le, Bool, List, [], ◌∷◌, Option, Some, None, if◌then◌else◌, ◌<◌, ◌≤◌}
 use Rattle.std.specs.List.{AllByRecursion}
 use Rattle.qa_base.specs.declared.space.Space.{Space}
 use Rattle.qa_base.specs.values.Events.{is_space}
@@ -16,14 +16,27 @@ abbrev pub first_between : ℕ → ℕ → List (ℕ × ℕ) → Option (ℕ × 
 first_between lo hi [] = None
 first_between lo hi (e ∷ es) = if is_between lo hi e.0 then Some e else first_between lo hi es
 
--- the number of the first of these entries, and above all numbers where there is none
-abbrev pub first_number : List (ℕ × ℕ) → ℕ
-first_number [] = 18446744073709551615
-first_number (e ∷ es) = e.0
+-- the first entry with this number or a higher one
+abbrev pub first_from : ℕ → List (ℕ × ℕ) → Option (ℕ × ℕ)
+first_from lo [] = None
+first_from lo (e ∷ es) = if nat_le lo e.0 then Some e else first_from lo es
 
--- each of these entries has this number or a higher one
-abbrev pub AreFrom : ℕ → List (ℕ × ℕ) → Type 0
-AreFrom n es = AllByRecursion (λ e. n ≤ e.0) es
+-- of these entries none from one number on is below another
+abbrev pub AreClear : ℕ → ℕ → List (ℕ × ℕ) → Type 0
+AreClear lo least es = AllByRecursion (λ e. lo ≤ e.0 → least ≤ e.0) es
+
+-- how many of these entries have no number above this one
+abbrev pub count_to : ℕ → List (ℕ × ℕ) → ℕ
+count_to hi [] = 0
+count_to hi (e ∷ es) = if nat_le e.0 hi then suc (count_to hi es) else count_to hi es
+
+-- there is room behind so many for the entries of each of these ranges and below it
+abbrev pub HasRoom : (used room : ℕ) → List (ℕ × ℕ) → List (ℕ × ℕ) → Type 0
+HasRoom used room es ranges = AllByRecursion (λ range. used + count_to range.1 es ≤ room) ranges
+
+-- the range names none of them
+abbrev pub NamesNone : List (ℕ × ℕ) → ℕ × ℕ → Type 0
+NamesNone es range = (range.0 ≤ range.1) × (first_between range.0 range.1 es ≡ None)
 
 abbrev pub covered_in : Space → ℕ → ℕ → SentPacket → SentPacket
 covered_in s lo hi p = if is_waiting s p && is_between lo hi p.number then with_fate Acknowledged p else p

@@ -10,3 +10,4 @@ pub mod Lanes
 pub mod Covering
 pub mod Naming
 pub mod Free
+pub mod Unacknowledged

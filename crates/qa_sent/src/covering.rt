@@ -1,57 +1,36 @@
-//! Acknowledgments: packets are acknowledged, and leave the map and the sums of their space.
-ghost use Rattle.std.specs.Prelude.{◌≡◌, ◌≤◌, ◌+◌, ℕ, None, Some, length, map};
-ghost use Rattle.qa_sent.specs.Covering.{AreFrom, covered_in, first_between};
-ghost use Rattle.qa_sent.specs.Held.{IsIndexed, IsLane};
+//! Acknowledgments: packets are acknowledged, and leave the entries and the sums of their space. Those
+//! of them that were open are newly acknowledged.
+ghost use Rattle.std.specs.Prelude.{◌≡◌, ◌≤◌, ◌<◌, ◌+◌, ◌++◌, ◌∷◌, [], ℕ, Some, filter, length, map};
+ghost use Rattle.std.specs.Vec.{vec_capacity, vec_len};
+ghost use Rattle.qa_base.specs.machine.Numbers.{AreRanges};
+ghost use Rattle.qa_sent.specs.Covering.{AreApart, AreClear, HasRoom, count_to, covered_in, first_between, is_new_in};
+ghost use Rattle.qa_sent.specs.Fates.{is_new, is_open};
+ghost use Rattle.qa_sent.specs.Held.{AreOrdered, IsIndexed};
+ghost use Rattle.qa_sent.specs.Naming.{turned};
 ghost use Rattle.qa_sent.specs.Steps.{covered_by};
-ghost use Rattle.qa_base.specs.values.Limits.{max_lines};
 
-use crate::advancing::advance;
 use crate::fate::Fate;
 use crate::lane::Lane;
+use crate::named::NamedNumbers;
 use crate::packet::SentPacket;
 use qa_base::{Space, Span};
-use std::collections::{BTreeMap, VecDeque};
+use std::collections::VecDeque;
 
-/// Covers the packets that some span names in the lane of the space, and raises its `next` to the
-/// first that is still in flight.
-pub(crate) fn cover_in_lane(
-    packets: &mut VecDeque<SentPacket>,
-    dropped: u64,
-    lane: &mut Lane,
-    space: Space,
-    spans: &[Span],
-)
-    requires few { dropped + length packets.old.items ≤ max_lines }
-    requires lane { IsLane space dropped packets.old.items lane.old }
-    ensures packets { packets.new.items ≡ map (covered_by space spans.now) packets.old.items }
-    ensures lane { IsLane space dropped packets.new.items lane.new }
+/// Adds the packet, if it is open.
+pub(crate) fn push_open(found: &mut Vec<SentPacket>, packet: &SentPacket)
+    requires { vec_len found.old < vec_capacity found.old }
+    ensures items { found.new.items
+        ≡ found.old.items ++ filter (λ p. is_open p.fate) (packet.now ∷ []) }
+    ensures len { vec_len found.new ≤ vec_len found.old + 1 }
+    ensures capacity { vec_capacity found.new ≡ vec_capacity found.old }
 {
-    cover_spans(packets, dropped, lane, space, spans);
-    advance(packets, dropped, lane, space);
-}
-
-/// The first entry from `lo` to `hi`.
-pub(crate) fn first_in(map: &BTreeMap<u64, u64>, lo: u64, hi: u64) -> Option<(u64, u64)>
-    requires { lo ≤ hi }
-    ensures { result ≡ first_between lo hi map.now.entries }
-{
-    match map.range(lo..=hi).next() {
-        None => None,
-        Some((number, place)) => Some((*number, *place)),
+    if packet.is_open() {
+        found.push_reserved(*packet);
     }
 }
 
-/// The entry with this number.
-pub(crate) fn entry_at(map: &BTreeMap<u64, u64>, number: u64) -> Option<(u64, u64)>
-    ensures { result ≡ first_between number number map.now.entries }
-{
-    match map.get(&number) {
-        None => None,
-        Some(place) => Some((number, *place)),
-    }
-}
-
-/// Covers the packet at this place, which has this number, in the lane of the space.
+/// Covers the packet at this place, which has this number, in the lane of the space, and adds it to
+/// those found, if it was open.
 pub(crate) fn cover_one(
     packets: &mut VecDeque<SentPacket>,
     dropped: u64,
@@ -59,93 +38,135 @@ pub(crate) fn cover_one(
     space: Space,
     number: u64,
     place: u64,
+    found: &mut Vec<SentPacket>,
 )
     requires indexed { IsIndexed space dropped packets.old.items lane.old }
-    requires found { first_between number number lane.old.unacknowledged.entries
+    requires there { first_between number number lane.old.unacknowledged.entries
         ≡ Some (number, place) }
+    requires room { vec_len found.old < vec_capacity found.old }
     ensures packets { (lo hi : ℕ) → lo ≤ number → number ≤ hi
         → map (covered_in space lo hi) packets.new.items
         ≡ map (covered_in space lo hi) packets.old.items }
+    ensures new { (lo hi : ℕ)
+        → first_between lo hi lane.old.unacknowledged.entries ≡ Some (number, place)
+        → found.new.items ++ filter (is_new_in space lo hi) packets.new.items
+        ≡ found.old.items ++ filter (is_new_in space lo hi) packets.old.items }
     ensures fewer { length lane.new.unacknowledged.entries + 1
         ≡ length lane.old.unacknowledged.entries }
-    ensures last { (lo : ℕ) → first_between lo number lane.old.unacknowledged.entries ≡ Some (number, place)
-        → first_between lo number lane.new.unacknowledged.entries ≡ None }
+    ensures counted { (hi : ℕ) → number ≤ hi
+        → count_to hi lane.new.unacknowledged.entries + 1
+        ≡ count_to hi lane.old.unacknowledged.entries }
+    ensures len { vec_len found.new ≤ vec_len found.old + 1 }
+    ensures capacity { vec_capacity found.new ≡ vec_capacity found.old }
     ensures indexed { IsIndexed space dropped packets.new.items lane.new }
     ensures next { lane.new.next ≡ lane.old.next }
 {
     let at = (place - dropped) as usize;
     let packet = &mut packets[at];
+    push_open(found, packet);
     lane.take_off(packet);
     packet.fate = Fate::Acknowledged;
-    // The entries stand in the order of their numbers.
-    let _entries = lane.unacknowledged.len();
-    lane.unacknowledged.remove(&number);
+    lane.unacknowledged.remove(number);
 }
 
-/// Covers the packets from `lo` to `hi` in the lane of the space, one by one: each leaves the map,
-/// and one that was open leaves the sums. Behind the one with the last number none is looked for.
+/// Covers the packets of a span in the lane of the space, one by one: each leaves the entries, and one
+/// that was open leaves the sums and is added to those found. Returns a number below which no entry is
+/// left of those from the begin of the span on.
 pub(crate) fn cover_span(
     packets: &mut VecDeque<SentPacket>,
     dropped: u64,
     lane: &mut Lane,
     space: Space,
-    lo: u64,
-    hi: u64,
-)
+    span: Span,
+    found: &mut Vec<SentPacket>,
+) -> u64
     requires indexed { IsIndexed space dropped packets.old.items lane.old }
-    requires order { lo ≤ hi }
-    ensures packets { packets.new.items ≡ map (covered_in space lo hi) packets.old.items }
+    requires room { vec_len found.old + count_to span.1 lane.old.unacknowledged.entries
+        ≤ vec_capacity found.old }
+    ensures packets { packets.new.items ≡ map (covered_in space span.0 span.1) packets.old.items }
+    ensures new { found.new.items
+        ≡ found.old.items ++ filter (is_new_in space span.0 span.1) packets.old.items }
+    ensures room { (top : ℕ) → span.1 ≤ top
+        → vec_len found.new + count_to top lane.new.unacknowledged.entries
+        ≤ vec_len found.old + count_to top lane.old.unacknowledged.entries }
+    ensures capacity { vec_capacity found.new ≡ vec_capacity found.old }
     ensures indexed { IsIndexed space dropped packets.new.items lane.new }
     ensures next { lane.new.next ≡ lane.old.next }
+    ensures clear { AreClear span.0 result lane.new.unacknowledged.entries }
 {
-    while let Some((number, place)) = first_in(&lane.unacknowledged, lo, hi) {
-        cover_one(packets, dropped, lane, space, number, place);
-        if number == hi {
-            return;
+    let lo = span.lo().get();
+    let hi = span.hi().get();
+    while let Some((number, place)) = lane.unacknowledged.first_from(lo) {
+        if hi < number {
+            return number;
         }
+        cover_one(packets, dropped, lane, space, number, place, found);
     }
+    u64::MAX
 }
 
-/// Covers the packets of one span in the lane of the space. Those that an acknowledgment would still
-/// cover are numbered from `first` on, so a span that ends below it is not looked up.
-pub(crate) fn cover_from(
+/// The same, where no entry from the begin of the span on is below `least`: a span that ends below it
+/// is passed by one comparison. Returns such a number for whatever lies above the span.
+pub(crate) fn pass_span(
     packets: &mut VecDeque<SentPacket>,
     dropped: u64,
     lane: &mut Lane,
     space: Space,
-    first: u64,
     span: Span,
-)
+    least: u64,
+    found: &mut Vec<SentPacket>,
+) -> u64
     requires indexed { IsIndexed space dropped packets.old.items lane.old }
-    requires first { AreFrom first lane.old.unacknowledged.entries }
+    requires room { vec_len found.old + count_to span.1 lane.old.unacknowledged.entries
+        ≤ vec_capacity found.old }
+    requires clear { AreClear span.0 least lane.old.unacknowledged.entries }
+    ensures order { span.0 ≤ span.1 }
     ensures packets { packets.new.items ≡ map (covered_in space span.0 span.1) packets.old.items }
+    ensures new { found.new.items
+        ≡ found.old.items ++ filter (is_new_in space span.0 span.1) packets.old.items }
+    ensures room { (top : ℕ) → span.1 ≤ top
+        → vec_len found.new + count_to top lane.new.unacknowledged.entries
+        ≤ vec_len found.old + count_to top lane.old.unacknowledged.entries }
+    ensures capacity { vec_capacity found.new ≡ vec_capacity found.old }
     ensures indexed { IsIndexed space dropped packets.new.items lane.new }
-    ensures first { AreFrom first lane.new.unacknowledged.entries }
     ensures next { lane.new.next ≡ lane.old.next }
+    ensures clear { (n : ℕ) → span.1 < n → AreClear n result lane.new.unacknowledged.entries }
 {
     let hi = span.hi().get();
-    if hi < first {
-        return;
+    if hi < least {
+        return least;
     }
-    cover_span(packets, dropped, lane, space, span.lo().get(), hi);
+    cover_span(packets, dropped, lane, space, span, found)
 }
 
-/// Covers the packets that some span names in the lane of the space. The spans may stand in any
-/// order and overlap.
+/// Covers the packets that some span names in the lane of the space, and finds which of them were open.
+/// The spans rise, taken from the first to the last or, where they fall, from the last to the first.
 pub(crate) fn cover_spans(
     packets: &mut VecDeque<SentPacket>,
     dropped: u64,
     lane: &mut Lane,
     space: Space,
     spans: &[Span],
+    falling: bool,
+    found: &mut Vec<SentPacket>,
 )
+    requires apart { AreApart (turned falling spans.now) }
+    requires ranges { AreRanges (turned falling spans.now) }
     requires indexed { IsIndexed space dropped packets.old.items lane.old }
-    ensures packets { packets.new.items ≡ map (covered_by space spans.now) packets.old.items }
+    requires ordered { AreOrdered packets.old.items }
+    requires none { found.old.items ≡ [] }
+    requires room { HasRoom (vec_len found.old) (vec_capacity found.old) lane.old.unacknowledged.entries (turned falling spans.now) }
+    ensures packets { packets.new.items
+        ≡ map (covered_by space (turned falling spans.now)) packets.old.items }
+    ensures new { found.new.items
+        ≡ filter (is_new space (turned falling spans.now)) packets.old.items }
     ensures indexed { IsIndexed space dropped packets.new.items lane.new }
     ensures next { lane.new.next ≡ lane.old.next }
 {
-    let first = lane.first_for(spans);
-    for span in spans {
-        cover_from(packets, dropped, lane, space, first, *span);
+    let passed = lane.unacknowledged.passed(spans, falling);
+    let mut least = 0;
+    for at in passed..spans.len() {
+        let span = NamedNumbers::nth(spans, falling, at);
+        least = pass_span(packets, dropped, lane, space, span, least, found);
     }
 }

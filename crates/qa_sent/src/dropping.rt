@@ -30,7 +30,7 @@ impl Lane {
         ensures in_flight { self.new.in_flight ≡ self.old.in_flight }
     {
         if packet.waits_in(space) {
-            self.unacknowledged.remove(&packet.number.get());
+            self.unacknowledged.remove(packet.number.get());
         }
     }
 }

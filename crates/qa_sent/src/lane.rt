@@ -1,15 +1,14 @@
 //! What is kept for one packet number space beside the packets.
 use crate::packet::SentPacket;
-use qa_base::Span;
+use crate::unacknowledged::Unacknowledged;
 use std::alloc::Global;
-use std::collections::BTreeMap;
 
 /// What is kept for one packet number space beside the packets. A packet's place is how many were
 /// sent before it, over all spaces.
 #[derive(Drop)]
 pub(crate) struct Lane {
     /// The places of the packets that an acknowledgment would still cover, by their numbers.
-    pub(crate) unacknowledged: BTreeMap<u64, u64>,
+    pub(crate) unacknowledged: Unacknowledged,
     /// Before this place no packet of the space is open and in flight; the one at it is, or none is.
     pub(crate) next: u64,
     /// How many open packets of the space are ack-eliciting.
@@ -20,7 +19,6 @@ pub(crate) struct Lane {
 
 impl Lane {
     ghost use Rattle.std.specs.Prelude.{◌≡◌, ◌+◌, ◌^◌, ◌<◌, ◌≤◌, []};
-    ghost use Rattle.qa_sent.specs.Covering.{AreFrom, first_number};
     ghost use Rattle.qa_sent.specs.Fates.{flight_bytes};
     ghost use Rattle.qa_sent.specs.Lanes.{awaiting_count};
 
@@ -32,34 +30,11 @@ impl Lane {
         ensures in_flight { result.in_flight ≡ 0 }
     {
         Lane {
-            unacknowledged: BTreeMap::new(alloc),
+            unacknowledged: Unacknowledged::new(alloc),
             next: 0,
             awaiting: 0,
             in_flight: 0,
         }
-    }
-
-    /// The lowest number of those that an acknowledgment would still cover, and above all numbers where
-    /// there is none.
-    pub(crate) fn first_number(&self) -> u64
-        ensures first { result ≡ first_number self.now.unacknowledged.entries }
-        ensures from { AreFrom result self.now.unacknowledged.entries }
-    {
-        match self.unacknowledged.first_key_value() {
-            None => u64::MAX,
-            Some((number, _)) => *number,
-        }
-    }
-
-    /// A number below which there is none of those that an acknowledgment would still cover: the lowest
-    /// of them where there are several spans to be passed over by it, and else 0, which costs nothing.
-    pub(crate) fn first_for(&self, spans: &[Span]) -> u64
-        ensures { AreFrom result self.now.unacknowledged.entries }
-    {
-        if spans.len() < 2 {
-            return 0;
-        }
-        self.first_number()
     }
 
     /// A packet enters the sums, if it is open.

@@ -19,6 +19,7 @@ mod packet;
 mod packets;
 mod pushing;
 mod taking;
+mod unacknowledged;
 
 pub use acknowledging::are_falling;
 pub use detecting::Thresholds;

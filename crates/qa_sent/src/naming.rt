@@ -7,7 +7,6 @@ ghost use Rattle.qa_sent.specs.Naming.{AreNext, AreOnly, IsNextOf, IsWalk};
 ghost use Rattle.qa_sent.specs.Walks.{owed_numbers};
 ghost use Rattle.qa_sent.specs.declared.packet.SentPacket.{SentPacket};
 
-use crate::covering::entry_at;
 use crate::free::FreePackets;
 use crate::named::NamedNumbers;
 use crate::packet::SentPacket;
@@ -25,7 +24,7 @@ impl SentPackets {
             return false;
         }
         let lane = self.lanes.of(free.space);
-        match entry_at(&lane.unacknowledged, number) {
+        match lane.unacknowledged.entry_at(number) {
             None => false,
             Some(entry) => free.has(&self.packets[(entry.1 - self.dropped) as usize]),
         }

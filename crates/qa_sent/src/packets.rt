@@ -1,6 +1,6 @@
 //! The packets that are kept, and where each can be found.
 ghost use Rattle.qa_base.specs.declared.space.Space.TheVariants.{Initial, Handshake, App};
-ghost use Rattle.qa_base.specs.machine.Numbers.{names_between};
+ghost use Rattle.qa_base.specs.machine.Numbers.{AreRanges, names_between};
 ghost use Rattle.qa_base.specs.values.Events.{is_named};
 ghost use Rattle.qa_base.specs.values.Limits.{max_lines, max_packet_size};
 ghost use Rattle.qa_sent.specs.Covering.{AreApart};
@@ -8,6 +8,7 @@ ghost use Rattle.qa_sent.specs.Dropping.{is_first_closed};
 ghost use Rattle.qa_sent.specs.Fates.{is_new, is_owed, is_owed_in, flight_bytes, is_awaiting, is_flying};
 ghost use Rattle.qa_sent.specs.Free.{AreOwedIn, free_numbers, is_free_by, nameable_numbers, taken_by};
 ghost use Rattle.qa_sent.specs.Held.{IsBefore, unacknowledged_in};
+ghost use Rattle.qa_sent.specs.Naming.{turned};
 ghost use Rattle.qa_sent.specs.Owing.{IsOwedPart, first_space};
 ghost use Rattle.qa_sent.specs.Steps.{covered_by, found_by, declared, discarded_in, trimmed};
 ghost use Rattle.qa_sent.specs.Walks as walks;
@@ -17,8 +18,7 @@ ghost use Rattle.qa_sent.specs.declared.packet.SentPacket.{SentPacket};
 ghost use Rattle.std.specs.List.{AllByRecursion, list_any};
 ghost use Rattle.std.specs.Prelude.{◌≡◌, [], ◌≤◌, ◌<◌, ◌+◌, ◌∷◌, ◌++◌, length, OnErr, OnOk, filter, IfOk, false, Some, map, ◌&&◌, ◌-◌, true, count_by, drop, None, ◌*◌, ◌^◌, find, reverse, sum_by};
 
-use crate::acknowledging::new_in_spans;
-use crate::covering::cover_in_lane;
+use crate::acknowledging::acknowledge_in_lane;
 use crate::declaring::declare_in;
 use crate::detecting::{Thresholds, detect_in_lane};
 use crate::discarding::discard_all;
@@ -86,6 +86,8 @@ pub struct SentPackets {
     pub(crate) packets: VecDeque<SentPacket>,
     pub(crate) lanes: PerSpace<Lane>,
     pub(crate) losses: Losses,
+    /// Memory for what the next acknowledgment finds.
+    pub(crate) list: Vec<SentPacket>,
 }
 
 impl Model for SentPackets {
@@ -118,6 +120,7 @@ impl SentPackets {
                 from: 0,
                 to: 0,
             },
+            list: Vec::new(alloc),
         }
     }
 
@@ -148,64 +151,61 @@ impl SentPackets {
         add(&mut self.packets, self.dropped, lane, packet)
     }
 
-    /// The packets of a space that are open and that some span names, in the order of sending, which
-    /// is that of their numbers. Each span begins above the end of the one before it. It visits the
-    /// packets alone that stand in a span and are not acknowledged. `AllocError` comes where it is out of
-    /// memory.
-    pub fn newly_acknowledged(
-        &self,
-        space: Space,
-        spans: &[Span],
-    ) -> Result<Vec<SentPacket>, AllocError>
-        requires apart { AreApart spans.now }
-        ensures { IfOk result (λ found. found.items
-            ≡ filter (is_new space spans.now) self.now.packets) }
-    {
-        let lane = self.lanes.of(space);
-        new_in_spans(
-            self.alloc,
-            &self.packets,
-            self.dropped,
-            lane,
-            space,
-            spans,
-            false,
-        )
-    }
-
-    /// The same packets, named by spans of which each ends below the one before it, as those of an
-    /// acknowledgment mostly do. `AllocError` comes where it is out of memory.
-    pub fn newly_acknowledged_by_falling(
-        &self,
-        space: Space,
-        spans: &[Span],
-    ) -> Result<Vec<SentPacket>, AllocError>
-        requires apart { AreApart (reverse spans.now) }
-        ensures { IfOk result (λ found. found.items
-            ≡ filter (is_new space spans.now) self.now.packets) }
-    {
-        let lane = self.lanes.of(space);
-        new_in_spans(
-            self.alloc,
-            &self.packets,
-            self.dropped,
-            lane,
-            space,
-            spans,
-            true,
-        )
-    }
-
     /// Covers the packets of a space that some span names: an acknowledgment came for them. Those
-    /// that are acknowledged, or discarded, stay what they are. The spans may stand in any order and
-    /// overlap; numbers that no packet has are passed over. It takes no memory, and visits the
-    /// packets alone that it covers. Nothing may be owed.
-    pub fn cover(&mut self, space: Space, spans: &[Span])
+    /// that are acknowledged, or discarded, stay what they are. What is found are those that were open,
+    /// in the order of sending, which is that of their numbers. Nothing may be owed, and nothing stand
+    /// in `found`.
+    ///
+    /// Each span begins above the end of the one before it; where they are said to be falling, as
+    /// those of an acknowledgment mostly are, each ends below the one before it. Numbers that no packet
+    /// has are passed over. It visits the packets alone that it covers or, once in their life, passes
+    /// over, and takes a few steps for each span. `AllocError` comes where it is out of memory, and
+    /// leaves the packets as they were.
+    pub fn acknowledge(
+        &mut self,
+        space: Space,
+        spans: &[Span],
+        falling: bool,
+        found: &mut Vec<SentPacket>,
+    ) -> Result<(), AllocError>
         requires settled { AllByRecursion (λ p. is_owed p.fate ≡ false) self.old.packets }
-        ensures { self.new ≡ record { dropped = self.old.dropped; packets = map (covered_by space spans.now) self.old.packets } }
+        requires apart { AreApart (turned falling spans.now) }
+        requires ranges { AreRanges (turned falling spans.now) }
+        requires none { found.old.items ≡ [] }
+        ensures ok { OnOk result (self.new ≡ record { dropped = self.old.dropped; packets = map (covered_by space spans.now) self.old.packets }) }
+        ensures found { OnOk result (found.new.items
+            ≡ filter (is_new space spans.now) self.old.packets) }
+        ensures err { OnErr result (self.new ≡ self.old) }
     {
         let lane = self.lanes.of_mut(space);
-        cover_in_lane(&mut self.packets, self.dropped, lane, space, spans);
+        acknowledge_in_lane(
+            &mut self.packets,
+            self.dropped,
+            lane,
+            space,
+            spans,
+            falling,
+            found,
+        )
+    }
+
+    /// An empty list for what an acknowledgment finds. It has the memory of the list that was handed
+    /// back last, so that mostly an acknowledgment takes none.
+    pub fn lend_list(&mut self) -> Vec<SentPacket>
+        ensures empty { result.items ≡ [] }
+        ensures same { self.new ≡ self.old }
+    {
+        let mut list = std::mem::replace(&mut self.list, Vec::new(self.alloc));
+        list.clear();
+        list
+    }
+
+    /// Takes such a list back, and keeps its memory alone.
+    pub fn take_back(&mut self, list: Vec<SentPacket>)
+        ensures { self.new ≡ self.old }
+    {
+        self.list = list;
+        self.list.clear();
     }
 
     /// Looks for losses in a space: the packets in flight that are past a threshold are owed

@@ -9,7 +9,7 @@ use crate::advancing::advance;
 use crate::lane::Lane;
 use crate::packet::SentPacket;
 use std::alloc::AllocError;
-use std::collections::{BTreeMap, VecDeque};
+use std::collections::VecDeque;
 
 /// Whether each of the packets was sent before this one.
 pub(crate) fn are_before(packets: &VecDeque<SentPacket>, packet: &SentPacket) -> bool
@@ -21,16 +21,6 @@ pub(crate) fn are_before(packets: &VecDeque<SentPacket>, packet: &SentPacket) ->
         }
     }
     true
-}
-
-/// Puts an entry behind all others.
-pub(crate) fn enter(map: &mut BTreeMap<u64, u64>, number: u64, place: u64) -> Result<(), AllocError>
-    requires { AllByRecursion (λ e. e.0 < number) map.old.entries }
-    ensures ok { OnOk result (map.new.entries ≡ map.old.entries ++ (number, place) ∷ []) }
-    ensures err { OnErr result (map.new.entries ≡ map.old.entries) }
-{
-    map.insert(number, place)?;
-    Ok(())
 }
 
 /// Adds a packet to the packets and to the lane of its space. Where it is out of memory, both say
@@ -53,7 +43,7 @@ pub(crate) fn add(
 {
     let place = dropped + packets.len() as u64;
     packets.reserve(1)?;
-    enter(&mut lane.unacknowledged, packet.number.get(), place)?;
+    lane.unacknowledged.enter(packet.number.get(), place)?;
     lane.put_on(&packet);
     packets.push_back_reserved(packet);
     advance(packets, dropped, lane, packet.space);

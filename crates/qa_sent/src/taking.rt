@@ -7,7 +7,6 @@ ghost use Rattle.qa_sent.specs.Free.{is_free_by, numbers_of, taken_by};
 ghost use Rattle.qa_sent.specs.Held.{AreLosses, AreOrdered, IsIndexed, IsLane};
 
 use crate::advancing::advance;
-use crate::covering::entry_at;
 use crate::fate::Fate;
 use crate::free::FreePackets;
 use crate::lane::Lane;
@@ -97,7 +96,7 @@ pub(crate) fn take_number(
     ensures losses { AreLosses dropped packets.new.items result }
     ensures space { result.space ≡ free.space }
 {
-    match entry_at(&lane.unacknowledged, number) {
+    match lane.unacknowledged.entry_at(number) {
         None => losses,
         Some(entry) => {
             let packet = &mut packets[(entry.1 - dropped) as usize];

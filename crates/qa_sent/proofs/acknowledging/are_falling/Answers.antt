@@ -1,6 +1,7 @@
 use Rattle.std.proofs.Common.{◌≡◌, ◌∙◌, ◌≤◌, ◌+◌, ℕ, true, false, ◌∷◌, drop, length, sym, subst, arith}
 use Rattle.std.proofs.lemmas.Bool.{le-leb, leb-true}
 use Rattle.std.proofs.lemmas.List.{drop_all}
+use Rattle.qa_base.specs.machine.Numbers.{AreRanges}
 use Rattle.qa_sent.specs.Covering.{AreApartFrom}
 use Rattle.qa_sent.specs.Naming.{turned}
 use Rattle.qa_sent.proofs.Opened.{apart_from, from_apart}
@@ -23,6 +24,7 @@ loop-at-preserved c =
             c.loop-at.invariant.apart w.if-falling.true (subst (AreApartFrom c.loop-at.next) (sym first) (low, subst (λ (n : ℕ). AreApartFrom (n + 1) rest) hi apart)))
         | else-falling w ↦ (let none : false ≡ true = sym w.if-falling.false ∙ (sym w.falling-is ∙ is) in cc)
       ];
+      ranges = λ ordered. c.loop-at.invariant.ranges (subst AreRanges (sym first) (c.hi.ensures.order, ordered));
       each = λ all.
           let both = c.loop-at.invariant.each all in
           let here : AreApartFrom c.loop-at.next (span ∷ rest) = subst (AreApartFrom c.loop-at.next) first both.1 in
@@ -42,5 +44,6 @@ returns c =
     let past : length spans ≤ c.loop-at.at = (let same = length_turned true c.args.spans.now in omega (arith, same)) in
     record {
       apart = λ is. apart_from 0 spans (c.loop-at.invariant.apart is (subst (AreApartFrom c.loop-at.next) (sym (drop_all c.loop-at.at spans past)) tt));
+      ranges = c.loop-at.invariant.ranges (subst AreRanges (sym (drop_all c.loop-at.at spans past)) tt);
       each = λ apart. (c.loop-at.invariant.each (from_apart spans apart)).0;
     }

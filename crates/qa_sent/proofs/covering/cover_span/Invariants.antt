@@ -1,5 +1,6 @@
-use Rattle.std.proofs.Common.{◌≡◌, length, map}
-use Rattle.qa_sent.specs.Covering.{covered_in}
+use Rattle.std.proofs.Common.{◌≡◌, ◌≤◌, ◌+◌, ◌++◌, ℕ, filter, length, map}
+use Rattle.std.specs.Vec.{vec_capacity, vec_len}
+use Rattle.qa_sent.specs.Covering.{count_to, covered_in, is_new_in}
 use Rattle.qa_sent.specs.Held.{IsIndexed}
 use Rattle.qa_sent.proofs.covering.cover_span.Given as goal
 
@@ -7,6 +8,10 @@ abbrev pub invariant-loop-number : goal.invariant-loop-number
 invariant-loop-number l = record {
   indexed : IsIndexed l.space l.dropped l.packets.items l.lane;
   packets : map (covered_in l.space l.lo l.hi) l.packets.items ≡ map (covered_in l.space l.lo l.hi) l.fn.packets.items;
+  new : l.found.items ++ filter (is_new_in l.space l.lo l.hi) l.packets.items ≡ l.fn.found.items ++ filter (is_new_in l.space l.lo l.hi) l.fn.packets.items;
+  fits : vec_len l.found + count_to l.hi l.lane.unacknowledged.entries ≤ vec_capacity l.found;
+  room : (top : ℕ) → l.hi ≤ top → vec_len l.found + count_to top l.lane.unacknowledged.entries ≤ vec_len l.fn.found + count_to top l.fn.lane.unacknowledged.entries;
+  capacity : vec_capacity l.found ≡ vec_capacity l.fn.found;
   next : l.lane.next ≡ l.fn.lane.next;
 }
 

@@ -22,3 +22,27 @@ returns-clause-bound c =
     let deque = c.self.inside.packets.ok.0 in
     let same : length c.self.inside.packets.items ≡ length c.args.self.now.packets = ap (λ (h : Held). length h.packets) c.self.view_is in
     omega (arith, fewer, deque, same, c.len.ensures.len, c.len-2.ensures.len, c.len-3.ensures.len, c.len-4.ensures)
+
+pub len-requires : goal.len-requires
+len-requires c =
+    let fewer = entries_kept c.self.inside.dropped c.self.inside.packets.items c.self.inside.losses c.self.inside.lanes c.self.invariant in
+    let few = c.self.invariant.few in
+    omega (arith, fewer, few)
+
+pub len-requires-2 : goal.len-requires-2
+len-requires-2 c =
+    let fewer = entries_kept c.self.inside.dropped c.self.inside.packets.items c.self.inside.losses c.self.inside.lanes c.self.invariant in
+    let few = c.self.invariant.few in
+    omega (arith, fewer, few)
+
+pub len-requires-3 : goal.len-requires-3
+len-requires-3 c =
+    let fewer = entries_kept c.self.inside.dropped c.self.inside.packets.items c.self.inside.losses c.self.inside.lanes c.self.invariant in
+    let few = c.self.invariant.few in
+    omega (arith, fewer, few)
+
+pub overflow_add-entries : goal.overflow_add-entries
+overflow_add-entries c =
+    let fewer = entries_kept c.self.inside.dropped c.self.inside.packets.items c.self.inside.losses c.self.inside.lanes c.self.invariant in
+    let few = c.self.invariant.few in
+    omega (arith, fewer, few, c.len.ensures.len, c.len-2.ensures.len)
