@@ -1,5 +1,5 @@
 -- Ranges that are found one after another, up to the end of their list.
-use Rattle.std.proofs.Common.{◌≡◌, ◌∙◌, ◌≤◌, ℕ, List, [], ◌∷◌, ◌++◌, Bool, true, false, cond, Some, None, decimal, refl, sym, ap, subst, arith, append_assoc}
+use Rattle.std.proofs.Common.{◌≡◌, ◌∙◌, ◌+◌, ◌≤◌, ℕ, suc, List, [], ◌∷◌, ◌++◌, Bool, true, false, cond, Some, None, length, drop, get_or, decimal, refl, sym, ap, subst, arith, add-one, append_assoc}
 use Rattle.std.specs.Prelude.{nat_le}
 use Rattle.std.specs.List.{AllByRecursion}
 use Rattle.std.proofs.lemmas.Bool.{leb-true}
@@ -14,7 +14,10 @@ use Rattle.qa_format.proofs.format.Compact.{of_json-outline, depth-outline}
 use Rattle.qa_format.proofs.format.KeysWritten.{ranges_are_kept}
 use Rattle.qa_tokens.specs.Lexes.{Lexes, lexemes, IsValueOf}
 use Rattle.qa_quick.specs.Ranges.{Spans, ranges_data, TakesRange, TakesRanges, FollowsRanges}
-use Rattle.qa_tokens.proofs.Lexing.{then}
+use Rattle.qa_tokens.proofs.Lexing.{then, lexes_begin_array, lexes_comma, lexes_end_array, lexes_integer}
+use Rattle.qa_tokens.specs.Short.{IsPair}
+use Rattle.std.proofs.lemmas.List.{drop_more}
+use Rattle.json.specs.Word.{ends_word}
 use Rattle.qa_quick.proofs.Saying.{range_is}
 
 -- ---- a range
@@ -42,6 +45,21 @@ takes_range old new l h lo hi span bytes a b c d rest opened first parted second
       is_range = (omega (arith, is_lo, is_hi), omega (arith, is_hi, high.1));
       lexed = subst P are (then opened (then first (then parted (then second closed))));
     }
+
+-- a range of short numbers, from its place in the bytes
+pub short_takes : (old new : Spans) (l h lo hi end : ℕ) (span : ℕ × ℕ) (bytes inside : List ℕ) → 26 ≤ length bytes → bytes ≡ 91 ∷ inside → IsPair inside l h end → get_or bytes (end + 1) 0 ≡ 93
+    → in_range 0 max_packet_number l ≡ Some lo → in_range 0 max_packet_number h ≡ Some hi → cond (nat_le lo hi) (Some (lo, hi)) None ≡ Some span → new ≡ old ++ span ∷ []
+    → TakesRange old new bytes (drop (end + 2) bytes)
+short_takes old new l h lo hi end span bytes inside long opened pair closed in_lo in_hi in_order is_new =
+    let behind : List ℕ = drop end inside in
+    let rest : List ℕ = drop (end + 2) bytes in
+    let place : drop (end + 1) bytes ≡ behind = ap (λ k. drop k bytes) (add-one end) ∙ ap (drop (suc end)) opened in
+    let next : drop (end + 1) bytes ≡ get_or bytes (end + 1) 0 ∷ drop (end + 1 + 1) bytes = drop_more bytes (end + 1) 0 (omega (arith, long, pair.near)) in
+    let at : end + 1 + 1 ≡ end + 2 = omega arith in
+    let is : behind ≡ 93 ∷ rest = sym place ∙ next ∙ (λ i. closed i ∷ drop (at i) bytes) in
+    takes_range old new l h lo hi span bytes inside (44 ∷ (decimal h ++ behind)) (decimal h ++ behind) behind rest
+    (lexes_begin_array bytes inside opened) (lexes_integer l inside _ (omega (arith, pair.ordered, pair.small)) refl pair.is) (lexes_comma _ _ refl)
+    (lexes_integer h _ behind (omega (arith, pair.small)) (ap ends_word is) refl) (lexes_end_array behind rest is) in_lo in_hi in_order is_new
 
 -- ---- the list
 

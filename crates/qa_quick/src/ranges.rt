@@ -1,9 +1,9 @@
 //! The list of ranges of packet numbers.
-ghost use Rattle.std.specs.Prelude.{◌≡◌, [], IfSome};
-ghost use Rattle.qa_quick.specs.Ranges.{TakesRange, TakesRanges};
+ghost use Rattle.std.specs.Prelude.{◌≡◌, ◌≤◌, [], ℕ, List, length, drop, IfSome, IfNone};
+ghost use Rattle.qa_quick.specs.Ranges.{FollowsRanges, TakesRange, TakesRanges};
 
 use qa_base::{PacketNumber, Span, Spans};
-use qa_tokens::{after_byte, begin_array, comma, end_array, integer, open_integer};
+use qa_tokens::{after_byte, begin_array, comma, end_array, integer, open_integer, short_pair};
 
 /// A range, which goes behind the others; gives what follows it.
 #[inline(always)]
@@ -51,12 +51,32 @@ fn exact_range<'a>(spans: &mut Spans, bytes: &'a [u8]) -> Option<&'a [u8]>
     Some(rest)
 }
 
-/// A list of ranges without white space; gives what follows it. None where memory is refused, too.
-pub fn exact_ranges<'a>(spans: &mut Spans, bytes: &'a [u8]) -> Option<&'a [u8]>
-    requires { spans.old ≡ [] }
-    ensures { IfSome result (λ rest. TakesRanges spans.new bytes.now rest.now) }
+/// Such a range of short numbers, which goes behind the others; gives how many bytes it is. None where its numbers are not
+/// short, and where memory is refused.
+#[inline(always)]
+fn short_range(spans: &mut Spans, bytes: &[u8]) -> Option<usize>
+    requires { 26 ≤ length bytes.now }
+    ensures some { IfSome result (λ end. (end ≤ 19) × TakesRange spans.old spans.new bytes.now (drop end bytes.now)) }
+    ensures none { IfNone result (spans.new ≡ spans.old) }
 {
-    let mut rest = after_byte(bytes, b'[')?;
+    let (lo, hi, end) = short_pair(&bytes[1..])?;
+    if bytes[0] != b'[' || bytes[end + 1] != b']' {
+        return None;
+    }
+    let span = Span::new(PacketNumber::new(lo)?, PacketNumber::new(hi)?)?;
+    if spans.push(span).is_err() {
+        return None;
+    }
+    Some(end + 2)
+}
+
+/// The rest of a list of ranges without white space; gives what follows it. None where memory is refused, too.
+#[inline(never)]
+fn longer_ranges<'a>(spans: &mut Spans, bytes: &'a [u8]) -> Option<&'a [u8]>
+    ensures { (whole : List ℕ) → FollowsRanges spans.old whole bytes.now
+        → IfSome result (λ rest. TakesRanges spans.new whole rest.now) }
+{
+    let mut rest = bytes;
     for i in 0..u64::MAX {
         let behind = exact_range(spans, rest)?;
         let Some(more) = after_byte(behind, b',') else {
@@ -65,4 +85,22 @@ pub fn exact_ranges<'a>(spans: &mut Spans, bytes: &'a [u8]) -> Option<&'a [u8]>
         rest = more;
     }
     None
+}
+
+/// A list of ranges without white space; gives what follows it. None where memory is refused, too.
+pub fn exact_ranges<'a>(spans: &mut Spans, bytes: &'a [u8]) -> Option<&'a [u8]>
+    requires { spans.old ≡ [] }
+    ensures { IfSome result (λ rest. TakesRanges spans.new bytes.now rest.now) }
+{
+    let mut rest = after_byte(bytes, b'[')?;
+    while 26 <= rest.len() {
+        let Some(end) = short_range(spans, rest) else {
+            break;
+        };
+        if rest[end] != b',' {
+            return after_byte(&rest[end..], b']');
+        }
+        rest = &rest[end + 1..];
+    }
+    longer_ranges(spans, rest)
 }

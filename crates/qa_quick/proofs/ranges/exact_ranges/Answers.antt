@@ -1,20 +1,33 @@
-use Rattle.std.proofs.Common.{sym, subst}
+use Rattle.std.proofs.Common.{◌≡◌, ◌+◌, ◌-◌, ◌<◌, ◌∙◌, ◌∷◌, List, ℕ, length, drop, take, get_or, sym, subst, arith}
+use Rattle.std.proofs.lemmas.List.{drop_more, take_all, length-drop}
 use Rattle.std.proofs.lemmas.Option.{IfSome_then}
 use Rattle.qa_quick.specs.Ranges.{Spans, FollowsRanges}
 use Rattle.qa_tokens.proofs.Lexing.{lexes_begin_array, lexes_comma, lexes_end_array}
 use Rattle.qa_quick.proofs.Listing.{ranges_begin, ranges_go_on, ranges_end}
 use Rattle.qa_quick.proofs.ranges.exact_ranges.Goals as goal
 
-pub loop-i-init : goal.loop-i-init
-loop-i-init c =
+pub loop-rest-init : goal.loop-rest-init
+loop-rest-init c =
     let P : Spans → Type 0 = λ spans. FollowsRanges spans c.args.bytes.now c.in_ok-rest.rest.now in
     subst P (sym c.requires) (ranges_begin c.args.bytes.now c.in_ok-rest.rest.now (lexes_begin_array _ _ c.in_ok-rest.ensures))
 
-pub loop-i-preserved : goal.loop-i-preserved
-loop-i-preserved c =
-    ranges_go_on c.loop-i.spans c.exact_range.new.spans c.args.bytes.now c.loop-i.rest.now c.in_ok-behind.behind.now c.in-Some.more.now c.loop-i.invariant c.in_ok-behind.ensures (lexes_comma _ _ c.in-Some.ensures)
+-- what follows is the comma and the rest behind it
+parted : (bs : List ℕ) (i b : ℕ) → i < length bs → get_or bs i 0 ≡ b → drop i bs ≡ b ∷ take (length bs - (i + 1)) (drop (i + 1) bs)
+parted bs i b within is =
+    drop_more bs i 0 within ∙ (λ k. is k ∷ sym (take_all (length bs - (i + 1)) (drop (i + 1) bs) (omega (arith, length-drop (i + 1) bs))) k)
 
-pub returns-in_default : goal.returns-in_default
-returns-in_default c =
-    IfSome_then c.after_byte-in_default.result c.after_byte-in_default.ensures
-    (λ rest closed. ranges_end c.loop-i.spans c.exact_range.new.spans c.args.bytes.now c.loop-i.rest.now c.in_ok-behind.behind.now rest.now c.loop-i.invariant c.in_ok-behind.ensures (lexes_end_array _ _ closed))
+pub loop-rest-preserved : goal.loop-rest-preserved
+loop-rest-preserved c =
+    let rest = c.loop-rest.rest.now in
+    let end = c.in-Some.end in
+    let found = c.in-Some.ensures.some in
+    ranges_go_on c.loop-rest.spans c.short_range.new.spans c.args.bytes.now rest (drop end rest) _ c.loop-rest.invariant found.1
+    (lexes_comma _ _ (parted rest end 44 (omega (arith, found.0, c.loop-rest-test.true)) c.if-rest-end-ne44.false))
+
+pub returns-then-rest-end-ne44 : goal.returns-then-rest-end-ne44
+returns-then-rest-end-ne44 c =
+    let rest = c.loop-rest.rest.now in
+    let end = c.in-Some.end in
+    let whole = take_all (length rest - end) (drop end rest) (omega (arith, length-drop end rest)) in
+    IfSome_then c.after_byte-then-rest-end-ne44.result c.after_byte-then-rest-end-ne44.ensures
+    (λ behind closed. ranges_end c.loop-rest.spans c.short_range.new.spans c.args.bytes.now rest (drop end rest) behind.now c.loop-rest.invariant c.in-Some.ensures.some.1 (lexes_end_array _ _ (sym whole ∙ closed)))

@@ -1,0 +1,248 @@
+-- Lanes of a vector as the digits of an integer.
+use Rattle.std.proofs.Common.{◌≡◌, ◌∙◌, ℕ, zero, suc, ◌+◌, ◌-◌, ◌*◌, ◌/◌, ◌%◌, ◌^◌, ◌<◌, ◌≤◌, Bool, true, false, cond, leb, ltb, T, List, [], ◌∷◌, ◌++◌, map, length, get_or, take, drop, replicate, get_or-take, length-take, length-drop, get_or-drop, drop-drop, take-append-drop, decimal, refl, sym, ap, subst, arith, inl, inr, pow-suc, w8, w64, max, div-lt_iff_lt-mul, div-add-mod'}
+use Rattle.std.specs.Prelude.{⊤, bit_and, bit_or}
+use Rattle.std.specs.List.{range_with_len}
+use Rattle.std.proofs.lemmas.Bool.{cases_lt, cases_Bool, leb-false}
+use Rattle.std.proofs.lemmas.List.{ext_get_or, get_or-map, length-map, drop_more}
+use Rattle.std.proofs.lemmas.List.FromFn.{length-map-range_with_len, get_or-map-range_with_len}
+use Rattle.std.proofs.lemmas.Nat.{and_mask, or_lt}
+use Rattle.std.specs.Int.{bit_at}
+use Rattle.std.proofs.lemmas.Nat.Bits.{bit_at_or, bit_at-lt, bit_at-trailing_zeros}
+use Rattle.std.proofs.lemmas.Simd.{swz_l, tops_compared, zip2_splat_left, mask_l-mod, bit_mask_l, get_or-zip2, get_or-replicate}
+use lib.Lanes.{number_l, digits_l, chunk, zip2, top, mask_l}
+use lib.Count.{count_trailing_zeros}
+use Rattle.qa_tokens.proofs.Numerals.{first_digit, digit_then, digit_more, below_digits}
+use Rattle.qa_tokens.specs.Short.{AreLessZero, IsPair, AllBelow, AreDigits, eight, eight_value, in_pairs, number_of}
+
+-- ---- lists that are written out
+
+abbrev pub Each : (ℕ → Type 0) → ℕ → Type 0
+Each P zero = ⊤
+Each P (suc n) = P n × Each P n
+
+pub each : (P : ℕ → Type 0) (n k : ℕ) → Each P n → k < n → P k
+each P zero k h l = absurd (omega arith)
+each P (suc n) k h l = elim (cases_lt k n) [ inl a ↦ each P n k h.1 a | inr a ↦ let e : n ≡ k = omega arith in subst P e h.0 ]
+
+abbrev pub listed : (ℕ → ℕ) → ℕ → List ℕ
+listed f n = map f (range_with_len 0 n)
+
+-- a fact of each list of n numbers, from the same of n numbers that are written out
+pub spelled : (P : List ℕ → Type 0) (n : ℕ) → ((f : ℕ → ℕ) → P (listed f n)) → (xs : List ℕ) → length xs ≡ n → P xs
+spelled P n h xs long =
+    let f = λ (k : ℕ). get_or xs k 0 in
+    let many = length-map-range_with_len f 0 n in
+    subst P (ext_get_or 0 _ xs (many ∙ sym long) (λ i l. get_or-map-range_with_len f 0 n i i 0 (omega arith) (omega arith))) (h f)
+
+-- ---- lanes twice as wide
+
+pub number_of_digits : (p n x : ℕ) → 0 < p → x < p ^ n → number_l p (digits_l p n x) ≡ x
+number_of_digits p zero x P h = omega (arith, native.Mathlib.Nat.pow-zero p)
+number_of_digits p (suc n) x P h =
+    let less : x / p < p ^ n = (div-lt_iff_lt-mul P).1 (rw (← pow-suc p n) h) in
+    rw (number_of_digits p n (x / p) P less) (omega (arith, div-add-mod' x p))
+
+abbrev two : ℕ → ℕ
+two w = w * 2561 % 65536 / 256
+
+abbrev four : ℕ → ℕ
+four w = w * 6553601 % 4294967296 / 65536
+
+abbrev eight_of : ℕ → ℕ
+eight_of w = (bit_and w 4294967295 * 10000 % 18446744073709551616 + w / 4294967296) % 18446744073709551616
+
+pub twos_are : (n : ℕ) (xs : List ℕ) → length xs ≡ n + n → AllBelow 10 xs → map two (digits_l 65536 n (number_l 256 xs)) ≡ in_pairs 10 xs
+twos_are zero [] long small = refl
+twos_are zero (x ∷ xs) long small = absurd (omega arith)
+twos_are (suc n) [] long small = absurd (omega arith)
+twos_are (suc n) (x ∷ []) long small = absurd (omega arith)
+twos_are (suc n) (x ∷ y ∷ xs) long small =
+    let r : ℕ = number_l 256 xs in
+    let hx : x < 10 = small.0 in
+    let hy : y < 10 = small.1.0 in
+    let low : two ((x + 256 * (y + 256 * r)) % 65536) ≡ x * 10 + y = omega (arith, hx, hy) in
+    let high : (x + 256 * (y + 256 * r)) / 65536 ≡ r = omega (arith, hx, hy) in
+    (λ i. low i ∷ map two (digits_l 65536 n (high i))) ∙ ap (λ l. (x * 10 + y) ∷ l) (twos_are n xs (omega arith) small.1.1)
+
+pub fours_are : (n : ℕ) (xs : List ℕ) → length xs ≡ n + n → AllBelow 100 xs → map four (digits_l 4294967296 n (number_l 65536 xs)) ≡ in_pairs 100 xs
+fours_are zero [] long small = refl
+fours_are zero (x ∷ xs) long small = absurd (omega arith)
+fours_are (suc n) [] long small = absurd (omega arith)
+fours_are (suc n) (x ∷ []) long small = absurd (omega arith)
+fours_are (suc n) (x ∷ y ∷ xs) long small =
+    let r : ℕ = number_l 65536 xs in
+    let hx : x < 100 = small.0 in
+    let hy : y < 100 = small.1.0 in
+    let low : four ((x + 65536 * (y + 65536 * r)) % 4294967296) ≡ x * 100 + y = omega (arith, hx, hy) in
+    let high : (x + 65536 * (y + 65536 * r)) / 4294967296 ≡ r = omega (arith, hx, hy) in
+    (λ i. low i ∷ map four (digits_l 4294967296 n (high i))) ∙ ap (λ l. (x * 100 + y) ∷ l) (fours_are n xs (omega arith) small.1.1)
+
+pub eights_are : (n : ℕ) (xs : List ℕ) → length xs ≡ n + n → AllBelow 10000 xs → map eight_of (digits_l 18446744073709551616 n (number_l 4294967296 xs)) ≡ in_pairs 10000 xs
+eights_are zero [] long small = refl
+eights_are zero (x ∷ xs) long small = absurd (omega arith)
+eights_are (suc n) [] long small = absurd (omega arith)
+eights_are (suc n) (x ∷ []) long small = absurd (omega arith)
+eights_are (suc n) (x ∷ y ∷ xs) long small =
+    let r : ℕ = number_l 4294967296 xs in
+    let hx : x < 10000 = small.0 in
+    let hy : y < 10000 = small.1.0 in
+    let w : ℕ = (x + 4294967296 * (y + 4294967296 * r)) % 18446744073709551616 in
+    let masked : bit_and w 4294967295 ≡ w % 4294967296 = and_mask w 32 in
+    let low : eight_of w ≡ x * 10000 + y = omega (arith, hx, hy, masked) in
+    let high : (x + 4294967296 * (y + 4294967296 * r)) / 18446744073709551616 ≡ r = omega (arith, hx, hy) in
+    (λ i. low i ∷ map eight_of (digits_l 18446744073709551616 n (high i))) ∙ ap (λ l. (x * 10000 + y) ∷ l) (eights_are n xs (omega arith) small.1.1)
+
+-- numbers that are that small fit their lanes
+pub number_below : (p b : ℕ) (xs : List ℕ) → b ≤ p → AllBelow b xs → number_l p xs < p ^ length xs
+number_below p b [] le small = omega (arith, native.Mathlib.Nat.pow-zero p)
+number_below p b (x ∷ xs) le small =
+    let rest = number_below p b xs le small.1 in
+    let one : x < p = omega (arith, le, small.0) in
+    let step = pow-suc p (length xs) in
+    omega (arith, step, one, Rattle.std.proofs.Common.mul-le-mul_left p rest)
+
+pub below_both : (b : ℕ) (xs ys : List ℕ) → AllBelow b xs → AllBelow b ys → AllBelow b (xs ++ ys)
+below_both b [] ys small others = others
+below_both b (x ∷ xs) ys small others = (small.0, below_both b xs ys small.1 others)
+
+pub below_hundred : (xs : List ℕ) → AllBelow 10 xs → AllBelow 100 (in_pairs 10 xs)
+below_hundred [] small = tt
+below_hundred (x ∷ []) small = tt
+below_hundred (x ∷ y ∷ xs) small = (omega (arith, small.0, small.1.0), below_hundred xs small.1.1)
+
+pub below_ten_thousand : (xs : List ℕ) → AllBelow 100 xs → AllBelow 10000 (in_pairs 100 xs)
+below_ten_thousand [] small = tt
+below_ten_thousand (x ∷ []) small = tt
+below_ten_thousand (x ∷ y ∷ xs) small = (omega (arith, small.0, small.1.0), below_ten_thousand xs small.1.1)
+
+-- ---- digits at the end of eight lanes
+
+abbrev places : List ℕ
+places = 128 ∷ 128 ∷ 128 ∷ 128 ∷ 128 ∷ 128 ∷ 128 ∷ 128 ∷ 0 ∷ 1 ∷ 2 ∷ 3 ∷ 4 ∷ 5 ∷ 6 ∷ 7 ∷ 8 ∷ 9 ∷ 10 ∷ 11 ∷ 12 ∷ 13 ∷ 14 ∷ 15 ∷ []
+
+abbrev pub moved : List ℕ → ℕ → List ℕ
+moved lanes d = swz_l w8 16 lanes 0 (chunk 0 16 (take (24 - d) (drop d places)))
+
+pub moved_value : (lanes : List ℕ) (d : ℕ) → length lanes ≡ 16 → d ≤ 8 → eight_value (moved lanes d) ≡ number_of lanes d
+moved_value lanes d long few =
+    spelled (λ l. eight_value (moved l d) ≡ number_of l d) 16
+    (λ f. each (λ k. eight_value (moved (listed f 16) k) ≡ number_of (listed f 16) k) 9 d
+    (omega arith, (omega arith, (omega arith, (omega arith, (omega arith, (omega arith, (omega arith, (omega arith, (omega arith, tt))))))))) (omega arith)) lanes long
+
+abbrev BelowTen : List ℕ → ℕ → Type 0
+BelowTen lanes d = AreDigits lanes d → AllBelow 10 (eight (moved lanes d))
+
+pub moved_digits : (lanes : List ℕ) (d : ℕ) → length lanes ≡ 16 → d ≤ 8 → BelowTen lanes d
+moved_digits lanes d long few =
+    spelled (λ l. BelowTen l d) 16
+    (λ f. each (BelowTen (listed f 16)) 9 d
+    (λ h. (h 0 (omega arith), (h 1 (omega arith), (h 2 (omega arith), (h 3 (omega arith), (h 4 (omega arith), (h 5 (omega arith), (h 6 (omega arith), (h 7 (omega arith), tt)))))))), (λ h. (omega arith, (h 0 (omega arith), (h 1 (omega arith), (h 2 (omega arith), (h 3 (omega arith), (h 4 (omega arith), (h 5 (omega arith), (h 6 (omega arith), tt)))))))), (λ h. (omega arith, (omega arith, (h 0 (omega arith), (h 1 (omega arith), (h 2 (omega arith), (h 3 (omega arith), (h 4 (omega arith), (h 5 (omega arith), tt)))))))), (λ h. (omega arith, (omega arith, (omega arith, (h 0 (omega arith), (h 1 (omega arith), (h 2 (omega arith), (h 3 (omega arith), (h 4 (omega arith), tt)))))))), (λ h. (omega arith, (omega arith, (omega arith, (omega arith, (h 0 (omega arith), (h 1 (omega arith), (h 2 (omega arith), (h 3 (omega arith), tt)))))))), (λ h. (omega arith, (omega arith, (omega arith, (omega arith, (omega arith, (h 0 (omega arith), (h 1 (omega arith), (h 2 (omega arith), tt)))))))), (λ h. (omega arith, (omega arith, (omega arith, (omega arith, (omega arith, (omega arith, (h 0 (omega arith), (h 1 (omega arith), tt)))))))), (λ h. (omega arith, (omega arith, (omega arith, (omega arith, (omega arith, (omega arith, (omega arith, (h 0 (omega arith), tt)))))))), (λ h. (omega arith, (omega arith, (omega arith, (omega arith, (omega arith, (omega arith, (omega arith, (omega arith, tt)))))))), tt))))))))) (omega arith)) lanes long
+
+-- ---- bytes less the digit zero
+
+abbrev minus : ℕ → ℕ → ℕ
+minus a b = (a + (256 - b)) % 256
+
+pub less : (bs : List ℕ) (j : ℕ) → 16 ≤ length bs → j < 16 → get_or bs j 0 < 256 → get_or (zip2 minus (take 16 bs) (replicate 16 48)) j 0 < 10 → get_or bs j 0 ≡ get_or (zip2 minus (take 16 bs) (replicate 16 48)) j 0 + 48
+less bs j long within byte small =
+    let is : get_or (zip2 minus (take 16 bs) (replicate 16 48)) j 0 ≡ minus (get_or bs j 0) 48 =
+    get_or-zip2 minus (take 16 bs) (replicate 16 48) j 0 0 0 (omega (arith, length-take 16 bs)) within
+    ∙ (λ i. minus (get_or-take 16 bs j 0 within i) (get_or-replicate 16 j 48 0 within i)) in
+    omega (arith, is, small, byte)
+
+-- ---- how many digits come first
+
+-- the lowest bit that is set is at most the eighth, and below it no bit is set
+lowest_is : (m : ℕ) → m < 2 ^ 64 → (count_trailing_zeros 64 (bit_or m 256) ≤ 8) × ((j : ℕ) → j < count_trailing_zeros 64 (bit_or m 256) → bit_at m j ≡ 0)
+lowest_is m small =
+    let n : ℕ = bit_or m 256 in
+    let either : max (bit_at m 8) 1 ≡ 1 = omega (arith, bit_at-lt m 8) in
+    let set : bit_at n 8 ≡ 1 = bit_at_or m 256 8 ∙ either in
+    let some : 0 < n = omega (arith, set) in
+    let z = bit_at-trailing_zeros w64 n some (or_lt 64 m 256 small (omega arith)) in
+    let few : count_trailing_zeros 64 n ≤ 8 =
+    elim (cases_lt 8 (count_trailing_zeros 64 n)) [ inl a ↦ let clear : bit_at n 8 ≡ 0 = z.2 8 a in absurd (omega (arith, set, clear)) | inr a ↦ a ] in
+    (few, λ j before. let none : max (bit_at m j) (bit_at 256 j) ≡ 0 = sym (bit_at_or m 256 j) ∙ z.2 j before in omega (arith, none))
+
+abbrev bit : Bool → ℕ
+bit b = cond b 1 0
+
+below_ten : (x : ℕ) → bit (leb 10 x) ≡ 0 → x < 10
+below_ten x none = elim (cases_Bool (leb 10 x)) [ inl a ↦ absurd (let one : bit (leb 10 x) ≡ 1 = ap bit a in omega (arith, one, none)) | inr a ↦ leb-false 10 x a ]
+
+-- a bit for each lane that is no digit
+abbrev pub others : List ℕ → ℕ
+others lanes = mask_l (map (top 7) (zip2 (λ a b. cond (leb a b) 255 0) (replicate 16 10) lanes)) % 2 ^ 64
+
+pub ahead : (lanes : List ℕ) → length lanes ≡ 16 → (count_trailing_zeros 64 (bit_or (others lanes) 256) ≤ 8) × AreDigits lanes (count_trailing_zeros 64 (bit_or (others lanes) 256))
+ahead lanes long =
+    let ms : List Bool = map (λ x. leb 10 x) lanes in
+    let is : map (top 7) (zip2 (λ a b. cond (leb a b) 255 0) (replicate 16 10) lanes) ≡ ms = tops_compared w8 leb (replicate 16 10) lanes ∙ zip2_splat_left leb 10 16 lanes long in
+    let few : length ms ≤ 64 = omega (arith, length-map lanes (λ x. leb 10 x), long) in
+    let mask : others lanes ≡ mask_l ms = ap (λ l. mask_l l % 2 ^ 64) is ∙ mask_l-mod ms 64 few in
+    let low = lowest_is (others lanes) (omega arith) in (
+      low.0,
+      λ j before.
+          let clear : bit (get_or ms j false) ≡ 0 = sym (bit_mask_l ms j) ∙ ap (λ m. bit_at m j) (sym mask) ∙ low.1 j before in
+          let within : j < length lanes = omega (arith, before, low.0, long) in
+          below_ten (get_or lanes j 0) (ap bit (sym (get_or-map (λ x. leb 10 x) lanes j 0 false within)) ∙ clear),
+    )
+
+-- ---- their text
+
+pub number_small : (ls : List ℕ) (d : ℕ) → AreDigits ls d → number_of ls d < 10 ^ d
+number_small ls zero digits = omega (arith, native.Mathlib.Nat.pow-zero 10)
+number_small ls (suc d) digits =
+    let before = number_small ls d (λ j l. digits j (omega arith)) in
+    subst (λ k. number_of ls (suc d) < 10 ^ k) (omega arith) (digit_more (number_of ls d) (get_or ls d 0) d before (digits d (omega arith)))
+
+record IsText (bs : List ℕ) (i n : ℕ) : Type 0 where
+  is : take i bs ≡ decimal n
+  some : 0 < n
+
+-- the first of at most eight digits are the text of their number, where the first digit is not zero
+text_to : (bs ls : List ℕ) (d i : ℕ) → d ≤ 8 → 16 ≤ length bs → AreLessZero ls bs → AreDigits ls d → (get_or bs 0 0 ≡ 48 → ⊥) → suc i ≤ d → IsText bs (suc i) (number_of ls (suc i))
+text_to bs ls d zero few long less_so digits apart within =
+    let small : get_or ls 0 0 < 10 = digits 0 (omega arith) in
+    let is : get_or bs 0 0 ≡ get_or ls 0 0 + 48 = less_so 0 (omega arith) small in
+    let some : 0 < get_or ls 0 0 = elim (cases_lt 0 (get_or ls 0 0)) [ inl a ↦ a | inr a ↦ absurd (apart (omega (arith, is, a))) ] in
+    record {
+      is = first_digit bs (omega (arith, long)) (omega (arith, is)) (omega (arith, is, small)) ∙ ap decimal (omega (arith, is));
+      some = omega (arith, some);
+    }
+text_to bs ls d (suc i) few long less_so digits apart within =
+    let before = text_to bs ls d i few long less_so digits apart (omega arith) in
+    let n : ℕ = number_of ls (suc i) in
+    let low : n < 10 ^ 8 = below_digits n (suc i) 8 (number_small ls (suc i) (λ j l. digits j (omega arith))) (omega arith) in
+    let small : get_or ls (suc i) 0 < 10 = digits (suc i) (omega arith) in
+    let is : get_or bs (suc i) 0 ≡ get_or ls (suc i) 0 + 48 = less_so (suc i) (omega arith) small in
+    let some : 0 < n = before.some in
+    record {
+      is = digit_then bs (suc i) (suc (suc i)) n (get_or bs (suc i) 0) (n * 10 + get_or ls (suc i) 0) before.is (omega arith) (omega (arith, long)) some (omega (arith, low)) refl (omega (arith, is), omega (arith, is, small)) (omega (arith, is));
+      some = omega (arith, some);
+    }
+
+pub number_text : (bs ls : List ℕ) (d : ℕ) → d ≤ 8 → 16 ≤ length bs → AreLessZero ls bs → AreDigits ls d → (get_or bs 0 0 ≡ 48 → ⊥) → 0 < number_of ls d → take d bs ≡ decimal (number_of ls d)
+number_text bs ls zero few long less_so digits apart some = absurd (omega (arith, some))
+number_text bs ls (suc i) few long less_so digits apart some = (text_to bs ls (suc i) i few long less_so digits apart (omega arith)).is
+
+pub pair_text : (bs rest : List ℕ) (d e low high : ℕ) → rest ≡ drop (d + 1) bs → take d bs ≡ decimal low → get_or bs d 0 ≡ 44 → d < length bs → take e rest ≡ decimal high
+    → bs ≡ decimal low ++ 44 ∷ (decimal high ++ drop (d + 1 + e) bs)
+pair_text bs rest d e low high is first parted within second =
+    let behind : drop e rest ≡ drop (d + 1 + e) bs = ap (drop e) is ∙ drop-drop e (d + 1) bs in
+    let end : rest ≡ decimal high ++ drop (d + 1 + e) bs = sym (take-append-drop e rest) ∙ (λ i. second i ++ behind i) in
+    sym (take-append-drop d bs) ∙ (λ i. first i ++ drop_more bs d 0 within i) ∙ (λ i. decimal low ++ parted i ∷ (sym is ∙ end) i)
+
+pub pair_is : (bs rest ls ms : List ℕ) (d e low high : ℕ) → 25 ≤ length bs → rest ≡ drop (d + 1) bs → d ≤ 8 → e ≤ 8 → AreLessZero ls bs → AreDigits ls d → AreLessZero ms rest → AreDigits ms e
+    → (get_or bs 0 0 ≡ 48 → ⊥) → get_or bs d 0 ≡ 44 → (get_or bs (d + 1) 0 ≡ 48 → ⊥) → low ≡ number_of ls d → high ≡ number_of ms e → 0 < low → low ≤ high → IsPair bs low high (d + 1 + e)
+pair_is bs rest ls ms d e low high long is few few_too first_less first_digits second_less second_digits apart parted apart_too is_low is_high some ordered =
+    let room : 16 ≤ length rest = omega (arith, ap length is, length-drop (d + 1) bs, long, few) in
+    let begins : get_or rest 0 0 ≡ get_or bs (d + 1) 0 = ap (λ l. get_or l 0 0) is ∙ get_or-drop (d + 1) bs 0 0 ∙ ap (λ k. get_or bs k 0) (omega arith) in
+    let first : take d bs ≡ decimal (number_of ls d) = number_text bs ls d few (omega (arith, long)) first_less first_digits apart (omega (arith, is_low, some)) in
+    let second : take e rest ≡ decimal (number_of ms e) = number_text rest ms e few_too room second_less second_digits (λ h. apart_too (sym begins ∙ h)) (omega (arith, is_high, some, ordered)) in
+    record {
+      is = pair_text bs rest d e low high is (first ∙ ap decimal (sym is_low)) parted (omega (arith, long, few)) (second ∙ ap decimal (sym is_high));
+      ordered = ordered;
+      small = let below : number_of ms e < 10 ^ 8 = below_digits (number_of ms e) e 8 (number_small ms e second_digits) few_too in omega (arith, below, is_high);
+      near = omega (arith, few, few_too);
+    }
