@@ -1,5 +1,5 @@
 -- Ranges that are found one after another, up to the end of their list.
-use Rattle.std.proofs.Common.{◌≡◌, ◌∙◌, ◌+◌, ◌≤◌, ℕ, suc, List, [], ◌∷◌, ◌++◌, Bool, true, false, cond, Some, None, length, drop, get_or, decimal, refl, sym, ap, subst, arith, add-one, append_assoc}
+use Rattle.std.proofs.Common.{◌≡◌, ◌∙◌, ◌+◌, ◌<◌, ◌≤◌, ℕ, suc, List, [], ◌∷◌, ◌++◌, Bool, true, false, cond, Some, None, length, drop, get_or, decimal, take-append-drop, drop-drop, refl, sym, ap, subst, arith, append_assoc}
 use Rattle.std.specs.Prelude.{nat_le}
 use Rattle.std.specs.List.{AllByRecursion}
 use Rattle.std.proofs.lemmas.Bool.{leb-true}
@@ -15,7 +15,7 @@ use Rattle.qa_format.proofs.format.KeysWritten.{ranges_are_kept}
 use Rattle.qa_tokens.specs.Lexes.{Lexes, lexemes, IsValueOf}
 use Rattle.qa_quick.specs.Ranges.{Spans, ranges_data, TakesRange, TakesRanges, FollowsRanges}
 use Rattle.qa_tokens.proofs.Lexing.{then, lexes_begin_array, lexes_comma, lexes_end_array, lexes_integer}
-use Rattle.qa_tokens.specs.Short.{IsPair}
+use Rattle.qa_tokens.specs.Short.{IsShort}
 use Rattle.std.proofs.lemmas.List.{drop_more}
 use Rattle.json.specs.Word.{ends_word}
 use Rattle.qa_quick.proofs.Saying.{range_is}
@@ -46,20 +46,29 @@ takes_range old new l h lo hi span bytes a b c d rest opened first parted second
       lexed = subst P are (then opened (then first (then parted (then second closed))));
     }
 
+-- what stands behind a short number, and that it stands behind its digits
+behind_short : (bs : List ℕ) (n d : ℕ) → IsShort bs n d → bs ≡ decimal n ++ drop d bs
+behind_short bs n d short = sym (take-append-drop d bs) ∙ ap (λ l. l ++ drop d bs) short.is_text
+
+-- a byte at a place, and what stands behind it
+byte_at : (bs : List ℕ) (i b : ℕ) → i < length bs → get_or bs i 0 ≡ b → drop i bs ≡ b ∷ drop (i + 1) bs
+byte_at bs i b within is = drop_more bs i 0 within ∙ ap (λ x. x ∷ drop (i + 1) bs) is
+
 -- a range of short numbers, from its place in the bytes
-pub short_takes : (old new : Spans) (l h lo hi end : ℕ) (span : ℕ × ℕ) (bytes inside : List ℕ) → 26 ≤ length bytes → bytes ≡ 91 ∷ inside → IsPair inside l h end → get_or bytes (end + 1) 0 ≡ 93
+pub short_takes : (old new : Spans) (l h lo hi d e : ℕ) (span : ℕ × ℕ) (bytes inside second : List ℕ) → 36 ≤ length bytes → bytes ≡ 91 ∷ inside → IsShort inside l d → get_or bytes (1 + d) 0 ≡ 44
+    → second ≡ drop (1 + d + 1) bytes → IsShort second h e → get_or bytes (1 + d + 1 + e) 0 ≡ 93
     → in_range 0 max_packet_number l ≡ Some lo → in_range 0 max_packet_number h ≡ Some hi → cond (nat_le lo hi) (Some (lo, hi)) None ≡ Some span → new ≡ old ++ span ∷ []
-    → TakesRange old new bytes (drop (end + 2) bytes)
-short_takes old new l h lo hi end span bytes inside long opened pair closed in_lo in_hi in_order is_new =
-    let behind : List ℕ = drop end inside in
-    let rest : List ℕ = drop (end + 2) bytes in
-    let place : drop (end + 1) bytes ≡ behind = ap (λ k. drop k bytes) (add-one end) ∙ ap (drop (suc end)) opened in
-    let next : drop (end + 1) bytes ≡ get_or bytes (end + 1) 0 ∷ drop (end + 1 + 1) bytes = drop_more bytes (end + 1) 0 (omega (arith, long, pair.near)) in
-    let at : end + 1 + 1 ≡ end + 2 = omega arith in
-    let is : behind ≡ 93 ∷ rest = sym place ∙ next ∙ (λ i. closed i ∷ drop (at i) bytes) in
-    takes_range old new l h lo hi span bytes inside (44 ∷ (decimal h ++ behind)) (decimal h ++ behind) behind rest
-    (lexes_begin_array bytes inside opened) (lexes_integer l inside _ (omega (arith, pair.ordered, pair.small)) refl pair.is) (lexes_comma _ _ refl)
-    (lexes_integer h _ behind (omega (arith, pair.small)) (ap ends_word is) refl) (lexes_end_array behind rest is) in_lo in_hi in_order is_new
+    → TakesRange old new bytes (drop (1 + d + 1 + e + 1) bytes)
+short_takes old new l h lo hi d e span bytes inside second long opened low parted is_second high closed in_lo in_hi in_order is_new =
+    let rest : List ℕ = drop (1 + d + 1 + e + 1) bytes in
+    let next : 1 + d ≡ suc d = omega arith in
+    let place : drop (1 + d) bytes ≡ drop d inside = ap (λ k. drop k bytes) next ∙ ap (drop (suc d)) opened in
+    let comma_is : drop d inside ≡ 44 ∷ second = sym place ∙ byte_at bytes (1 + d) 44 (omega (arith, long, low.few)) parted ∙ ap (λ l. 44 ∷ l) (sym is_second) in
+    let place_too : drop e second ≡ drop (1 + d + 1 + e) bytes = ap (drop e) is_second ∙ drop-drop e (1 + d + 1) bytes in
+    let end_is : drop e second ≡ 93 ∷ rest = place_too ∙ byte_at bytes (1 + d + 1 + e) 93 (omega (arith, long, low.few, high.few)) closed in
+    takes_range old new l h lo hi span bytes inside (drop d inside) second (drop e second) rest
+    (lexes_begin_array bytes inside opened) (lexes_integer l inside (drop d inside) (omega (arith, low.small)) (ap ends_word comma_is) (behind_short inside l d low)) (lexes_comma (drop d inside) second comma_is)
+    (lexes_integer h second (drop e second) (omega (arith, high.small)) (ap ends_word end_is) (behind_short second h e high)) (lexes_end_array (drop e second) rest end_is) in_lo in_hi in_order is_new
 
 -- ---- the list
 

@@ -3,7 +3,10 @@ ghost use Rattle.std.specs.Prelude.{◌≡◌, ◌≤◌, [], ℕ, List, length,
 ghost use Rattle.qa_quick.specs.Ranges.{FollowsRanges, TakesRange, TakesRanges};
 
 use qa_base::{PacketNumber, Span, Spans};
-use qa_tokens::{after_byte, begin_array, comma, end_array, integer, open_integer, short_pair};
+use qa_tokens::{after_byte, begin_array, comma, end_array, integer, open_integer, short_integer};
+
+/// So many bytes have room for a range of two numbers of sixteen digits and for a byte behind it.
+const SHORT_ROOM: usize = 36;
 
 /// A range, which goes behind the others; gives what follows it.
 #[inline(always)]
@@ -55,19 +58,26 @@ fn exact_range<'a>(spans: &mut Spans, bytes: &'a [u8]) -> Option<&'a [u8]>
 /// short, and where memory is refused.
 #[inline(always)]
 fn short_range(spans: &mut Spans, bytes: &[u8]) -> Option<usize>
-    requires { 26 ≤ length bytes.now }
-    ensures some { IfSome result (λ end. (end ≤ 19) × TakesRange spans.old spans.new bytes.now (drop end bytes.now)) }
+    requires { 36 ≤ length bytes.now }
+    ensures some { IfSome result (λ end. (end ≤ 35)
+        × TakesRange spans.old spans.new bytes.now (drop end bytes.now)) }
     ensures none { IfNone result (spans.new ≡ spans.old) }
 {
-    let (lo, hi, end) = short_pair(&bytes[1..])?;
-    if bytes[0] != b'[' || bytes[end + 1] != b']' {
+    let (lo, first) = short_integer(&bytes[1..])?;
+    let middle = 1 + first;
+    if bytes[0] != b'[' || bytes[middle] != b',' {
+        return None;
+    }
+    let (hi, second) = short_integer(&bytes[middle + 1..])?;
+    let end = middle + 1 + second;
+    if bytes[end] != b']' {
         return None;
     }
     let span = Span::new(PacketNumber::new(lo)?, PacketNumber::new(hi)?)?;
     if spans.push(span).is_err() {
         return None;
     }
-    Some(end + 2)
+    Some(end + 1)
 }
 
 /// The rest of a list of ranges without white space; gives what follows it. None where memory is refused, too.
@@ -93,7 +103,7 @@ pub fn exact_ranges<'a>(spans: &mut Spans, bytes: &'a [u8]) -> Option<&'a [u8]>
     ensures { IfSome result (λ rest. TakesRanges spans.new bytes.now rest.now) }
 {
     let mut rest = after_byte(bytes, b'[')?;
-    while 26 <= rest.len() {
+    while SHORT_ROOM <= rest.len() {
         let Some(end) = short_range(spans, rest) else {
             break;
         };

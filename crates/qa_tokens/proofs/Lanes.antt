@@ -1,18 +1,18 @@
 -- Lanes of a vector as the digits of an integer.
-use Rattle.std.proofs.Common.{◌≡◌, ◌∙◌, ℕ, zero, suc, ◌+◌, ◌-◌, ◌*◌, ◌/◌, ◌%◌, ◌^◌, ◌<◌, ◌≤◌, Bool, true, false, cond, leb, ltb, T, List, [], ◌∷◌, ◌++◌, map, length, get_or, take, drop, replicate, get_or-take, length-take, length-drop, get_or-drop, drop-drop, take-append-drop, decimal, refl, sym, ap, subst, arith, inl, inr, pow-suc, w8, w64, max, div-lt_iff_lt-mul, div-add-mod'}
+use Rattle.std.proofs.Common.{◌≡◌, ◌∙◌, ℕ, zero, suc, ◌+◌, ◌-◌, ◌*◌, ◌/◌, ◌%◌, ◌^◌, ◌<◌, ◌≤◌, Bool, true, false, cond, leb, ltb, T, List, [], ◌∷◌, ◌++◌, map, length, get_or, take, drop, replicate, get_or-take, length-take, length-drop, get_or-drop, drop-drop, take-append-drop, decimal, refl, sym, ap, subst, arith, inl, inr, pow-suc, rules, w8, w64, max, div-lt_iff_lt-mul, div-add-mod'}
 use Rattle.std.specs.Prelude.{⊤, bit_and, bit_or}
 use Rattle.std.specs.List.{range_with_len}
 use Rattle.std.proofs.lemmas.Bool.{cases_lt, cases_Bool, leb-false}
-use Rattle.std.proofs.lemmas.List.{ext_get_or, get_or-map, length-map, drop_more}
+use Rattle.std.proofs.lemmas.List.{ext_get_or, get_or-map, length-map}
 use Rattle.std.proofs.lemmas.List.FromFn.{length-map-range_with_len, get_or-map-range_with_len}
 use Rattle.std.proofs.lemmas.Nat.{and_mask, or_lt}
 use Rattle.std.specs.Int.{bit_at}
 use Rattle.std.proofs.lemmas.Nat.Bits.{bit_at_or, bit_at-lt, bit_at-trailing_zeros}
-use Rattle.std.proofs.lemmas.Simd.{swz_l, tops_compared, zip2_splat_left, mask_l-mod, bit_mask_l, get_or-zip2, get_or-replicate}
+use Rattle.std.proofs.lemmas.Simd.{swz_l, SwzOk, tops_compared, zip2_splat_left, mask_l-mod, bit_mask_l, get_or-zip2, get_or-replicate}
 use lib.Lanes.{number_l, digits_l, chunk, zip2, top, mask_l}
 use lib.Count.{count_trailing_zeros}
 use Rattle.qa_tokens.proofs.Numerals.{first_digit, digit_then, digit_more, below_digits}
-use Rattle.qa_tokens.specs.Short.{AreLessZero, IsPair, AllBelow, AreDigits, eight, eight_value, in_pairs, number_of}
+use Rattle.qa_tokens.specs.Short.{AreLessZero, IsShort, AllBelow, AreDigits, in_pairs, number_of, sixteen_value}
 
 -- ---- lists that are written out
 
@@ -101,10 +101,6 @@ number_below p b (x ∷ xs) le small =
     let step = pow-suc p (length xs) in
     omega (arith, step, one, Rattle.std.proofs.Common.mul-le-mul_left p rest)
 
-pub below_both : (b : ℕ) (xs ys : List ℕ) → AllBelow b xs → AllBelow b ys → AllBelow b (xs ++ ys)
-below_both b [] ys small others = others
-below_both b (x ∷ xs) ys small others = (small.0, below_both b xs ys small.1 others)
-
 pub below_hundred : (xs : List ℕ) → AllBelow 10 xs → AllBelow 100 (in_pairs 10 xs)
 below_hundred [] small = tt
 below_hundred (x ∷ []) small = tt
@@ -115,28 +111,45 @@ below_ten_thousand [] small = tt
 below_ten_thousand (x ∷ []) small = tt
 below_ten_thousand (x ∷ y ∷ xs) small = (omega (arith, small.0, small.1.0), below_ten_thousand xs small.1.1)
 
--- ---- digits at the end of eight lanes
+pub below_hundred_million : (xs : List ℕ) → AllBelow 10000 xs → AllBelow 100000000 (in_pairs 10000 xs)
+below_hundred_million [] small = tt
+below_hundred_million (x ∷ []) small = tt
+below_hundred_million (x ∷ y ∷ xs) small = (omega (arith, small.0, small.1.0), below_hundred_million xs small.1.1)
+
+pub below_at : (b : ℕ) (xs : List ℕ) (i : ℕ) → 0 < b → AllBelow b xs → get_or xs i 0 < b
+below_at b [] i some small = some
+below_at b (x ∷ xs) zero some small = small.0
+below_at b (x ∷ xs) (suc i) some small = below_at b xs i some small.1
+
+-- ---- digits at the end of sixteen lanes
 
 abbrev places : List ℕ
-places = 128 ∷ 128 ∷ 128 ∷ 128 ∷ 128 ∷ 128 ∷ 128 ∷ 128 ∷ 0 ∷ 1 ∷ 2 ∷ 3 ∷ 4 ∷ 5 ∷ 6 ∷ 7 ∷ 8 ∷ 9 ∷ 10 ∷ 11 ∷ 12 ∷ 13 ∷ 14 ∷ 15 ∷ []
+places = 128 ∷ 128 ∷ 128 ∷ 128 ∷ 128 ∷ 128 ∷ 128 ∷ 128 ∷ 128 ∷ 128 ∷ 128 ∷ 128 ∷ 128 ∷ 128 ∷ 128 ∷ 128 ∷ 0 ∷ 1 ∷ 2 ∷ 3 ∷ 4 ∷ 5 ∷ 6 ∷ 7 ∷ 8 ∷ 9 ∷ 10 ∷ 11 ∷ 12 ∷ 13 ∷ 14 ∷ 15 ∷ []
+
+abbrev places_of : ℕ → List ℕ
+places_of d = chunk 0 16 (take (32 - d) (drop d places))
 
 abbrev pub moved : List ℕ → ℕ → List ℕ
-moved lanes d = swz_l w8 16 lanes 0 (chunk 0 16 (take (24 - d) (drop d places)))
+moved lanes d = swz_l w8 16 lanes 0 (places_of d)
 
-pub moved_value : (lanes : List ℕ) (d : ℕ) → length lanes ≡ 16 → d ≤ 8 → eight_value (moved lanes d) ≡ number_of lanes d
+pub places_ok : (d : ℕ) → d ≤ 16 → SwzOk w8 16 16 0 (places_of d)
+places_ok d few = each (λ k. SwzOk w8 16 16 0 (places_of k)) 17 d
+    (search rules, (search rules, (search rules, (search rules, (search rules, (search rules, (search rules, (search rules, (search rules, (search rules, (search rules, (search rules, (search rules, (search rules, (search rules, (search rules, (search rules, tt))))))))))))))))) (omega arith)
+
+pub moved_value : (lanes : List ℕ) (d : ℕ) → length lanes ≡ 16 → d ≤ 16 → sixteen_value (moved lanes d) ≡ number_of lanes d
 moved_value lanes d long few =
-    spelled (λ l. eight_value (moved l d) ≡ number_of l d) 16
-    (λ f. each (λ k. eight_value (moved (listed f 16) k) ≡ number_of (listed f 16) k) 9 d
-    (omega arith, (omega arith, (omega arith, (omega arith, (omega arith, (omega arith, (omega arith, (omega arith, (omega arith, tt))))))))) (omega arith)) lanes long
+    spelled (λ l. sixteen_value (moved l d) ≡ number_of l d) 16
+    (λ f. each (λ k. sixteen_value (moved (listed f 16) k) ≡ number_of (listed f 16) k) 17 d
+    (omega arith, (omega arith, (omega arith, (omega arith, (omega arith, (omega arith, (omega arith, (omega arith, (omega arith, (omega arith, (omega arith, (omega arith, (omega arith, (omega arith, (omega arith, (omega arith, (omega arith, tt))))))))))))))))) (omega arith)) lanes long
 
 abbrev BelowTen : List ℕ → ℕ → Type 0
-BelowTen lanes d = AreDigits lanes d → AllBelow 10 (eight (moved lanes d))
+BelowTen lanes d = AreDigits lanes d → AllBelow 10 (moved lanes d)
 
-pub moved_digits : (lanes : List ℕ) (d : ℕ) → length lanes ≡ 16 → d ≤ 8 → BelowTen lanes d
+pub moved_digits : (lanes : List ℕ) (d : ℕ) → length lanes ≡ 16 → d ≤ 16 → BelowTen lanes d
 moved_digits lanes d long few =
     spelled (λ l. BelowTen l d) 16
-    (λ f. each (BelowTen (listed f 16)) 9 d
-    (λ h. (h 0 (omega arith), (h 1 (omega arith), (h 2 (omega arith), (h 3 (omega arith), (h 4 (omega arith), (h 5 (omega arith), (h 6 (omega arith), (h 7 (omega arith), tt)))))))), (λ h. (omega arith, (h 0 (omega arith), (h 1 (omega arith), (h 2 (omega arith), (h 3 (omega arith), (h 4 (omega arith), (h 5 (omega arith), (h 6 (omega arith), tt)))))))), (λ h. (omega arith, (omega arith, (h 0 (omega arith), (h 1 (omega arith), (h 2 (omega arith), (h 3 (omega arith), (h 4 (omega arith), (h 5 (omega arith), tt)))))))), (λ h. (omega arith, (omega arith, (omega arith, (h 0 (omega arith), (h 1 (omega arith), (h 2 (omega arith), (h 3 (omega arith), (h 4 (omega arith), tt)))))))), (λ h. (omega arith, (omega arith, (omega arith, (omega arith, (h 0 (omega arith), (h 1 (omega arith), (h 2 (omega arith), (h 3 (omega arith), tt)))))))), (λ h. (omega arith, (omega arith, (omega arith, (omega arith, (omega arith, (h 0 (omega arith), (h 1 (omega arith), (h 2 (omega arith), tt)))))))), (λ h. (omega arith, (omega arith, (omega arith, (omega arith, (omega arith, (omega arith, (h 0 (omega arith), (h 1 (omega arith), tt)))))))), (λ h. (omega arith, (omega arith, (omega arith, (omega arith, (omega arith, (omega arith, (omega arith, (h 0 (omega arith), tt)))))))), (λ h. (omega arith, (omega arith, (omega arith, (omega arith, (omega arith, (omega arith, (omega arith, (omega arith, tt)))))))), tt))))))))) (omega arith)) lanes long
+    (λ f. each (BelowTen (listed f 16)) 17 d
+    (λ h. (h 0 (omega arith), (h 1 (omega arith), (h 2 (omega arith), (h 3 (omega arith), (h 4 (omega arith), (h 5 (omega arith), (h 6 (omega arith), (h 7 (omega arith), (h 8 (omega arith), (h 9 (omega arith), (h 10 (omega arith), (h 11 (omega arith), (h 12 (omega arith), (h 13 (omega arith), (h 14 (omega arith), (h 15 (omega arith), tt)))))))))))))))), (λ h. (omega arith, (h 0 (omega arith), (h 1 (omega arith), (h 2 (omega arith), (h 3 (omega arith), (h 4 (omega arith), (h 5 (omega arith), (h 6 (omega arith), (h 7 (omega arith), (h 8 (omega arith), (h 9 (omega arith), (h 10 (omega arith), (h 11 (omega arith), (h 12 (omega arith), (h 13 (omega arith), (h 14 (omega arith), tt)))))))))))))))), (λ h. (omega arith, (omega arith, (h 0 (omega arith), (h 1 (omega arith), (h 2 (omega arith), (h 3 (omega arith), (h 4 (omega arith), (h 5 (omega arith), (h 6 (omega arith), (h 7 (omega arith), (h 8 (omega arith), (h 9 (omega arith), (h 10 (omega arith), (h 11 (omega arith), (h 12 (omega arith), (h 13 (omega arith), tt)))))))))))))))), (λ h. (omega arith, (omega arith, (omega arith, (h 0 (omega arith), (h 1 (omega arith), (h 2 (omega arith), (h 3 (omega arith), (h 4 (omega arith), (h 5 (omega arith), (h 6 (omega arith), (h 7 (omega arith), (h 8 (omega arith), (h 9 (omega arith), (h 10 (omega arith), (h 11 (omega arith), (h 12 (omega arith), tt)))))))))))))))), (λ h. (omega arith, (omega arith, (omega arith, (omega arith, (h 0 (omega arith), (h 1 (omega arith), (h 2 (omega arith), (h 3 (omega arith), (h 4 (omega arith), (h 5 (omega arith), (h 6 (omega arith), (h 7 (omega arith), (h 8 (omega arith), (h 9 (omega arith), (h 10 (omega arith), (h 11 (omega arith), tt)))))))))))))))), (λ h. (omega arith, (omega arith, (omega arith, (omega arith, (omega arith, (h 0 (omega arith), (h 1 (omega arith), (h 2 (omega arith), (h 3 (omega arith), (h 4 (omega arith), (h 5 (omega arith), (h 6 (omega arith), (h 7 (omega arith), (h 8 (omega arith), (h 9 (omega arith), (h 10 (omega arith), tt)))))))))))))))), (λ h. (omega arith, (omega arith, (omega arith, (omega arith, (omega arith, (omega arith, (h 0 (omega arith), (h 1 (omega arith), (h 2 (omega arith), (h 3 (omega arith), (h 4 (omega arith), (h 5 (omega arith), (h 6 (omega arith), (h 7 (omega arith), (h 8 (omega arith), (h 9 (omega arith), tt)))))))))))))))), (λ h. (omega arith, (omega arith, (omega arith, (omega arith, (omega arith, (omega arith, (omega arith, (h 0 (omega arith), (h 1 (omega arith), (h 2 (omega arith), (h 3 (omega arith), (h 4 (omega arith), (h 5 (omega arith), (h 6 (omega arith), (h 7 (omega arith), (h 8 (omega arith), tt)))))))))))))))), (λ h. (omega arith, (omega arith, (omega arith, (omega arith, (omega arith, (omega arith, (omega arith, (omega arith, (h 0 (omega arith), (h 1 (omega arith), (h 2 (omega arith), (h 3 (omega arith), (h 4 (omega arith), (h 5 (omega arith), (h 6 (omega arith), (h 7 (omega arith), tt)))))))))))))))), (λ h. (omega arith, (omega arith, (omega arith, (omega arith, (omega arith, (omega arith, (omega arith, (omega arith, (omega arith, (h 0 (omega arith), (h 1 (omega arith), (h 2 (omega arith), (h 3 (omega arith), (h 4 (omega arith), (h 5 (omega arith), (h 6 (omega arith), tt)))))))))))))))), (λ h. (omega arith, (omega arith, (omega arith, (omega arith, (omega arith, (omega arith, (omega arith, (omega arith, (omega arith, (omega arith, (h 0 (omega arith), (h 1 (omega arith), (h 2 (omega arith), (h 3 (omega arith), (h 4 (omega arith), (h 5 (omega arith), tt)))))))))))))))), (λ h. (omega arith, (omega arith, (omega arith, (omega arith, (omega arith, (omega arith, (omega arith, (omega arith, (omega arith, (omega arith, (omega arith, (h 0 (omega arith), (h 1 (omega arith), (h 2 (omega arith), (h 3 (omega arith), (h 4 (omega arith), tt)))))))))))))))), (λ h. (omega arith, (omega arith, (omega arith, (omega arith, (omega arith, (omega arith, (omega arith, (omega arith, (omega arith, (omega arith, (omega arith, (omega arith, (h 0 (omega arith), (h 1 (omega arith), (h 2 (omega arith), (h 3 (omega arith), tt)))))))))))))))), (λ h. (omega arith, (omega arith, (omega arith, (omega arith, (omega arith, (omega arith, (omega arith, (omega arith, (omega arith, (omega arith, (omega arith, (omega arith, (omega arith, (h 0 (omega arith), (h 1 (omega arith), (h 2 (omega arith), tt)))))))))))))))), (λ h. (omega arith, (omega arith, (omega arith, (omega arith, (omega arith, (omega arith, (omega arith, (omega arith, (omega arith, (omega arith, (omega arith, (omega arith, (omega arith, (omega arith, (h 0 (omega arith), (h 1 (omega arith), tt)))))))))))))))), (λ h. (omega arith, (omega arith, (omega arith, (omega arith, (omega arith, (omega arith, (omega arith, (omega arith, (omega arith, (omega arith, (omega arith, (omega arith, (omega arith, (omega arith, (omega arith, (h 0 (omega arith), tt)))))))))))))))), (λ h. (omega arith, (omega arith, (omega arith, (omega arith, (omega arith, (omega arith, (omega arith, (omega arith, (omega arith, (omega arith, (omega arith, (omega arith, (omega arith, (omega arith, (omega arith, (omega arith, tt)))))))))))))))), tt))))))))))))))))) (omega arith)) lanes long
 
 -- ---- bytes less the digit zero
 
@@ -152,17 +165,17 @@ less bs j long within byte small =
 
 -- ---- how many digits come first
 
--- the lowest bit that is set is at most the eighth, and below it no bit is set
-lowest_is : (m : ℕ) → m < 2 ^ 64 → (count_trailing_zeros 64 (bit_or m 256) ≤ 8) × ((j : ℕ) → j < count_trailing_zeros 64 (bit_or m 256) → bit_at m j ≡ 0)
+-- the lowest bit that is set is at most the sixteenth, and below it no bit is set
+lowest_is : (m : ℕ) → m < 2 ^ 64 → (count_trailing_zeros 64 (bit_or m 65536) ≤ 16) × ((j : ℕ) → j < count_trailing_zeros 64 (bit_or m 65536) → bit_at m j ≡ 0)
 lowest_is m small =
-    let n : ℕ = bit_or m 256 in
-    let either : max (bit_at m 8) 1 ≡ 1 = omega (arith, bit_at-lt m 8) in
-    let set : bit_at n 8 ≡ 1 = bit_at_or m 256 8 ∙ either in
+    let n : ℕ = bit_or m 65536 in
+    let either : max (bit_at m 16) 1 ≡ 1 = omega (arith, bit_at-lt m 8) in
+    let set : bit_at n 16 ≡ 1 = bit_at_or m 65536 16 ∙ either in
     let some : 0 < n = omega (arith, set) in
-    let z = bit_at-trailing_zeros w64 n some (or_lt 64 m 256 small (omega arith)) in
-    let few : count_trailing_zeros 64 n ≤ 8 =
-    elim (cases_lt 8 (count_trailing_zeros 64 n)) [ inl a ↦ let clear : bit_at n 8 ≡ 0 = z.2 8 a in absurd (omega (arith, set, clear)) | inr a ↦ a ] in
-    (few, λ j before. let none : max (bit_at m j) (bit_at 256 j) ≡ 0 = sym (bit_at_or m 256 j) ∙ z.2 j before in omega (arith, none))
+    let z = bit_at-trailing_zeros w64 n some (or_lt 64 m 65536 small (omega arith)) in
+    let few : count_trailing_zeros 64 n ≤ 16 =
+    elim (cases_lt 16 (count_trailing_zeros 64 n)) [ inl a ↦ let clear : bit_at n 16 ≡ 0 = z.2 16 a in absurd (omega (arith, set, clear)) | inr a ↦ a ] in
+    (few, λ j before. let none : max (bit_at m j) (bit_at 65536 j) ≡ 0 = sym (bit_at_or m 65536 j) ∙ z.2 j before in omega (arith, none))
 
 abbrev bit : Bool → ℕ
 bit b = cond b 1 0
@@ -174,7 +187,7 @@ below_ten x none = elim (cases_Bool (leb 10 x)) [ inl a ↦ absurd (let one : bi
 abbrev pub others : List ℕ → ℕ
 others lanes = mask_l (map (top 7) (zip2 (λ a b. cond (leb a b) 255 0) (replicate 16 10) lanes)) % 2 ^ 64
 
-pub ahead : (lanes : List ℕ) → length lanes ≡ 16 → (count_trailing_zeros 64 (bit_or (others lanes) 256) ≤ 8) × AreDigits lanes (count_trailing_zeros 64 (bit_or (others lanes) 256))
+pub ahead : (lanes : List ℕ) → length lanes ≡ 16 → (count_trailing_zeros 64 (bit_or (others lanes) 65536) ≤ 16) × AreDigits lanes (count_trailing_zeros 64 (bit_or (others lanes) 65536))
 ahead lanes long =
     let ms : List Bool = map (λ x. leb 10 x) lanes in
     let is : map (top 7) (zip2 (λ a b. cond (leb a b) 255 0) (replicate 16 10) lanes) ≡ ms = tops_compared w8 leb (replicate 16 10) lanes ∙ zip2_splat_left leb 10 16 lanes long in
@@ -200,8 +213,8 @@ record IsText (bs : List ℕ) (i n : ℕ) : Type 0 where
   is : take i bs ≡ decimal n
   some : 0 < n
 
--- the first of at most eight digits are the text of their number, where the first digit is not zero
-text_to : (bs ls : List ℕ) (d i : ℕ) → d ≤ 8 → 16 ≤ length bs → AreLessZero ls bs → AreDigits ls d → (get_or bs 0 0 ≡ 48 → ⊥) → suc i ≤ d → IsText bs (suc i) (number_of ls (suc i))
+-- the first of at most sixteen digits are the text of their number, where the first digit is not zero
+text_to : (bs ls : List ℕ) (d i : ℕ) → d ≤ 16 → 16 ≤ length bs → AreLessZero ls bs → AreDigits ls d → (get_or bs 0 0 ≡ 48 → ⊥) → suc i ≤ d → IsText bs (suc i) (number_of ls (suc i))
 text_to bs ls d zero few long less_so digits apart within =
     let small : get_or ls 0 0 < 10 = digits 0 (omega arith) in
     let is : get_or bs 0 0 ≡ get_or ls 0 0 + 48 = less_so 0 (omega arith) small in
@@ -213,7 +226,7 @@ text_to bs ls d zero few long less_so digits apart within =
 text_to bs ls d (suc i) few long less_so digits apart within =
     let before = text_to bs ls d i few long less_so digits apart (omega arith) in
     let n : ℕ = number_of ls (suc i) in
-    let low : n < 10 ^ 8 = below_digits n (suc i) 8 (number_small ls (suc i) (λ j l. digits j (omega arith))) (omega arith) in
+    let low : n < 10 ^ 16 = below_digits n (suc i) 16 (number_small ls (suc i) (λ j l. digits j (omega arith))) (omega arith) in
     let small : get_or ls (suc i) 0 < 10 = digits (suc i) (omega arith) in
     let is : get_or bs (suc i) 0 ≡ get_or ls (suc i) 0 + 48 = less_so (suc i) (omega arith) small in
     let some : 0 < n = before.some in
@@ -222,27 +235,14 @@ text_to bs ls d (suc i) few long less_so digits apart within =
       some = omega (arith, some);
     }
 
-pub number_text : (bs ls : List ℕ) (d : ℕ) → d ≤ 8 → 16 ≤ length bs → AreLessZero ls bs → AreDigits ls d → (get_or bs 0 0 ≡ 48 → ⊥) → 0 < number_of ls d → take d bs ≡ decimal (number_of ls d)
-number_text bs ls zero few long less_so digits apart some = absurd (omega (arith, some))
+pub number_text : (bs ls : List ℕ) (d : ℕ) → d ≤ 16 → 16 ≤ length bs → AreLessZero ls bs → AreDigits ls d → (get_or bs 0 0 ≡ 48 → ⊥) → (d ≡ 0 → ⊥) → take d bs ≡ decimal (number_of ls d)
+number_text bs ls zero few long less_so digits apart some = absurd (some refl)
 number_text bs ls (suc i) few long less_so digits apart some = (text_to bs ls (suc i) i few long less_so digits apart (omega arith)).is
 
-pub pair_text : (bs rest : List ℕ) (d e low high : ℕ) → rest ≡ drop (d + 1) bs → take d bs ≡ decimal low → get_or bs d 0 ≡ 44 → d < length bs → take e rest ≡ decimal high
-    → bs ≡ decimal low ++ 44 ∷ (decimal high ++ drop (d + 1 + e) bs)
-pair_text bs rest d e low high is first parted within second =
-    let behind : drop e rest ≡ drop (d + 1 + e) bs = ap (drop e) is ∙ drop-drop e (d + 1) bs in
-    let end : rest ≡ decimal high ++ drop (d + 1 + e) bs = sym (take-append-drop e rest) ∙ (λ i. second i ++ behind i) in
-    sym (take-append-drop d bs) ∙ (λ i. first i ++ drop_more bs d 0 within i) ∙ (λ i. decimal low ++ parted i ∷ (sym is ∙ end) i)
-
-pub pair_is : (bs rest ls ms : List ℕ) (d e low high : ℕ) → 25 ≤ length bs → rest ≡ drop (d + 1) bs → d ≤ 8 → e ≤ 8 → AreLessZero ls bs → AreDigits ls d → AreLessZero ms rest → AreDigits ms e
-    → (get_or bs 0 0 ≡ 48 → ⊥) → get_or bs d 0 ≡ 44 → (get_or bs (d + 1) 0 ≡ 48 → ⊥) → low ≡ number_of ls d → high ≡ number_of ms e → 0 < low → low ≤ high → IsPair bs low high (d + 1 + e)
-pair_is bs rest ls ms d e low high long is few few_too first_less first_digits second_less second_digits apart parted apart_too is_low is_high some ordered =
-    let room : 16 ≤ length rest = omega (arith, ap length is, length-drop (d + 1) bs, long, few) in
-    let begins : get_or rest 0 0 ≡ get_or bs (d + 1) 0 = ap (λ l. get_or l 0 0) is ∙ get_or-drop (d + 1) bs 0 0 ∙ ap (λ k. get_or bs k 0) (omega arith) in
-    let first : take d bs ≡ decimal (number_of ls d) = number_text bs ls d few (omega (arith, long)) first_less first_digits apart (omega (arith, is_low, some)) in
-    let second : take e rest ≡ decimal (number_of ms e) = number_text rest ms e few_too room second_less second_digits (λ h. apart_too (sym begins ∙ h)) (omega (arith, is_high, some, ordered)) in
+pub short_is : (bs ls : List ℕ) (d n : ℕ) → d ≤ 16 → 16 ≤ length bs → AreLessZero ls bs → AreDigits ls d → (get_or bs 0 0 ≡ 48 → ⊥) → (d ≡ 0 → ⊥) → n ≡ number_of ls d → IsShort bs n d
+short_is bs ls d n few long less_so digits apart some is =
     record {
-      is = pair_text bs rest d e low high is (first ∙ ap decimal (sym is_low)) parted (omega (arith, long, few)) (second ∙ ap decimal (sym is_high));
-      ordered = ordered;
-      small = let below : number_of ms e < 10 ^ 8 = below_digits (number_of ms e) e 8 (number_small ms e second_digits) few_too in omega (arith, below, is_high);
-      near = omega (arith, few, few_too);
+      is_text = number_text bs ls d few long less_so digits apart some ∙ ap decimal (sym is);
+      few = few;
+      small = let below : number_of ls d < 10 ^ 16 = below_digits (number_of ls d) d 16 (number_small ls d digits) few in omega (arith, below, is);
     }

@@ -1,5 +1,5 @@
--- Integers of at most eight digits that are read by vectors.
-use Rattle.std.specs.Prelude.{◌≡◌, ◌≤◌, ◌<◌, ◌+◌, ◌*◌, ◌^◌, ◌++◌, ◌∷◌, [], ⊤, ℕ, zero, suc, List, get_or, drop, decimal}
+-- Integers of at most sixteen digits that are read by vectors.
+use Rattle.std.specs.Prelude.{◌≡◌, ◌≤◌, ◌<◌, ◌+◌, ◌*◌, ◌^◌, ◌∷◌, [], ⊤, ℕ, zero, suc, List, get_or, take, decimal}
 
 -- a lane below ten is its byte less the digit zero
 abbrev pub AreLessZero : List ℕ → List ℕ → Type 0
@@ -14,10 +14,6 @@ abbrev pub number_of : List ℕ → ℕ → ℕ
 number_of lanes zero = 0
 number_of lanes (suc i) = number_of lanes i * 10 + get_or lanes i 0
 
--- the first eight lanes
-abbrev pub eight : List ℕ → List ℕ
-eight lanes = get_or lanes 0 0 ∷ get_or lanes 1 0 ∷ get_or lanes 2 0 ∷ get_or lanes 3 0 ∷ get_or lanes 4 0 ∷ get_or lanes 5 0 ∷ get_or lanes 6 0 ∷ get_or lanes 7 0 ∷ []
-
 -- each of these is below b
 abbrev pub AllBelow : ℕ → List ℕ → Type 0
 AllBelow b [] = ⊤
@@ -29,15 +25,12 @@ in_pairs b [] = []
 in_pairs b (x ∷ []) = []
 in_pairs b (x ∷ y ∷ xs) = (x * b + y) ∷ in_pairs b xs
 
--- the number of which the first eight lanes are the digits
-abbrev pub eight_value : List ℕ → ℕ
-eight_value lanes =
-    ((get_or lanes 0 0 * 10 + get_or lanes 1 0) * 100 + (get_or lanes 2 0 * 10 + get_or lanes 3 0)) * 10000
-    + ((get_or lanes 4 0 * 10 + get_or lanes 5 0) * 100 + (get_or lanes 6 0 * 10 + get_or lanes 7 0))
+-- the number of which sixteen lanes are the digits
+abbrev pub sixteen_value : List ℕ → ℕ
+sixteen_value lanes = get_or (in_pairs 100000000 (in_pairs 10000 (in_pairs 100 (in_pairs 10 lanes)))) 0 0
 
--- the first bytes are two integers with a comma between them, in their order
-pub record IsPair (bytes : List ℕ) (low high end : ℕ) : Type 0 where
-  pub is : bytes ≡ decimal low ++ 44 ∷ (decimal high ++ drop end bytes)
-  pub ordered : low ≤ high
-  pub small : high < 10 ^ 8
-  pub near : end ≤ 17
+-- the first so many bytes are the digits of this number
+pub record IsShort (bytes : List ℕ) (n digits : ℕ) : Type 0 where
+  pub is_text : take digits bytes ≡ decimal n
+  pub few : digits ≤ 16
+  pub small : n < 10 ^ 16

@@ -2,10 +2,14 @@
 ghost use Rattle.std.specs.Prelude.{◌≡◌, ◌≤◌, ◌<◌, ◌^◌, ◌&&◌, nat_le, get_or, length, take, ◌++◌, true, decimal, IfSome, List, ℕ};
 ghost use Rattle.qa_tokens.specs.Digits.{IsFront, IsWord, AreEightDigits, IsEightValue};
 
+use crate::short::short_integer;
 use std::simd::prelude::*;
 
 /// An integer of so many digits has room in 64 bits.
 const DIGITS: usize = 19;
+
+/// A short integer has at most so many digits, and so many bytes are looked at for it.
+const SHORT: usize = 16;
 
 /// The byte of the digit zero, as wide as the integer that is read.
 const ZERO: u64 = 48;
@@ -128,6 +132,35 @@ fn first_digits(bytes: &[u8]) -> (usize, u64)
 /// The digits of an integer, and what follows them. Of more than 19 digits some are left.
 #[inline(always)]
 pub fn digits(bytes: &[u8]) -> Option<(u64, &[u8])>
+    ensures { IfSome result (λ found. (bytes.now ≡ decimal found.0 ++ found.1.now)
+        × (found.0 < 2 ^ 64)) }
+{
+    if let Some(found) = short_digits(bytes) {
+        return Some(found);
+    }
+    any_digits(bytes)
+}
+
+/// The same, where these are fewer than sixteen and no zero stands first, and with what follows they are sixteen bytes.
+#[inline(always)]
+fn short_digits(bytes: &[u8]) -> Option<(u64, &[u8])>
+    ensures { IfSome result (λ found. (bytes.now ≡ decimal found.0 ++ found.1.now)
+        × (found.0 < 2 ^ 64)) }
+{
+    if bytes.len() < SHORT {
+        return None;
+    }
+    let (n, i) = short_integer(bytes)?;
+    // Behind sixteen there may be more.
+    if i == SHORT {
+        return None;
+    }
+    Some((n, &bytes[i..]))
+}
+
+/// The same, however many there are.
+#[inline(always)]
+fn any_digits(bytes: &[u8]) -> Option<(u64, &[u8])>
     ensures { IfSome result (λ found. (bytes.now ≡ decimal found.0 ++ found.1.now)
         × (found.0 < 2 ^ 64)) }
 {

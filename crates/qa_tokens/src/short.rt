@@ -1,13 +1,17 @@
-//! Integers of at most eight digits, two of them read at once by vectors of sixteen bytes.
-ghost use Rattle.std.specs.Prelude.{◌≡◌, ◌≤◌, ◌<◌, ◌+◌, ◌++◌, ◌∷◌, [], get_or, length, decimal, IfSome};
-ghost use Rattle.qa_tokens.specs.Short.{AreLessZero, AreDigits, AllBelow, IsPair, eight, eight_value, in_pairs, number_of};
+//! Integers of at most sixteen digits, read by vectors of sixteen bytes.
+ghost use Rattle.std.specs.Prelude.{◌≡◌, ◌≤◌, ◌<◌, ◌^◌, length, take, decimal, IfSome};
+ghost use Rattle.qa_tokens.specs.Short.{AreLessZero, AreDigits, AllBelow, IsShort, in_pairs, number_of, sixteen_value};
 
 use std::simd::prelude::*;
 
-/// Where the lanes of a vector stand, behind eight places of lanes that are to be zero.
-static PLACES: [u8; 24] = [
-    128, 128, 128, 128, 128, 128, 128, 128, 0, 1, 2, 3, 4, 5, 6, 7, 8, 9, 10, 11, 12, 13, 14, 15,
+/// Where the lanes of a vector stand, behind sixteen places of lanes that are to be zero.
+static PLACES: [u8; 32] = [
+    128, 128, 128, 128, 128, 128, 128, 128, 128, 128, 128, 128, 128, 128, 128, 128, 0, 1, 2, 3, 4,
+    5, 6, 7, 8, 9, 10, 11, 12, 13, 14, 15,
 ];
+
+/// What the first of two numbers of eight digits is multiplied by, to make one of sixteen.
+const EIGHT_DIGITS: u64 = 100_000_000;
 
 /// The first sixteen bytes, each less the digit zero, so that digits alone are below ten.
 #[inline(always)]
@@ -19,40 +23,27 @@ fn less_zero(bytes: &[u8]) -> u8x16
     u8x16::from_slice(bytes) - u8x16::splat(b'0')
 }
 
-/// How many digits the lanes begin with; eight where there are more.
+/// How many digits the lanes begin with.
 #[inline(always)]
 fn digits_ahead(lanes: u8x16) -> usize
-    ensures few { result ≤ 8 }
+    ensures few { result ≤ 16 }
     ensures digits { AreDigits lanes result }
 {
-    // The bit behind the first eight is set, so that there is a lowest one.
-    let others = lanes.simd_ge(u8x16::splat(10)).to_bitmask() | 256;
+    // The bit behind the sixteen is set, so that there is a lowest one.
+    let others = lanes.simd_ge(u8x16::splat(10)).to_bitmask() | 65_536;
     others.trailing_zeros() as usize
 }
 
-/// The digits that the lanes begin with, as the last of eight lanes with zeros before them.
+/// The digits that the lanes begin with, as the last of sixteen lanes with zeros before them.
 #[inline(always)]
 fn aligned(lanes: u8x16, digits: usize) -> u8x16
-    requires few { digits ≤ 8 }
+    requires few { digits ≤ 16 }
     requires digits { AreDigits lanes digits }
     ensures long { length result ≡ 16 }
-    ensures digits { AllBelow 10 (eight result) }
-    ensures value { eight_value result ≡ number_of lanes digits }
+    ensures digits { AllBelow 10 result }
+    ensures value { sixteen_value result ≡ number_of lanes digits }
 {
     lanes.swizzle_dyn(u8x16::from_slice(&PLACES[digits..]))
-}
-
-/// The first eight lanes of both.
-#[inline(always)]
-fn joined(first: u8x16, second: u8x16) -> u8x16
-    requires first { length first ≡ 16 }
-    requires second { length second ≡ 16 }
-    ensures { result ≡ eight first ++ eight second }
-{
-    first.shuffle(
-        second,
-        [0, 1, 2, 3, 4, 5, 6, 7, 16, 17, 18, 19, 20, 21, 22, 23],
-    )
 }
 
 /// Each two digits as one number.
@@ -87,36 +78,31 @@ fn eights(fours: u32x4) -> u64x2
     (halves & u64x2::splat(0xffff_ffff)) * u64x2::splat(10_000) + (halves >> u64x2::splat(32))
 }
 
-/// The numbers of which the first eight lanes of each are the digits.
+/// The number of which the lanes are the digits.
 #[inline(always)]
-fn two_values(first: u8x16, second: u8x16) -> (u64, u64)
-    requires first { (length first ≡ 16) × AllBelow 10 (eight first) }
-    requires second { (length second ≡ 16) × AllBelow 10 (eight second) }
-    ensures first { result.0 ≡ eight_value first }
-    ensures second { result.1 ≡ eight_value second }
+fn value(digits: u8x16) -> u64
+    requires long { length digits ≡ 16 }
+    requires digits { AllBelow 10 digits }
+    ensures { result ≡ sixteen_value digits }
 {
-    let values = eights(fours(twos(joined(first, second)))).to_array();
-    (values[0], values[1])
+    let halves = eights(fours(twos(digits))).to_array();
+    halves[0] * EIGHT_DIGITS + halves[1]
 }
 
-/// Two integers of at most eight digits with a comma between them, the first not above the second, and how many bytes
-/// these are. None for all else, for a zero before other digits, and for zero itself.
+/// An integer of at most sixteen digits that the bytes begin with, and how many digits it has: behind sixteen there may be
+/// more. None where the first is zero, or no digit.
 #[inline(always)]
-pub fn short_pair(bytes: &[u8]) -> Option<(u64, u64, usize)>
-    requires { 25 ≤ length bytes.now }
-    ensures { IfSome result (λ found. IsPair bytes.now found.0 found.1 found.2) }
+pub fn short_integer(bytes: &[u8]) -> Option<(u64, usize)>
+    requires { 16 ≤ length bytes.now }
+    ensures { IfSome result (λ found. IsShort bytes.now found.0 found.1) }
 {
-    let first = less_zero(bytes);
-    let comma = digits_ahead(first);
-    if bytes[0] == b'0' || bytes[comma] != b',' || bytes[comma + 1] == b'0' {
+    if bytes[0] == b'0' {
         return None;
     }
-    let second = less_zero(&bytes[comma + 1..]);
-    let digits = digits_ahead(second);
-    let (low, high) = two_values(aligned(first, comma), aligned(second, digits));
-    // Without a digit a number is zero.
-    if low == 0 || high < low {
+    let lanes = less_zero(bytes);
+    let digits = digits_ahead(lanes);
+    if digits == 0 {
         return None;
     }
-    Some((low, high, comma + 1 + digits))
+    Some((value(aligned(lanes, digits)), digits))
 }

@@ -1,5 +1,8 @@
-use Rattle.qa_tokens.proofs.Lanes.{moved_value, moved_digits}
+use Rattle.qa_tokens.proofs.Lanes.{moved_value, moved_digits, places_ok}
 use Rattle.qa_tokens.proofs.short.aligned.Goals as goal
+
+pub swizzle : goal.swizzle
+swizzle c = places_ok c.args.digits c.requires.few
 
 pub returns-clause-digits : goal.returns-clause-digits
 returns-clause-digits c = moved_digits c.args.lanes c.args.digits c.fits-lanes.0 c.requires.few c.requires.digits
