@@ -1,12 +1,24 @@
 //! The list of ranges of packet numbers.
-ghost use Rattle.std.specs.Prelude.{◌≡◌, ◌≤◌, [], ℕ, List, length, drop, IfSome, IfNone};
-ghost use Rattle.qa_quick.specs.Ranges.{FollowsRanges, TakesRange, TakesRanges};
+ghost use Rattle.std.specs.Prelude.{◌≡◌, ◌≤◌, [], ◌∷◌, ◌++◌, ℕ, List, length, IfSome};
+ghost use Rattle.qa_format.specs.format.Proper.{IsRange};
+ghost use Rattle.qa_quick.specs.Ranges.{FollowsRanges, IsShortRange, TakesRange, TakesRanges};
 
 use qa_base::{PacketNumber, Span, Spans};
-use qa_tokens::{after_byte, begin_array, comma, end_array, integer, open_integer, short_integer};
+use qa_tokens::{
+    after_byte, begin_array, comma, end_array, integer, open_integer, short_integer, two_codes,
+};
 
 /// So many bytes have room for a range of two numbers of sixteen digits and for a byte behind it.
 const SHORT_ROOM: usize = 36;
+
+/// The bracket that closes a range, and a comma behind it.
+const ANOTHER: u16 = 0x2c5d;
+
+/// The brackets that close a range and the list of ranges.
+const LAST: u16 = 0x5d5d;
+
+/// A range mostly takes so many bytes with the comma behind it, or a few more.
+const BYTES_OF_RANGE: usize = 16;
 
 /// A range, which goes behind the others; gives what follows it.
 #[inline(always)]
@@ -54,14 +66,12 @@ fn exact_range<'a>(spans: &mut Spans, bytes: &'a [u8]) -> Option<&'a [u8]>
     Some(rest)
 }
 
-/// Such a range of short numbers, which goes behind the others; gives how many bytes it is. None where its numbers are not
-/// short, and where memory is refused.
+/// The bracket that opens a range and its two numbers, where these are short and in order, and where what follows them
+/// begins. Zero is left to others.
 #[inline(always)]
-fn short_range(spans: &mut Spans, bytes: &[u8]) -> Option<usize>
+fn short_range(bytes: &[u8]) -> Option<(u64, u64, usize)>
     requires { 36 ≤ length bytes.now }
-    ensures some { IfSome result (λ end. (end ≤ 35)
-        × TakesRange spans.old spans.new bytes.now (drop end bytes.now)) }
-    ensures none { IfNone result (spans.new ≡ spans.old) }
+    ensures { IfSome result (λ found. IsShortRange bytes.now found.0 found.1 found.2) }
 {
     let (lo, first) = short_integer(&bytes[1..])?;
     let middle = 1 + first;
@@ -69,15 +79,23 @@ fn short_range(spans: &mut Spans, bytes: &[u8]) -> Option<usize>
         return None;
     }
     let (hi, second) = short_integer(&bytes[middle + 1..])?;
-    let end = middle + 1 + second;
-    if bytes[end] != b']' {
+    // Zero says that there is no digit.
+    if lo == 0 || hi < lo {
         return None;
     }
+    Some((lo, hi, middle + 1 + second))
+}
+
+/// The range of these numbers goes behind the others. None where they are none of a range, and where memory is refused.
+#[inline(always)]
+fn put(spans: &mut Spans, lo: u64, hi: u64) -> Option<()>
+    ensures { IfSome result (λ _. (spans.new ≡ spans.old ++ (lo, hi) ∷ []) × IsRange (lo, hi)) }
+{
     let span = Span::new(PacketNumber::new(lo)?, PacketNumber::new(hi)?)?;
     if spans.push(span).is_err() {
         return None;
     }
-    Some(end + 1)
+    Some(())
 }
 
 /// The rest of a list of ranges without white space; gives what follows it. None where memory is refused, too.
@@ -103,14 +121,24 @@ pub fn exact_ranges<'a>(spans: &mut Spans, bytes: &'a [u8]) -> Option<&'a [u8]>
     ensures { IfSome result (λ rest. TakesRanges spans.new bytes.now rest.now) }
 {
     let mut rest = after_byte(bytes, b'[')?;
+    // The first range that is put would ask for room too.
+    if spans.reserve(rest.len() / BYTES_OF_RANGE).is_err() {
+        return None;
+    }
     while SHORT_ROOM <= rest.len() {
-        let Some(end) = short_range(spans, rest) else {
+        let Some((lo, hi, end)) = short_range(rest) else {
             break;
         };
-        if rest[end] != b',' {
-            return after_byte(&rest[end..], b']');
+        let codes = two_codes(rest, end);
+        if codes != ANOTHER {
+            if codes != LAST {
+                break;
+            }
+            put(spans, lo, hi)?;
+            return Some(&rest[end + 2..]);
         }
-        rest = &rest[end + 1..];
+        put(spans, lo, hi)?;
+        rest = &rest[end + 2..];
     }
     longer_ranges(spans, rest)
 }

@@ -235,14 +235,14 @@ text_to bs ls d (suc i) few long less_so digits apart within =
       some = omega (arith, some);
     }
 
-pub number_text : (bs ls : List ℕ) (d : ℕ) → d ≤ 16 → 16 ≤ length bs → AreLessZero ls bs → AreDigits ls d → (get_or bs 0 0 ≡ 48 → ⊥) → (d ≡ 0 → ⊥) → take d bs ≡ decimal (number_of ls d)
-number_text bs ls zero few long less_so digits apart some = absurd (some refl)
+pub number_text : (bs ls : List ℕ) (d : ℕ) → d ≤ 16 → 16 ≤ length bs → AreLessZero ls bs → AreDigits ls d → (get_or bs 0 0 ≡ 48 → ⊥) → 0 < number_of ls d → take d bs ≡ decimal (number_of ls d)
+number_text bs ls zero few long less_so digits apart some = absurd (omega (arith, some))
 number_text bs ls (suc i) few long less_so digits apart some = (text_to bs ls (suc i) i few long less_so digits apart (omega arith)).is
 
-pub short_is : (bs ls : List ℕ) (d n : ℕ) → d ≤ 16 → 16 ≤ length bs → AreLessZero ls bs → AreDigits ls d → (get_or bs 0 0 ≡ 48 → ⊥) → (d ≡ 0 → ⊥) → n ≡ number_of ls d → IsShort bs n d
-short_is bs ls d n few long less_so digits apart some is =
+pub short_is : (bs ls : List ℕ) (d n : ℕ) → d ≤ 16 → 16 ≤ length bs → AreLessZero ls bs → AreDigits ls d → (get_or bs 0 0 ≡ 48 → ⊥) → n ≡ number_of ls d → IsShort bs n d
+short_is bs ls d n few long less_so digits apart is =
     record {
-      is_text = number_text bs ls d few long less_so digits apart some ∙ ap decimal (sym is);
+      is_text = λ some. number_text bs ls d few long less_so digits apart (omega (arith, some, is)) ∙ ap decimal (sym is);
       few = few;
       small = let below : number_of ls d < 10 ^ 16 = below_digits (number_of ls d) d 16 (number_small ls d digits) few in omega (arith, below, is);
     }

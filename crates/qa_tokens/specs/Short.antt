@@ -29,8 +29,14 @@ in_pairs b (x ∷ y ∷ xs) = (x * b + y) ∷ in_pairs b xs
 abbrev pub sixteen_value : List ℕ → ℕ
 sixteen_value lanes = get_or (in_pairs 100000000 (in_pairs 10000 (in_pairs 100 (in_pairs 10 lanes)))) 0 0
 
--- the first so many bytes are the digits of this number
+-- the first so many bytes are the digits of this number, where it is not zero
 pub record IsShort (bytes : List ℕ) (n digits : ℕ) : Type 0 where
-  pub is_text : take digits bytes ≡ decimal n
+  pub is_text : 0 < n → take digits bytes ≡ decimal n
   pub few : digits ≤ 16
   pub small : n < 10 ^ 16
+
+-- the number is the two bytes at this place
+pub record AreTwoCodes (bytes : List ℕ) (place codes : ℕ) : Type 0 where
+  pub are : codes ≡ get_or bytes place 0 + 256 * get_or bytes (place + 1) 0
+  pub first : get_or bytes place 0 < 256
+  pub second : get_or bytes (place + 1) 0 < 256

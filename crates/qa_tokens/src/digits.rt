@@ -151,8 +151,8 @@ fn short_digits(bytes: &[u8]) -> Option<(u64, &[u8])>
         return None;
     }
     let (n, i) = short_integer(bytes)?;
-    // Behind sixteen there may be more.
-    if i == SHORT {
+    // Behind sixteen there may be more, and zero says that there is none.
+    if n == 0 || i == SHORT {
         return None;
     }
     Some((n, &bytes[i..]))

@@ -10,7 +10,7 @@ mod short;
 mod tokens;
 mod words;
 
-pub use short::short_integer;
+pub use short::{short_integer, two_codes};
 pub use tokens::{
     begin_array, begin_object, boolean, colon, comma, end_array, end_object, integer, null,
     open_boolean, open_integer, string,

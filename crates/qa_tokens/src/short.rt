@@ -1,6 +1,6 @@
 //! Integers of at most sixteen digits, read by vectors of sixteen bytes.
-ghost use Rattle.std.specs.Prelude.{◌≡◌, ◌≤◌, ◌<◌, ◌^◌, length, take, decimal, IfSome};
-ghost use Rattle.qa_tokens.specs.Short.{AreLessZero, AreDigits, AllBelow, IsShort, in_pairs, number_of, sixteen_value};
+ghost use Rattle.std.specs.Prelude.{◌≡◌, ◌+◌, ◌≤◌, ◌<◌, ◌^◌, length, take, decimal, IfSome};
+ghost use Rattle.qa_tokens.specs.Short.{AreLessZero, AreDigits, AreTwoCodes, AllBelow, IsShort, in_pairs, number_of, sixteen_value};
 
 use std::simd::prelude::*;
 
@@ -90,7 +90,7 @@ fn value(digits: u8x16) -> u64
 }
 
 /// An integer of at most sixteen digits that the bytes begin with, and how many digits it has: behind sixteen there may be
-/// more. None where the first is zero, or no digit.
+/// more. Zero where the first byte is no digit; None where that is a zero.
 #[inline(always)]
 pub fn short_integer(bytes: &[u8]) -> Option<(u64, usize)>
     requires { 16 ≤ length bytes.now }
@@ -101,8 +101,14 @@ pub fn short_integer(bytes: &[u8]) -> Option<(u64, usize)>
     }
     let lanes = less_zero(bytes);
     let digits = digits_ahead(lanes);
-    if digits == 0 {
-        return None;
-    }
     Some((value(aligned(lanes, digits)), digits))
+}
+
+/// The two bytes at a place as one number, the first of them its lower byte.
+#[inline(always)]
+pub fn two_codes(bytes: &[u8], place: usize) -> u16
+    requires { place + 2 ≤ length bytes.now }
+    ensures { AreTwoCodes bytes.now place result }
+{
+    u16x1::from_le_bytes(u8x2::from_slice(&bytes[place..])).to_array()[0]
 }
