@@ -1,14 +1,14 @@
 -- Lanes of a vector as the digits of an integer.
-use Rattle.std.proofs.Common.{◌≡◌, ◌∙◌, ℕ, zero, suc, ◌+◌, ◌-◌, ◌*◌, ◌/◌, ◌%◌, ◌^◌, ◌<◌, ◌≤◌, Bool, true, false, cond, leb, ltb, T, List, [], ◌∷◌, ◌++◌, map, length, get_or, take, drop, replicate, get_or-take, length-take, length-drop, get_or-drop, drop-drop, take-append-drop, decimal, refl, sym, ap, subst, arith, inl, inr, pow-suc, rules, w8, w64, max, div-lt_iff_lt-mul, div-add-mod'}
+use Rattle.std.proofs.Common.{◌≡◌, ◌∙◌, ℕ, zero, suc, ◌+◌, ◌-◌, ◌*◌, ◌/◌, ◌%◌, ◌^◌, ◌<◌, ◌≤◌, Bool, true, false, cond, leb, ltb, T, List, [], ◌∷◌, ◌++◌, map, length, get_or, take, drop, replicate, get_or-take, length-take, length-drop, get_or-drop, drop-drop, take-append-drop, decimal, refl, sym, ap, subst, arith, inl, inr, pow-suc, rules, w8, w64, max, div-lt_iff_lt-mul, div-add-mod', take_all}
 use Rattle.std.specs.Prelude.{⊤, bit_and, bit_or}
 use Rattle.std.specs.List.{range_with_len}
 use Rattle.std.proofs.lemmas.Bool.{cases_lt, cases_Bool, leb-false}
-use Rattle.std.proofs.lemmas.List.{ext_get_or, get_or-map, length-map}
+use Rattle.std.proofs.lemmas.List.{ext_get_or, get_or-map, get_or_past, length-map}
 use Rattle.std.proofs.lemmas.List.FromFn.{length-map-range_with_len, get_or-map-range_with_len}
 use Rattle.std.proofs.lemmas.Nat.{and_mask, or_lt}
 use Rattle.std.specs.Int.{bit_at}
 use Rattle.std.proofs.lemmas.Nat.Bits.{bit_at_or, bit_at-lt, bit_at-trailing_zeros}
-use Rattle.std.proofs.lemmas.Simd.{swz_l, SwzOk, tops_compared, zip2_splat_left, mask_l-mod, bit_mask_l, get_or-zip2, get_or-replicate}
+use Rattle.std.proofs.lemmas.Simd.{swz_l, SwzOk, tops_compared, zip2_splat_left, mask_l-mod, bit_mask_l, length-zip2, length-swz_l, get_or-zip2, get_or-replicate}
 use lib.Lanes.{number_l, digits_l, chunk, zip2, top, mask_l}
 use lib.Count.{count_trailing_zeros}
 use Rattle.qa_tokens.proofs.Numerals.{first_digit, digit_then, digit_more, below_digits}
@@ -156,12 +156,14 @@ moved_digits lanes d long few =
 abbrev minus : ℕ → ℕ → ℕ
 minus a b = (a + (256 - b)) % 256
 
-pub less : (bs : List ℕ) (j : ℕ) → 16 ≤ length bs → j < 16 → get_or bs j 0 < 256 → get_or (zip2 minus (take 16 bs) (replicate 16 48)) j 0 < 10 → get_or bs j 0 ≡ get_or (zip2 minus (take 16 bs) (replicate 16 48)) j 0 + 48
+pub less : (bs : List ℕ) (j : ℕ) → length bs ≡ 16 → j < 16 → get_or bs j 0 < 256 → get_or (zip2 minus bs (replicate 16 48)) j 0 < 10 → get_or bs j 0 ≡ get_or (zip2 minus bs (replicate 16 48)) j 0 + 48
 less bs j long within byte small =
-    let is : get_or (zip2 minus (take 16 bs) (replicate 16 48)) j 0 ≡ minus (get_or bs j 0) 48 =
-    get_or-zip2 minus (take 16 bs) (replicate 16 48) j 0 0 0 (omega (arith, length-take 16 bs)) within
-    ∙ (λ i. minus (get_or-take 16 bs j 0 within i) (get_or-replicate 16 j 48 0 within i)) in
+    let is : get_or (zip2 minus bs (replicate 16 48)) j 0 ≡ minus (get_or bs j 0) 48 =
+    get_or-zip2 minus bs (replicate 16 48) j 0 0 0 (omega (arith, long, within)) within ∙ ap (minus (get_or bs j 0)) (get_or-replicate 16 j 48 0 within) in
     omega (arith, is, small, byte)
+
+pub less_long : (bs : List ℕ) → length bs ≡ 16 → length (zip2 minus bs (replicate 16 48)) ≡ 16
+less_long bs long = length-zip2 minus bs (replicate 16 48) long ∙ long
 
 -- ---- how many digits come first
 
@@ -246,3 +248,77 @@ short_is bs ls d n few long less_so digits apart is =
       few = few;
       small = let below : number_of ls d < 10 ^ 16 = below_digits (number_of ls d) d 16 (number_small ls d digits) few in omega (arith, below, is);
     }
+
+-- ---- bytes behind a place
+
+abbrev shifts : List ℕ
+shifts = 0 ∷ 1 ∷ 2 ∷ 3 ∷ 4 ∷ 5 ∷ 6 ∷ 7 ∷ 8 ∷ 9 ∷ 10 ∷ 11 ∷ 12 ∷ 13 ∷ 14 ∷ 15 ∷ 128 ∷ 128 ∷ 128 ∷ 128 ∷ 128 ∷ 128 ∷ 128 ∷ 128 ∷ 128 ∷ 128 ∷ 128 ∷ 128 ∷ 128 ∷ 128 ∷ 128 ∷ 128 ∷ []
+
+abbrev shifts_of : ℕ → List ℕ
+shifts_of k = chunk 0 16 (take (32 - k) (drop k shifts))
+
+pub shifts_ok : (k : ℕ) → k ≤ 16 → SwzOk w8 16 16 0 (shifts_of k)
+shifts_ok k few = each (λ m. SwzOk w8 16 16 0 (shifts_of m)) 17 k
+    (search rules, (search rules, (search rules, (search rules, (search rules, (search rules, (search rules, (search rules, (search rules, (search rules, (search rules, (search rules, (search rules, (search rules, (search rules, (search rules, (search rules, tt))))))))))))))))) (omega arith)
+
+abbrev shifted : List ℕ → ℕ → List ℕ
+shifted lanes k = swz_l w8 16 lanes 0 (shifts_of k)
+
+shifted_is : (lanes : List ℕ) (k j : ℕ) → length lanes ≡ 16 → k ≤ 16 → j < 16 → get_or (shifted lanes k) j 0 ≡ get_or lanes (k + j) 0
+shifted_is lanes k j long few within =
+    spelled (λ l. get_or (shifted l k) j 0 ≡ get_or l (k + j) 0) 16
+    (λ f. each (λ n. get_or (shifted (listed f 16) k) n 0 ≡ get_or (listed f 16) (k + n) 0) 16 j
+    (each (λ m. Each (λ n. get_or (shifted (listed f 16) m) n 0 ≡ get_or (listed f 16) (m + n) 0) 16) 17 k
+    ((refl, (refl, (refl, (refl, (refl, (refl, (refl, (refl, (refl, (refl, (refl, (refl, (refl, (refl, (refl, (refl, tt)))))))))))))))), ((refl, (refl, (refl, (refl, (refl, (refl, (refl, (refl, (refl, (refl, (refl, (refl, (refl, (refl, (refl, (refl, tt)))))))))))))))), ((refl, (refl, (refl, (refl, (refl, (refl, (refl, (refl, (refl, (refl, (refl, (refl, (refl, (refl, (refl, (refl, tt)))))))))))))))), ((refl, (refl, (refl, (refl, (refl, (refl, (refl, (refl, (refl, (refl, (refl, (refl, (refl, (refl, (refl, (refl, tt)))))))))))))))), ((refl, (refl, (refl, (refl, (refl, (refl, (refl, (refl, (refl, (refl, (refl, (refl, (refl, (refl, (refl, (refl, tt)))))))))))))))), ((refl, (refl, (refl, (refl, (refl, (refl, (refl, (refl, (refl, (refl, (refl, (refl, (refl, (refl, (refl, (refl, tt)))))))))))))))), ((refl, (refl, (refl, (refl, (refl, (refl, (refl, (refl, (refl, (refl, (refl, (refl, (refl, (refl, (refl, (refl, tt)))))))))))))))), ((refl, (refl, (refl, (refl, (refl, (refl, (refl, (refl, (refl, (refl, (refl, (refl, (refl, (refl, (refl, (refl, tt)))))))))))))))), ((refl, (refl, (refl, (refl, (refl, (refl, (refl, (refl, (refl, (refl, (refl, (refl, (refl, (refl, (refl, (refl, tt)))))))))))))))), ((refl, (refl, (refl, (refl, (refl, (refl, (refl, (refl, (refl, (refl, (refl, (refl, (refl, (refl, (refl, (refl, tt)))))))))))))))), ((refl, (refl, (refl, (refl, (refl, (refl, (refl, (refl, (refl, (refl, (refl, (refl, (refl, (refl, (refl, (refl, tt)))))))))))))))), ((refl, (refl, (refl, (refl, (refl, (refl, (refl, (refl, (refl, (refl, (refl, (refl, (refl, (refl, (refl, (refl, tt)))))))))))))))), ((refl, (refl, (refl, (refl, (refl, (refl, (refl, (refl, (refl, (refl, (refl, (refl, (refl, (refl, (refl, (refl, tt)))))))))))))))), ((refl, (refl, (refl, (refl, (refl, (refl, (refl, (refl, (refl, (refl, (refl, (refl, (refl, (refl, (refl, (refl, tt)))))))))))))))), ((refl, (refl, (refl, (refl, (refl, (refl, (refl, (refl, (refl, (refl, (refl, (refl, (refl, (refl, (refl, (refl, tt)))))))))))))))), ((refl, (refl, (refl, (refl, (refl, (refl, (refl, (refl, (refl, (refl, (refl, (refl, (refl, (refl, (refl, (refl, tt)))))))))))))))), ((refl, (refl, (refl, (refl, (refl, (refl, (refl, (refl, (refl, (refl, (refl, (refl, (refl, (refl, (refl, (refl, tt)))))))))))))))), tt))))))))))))))))) (omega arith)) within) lanes long
+
+pub shifted_long : (lanes : List ℕ) (k : ℕ) → k ≤ 16 → length (shifted lanes k) ≡ 16
+shifted_long lanes k few =
+    length-swz_l w8 16 lanes 0 (shifts_of k) ∙ each (λ m. length (shifts_of m) ≡ 16) 17 k
+    (refl, (refl, (refl, (refl, (refl, (refl, (refl, (refl, (refl, (refl, (refl, (refl, (refl, (refl, (refl, (refl, (refl, tt))))))))))))))))) (omega arith)
+
+pub sixteen_is : (bs : List ℕ) (place j : ℕ) → 16 ≤ length bs → place ≤ length bs → length bs ≤ place + 16 → j < 16
+    → get_or (shifted (take 16 (drop (length bs - 16) bs)) (place - (length bs - 16))) j 0 ≡ get_or bs (place + j) 0
+sixteen_is bs place j long inside near within =
+    let start : ℕ = length bs - 16 in
+    let end : List ℕ = drop start bs in
+    let whole : take 16 end ≡ end = take_all 16 end (omega (arith, length-drop start bs, long)) in
+    let at : start + (place - start + j) ≡ place + j = omega (arith, near, long, inside) in
+    ap (λ l. get_or (shifted l (place - start)) j 0) whole
+    ∙ shifted_is end (place - start) j (omega (arith, length-drop start bs, long)) (omega (arith, inside, near, long)) within
+    ∙ get_or-drop start bs (place - start + j) 0 ∙ ap (λ k. get_or bs k 0) at
+
+-- digits that are found among sixteen bytes are found in the bytes that these are
+pub late_is : (bs codes : List ℕ) (place n d : ℕ) → length codes ≡ 16 → place < length bs → length bs ≤ place + 15 → ((j : ℕ) → j < 16 → get_or codes j 0 ≡ get_or bs (place + j) 0)
+    → IsShort codes n d → ((j : ℕ) → j < d → 48 ≤ get_or codes j 0) → 0 < n → (place + d ≤ length bs) × (take d (drop place bs) ≡ decimal n)
+late_is bs codes place n d long inside near same short digits some =
+    let rest : List ℕ = drop place bs in
+    let room : ℕ = length bs - place in
+    let few : d ≤ room = elim (cases_lt room d) [
+      | inl a ↦
+          let high : 48 ≤ get_or codes room 0 = digits room a in
+          let is : get_or codes room 0 ≡ get_or bs (place + room) 0 = same room (omega (arith, a, short.few, near, inside)) in
+          let none : get_or bs (place + room) 0 ≡ 0 = get_or_past bs (place + room) 0 (omega (arith, inside)) in
+          absurd (omega (arith, high, is, none))
+      | inr a ↦ a
+    ] in
+    let equal : take d rest ≡ take d codes =
+    ext_get_or 0 (take d rest) (take d codes) (length-take d rest ∙ omega (arith, few, length-drop place bs, short.few, long) ∙ sym (length-take d codes))
+    (λ i l.
+    let below : i < d = omega (arith, l, length-take d rest) in
+    get_or-take d rest i 0 below ∙ get_or-drop place bs i 0 ∙ sym (same i (omega (arith, below, short.few))) ∙ sym (get_or-take d codes i 0 below)) in
+    (omega (arith, few, inside), equal ∙ short.is_text some)
+
+pub late_rest : (bs : List ℕ) (place n d : ℕ) → place + d ≤ length bs → take d (drop place bs) ≡ decimal n → drop place bs ≡ decimal n ++ take (length bs - (place + d)) (drop (place + d) bs)
+late_rest bs place n d within is_text =
+    let behind : drop d (drop place bs) ≡ take (length bs - (place + d)) (drop (place + d) bs) = drop-drop d place bs ∙ sym (take_all (length bs - (place + d)) (drop (place + d) bs) (omega (arith, length-drop (place + d) bs))) in
+    sym (take-append-drop d (drop place bs)) ∙ (λ i. is_text i ++ behind i)
+
+-- what sixteen bytes begin with is what the bytes do that they are of
+pub short_of_more : (bs : List ℕ) (n d : ℕ) → 16 ≤ length bs → IsShort (take 16 bs) n d → IsShort bs n d
+short_of_more bs n d long short =
+    let equal : take d (take 16 bs) ≡ take d bs =
+    ext_get_or 0 (take d (take 16 bs)) (take d bs) (omega (arith, length-take d (take 16 bs), length-take d bs, length-take 16 bs, short.few, long))
+    (λ i l.
+    let below : i < d = omega (arith, l, length-take d (take 16 bs)) in
+    get_or-take d (take 16 bs) i 0 below ∙ get_or-take 16 bs i 0 (omega (arith, below, short.few)) ∙ sym (get_or-take d bs i 0 below)) in
+    record { is_text = λ some. sym equal ∙ short.is_text some; few = short.few; small = short.small }

@@ -1,8 +1,8 @@
 //! The digits of an integer, eight at a time.
-ghost use Rattle.std.specs.Prelude.{◌≡◌, ◌≤◌, ◌<◌, ◌^◌, ◌&&◌, nat_le, get_or, length, take, ◌++◌, true, decimal, IfSome, List, ℕ};
+ghost use Rattle.std.specs.Prelude.{◌≡◌, ◌≤◌, ◌<◌, ◌^◌, ◌&&◌, nat_le, get_or, length, take, drop, ◌++◌, true, decimal, IfSome, List, ℕ};
 ghost use Rattle.qa_tokens.specs.Digits.{IsFront, IsWord, AreEightDigits, IsEightValue};
 
-use crate::short::short_integer;
+use crate::short::{late_integer, short_integer};
 use std::simd::prelude::*;
 
 /// An integer of so many digits has room in 64 bits.
@@ -158,7 +158,34 @@ fn short_digits(bytes: &[u8]) -> Option<(u64, &[u8])>
     Some((n, &bytes[i..]))
 }
 
-/// The same, however many there are.
+/// The digits of an integer that begins at a place, and what follows them.
+#[inline(always)]
+pub fn digits_at(bytes: &[u8], place: usize) -> Option<(u64, &[u8])>
+    requires { place ≤ length bytes.now }
+    ensures { IfSome result (λ found. (drop place bytes.now ≡ decimal found.0 ++ found.1.now)
+        × (found.0 < 2 ^ 64)) }
+{
+    if let Some(found) = late_digits(bytes, place) {
+        return Some(found);
+    }
+    digits(&bytes[place..])
+}
+
+/// The same, where fewer bytes follow the place than a vector has, and with those before it they are as many.
+#[inline(always)]
+fn late_digits(bytes: &[u8], place: usize) -> Option<(u64, &[u8])>
+    requires { place ≤ length bytes.now }
+    ensures { IfSome result (λ found. (drop place bytes.now ≡ decimal found.0 ++ found.1.now)
+        × (found.0 < 2 ^ 64)) }
+{
+    let left = bytes.len() - place;
+    if bytes.len() < SHORT || SHORT <= left || left == 0 {
+        return None;
+    }
+    late_integer(bytes, place)
+}
+
+/// The digits of an integer and what follows them, however many there are.
 #[inline(always)]
 fn any_digits(bytes: &[u8]) -> Option<(u64, &[u8])>
     ensures { IfSome result (λ found. (bytes.now ≡ decimal found.0 ++ found.1.now)

@@ -1,5 +1,5 @@
 //! Integers of at most sixteen digits, read by vectors of sixteen bytes.
-ghost use Rattle.std.specs.Prelude.{◌≡◌, ◌+◌, ◌≤◌, ◌<◌, ◌^◌, length, take, decimal, IfSome};
+ghost use Rattle.std.specs.Prelude.{◌≡◌, ◌+◌, ◌≤◌, ◌<◌, ◌^◌, ◌++◌, ℕ, get_or, length, drop, decimal, IfSome};
 ghost use Rattle.qa_tokens.specs.Short.{AreLessZero, AreDigits, AreTwoCodes, AllBelow, IsShort, in_pairs, number_of, sixteen_value};
 
 use std::simd::prelude::*;
@@ -10,17 +10,35 @@ static PLACES: [u8; 32] = [
     5, 6, 7, 8, 9, 10, 11, 12, 13, 14, 15,
 ];
 
+/// Where the lanes of a vector stand, with sixteen places behind them of lanes that are to be zero.
+static SHIFTS: [u8; 32] = [
+    0, 1, 2, 3, 4, 5, 6, 7, 8, 9, 10, 11, 12, 13, 14, 15, 128, 128, 128, 128, 128, 128, 128, 128,
+    128, 128, 128, 128, 128, 128, 128, 128,
+];
+
 /// What the first of two numbers of eight digits is multiplied by, to make one of sixteen.
 const EIGHT_DIGITS: u64 = 100_000_000;
 
-/// The first sixteen bytes, each less the digit zero, so that digits alone are below ten.
+/// The bytes from a place on as sixteen lanes, with zeros behind them where they are fewer.
 #[inline(always)]
-fn less_zero(bytes: &[u8]) -> u8x16
-    requires { 16 ≤ length bytes.now }
+fn sixteen_from(bytes: &[u8], place: usize) -> u8x16
+    requires long { 16 ≤ length bytes.now }
+    requires near { (place ≤ length bytes.now) × (length bytes.now ≤ place + 16) }
     ensures long { length result ≡ 16 }
-    ensures digits { AreLessZero result bytes.now }
+    ensures places { (j : ℕ) → j < 16 → get_or result j 0 ≡ get_or bytes.now (place + j) 0 }
 {
-    u8x16::from_slice(bytes) - u8x16::splat(b'0')
+    let start = bytes.len() - 16;
+    let all = u8x16::from_slice(&bytes[start..]);
+    all.swizzle_dyn(u8x16::from_slice(&SHIFTS[place - start..]))
+}
+
+/// The sixteen bytes, each less the digit zero, so that digits alone are below ten.
+#[inline(always)]
+fn less_zero(bytes: u8x16) -> u8x16
+    ensures long { length result ≡ 16 }
+    ensures digits { AreLessZero result bytes }
+{
+    bytes - u8x16::splat(b'0')
 }
 
 /// How many digits the lanes begin with.
@@ -89,6 +107,18 @@ fn value(digits: u8x16) -> u64
     halves[0] * EIGHT_DIGITS + halves[1]
 }
 
+/// The integer that the sixteen bytes begin with, and how many digits it has. Zero where the first byte is no digit.
+#[inline(always)]
+fn number_ahead(bytes: u8x16) -> (u64, usize)
+    requires { get_or bytes 0 0 ≡ 48 → ⊥ }
+    ensures short { IsShort bytes result.0 result.1 }
+    ensures digits { (j : ℕ) → j < result.1 → 48 ≤ get_or bytes j 0 }
+{
+    let lanes = less_zero(bytes);
+    let digits = digits_ahead(lanes);
+    (value(aligned(lanes, digits)), digits)
+}
+
 /// An integer of at most sixteen digits that the bytes begin with, and how many digits it has: behind sixteen there may be
 /// more. Zero where the first byte is no digit; None where that is a zero.
 #[inline(always)]
@@ -99,9 +129,24 @@ pub fn short_integer(bytes: &[u8]) -> Option<(u64, usize)>
     if bytes[0] == b'0' {
         return None;
     }
-    let lanes = less_zero(bytes);
-    let digits = digits_ahead(lanes);
-    Some((value(aligned(lanes, digits)), digits))
+    Some(number_ahead(u8x16::from_slice(bytes)))
+}
+
+/// An integer that begins at a place, at most fifteen bytes before the end, and what follows it. Zero is left to others.
+#[inline(always)]
+pub fn late_integer(bytes: &[u8], place: usize) -> Option<(u64, &[u8])>
+    requires long { 16 ≤ length bytes.now }
+    requires near { (place < length bytes.now) × (length bytes.now ≤ place + 15) }
+    ensures { IfSome result (λ found. (drop place bytes.now ≡ decimal found.0 ++ found.1.now) × (found.0 < 2 ^ 64)) }
+{
+    if bytes[place] == b'0' {
+        return None;
+    }
+    let (n, digits) = number_ahead(sixteen_from(bytes, place));
+    if n == 0 {
+        return None;
+    }
+    Some((n, &bytes[place + digits..]))
 }
 
 /// The two bytes at a place as one number, the first of them its lower byte.

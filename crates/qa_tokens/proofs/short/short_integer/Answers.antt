@@ -1,8 +1,9 @@
-use Rattle.std.proofs.Common.{◌∙◌}
-use Rattle.qa_tokens.proofs.Lanes.{short_is}
+use Rattle.std.proofs.Common.{◌∙◌, sym, get_or-take, arith}
+use Rattle.qa_tokens.proofs.Lanes.{short_of_more}
 use Rattle.qa_tokens.proofs.short.short_integer.Goals as goal
 
+pub number_ahead-requires : goal.number_ahead-requires
+number_ahead-requires c is = c.if-bytes-eq48.false (sym (get_or-take 16 c.args.bytes.now 0 0 (omega arith)) ∙ is)
+
 pub returns : goal.returns
-returns c =
-    short_is c.args.bytes.now c.less_zero-lanes.result c.digits_ahead-digits.result _ c.digits_ahead-digits.ensures.few c.requires c.less_zero-lanes.ensures.digits c.digits_ahead-digits.ensures.digits
-    c.if-bytes-eq48.false (c.value.ensures ∙ c.aligned.ensures.value)
+returns c = short_of_more c.args.bytes.now _ _ c.requires c.number_ahead.ensures.short
