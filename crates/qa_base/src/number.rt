@@ -199,7 +199,15 @@ impl Spans {
         }
     }
 
+    /// Makes room for so many spans more. `AllocError` comes where it is out of memory. The list stays as it is.
+    pub fn reserve(&mut self, additional: usize) -> Result<(), AllocError>
+        ensures { self.new ≡ self.old }
+    {
+        self.items.reserve(additional)
+    }
+
     /// Puts a span at the end. `AllocError` comes where it is out of memory, and leaves the list as it was.
+    #[inline(always)]
     pub fn push(&mut self, span: Span) -> Result<(), AllocError>
         ensures ok { OnOk result (self.new ≡ self.old ++ span ∷ []) }
         ensures err { OnErr result (self.new ≡ self.old) }

@@ -1,5 +1,5 @@
 -- What is found of a list of ranges.
-use Rattle.std.specs.Prelude.{◌≡◌, ◌++◌, ◌∷◌, [], ℕ, List, true, false}
+use Rattle.std.specs.Prelude.{◌≡◌, ◌<◌, ◌≤◌, ◌^◌, ◌++◌, ◌∷◌, [], ℕ, List, true, false, drop, decimal}
 use Rattle.std.specs.List.{AllByRecursion}
 use Rattle.std.specs.Str.{IsUtf8}
 use Rattle.json.specs.Lex.{Lexeme, between, lex}
@@ -37,3 +37,10 @@ pub record FollowsRanges (ranges : Spans) (bytes rest : List ℕ) : Type 0 where
   pub utf8 : IsUtf8 rest → IsUtf8 bytes
   pub lexes : (range : ℕ × ℕ) (more : Spans) (behind : List Lexeme) → lex between rest ≡ items_lexemes false (items_outline (integer_pairs (range ∷ more))) ++ behind
       → lex between bytes ≡ lexemes (outline (ranges_data (ranges ++ range ∷ more))) ++ behind
+
+-- the bytes are the bracket that opens a range, its two numbers in order with a comma between them, and what stands at the end
+pub record IsShortRange (bytes : List ℕ) (lo hi end : ℕ) : Type 0 where
+  pub is : bytes ≡ 91 ∷ (decimal lo ++ 44 ∷ (decimal hi ++ drop end bytes))
+  pub ordered : lo ≤ hi
+  pub small : hi < 10 ^ 16
+  pub near : end ≤ 34

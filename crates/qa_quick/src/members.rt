@@ -7,7 +7,7 @@ use crate::found::Found;
 use crate::ranges::exact_ranges;
 use qa_base::{LineKind, Spans};
 use qa_format::Line;
-use qa_tokens::{after, is_last, open_boolean, open_integer};
+use qa_tokens::{after, is_last, open_boolean, open_integer, open_integer_at};
 use std::alloc::Global;
 
 impl Found {
@@ -16,7 +16,8 @@ impl Found {
     pub fn time_next<'a>(&mut self, bytes: &'a [u8]) -> Option<&'a [u8]>
         ensures { IfSome result (λ rest. Continues self.old self.new bytes.now rest.now) }
     {
-        let (value, rest) = open_integer(after(bytes, b",\"time\":")?)?;
+        after(bytes, b",\"time\":")?;
+        let (value, rest) = open_integer_at(bytes, 8)?;
         self.time = Some(value);
         Some(rest)
     }

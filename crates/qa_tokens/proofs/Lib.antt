@@ -3,3 +3,4 @@ pub mod Matching
 pub mod Numerals
 pub mod Tops
 pub mod Lexing
+pub mod Lanes

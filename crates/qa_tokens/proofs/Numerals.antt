@@ -48,7 +48,7 @@ pub digit_is : (x : ℕ) (b : Bool) → b ≡ (nat_le 48 x && nat_le x 57) → b
 digit_is x b tests is = let parts = and_parts _ _ (sym tests ∙ is) in (leb-true 48 x parts.0, leb-true x 57 parts.1)
 
 -- one digit more, read as its byte
-digit_then : (bs : List ℕ) (i j n x m : ℕ) → take i bs ≡ decimal n → j ≡ i + 1 → i < length bs → 0 < n → n < 1000000000000000000 → x ≡ get_or bs i 0 → (48 ≤ x) × (x ≤ 57)
+pub digit_then : (bs : List ℕ) (i j n x m : ℕ) → take i bs ≡ decimal n → j ≡ i + 1 → i < length bs → 0 < n → n < 1000000000000000000 → x ≡ get_or bs i 0 → (48 ≤ x) × (x ≤ 57)
     → m + 48 ≡ n * 10 + x → take j bs ≡ decimal m
 digit_then bs i j n x m is_text next within some small is digit sum =
     let last : get_or bs i 0 ≡ x = sym is in

@@ -1,11 +1,15 @@
 //! The digits of an integer, eight at a time.
-ghost use Rattle.std.specs.Prelude.{◌≡◌, ◌≤◌, ◌<◌, ◌^◌, ◌&&◌, nat_le, get_or, length, take, ◌++◌, true, decimal, IfSome, List, ℕ};
+ghost use Rattle.std.specs.Prelude.{◌≡◌, ◌≤◌, ◌<◌, ◌^◌, ◌&&◌, nat_le, get_or, length, take, drop, ◌++◌, true, decimal, IfSome, List, ℕ};
 ghost use Rattle.qa_tokens.specs.Digits.{IsFront, IsWord, AreEightDigits, IsEightValue};
 
+use crate::short::{late_integer, short_integer};
 use std::simd::prelude::*;
 
 /// An integer of so many digits has room in 64 bits.
 const DIGITS: usize = 19;
+
+/// A short integer has at most so many digits, and so many bytes are looked at for it.
+const SHORT: usize = 16;
 
 /// The byte of the digit zero, as wide as the integer that is read.
 const ZERO: u64 = 48;
@@ -128,6 +132,62 @@ fn first_digits(bytes: &[u8]) -> (usize, u64)
 /// The digits of an integer, and what follows them. Of more than 19 digits some are left.
 #[inline(always)]
 pub fn digits(bytes: &[u8]) -> Option<(u64, &[u8])>
+    ensures { IfSome result (λ found. (bytes.now ≡ decimal found.0 ++ found.1.now)
+        × (found.0 < 2 ^ 64)) }
+{
+    if let Some(found) = short_digits(bytes) {
+        return Some(found);
+    }
+    any_digits(bytes)
+}
+
+/// The same, where these are fewer than sixteen and no zero stands first, and with what follows they are sixteen bytes.
+#[inline(always)]
+fn short_digits(bytes: &[u8]) -> Option<(u64, &[u8])>
+    ensures { IfSome result (λ found. (bytes.now ≡ decimal found.0 ++ found.1.now)
+        × (found.0 < 2 ^ 64)) }
+{
+    if bytes.len() < SHORT {
+        return None;
+    }
+    let (n, i) = short_integer(bytes)?;
+    // Behind sixteen there may be more, and zero says that there is none.
+    if n == 0 || i == SHORT {
+        return None;
+    }
+    Some((n, &bytes[i..]))
+}
+
+/// The digits of an integer that begins at a place, and what follows them.
+#[inline(always)]
+pub fn digits_at(bytes: &[u8], place: usize) -> Option<(u64, &[u8])>
+    requires { place ≤ length bytes.now }
+    ensures { IfSome result (λ found. (drop place bytes.now ≡ decimal found.0 ++ found.1.now)
+        × (found.0 < 2 ^ 64)) }
+{
+    if let Some(found) = late_digits(bytes, place) {
+        return Some(found);
+    }
+    digits(&bytes[place..])
+}
+
+/// The same, where fewer bytes follow the place than a vector has, and with those before it they are as many.
+#[inline(always)]
+fn late_digits(bytes: &[u8], place: usize) -> Option<(u64, &[u8])>
+    requires { place ≤ length bytes.now }
+    ensures { IfSome result (λ found. (drop place bytes.now ≡ decimal found.0 ++ found.1.now)
+        × (found.0 < 2 ^ 64)) }
+{
+    let left = bytes.len() - place;
+    if bytes.len() < SHORT || SHORT <= left || left == 0 {
+        return None;
+    }
+    late_integer(bytes, place)
+}
+
+/// The digits of an integer and what follows them, however many there are.
+#[inline(always)]
+fn any_digits(bytes: &[u8]) -> Option<(u64, &[u8])>
     ensures { IfSome result (λ found. (bytes.now ≡ decimal found.0 ++ found.1.now)
         × (found.0 < 2 ^ 64)) }
 {

@@ -1,5 +1,5 @@
 //! White space, operators, integers, booleans and strings.
-ghost use Rattle.std.specs.Prelude.{◌≡◌, ◌<◌, ◌^◌, ◌++◌, ◌∷◌, [], true, decimal, IfSome};
+ghost use Rattle.std.specs.Prelude.{◌≡◌, ◌≤◌, ◌<◌, ◌^◌, ◌++◌, ◌∷◌, [], true, length, drop, decimal, IfSome};
 ghost use Rattle.std.specs.List.{list_all};
 ghost use Rattle.json.specs.Lex.{token, colon as colon_lexeme, comma as comma_lexeme};
 ghost use Rattle.json.specs.Token as tokens;
@@ -8,7 +8,7 @@ ghost use Rattle.serde_json.specs.Written.{compact_text};
 ghost use Rattle.qa_format.specs.format.Written as written;
 ghost use Rattle.qa_tokens.specs.Lexes.{Lexes, IsPast, IsQuoted, is_plain as is_plain_byte};
 
-use crate::digits::digits;
+use crate::digits::{digits, digits_at};
 use crate::words::{after, after_byte};
 
 /// White space of JSON.
@@ -167,6 +167,17 @@ pub fn open_integer(bytes: &[u8]) -> Option<(u64, &[u8])>
         → Lexes bytes.now found.1.now (token (tokens.number (decimal found.0)) ∷ []))) }
 {
     digits(bytes)
+}
+
+/// The same of an integer that begins at a place.
+#[inline(always)]
+pub fn open_integer_at(bytes: &[u8], place: usize) -> Option<(u64, &[u8])>
+    requires { place ≤ length bytes.now }
+    ensures { IfSome result (λ found. (found.0 < 2 ^ 64)
+        × (word.ends_word found.1.now ≡ true
+        → Lexes (drop place bytes.now) found.1.now (token (tokens.number (decimal found.0)) ∷ []))) }
+{
+    digits_at(bytes, place)
 }
 
 /// An integer of at most 19 digits, and what follows it.

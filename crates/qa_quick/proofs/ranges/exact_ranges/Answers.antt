@@ -1,20 +1,31 @@
-use Rattle.std.proofs.Common.{sym, subst}
-use Rattle.std.proofs.lemmas.Option.{IfSome_then}
+use Rattle.std.proofs.Common.{◌≡◌, ◌+◌, ◌-◌, ◌∙◌, List, ℕ, length, drop, take, sym, subst, ap, arith}
+use Rattle.std.proofs.lemmas.List.{take_all, length-drop}
 use Rattle.qa_quick.specs.Ranges.{Spans, FollowsRanges}
-use Rattle.qa_tokens.proofs.Lexing.{lexes_begin_array, lexes_comma, lexes_end_array}
-use Rattle.qa_quick.proofs.Listing.{ranges_begin, ranges_go_on, ranges_end}
+use Rattle.qa_tokens.proofs.Lexing.{lexes_begin_array}
+use Rattle.qa_quick.proofs.Listing.{ranges_begin, short_goes_on, short_ends}
 use Rattle.qa_quick.proofs.ranges.exact_ranges.Goals as goal
 
-pub loop-i-init : goal.loop-i-init
-loop-i-init c =
+pub loop-rest-init : goal.loop-rest-init
+loop-rest-init c =
     let P : Spans → Type 0 = λ spans. FollowsRanges spans c.args.bytes.now c.in_ok-rest.rest.now in
-    subst P (sym c.requires) (ranges_begin c.args.bytes.now c.in_ok-rest.rest.now (lexes_begin_array _ _ c.in_ok-rest.ensures))
+    subst P (sym (c.reserve.ensures ∙ c.requires)) (ranges_begin c.args.bytes.now c.in_ok-rest.rest.now (lexes_begin_array _ _ c.in_ok-rest.ensures))
 
-pub loop-i-preserved : goal.loop-i-preserved
-loop-i-preserved c =
-    ranges_go_on c.loop-i.spans c.exact_range.new.spans c.args.bytes.now c.loop-i.rest.now c.in_ok-behind.behind.now c.in-Some.more.now c.loop-i.invariant c.in_ok-behind.ensures (lexes_comma _ _ c.in-Some.ensures)
+-- what is left behind two bytes more
+left : (bs : List ℕ) (i : ℕ) → take (length bs - (i + 2)) (drop (i + 2) bs) ≡ drop (i + 1 + 1) bs
+left bs i =
+    let next : i + 2 ≡ i + 1 + 1 = omega arith in
+    take_all (length bs - (i + 2)) (drop (i + 2) bs) (omega (arith, length-drop (i + 2) bs)) ∙ ap (λ k. drop k bs) next
 
-pub returns-in_default : goal.returns-in_default
-returns-in_default c =
-    IfSome_then c.after_byte-in_default.result c.after_byte-in_default.ensures
-    (λ rest closed. ranges_end c.loop-i.spans c.exact_range.new.spans c.args.bytes.now c.loop-i.rest.now c.in_ok-behind.behind.now rest.now c.loop-i.invariant c.in_ok-behind.ensures (lexes_end_array _ _ closed))
+pub loop-rest-preserved : goal.loop-rest-preserved
+loop-rest-preserved c =
+    let rest = c.loop-rest.rest.now in
+    let found = c.in_ok-put-2.ensures in
+    short_goes_on c.loop-rest.spans c.put-in-loop-rest.new.spans c.in-Some.lo c.in-Some.hi c.in-Some.end c.two_codes-codes.result c.args.bytes.now rest _ (omega (arith, c.loop-rest-test.true))
+    c.loop-rest.invariant c.in-Some.ensures c.two_codes-codes.ensures c.if-codes-ne-ANOTHER.false found.0 found.1 (left rest c.in-Some.end)
+
+pub returns-then-codes-ne-ANOTHER : goal.returns-then-codes-ne-ANOTHER
+returns-then-codes-ne-ANOTHER c =
+    let rest = c.loop-rest.rest.now in
+    let found = c.in_ok-put.ensures in
+    short_ends c.loop-rest.spans c.put.new.spans c.in-Some.lo c.in-Some.hi c.in-Some.end c.two_codes-codes.result c.args.bytes.now rest _ (omega (arith, c.loop-rest-test.true))
+    c.loop-rest.invariant c.in-Some.ensures c.two_codes-codes.ensures c.if-codes-ne-LAST.false found.0 found.1 (left rest c.in-Some.end)

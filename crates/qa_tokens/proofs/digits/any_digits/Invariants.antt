@@ -1,5 +1,5 @@
 use Rattle.std.proofs.Common.{◌-◌, ◌≡◌, ◌<◌, ◌≤◌, ◌^◌, take, decimal}
-use Rattle.qa_tokens.proofs.digits.digits.Given as goal
+use Rattle.qa_tokens.proofs.digits.any_digits.Given as goal
 
 abbrev pub invariant-loop-i : goal.invariant-loop-i
 invariant-loop-i l = record {

@@ -1,6 +1,6 @@
 use Rattle.std.proofs.Common.{◌+◌, ◌*◌, ◌-◌, ◌∙◌, decimal, sym, ap, arith}
 use Rattle.qa_tokens.proofs.Numerals.{next_digit, number_then_rest, zero_then_rest, digit_more, below_digits}
-use Rattle.qa_tokens.proofs.digits.digits.Goals as goal
+use Rattle.qa_tokens.proofs.digits.any_digits.Goals as goal
 
 pub returns-then-first-eq-ZERO : goal.returns-then-first-eq-ZERO
 returns-then-first-eq-ZERO c = (zero_then_rest c.args.bytes.now c.in-len1-up.len_at_least (sym c.from-first.ensures ∙ c.if-first-eq-ZERO.true), omega arith)
