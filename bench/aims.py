@@ -4,10 +4,11 @@ from collections.abc import Callable
 from typing import NamedTuple
 
 from comparing import PACKETS, Row, processor
+from connections import AS_WRITTEN
 
 BYTES_OF_A_PACKET = 200
 BYTES = 8_000_000
-# Of a line, by the shape of a trace in the form `sorted`.
+# Of a line, by the name of a trace, in the form `sorted` where it is made.
 INSTRUCTIONS = {
     "steady": 1_300,
     "mixed": 1_300,
@@ -16,6 +17,10 @@ INSTRUCTIONS = {
     "32-ranges": 2_800,
     "receiver-32-bare": 4_500,
     "unacknowledged": 1_100,
+    "handshake": 1_300,
+    "quic-go-reno-loss": 1_900,
+    "ngtcp2-reno-loss": 1_900,
+    "quinn-loss": 1_900,
 }
 # Of an event that is handed to the library for C as a struct.
 NANOSECONDS_OF_AN_EVENT = 100
@@ -57,15 +62,21 @@ def is_quick(row: Row, *shapes: str) -> bool:
 
 AIMS = (
     Aim(
-        "at least 6 times as fast as serde_json: steady, mixed, receiver and unacknowledged, "
-        "sorted and format",
-        lambda it: is_quick(it, "steady", "mixed", "receiver", "unacknowledged"),
+        "at least 6 times as fast as serde_json: steady, mixed, handshake, receiver and "
+        "unacknowledged, sorted and format",
+        lambda it: is_quick(it, "steady", "mixed", "handshake", "receiver", "unacknowledged"),
         ratio,
         6,
     ),
     Aim(
         "at least 5 times as fast: 32-ranges, receiver-32 and all-lost, sorted and format",
         lambda it: is_quick(it, "32-ranges", "receiver-32", "all-lost"),
+        ratio,
+        5,
+    ),
+    Aim(
+        "at least 5 times as fast: logs of real stacks",
+        lambda it: it.form == AS_WRITTEN,
         ratio,
         5,
     ),

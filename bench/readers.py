@@ -25,13 +25,20 @@ class WrongAnswerError(Exception):
     """A program did not say of a trace what it has to say."""
 
 
+def one_file(trace: Trace) -> list[str]:
+    """A file that has all lines of a trace."""
+    return [str(trace.whole or trace.path)]
+
+
 class Reader(NamedTuple):
-    """A name, the command, to which the trace is added, and what it has to write first."""
+    """A name, the command, to which the files of the trace are added, and what it has to write
+    first."""
 
     name: str
     command: list[str]
     answer: Callable[[Trace], str]
     runs: Callable[[list[str]], Run] = run
+    files: Callable[[Trace], list[str]] = one_file
 
 
 def count_of_lines(trace: Trace) -> str:
@@ -39,9 +46,15 @@ def count_of_lines(trace: Trace) -> str:
     return f"lines {trace.lines}\n"
 
 
+def accepted(trace: Trace) -> str:
+    """What the auditor writes first: of several files it names the first one before."""
+    name = f"file {trace.path}\n" if trace.times > 1 else ""
+    return f"{name}accepted\nevents {trace.events // trace.times}\n"
+
+
 def auditor(program: str) -> Reader:
     """The auditor. It has to accept the trace with all its events."""
-    return Reader("qaudit", [program, "check"], lambda trace: f"accepted\nevents {trace.events}\n")
+    return Reader("qaudit", [program, "check"], accepted, files=lambda trace: trace.files)
 
 
 def cat() -> Reader:
@@ -92,7 +105,7 @@ def versions(crates: str) -> str:
 
 def ran(reader: Reader, trace: Trace) -> Run:
     """Runs a program over a trace, and looks at its answer."""
-    done = reader.runs([*reader.command, str(trace.path)])
+    done = reader.runs([*reader.command, *reader.files(trace)])
     if done.status != 0 or not done.text.startswith(reader.answer(trace)):
         raise WrongAnswerError(f"{reader.name}: status {done.status}, {done.text.splitlines()[:2]}")
     return done

@@ -327,6 +327,26 @@ def end_of_handshake(log: Log) -> Round:
     return [log.event(CONFIRMED), log.event(DISCARD, b"initial"), log.event(DISCARD, b"handshake")]
 
 
+# Pairs of packets of application data in a short connection.
+PAIRS_OF_A_REPLY = 10
+
+
+def short_connection(log: Log) -> Iterator[Round]:
+    """A server's connection from its first packet to the last acknowledgment of a short reply, with
+    numbers and times that begin at 0."""
+    log.until(0)
+    yield [
+        log.sent(0, space=b"initial"),
+        *(log.sent(number, space=b"handshake") for number in range(2)),
+        log.ack([(0, 0)], b"initial"),
+        log.ack([(0, 1)], b"handshake"),
+        *end_of_handshake(log),
+        *itertools.chain.from_iterable(
+            pair(log, number, 0, []) for number in range(0, 2 * PAIRS_OF_A_REPLY, 2)
+        ),
+    ]
+
+
 def no_ending(_log: Log) -> Round:
     """A trace ends behind any round."""
     return []
@@ -363,6 +383,8 @@ RECEIVERS = (
     Shape("receiver-32", receiver_32),
     Shape("receiver-32-bare", receiver_32_bare),
 )
+# One connection, which connections.py has audited again and again.
+HANDSHAKE = Shape("handshake", short_connection)
 COMPARED = (STEADY, MIXED, MANY_RANGES, UNACKNOWLEDGED, ALL_LOST, *RECEIVERS)
 
 

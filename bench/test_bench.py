@@ -14,14 +14,18 @@ from pathlib import Path
 from typing import Any
 
 import conformance_path  # noqa: F401
+import connections
 import sender
 from aims import AIMS, Aim, said_of
 from comparing import AUDITOR, PACKETS, PEER, Row, clock, processor
+from connections import AS_WRITTEN, CONNECTIONS
 from constants import METRICS
 from forms import FORMAT, FORMS, Form
+from kinds import FOREIGN, NAMES_COMPARED, compared
 from readers import MissingError, WrongAnswerError, auditor, python, ran, serde
 from shapes import (
     COMPARED,
+    HANDSHAKE,
     MANY_RANGES,
     RECEIVERS,
     SHAPES,
@@ -31,10 +35,10 @@ from shapes import (
 )
 from tables import Table
 from testing import new_folder, script
-from traces import Trace, written
+from traces import Trace, repeated, written
 from usage import Usage, run
 
-ALL_SHAPES = (*SHAPES, *COMPARED)
+ALL_SHAPES = (*SHAPES, *COMPARED, HANDSHAKE)
 PLAIN = SHAPES[0]
 EVENTS = 220
 # Of a trace in which a receiver has 32 ranges to repeat.
@@ -111,7 +115,7 @@ class Traces(unittest.TestCase):
                 )
 
     def test_sizes(self) -> None:
-        for shape in ALL_SHAPES:
+        for shape in (*SHAPES, *COMPARED):
             for least in (1, 100, EVENTS):
                 events = len(lines_of(shape, FORMAT, least)) - 1
                 self.assertTrue(least <= events < least + 20, (shape.name, least, events))
@@ -127,6 +131,14 @@ class Traces(unittest.TestCase):
             {"header", "sent", "ack", "timer", "discard", "confirmed", "keys", "metrics"},
         )
         self.assertEqual(kinds["unacknowledged"], {"header", "sent"})
+        short = [known(line) for line in lines_of(HANDSHAKE, FORMAT)]
+        self.assertEqual(
+            {it["event"] for it in short}, {"header", "sent", "ack", "confirmed", "discard"}
+        )
+        self.assertEqual(
+            {it["space"] for it in short if "space" in it}, {"initial", "handshake", "app"}
+        )
+        self.assertEqual(len(short), 39)
 
     def test_how_many_ranges(self) -> None:
         most = {
@@ -136,6 +148,37 @@ class Traces(unittest.TestCase):
         }
         self.assertEqual(
             most, {"32-ranges": 32, "receiver": 6, "receiver-32": 32, "receiver-32-bare": 32}
+        )
+
+
+class Connections(unittest.TestCase):
+    """A connection is given again and again, and the others read a file of all of them."""
+
+    def test_files(self) -> None:
+        for connection in CONNECTIONS:
+            folder, text = new_folder(self), connection.text(FORMAT)
+            trace = repeated(folder, text, 1_500)
+            self.assertEqual(trace.path.read_bytes(), text)
+            self.assertEqual(trace.files, [str(folder / "connection")] * trace.times)
+            whole = (folder / "trace").read_bytes()
+            self.assertEqual(whole, text * trace.times)
+            self.assertEqual((whole.count(b"\n"), len(whole)), (trace.lines, trace.bytes))
+            self.assertTrue(1_500 <= trace.events < 1_500 + trace.events // trace.times)
+            self.assertEqual(ran(python(), trace).text, f"lines {trace.lines}\n")
+            trace.remove()
+            self.assertEqual(list(folder.iterdir()), [])
+
+    def test_real_logs_are_accepted(self) -> None:
+        for name in FOREIGN:
+            report = (connections.REAL / f"{name}.report").read_text(encoding="ascii")
+            self.assertTrue(report.startswith("accepted\n"), name)
+
+    def test_answers(self) -> None:
+        trace = repeated(new_folder(self), b"header\none\ntwo\n", 4)
+        said = f"file {trace.path}\naccepted\nevents 2\n"
+        self.assertEqual(auditor("/program").answer(trace), said)
+        self.assertEqual(
+            auditor("/program").answer(Trace(trace.path, 2, 1)), said.split("\n", 1)[1]
         )
 
 
@@ -254,18 +297,19 @@ class Results(unittest.TestCase):
     def test_each_aim(self) -> None:
         rows = [
             row({AUDITOR: 1.0, PEER: 2.9}, shape.name, form.name)
-            for shape in COMPARED
+            for shape in (*COMPARED, HANDSHAKE)
             for form in FORMS
         ]
+        rows += [row({AUDITOR: 1.0, PEER: 2.9}, name, AS_WRITTEN) for name in FOREIGN]
         seconds = {AUDITOR: 1.0, PEER: 3.9}
         rows.append(row(seconds, "unacknowledged", "sorted", PACKETS + 1, 195_313))
         said = [said_of(aim, rows).partition(":")[0] for aim in AIMS]
-        self.assertEqual(said, ["missed"] * 6 + ["met"])
+        self.assertEqual(said, ["missed"] * 7 + ["met"])
         rows = [
             it._replace(rounds=[{AUDITOR: Usage(1, 1, 7_813), PEER: Usage(6, 6, 0)}]) for it in rows
         ]
         said = [said_of(aim, rows).partition(":")[0] for aim in AIMS]
-        self.assertEqual(said, ["met"] * 6 + ["missed"])
+        self.assertEqual(said, ["met"] * 7 + ["missed"])
 
 
 class Instructions(unittest.TestCase):
@@ -280,7 +324,7 @@ class Instructions(unittest.TestCase):
         program.chmod(0o755)
         path = f"{folder}{os.pathsep}{os.environ['PATH']}"
         with unittest.mock.patch.dict(os.environ, {"PATH": path}):
-            row: str = instructions.row("/program", PLAIN, FORMAT, 3, str(folder))
+            row: str = instructions.row("/program", PLAIN.name, FORMAT, 3, str(folder))
         return row
 
     def test_rows(self) -> None:
@@ -308,7 +352,7 @@ class Arguments(unittest.TestCase):
         given = peers.parsed([sys.executable])
         self.assertEqual(
             (given.lines, given.markdown, given.shape),
-            (200_000, False, [it.name for it in COMPARED]),
+            (200_000, False, NAMES_COMPARED),
         )
         given = peers.parsed(["--lines", "7", "--markdown", "--shape", "mixed", sys.executable])
         self.assertEqual((given.lines, given.markdown, given.shape), (7, True, ["mixed"]))
@@ -322,11 +366,13 @@ class Arguments(unittest.TestCase):
                 peers.parsed(wrong)
 
     def test_which_traces(self) -> None:
-        kinds = list(peers.kinds_of_traces([it.name for it in COMPARED], 7))
-        self.assertEqual(len(kinds), len(COMPARED) * len(FORMS) + 1)
-        self.assertEqual([least for _shape, _form, least in kinds].count(PACKETS), 1)
-        names = [form.name for _shape, form, _least in peers.kinds_of_traces(["mixed"], 7)]
+        kinds = list(compared(NAMES_COMPARED, 7))
+        made = len(NAMES_COMPARED) - len(FOREIGN)
+        self.assertEqual(len(kinds), made * len(FORMS) + len(FOREIGN) + 1)
+        self.assertEqual([kind.least for kind in kinds].count(PACKETS), 1)
+        names = [kind.form_name for kind in compared(["mixed"], 7)]
         self.assertEqual(names, [it.name for it in FORMS])
+        self.assertEqual([kind.form_name for kind in compared(FOREIGN[:1], 7)], [AS_WRITTEN])
 
 
 if __name__ == "__main__":

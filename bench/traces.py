@@ -10,16 +10,30 @@ BUFFER = 1 << 20
 
 
 class Trace(NamedTuple):
-    """The file of a trace, how many events it has, and its size."""
+    """The file of a trace, how many events it has, and its size. Of a connection that is audited
+    again and again the file has one, and all of them stand in a file for those that only read."""
 
     path: Path
     events: int
     bytes: int
+    times: int = 1
+    whole: Path | None = None
 
     @property
     def lines(self) -> int:
-        """The events and the header."""
-        return self.events + 1
+        """The events and the headers."""
+        return self.events + self.times
+
+    @property
+    def files(self) -> list[str]:
+        """What the auditor is given."""
+        return [str(self.path)] * self.times
+
+    def remove(self) -> None:
+        """Deletes the files."""
+        self.path.unlink()
+        if self.whole is not None:
+            self.whole.unlink()
 
 
 def written(path: Path, shape: Shape, least: int, form: Form = FORMAT) -> Trace:
@@ -31,3 +45,14 @@ def written(path: Path, shape: Shape, least: int, form: Form = FORMAT) -> Trace:
             file.writelines(lines)
             events += len(lines)
     return Trace(path, events, path.stat().st_size)
+
+
+def repeated(folder: Path, text: bytes, least: int) -> Trace:
+    """Writes the lines of a connection, to be audited as often as makes so many events."""
+    events = text.count(b"\n") - 1
+    times = -(-least // events)
+    path, whole = folder / "connection", folder / "trace"
+    path.write_bytes(text)
+    with whole.open("wb", buffering=BUFFER) as file:
+        file.writelines([text] * times)
+    return Trace(path, times * events, times * len(text), times, whole)
