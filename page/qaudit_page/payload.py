@@ -27,8 +27,8 @@ SHOWN_OF_LONG = 2_000
 EXACT = 2**53 - 1
 NOTHING = -1
 DIGITS = bytes(range(48, 58)) + bytes(246)
-# How well columns and lines are deflated: above this the lines cost much time, and gain little.
-LEVEL = 6
+# How well columns and lines are deflated: above this nothing is gained.
+LEVEL = 8
 
 
 @dataclass(frozen=True)
