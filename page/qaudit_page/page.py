@@ -97,10 +97,10 @@ def written(wanted: Wanted, library: str, trace: Trace, verdict: Verdict, part: 
         columns = json.dumps(payload(trace, verdict, part), separators=(",", ":"))
         data = packed(columns)
         text = lines.result()
-    style, own = resource("page.css"), script()
+    style, own, loader = resource("page.css"), script(), resource("script/load.js")
     return filled(
         resource("page.html"),
-        POLICY=policy([library, own], [style]),
+        POLICY=policy([loader, library, own], [style]),
         TITLE=html(wanted.name),
         VERDICT_TEXT=html(verdict.text),
         STYLE=style,
@@ -115,8 +115,9 @@ def written(wanted: Wanted, library: str, trace: Trace, verdict: Verdict, part: 
         LICENCE=html_of_lines(licence()),
         DATA=data,
         LINES=text,
-        LIBRARY=library,
-        SCRIPT=own,
+        LIBRARY=packed(library),
+        SCRIPT=packed(own),
+        LOADER=loader,
     )
 
 

@@ -512,7 +512,8 @@ class Harm(Browsing):
             ),
             0,
         )
-        self.assertEqual(self.browser.run("return document.scripts.length"), 4)
+        # Four blocks, what unpacks two of them, and these two.
+        self.assertEqual(self.browser.run("return document.scripts.length"), 7)
         self.assertNotIn("could not be drawn", self.text("#trouble"))
 
     def test_markup(self) -> None:
@@ -590,6 +591,25 @@ class Harm(Browsing):
                 acked(2, (0, 9)),
             )
         )
+
+    def test_what_cannot_be_unpacked(self) -> None:
+        text = made(joined(HEADER, sent(0)))
+        block = re.search(r'id="library">([^<]*)<', text)
+        assert block is not None
+        self.show(text.replace(block[1], block[1][::-1]))
+        self.assertIn("The diagrams could not be drawn", self.text("#trouble"))
+        self.assertIn("Accepted.", self.text(".verdict"))
+
+    def test_an_old_browser(self) -> None:
+        driver = self.browser.driver
+        old = {"source": "delete window.DecompressionStream"}
+        added = driver.execute_cdp_cmd("Page.addScriptToEvaluateOnNewDocument", old)
+        try:
+            self.show(made(joined(HEADER, sent(0))))
+            self.assertIn("this browser is too old", self.text("#trouble"))
+            self.assertIn("Accepted.", self.text(".verdict"))
+        finally:
+            driver.execute_cdp_cmd("Page.removeScriptToEvaluateOnNewDocument", added)
 
     def test_the_policy_holds(self) -> None:
         self.show(made(joined(HEADER, sent(0))))

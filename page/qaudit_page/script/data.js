@@ -18,14 +18,6 @@ const METRICS = [
 ];
 const byId = id => document.getElementById(id);
 
-async function inflated(id) {
-  const raw = atob(byId(id).textContent);
-  byId(id).textContent = '';
-  const bytes = Uint8Array.from(raw, char => char.charCodeAt(0));
-  const stream = new Blob([bytes]).stream().pipeThrough(new DecompressionStream('deflate'));
-  return new Response(stream).text();
-}
-
 // The values whose differences these are.
 function summed(differences) {
   const values = new Float64Array(differences.length);

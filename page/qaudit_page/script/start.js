@@ -239,10 +239,6 @@ function begin(started) {
 
 async function start() {
   const started = performance.now();
-  if (typeof DecompressionStream === 'undefined') {
-    tell('This browser is too old for the diagrams: it cannot unpack them.');
-    return;
-  }
   const [data, text] = await Promise.all([inflated('data'), inflated('text')]);
   unpack(JSON.parse(data), text);
   if (!trace.count) {
