@@ -142,17 +142,6 @@ pub first_of_none : (lo : ℕ) (es : List (ℕ × ℕ)) → length es ≡ 0 → 
 first_of_none lo [] none = refl
 first_of_none lo (e ∷ es) none = absurd (omega (arith, none))
 
--- a look along the second part
-pub passed_below : (lo i : ℕ) (fs : List (ℕ × ℕ)) (e : ℕ × ℕ) → i < length fs → e ≡ get_or fs i e → e.0 < lo → first_from lo (drop (i + 1) fs) ≡ first_from lo (drop i fs)
-passed_below lo i fs e within is below =
-    let whole : drop i fs ≡ e ∷ drop (i + 1) fs = drop_more fs i e within ∙ ap (λ y. y ∷ drop (i + 1) fs) (sym is) in
-    sym (ap (first_from lo) whole ∙ rw (lt-leb lo e.0 below) refl)
-
-pub found_first : (lo i : ℕ) (fs : List (ℕ × ℕ)) (e : ℕ × ℕ) → i < length fs → e ≡ get_or fs i e → lo ≤ e.0 → first_from lo (drop i fs) ≡ Some e
-found_first lo i fs e within is low =
-    let whole : drop i fs ≡ e ∷ drop (i + 1) fs = drop_more fs i e within ∙ ap (λ y. y ∷ drop (i + 1) fs) (sym is) in
-    ap (first_from lo) whole ∙ rw (le-leb lo e.0 low) refl
-
 -- ---- none from one number on is below another
 
 above_each : (lo m : ℕ) (es : List (ℕ × ℕ)) → AllByRecursion (λ f. m < f.0) es → AreClear lo m es

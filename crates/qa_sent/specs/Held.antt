@@ -85,3 +85,13 @@ pub record IsSound (dropped : ℕ) (packets : List SentPacket) (losses : Losses)
   pub ordered : AreOrdered packets
   pub sizes : AllByRecursion (λ (p : SentPacket). p.size ≤ max_packet_size) packets
   pub few : dropped + length packets ≤ max_lines
+
+-- ---- memory
+
+-- for so many packets the list of what acknowledgments find keeps its room
+abbrev pub kept_room : ℕ
+kept_room = 1024
+
+-- what is kept of room for n packets
+abbrev pub room_kept : ℕ → ℕ
+room_kept n = if nat_lt kept_room n then 0 else n

@@ -18,6 +18,7 @@ mod owing;
 mod packet;
 mod packets;
 mod pushing;
+mod spare;
 mod taking;
 mod unacknowledged;
 

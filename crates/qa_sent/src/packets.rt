@@ -7,7 +7,7 @@ ghost use Rattle.qa_sent.specs.Covering.{AreApart};
 ghost use Rattle.qa_sent.specs.Dropping.{is_first_closed};
 ghost use Rattle.qa_sent.specs.Fates.{is_new, is_owed, is_owed_in, flight_bytes, is_awaiting, is_flying};
 ghost use Rattle.qa_sent.specs.Free.{AreOwedIn, free_numbers, is_free_by, nameable_numbers, taken_by};
-ghost use Rattle.qa_sent.specs.Held.{IsBefore, unacknowledged_in};
+ghost use Rattle.qa_sent.specs.Held.{IsBefore, kept_room, unacknowledged_in};
 ghost use Rattle.qa_sent.specs.Naming.{turned};
 ghost use Rattle.qa_sent.specs.Owing.{IsOwedPart, first_space};
 ghost use Rattle.qa_sent.specs.Steps.{covered_by, found_by, declared, discarded_in, trimmed};
@@ -16,6 +16,7 @@ ghost use Rattle.qa_sent.specs.Walks.{owed_numbers};
 ghost use Rattle.qa_sent.specs.declared.fate.Fate.TheVariants.{Open};
 ghost use Rattle.qa_sent.specs.declared.packet.SentPacket.{SentPacket};
 ghost use Rattle.std.specs.List.{AllByRecursion, list_any};
+ghost use Rattle.std.specs.Vec.{vec_capacity};
 ghost use Rattle.std.specs.Prelude.{◌≡◌, [], ◌≤◌, ◌<◌, ◌+◌, ◌∷◌, ◌++◌, length, OnErr, OnOk, filter, IfOk, false, Some, map, ◌&&◌, ◌-◌, true, count_by, drop, None, ◌*◌, ◌^◌, find, reverse, sum_by};
 
 use crate::acknowledging::acknowledge_in_lane;
@@ -29,6 +30,7 @@ use crate::naming::{free_numbers_in, nameable_numbers_in};
 use crate::owing::{are_apart_in, last_owed_in, owed_numbers_in};
 use crate::packet::SentPacket;
 use crate::pushing::{add, are_before};
+use crate::spare::Spare;
 use crate::taking::take_in_lane;
 use qa_base::{PacketNumber, PerSpace, Space, Span, Ticks};
 use std::alloc::{AllocError, Global};
@@ -87,7 +89,7 @@ pub struct SentPackets {
     pub(crate) lanes: PerSpace<Lane>,
     pub(crate) losses: Losses,
     /// Memory for what the next acknowledgment finds.
-    pub(crate) list: Vec<SentPacket>,
+    pub(crate) spare: Spare,
 }
 
 impl Model for SentPackets {
@@ -120,7 +122,7 @@ impl SentPackets {
                 from: 0,
                 to: 0,
             },
-            list: Vec::new(alloc),
+            spare: Spare::new(alloc),
         }
     }
 
@@ -193,19 +195,17 @@ impl SentPackets {
     /// back last, so that mostly an acknowledgment takes none.
     pub fn lend_list(&mut self) -> Vec<SentPacket>
         ensures empty { result.items ≡ [] }
+        ensures small { vec_capacity result ≤ kept_room }
         ensures same { self.new ≡ self.old }
     {
-        let mut list = std::mem::replace(&mut self.list, Vec::new(self.alloc));
-        list.clear();
-        list
+        std::mem::replace(&mut self.spare, Spare::new(self.alloc)).into_list()
     }
 
-    /// Takes such a list back, and keeps its memory alone.
+    /// Takes such a list back, and keeps its memory alone, where that is for no more than 1,024 packets.
     pub fn take_back(&mut self, list: Vec<SentPacket>)
         ensures { self.new ≡ self.old }
     {
-        self.list = list;
-        self.list.clear();
+        self.spare = Spare::of(self.alloc, list);
     }
 
     /// Looks for losses in a space: the packets in flight that are past a threshold are owed
