@@ -167,8 +167,11 @@ fn replace(runs: &mut Vec<Span>, first: usize, end: usize, run: Span) -> Result<
 {
     if first == end {
         runs.insert(first, run)?;
-    } else {
-        runs[first] = run;
+        return Ok(());
+    }
+    runs[first] = run;
+    // Mostly a number makes the last run longer, and no run goes.
+    if first + 1 < end {
         runs.drain(first + 1..end);
     }
     Ok(())

@@ -319,6 +319,9 @@ impl Machine {
 
     /// Ends an event that happened now and looked for losses or did not: it is counted, packets that
     /// are of no more use are dropped, and the timer is set (A.8).
+    ///
+    /// It is a part of each kind of event, since only two of them look for losses.
+    #[inline(always)]
     fn finish(&mut self, now: Ticks, detection: Option<Detection>)
         ensures { (c : Settings) (e : AnEvent) (h : List AnEvent) → now ≡ time_of e
             → detection ≡ detection_after c (e ∷ h) → IsProperCourse c (e ∷ h) → self.old.connection.events ≡ length h
