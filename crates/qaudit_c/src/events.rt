@@ -86,6 +86,7 @@ fn span_of(range: &PacketRange) -> Option<Span>
 }
 
 /// The spans of the ranges, in their order; None where one is no range of packet numbers.
+#[inline(always)]
 pub fn spans_of(alloc: Global, ranges: &[PacketRange]) -> Result<Option<Spans>, AllocError>
     ensures { IfOk result (λ spans. spans ≡ said.ranges_of ranges.now) }
 {
