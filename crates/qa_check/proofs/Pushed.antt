@@ -1,5 +1,5 @@
 -- What a line that is taken by what it says makes of an audit without an observer.
-use Rattle.std.proofs.Common.{◌≡◌, inl, ℕ, List, [], ◌∷◌, ◌++◌, length, false, true, None, Ok, Err, refl, arith}
+use Rattle.std.proofs.Common.{◌≡◌, inl, ℕ, List, [], ◌∷◌, ◌++◌, length, false, true, None, Result, Ok, Err, IfErr, refl, arith}
 use Rattle.std.proofs.lemmas.Bool.{eqb-true}
 use Rattle.std.specs.Prelude.{◌==◌}
 use Rattle.qa_format.specs.format.Lines.{with_lf, IsShortLine}
@@ -7,13 +7,18 @@ use Rattle.qa_format.specs.verdicts.Explain.{told_nothing}
 use Rattle.qa_format.specs.verdicts.Verdict.{AreGood, AreDecided, IsFixed}
 use Rattle.qa_split.specs.Stream.{Stream}
 use Rattle.qa_check.specs.declared.auditing.AuditFault.{AuditFault}
-use Rattle.qa_check.specs.declared.auditor.Progress.TheVariants.{Open}
-use Rattle.qa_check.specs.Auditor.{BringsTo}
+use Rattle.qa_check.specs.declared.auditing.AuditFault.TheVariants as faults
+use Rattle.qa_check.specs.declared.auditor.Progress.{Progress}
+use Rattle.qa_check.specs.declared.auditor.Progress.TheVariants.{Open, Fixed}
+use Rattle.qa_check.specs.declared.checker.Stop.{Stop}
+use Rattle.qa_check.specs.declared.checker.Stop.TheVariants.{Decided, OutOfMemory}
+use Rattle.qa_check.specs.Auditor.{BringsTo, Settles}
 use Rattle.qa_check.specs.Following.{FollowsBy, AnswersBy}
 use Rattle.qa_check.specs.Standing.{by, Held, Judges, AddsGood, AddsBad}
 use Rattle.qa_check.specs.Writing.{Shows, Shown, told_ended}
 use Rattle.qa_check.proofs.Fed.{open_from}
 use Rattle.qa_check.proofs.Following.{follow_line, follow_piece, decide_line}
+use Rattle.qa_check.proofs.Writing.{answer_told, answer_verdict}
 
 -- no bytes, by their number
 pub none_of : (bytes : List ℕ) → (length bytes == 0) ≡ true → bytes ≡ []
@@ -55,3 +60,36 @@ pushed_bad judges old new bytes l short adds f =
 pub pushed_failed : {L : Type 0} (judges : Judges L) (new : Held L) (stream : Stream) (bytes : List ℕ) (fault : AuditFault)
     → BringsTo judges told_nothing (Err fault) stream new None None bytes
 pushed_failed judges new stream bytes fault = ([], told_ended (by judges) told_nothing bytes, refl, tt)
+
+-- ---- a checker that stopped
+
+-- the line that stopped it brings the audit so far
+pub pushed_settled : {L : Type 0} (judges : Judges L) (old new : Held L) (stream : Stream) (bytes l : List ℕ) (stop : Stop) (progress : Result Progress AuditFault)
+    → Settles judges new stop progress → (stop ≡ Decided → (new.failed ≡ false) × AddsBad judges old new l) → IsShortLine l
+    → Shown judges told_nothing [] old None None bytes → BringsTo judges told_nothing progress stream new None None (bytes ++ with_lf l)
+pushed_settled judges old new stream bytes l Decided (Ok Open) settled bad short f = absurd settled
+pushed_settled judges old new stream bytes l Decided (Ok (Fixed v)) settled bad short f =
+    let all = bytes ++ with_lf l in
+    let adds = bad refl in
+    let d = pushed_bad judges old new bytes l short adds.1 f in
+    (d.0, settled all (answer_verdict judges told_nothing new None None all adds.0 d.1), answer_told judges told_nothing new None None all d.1)
+pushed_settled judges old new stream bytes l Decided (Err fault) settled bad short f = pushed_failed judges new stream (bytes ++ with_lf l) fault
+pushed_settled judges old new stream bytes l OutOfMemory (Ok progress) settled bad short f = cc
+pushed_settled judges old new stream bytes l OutOfMemory (Err fault) settled bad short f = pushed_failed judges new stream (bytes ++ with_lf l) fault
+
+-- the audit is not open any more
+pub settled_is_over : {L : Type 0} (judges : Judges L) (held : Held L) (stop : Stop) (progress : Result Progress AuditFault)
+    → Settles judges held stop progress → progress ≡ Ok Open → ⊥
+settled_is_over judges held Decided (Ok Open) settled is = settled
+settled_is_over judges held Decided (Ok (Fixed v)) settled is = cc
+settled_is_over judges held Decided (Err fault) settled is = cc
+settled_is_over judges held OutOfMemory progress settled is = cc
+
+-- it fails by memory alone
+pub settled_fails : {L : Type 0} (judges : Judges L) (held : Held L) (stop : Stop) (progress : Result Progress AuditFault)
+    → Settles judges held stop progress → IfErr progress (λ fault. fault ≡ faults.OutOfMemory)
+settled_fails judges held Decided (Ok Open) settled = absurd settled
+settled_fails judges held Decided (Ok (Fixed v)) settled = tt
+settled_fails judges held Decided (Err fault) settled = settled
+settled_fails judges held OutOfMemory (Ok progress) settled = tt
+settled_fails judges held OutOfMemory (Err fault) settled = cc

@@ -7,9 +7,12 @@ use Rattle.qa_format.specs.verdicts.Explain.{Telling, told, told_nothing}
 use Rattle.qa_format.specs.verdicts.Verdict.{verdict, IsFixed}
 use Rattle.qa_split.specs.Stream.{Stream, HasNoLine}
 use Rattle.qa_check.specs.declared.auditing.AuditFault.{AuditFault}
+use Rattle.qa_check.specs.declared.auditing.AuditFault.TheVariants as faults
 use Rattle.qa_check.specs.declared.auditor.Progress.{Progress}
 use Rattle.qa_check.specs.declared.auditor.Progress.TheVariants.{Open, Fixed}
-use Rattle.qa_check.specs.Following.{IsReady}
+use Rattle.qa_check.specs.declared.checker.Stop.{Stop}
+use Rattle.qa_check.specs.declared.checker.Stop.TheVariants.{Decided, OutOfMemory}
+use Rattle.qa_check.specs.Following.{Answers, IsReady}
 use Rattle.qa_check.specs.Standing.{Held, Judges, by}
 use Rattle.qa_check.specs.Writing.{Begins, Shown, told_ended}
 
@@ -45,6 +48,13 @@ Observes judges tell audit start now bytes = BringsTo judges tell audit.progress
 -- these bytes were fed to it, and nothing is told
 abbrev pub Audits : {L : Type 0} → Judges L → Audit L → List ℕ → Type 0
 Audits judges audit bytes = Observes judges told_nothing audit None None bytes
+
+-- so far comes an audit whose checker holds this and has stopped so: to the verdict of the lines, or it is out of memory
+abbrev pub Settles : {L : Type 0} → Judges L → Held L → Stop → Result Progress AuditFault → Type 0
+Settles judges held Decided (Ok Open) = ⊥
+Settles judges held Decided (Ok (Fixed v)) = (bytes : List ℕ) → Answers judges held bytes → v ≡ verdict (by judges) bytes
+Settles judges held Decided (Err f) = f ≡ faults.OutOfMemory
+Settles judges held OutOfMemory progress = progress ≡ Err faults.OutOfMemory
 
 -- how far an audit is that ended with this result
 abbrev pub progress_of : Result Verdict AuditFault → Result Progress AuditFault

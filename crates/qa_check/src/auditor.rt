@@ -1,5 +1,5 @@
 //! An audit of bytes that are handed in, piece by piece.
-ghost use Rattle.std.specs.Prelude.{◌≡◌, ◌++◌, [], ℕ, List, Option, None, true, false, Ok, OnErr, IfOk, IfErr};
+ghost use Rattle.std.specs.Prelude.{◌≡◌, ◌≢◌, ◌++◌, [], ℕ, List, Option, None, true, false, Ok, OnErr, IfOk, IfErr};
 ghost use Rattle.std.specs.Io.KnownBytes.{Appends};
 ghost use Rattle.qa_format.specs.format.Lines.{with_lf};
 ghost use Rattle.qa_format.specs.format.Reading.{reading};
@@ -9,7 +9,7 @@ ghost use Rattle.qa_format.specs.verdicts.Explain.{Telling, told_nothing};
 ghost use Rattle.qa_format.specs.verdicts.Verdict.{verdict};
 ghost use Rattle.qa_split.specs.Stream.{Stream, HasNoLine};
 ghost use Rattle.qa_check.specs.Audit.{CountsFailure};
-ghost use Rattle.qa_check.specs.Auditor.{BringsTo, TakesMore};
+ghost use Rattle.qa_check.specs.Auditor.{BringsTo, Settles, TakesMore};
 ghost use Rattle.qa_check.specs.Following.{Answers, IsReady};
 ghost use Rattle.qa_check.specs.Standing.{IsLineOf, by};
 ghost use Rattle.qa_check.specs.Writing.{Begins, Shown};
@@ -126,6 +126,7 @@ impl<L: Judge + Drop> Auditor<L> {
     }
 
     /// How far the audit is, or why it failed.
+    #[inline(always)]
     pub fn progress(&self) -> Result<Progress, AuditFault>
         ensures { result ≡ self.now.progress }
     {
@@ -133,6 +134,7 @@ impl<L: Judge + Drop> Auditor<L> {
     }
 
     /// Whether the next byte begins a line: an LF ended the last one, or none was begun.
+    #[inline(always)]
     pub fn is_between_lines(&self) -> bool
         ensures { result ≡ is_between self.now }
     {
@@ -157,14 +159,30 @@ impl<L: Judge + Drop> Auditor<L> {
         ensures memory { self.old.progress ≡ Ok Progress.Open
             → IfErr result (λ fault. fault ≡ AuditFault.OutOfMemory) }
     {
+        let _open = self.take_said(line);
+        self.progress
+    }
+
+    /// Takes the next line as `push_said` does, and returns whether the audit is open then.
+    ///
+    /// It serves callers that hand in one event after another: behind a good line no verdict is moved.
+    #[inline(always)]
+    pub fn take_said(&mut self, line: &Line) -> bool
+        requires fitting { line_fits line.now ≡ true }
+        requires between { is_between self.old ≡ true }
+        ensures open { result ≡ true → self.new.progress ≡ Ok Progress.Open }
+        ensures over { result ≡ false → self.new.progress ≢ Ok Progress.Open }
+        ensures fed { (bytes : List ℕ) (l : List ℕ) → IsLineOf line.now l
+            → Audits L.judges self.old bytes → Audits L.judges self.new (bytes ++ with_lf l) }
+        ensures between { is_between self.new ≡ true }
+        ensures kept { self.old.progress ≢ Ok Progress.Open → self.new ≡ self.old }
+        ensures memory { self.old.progress ≡ Ok Progress.Open
+            → IfErr self.new.progress (λ fault. fault ≡ AuditFault.OutOfMemory) }
+    {
         match self.progress {
-            Ok(Progress::Open) => {
-                let progress = take_said(&mut self.checker, line);
-                self.progress = progress;
-                progress
-            }
-            Ok(Progress::Fixed(known)) => Ok(Progress::Fixed(known)),
-            Err(fault) => Err(fault),
+            Ok(Progress::Open) => take_said(&mut self.checker, line, &mut self.progress),
+            Ok(Progress::Fixed(_)) => false,
+            Err(_) => false,
         }
     }
 
@@ -250,22 +268,57 @@ fn take_piece<L: Judge + Drop, T: LineText<L>, O: Observer>(
     }
 }
 
-/// Takes the line that says this, and returns how far the audit is then, whose next byte begins a line.
-fn take_said<L: Judge + Drop>(checker: &mut Checker<L>, line: &Line) -> Result<Progress, AuditFault>
+/// Takes the line that says this, and returns whether the audit is open then, whose next byte begins a
+/// line.
+#[inline(always)]
+fn take_said<L: Judge + Drop>(
+    checker: &mut Checker<L>,
+    line: &Line,
+    progress: &mut Result<Progress, AuditFault>,
+) -> bool
     requires fitting { line_fits line.now ≡ true }
-    ensures whole { result ≡ Ok Progress.Open → checker.new.failed ≡ false }
+    requires open { progress.old ≡ Ok Progress.Open }
+    ensures open { result ≡ true → progress.new ≡ Ok Progress.Open }
+    ensures over { result ≡ false → progress.new ≢ Ok Progress.Open }
+    ensures whole { progress.new ≡ Ok Progress.Open → checker.new.failed ≡ false }
     ensures fed { (stream : Stream) (bytes : List ℕ) (l : List ℕ) → stream.bytes ≡ []
         → IsLineOf line.now l → Shown L.judges told_nothing [] checker.old None None bytes
-        → BringsTo L.judges told_nothing result stream checker.new None None (bytes ++ with_lf l) }
-    ensures memory { IfErr result (λ fault. fault ≡ AuditFault.OutOfMemory) }
+        → BringsTo L.judges told_nothing progress.new stream checker.new None None (bytes ++ with_lf l) }
+    ensures memory { IfErr progress.new (λ fault. fault ≡ AuditFault.OutOfMemory) }
 {
     match checker.push_said(line) {
-        Ok(()) => Ok(Progress::Open),
-        Err(Stop::Decided) => match verdict_of(checker) {
+        Ok(()) => true,
+        Err(stop) => {
+            settle(checker, stop, progress);
+            false
+        }
+    }
+}
+
+/// Notes how far an audit is whose checker has stopped. It stands apart, so that a good line does not
+/// pay for the room of a verdict.
+#[cold]
+#[inline(never)]
+fn settle<L: Judge + Drop>(
+    checker: &Checker<L>,
+    stop: Stop,
+    progress: &mut Result<Progress, AuditFault>,
+)
+    ensures { Settles L.judges checker.now stop progress.new }
+{
+    *progress = settled(checker, stop);
+}
+
+/// How far an audit is whose checker has stopped.
+fn settled<L: Judge + Drop>(checker: &Checker<L>, stop: Stop) -> Result<Progress, AuditFault>
+    ensures { Settles L.judges checker.now stop result }
+{
+    match stop {
+        Stop::Decided => match verdict_of(checker) {
             Ok(verdict) => Ok(Progress::Fixed(verdict)),
             Err(fault) => Err(fault),
         },
-        Err(Stop::OutOfMemory) => Err(AuditFault::OutOfMemory),
+        Stop::OutOfMemory => Err(AuditFault::OutOfMemory),
     }
 }
 

@@ -121,6 +121,7 @@ impl<L: Judge + Drop> Checker<L> {
     /// Takes the next line by what it says, as `push_line` takes each line that is read as this.
     ///
     /// Asks for an event that fits (`Event::fits`): no line says another.
+    #[inline(always)]
     pub fn push_said(&mut self, line: &Line) -> Result<(), Stop>
         requires fitting { line_fits line.now ≡ true }
         ensures failed { self.old.failed ≡ true → result ≡ Err Stop.OutOfMemory }
@@ -207,6 +208,7 @@ impl<L: Judge + Drop> Checker<L> {
 
     /// Stops where no line is taken, whatever it says: out of memory, after the verdict was fixed, and
     /// behind as many lines as a trace may have.
+    #[inline(always)]
     fn expect_line(&mut self) -> Result<(), Stop>
         ensures failed { self.old.failed ≡ true → result ≡ Err Stop.OutOfMemory }
         ensures fails { (result ≡ Err Stop.OutOfMemory)
@@ -230,6 +232,7 @@ impl<L: Judge + Drop> Checker<L> {
     }
 
     /// Stops where no line is taken that has these bytes: as `expect_line`, and where they are too many.
+    #[inline(always)]
     fn expect_bytes(&mut self, bytes: &[u8]) -> Result<(), Stop>
         ensures failed { self.old.failed ≡ true → result ≡ Err Stop.OutOfMemory }
         ensures fails { (result ≡ Err Stop.OutOfMemory)
@@ -356,6 +359,8 @@ impl<L: Judge + Drop> Checker<L> {
     }
 
     /// Fixes the verdict: the next line cannot be read.
+    #[cold]
+    #[inline(never)]
     fn stop(&mut self, fault: Fault) -> Stop
         requires whole { self.old.failed ≡ false }
         requires undecided { self.old.verdict ≡ None }

@@ -63,6 +63,7 @@ impl Session {
     }
 
     /// How far it is.
+    #[inline(always)]
     pub fn phase(&self) -> Phase
         ensures phase { result ≡ phase_of self.now }
         ensures unfinished { result ≡ Phase.Open → self.now.finished ≡ false }
@@ -95,6 +96,7 @@ impl Session {
     }
 
     /// Whether the next byte begins a line, so that an event may be handed in.
+    #[inline(always)]
     pub fn is_between_lines(&self) -> bool
         ensures { result ≡ is_between self.now.audit }
     {
@@ -129,11 +131,28 @@ impl Session {
             → IsLineOf line.now l → IsFed self.old bytes → IsFed self.new (bytes ++ with_lf l) }
         ensures finished { self.old.finished ≡ true → self.new ≡ self.old }
     {
-        if self.finished {
-            return self.phase();
-        }
-        let _progress = self.auditor.push_said(line);
+        let _open = self.take_said(line);
         self.phase()
+    }
+
+    /// Takes the next line as `push_said` does, and returns whether it is open then.
+    ///
+    /// It serves callers that hand in one event after another: behind a good line no verdict is moved.
+    #[inline(always)]
+    pub fn take_said(&mut self, line: &Line) -> bool
+        requires fitting { line_fits line.now ≡ true }
+        requires between { is_between self.old.audit ≡ true }
+        ensures open { result ≡ true → phase_of self.new ≡ Phase.Open }
+        ensures over { result ≡ false → phase_of self.new ≢ Phase.Open }
+        ensures same { self.new.finished ≡ self.old.finished }
+        ensures fed { self.old.finished ≡ false → (bytes : List ℕ) (l : List ℕ)
+            → IsLineOf line.now l → IsFed self.old bytes → IsFed self.new (bytes ++ with_lf l) }
+        ensures finished { self.old.finished ≡ true → self.new ≡ self.old }
+    {
+        if self.finished {
+            return false;
+        }
+        self.auditor.take_said(line)
     }
 
     /// Says that nothing follows, and returns how far it is then: it is finished, or out of memory.
@@ -153,6 +172,7 @@ impl Session {
 }
 
 /// The phase of a session whose verdict is known.
+#[inline(always)]
 fn known(finished: bool, verdict: Verdict) -> Phase
     ensures fixed { finished ≡ false → result ≡ Phase.Fixed verdict }
     ensures finished { finished ≡ true → result ≡ Phase.Finished verdict }

@@ -1,5 +1,5 @@
 -- Ranges behind ranges.
-use Rattle.std.proofs.Common.{◌≡◌, ◌∙◌, ℕ, List, [], ◌∷◌, ◌++◌, Option, Some, None, refl, sym, ap}
+use Rattle.std.proofs.Common.{◌≡◌, ◌∙◌, ℕ, List, [], ◌∷◌, ◌++◌, Option, Some, None, refl, ap}
 use Rattle.qaudit_c.specs.declared.structs.PacketRange.{PacketRange}
 use Rattle.qaudit_c.specs.Events.{range_said, cons_of, ranges_of}
 

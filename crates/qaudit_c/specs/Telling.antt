@@ -1,5 +1,5 @@
 -- What C is told of a verdict.
-use Rattle.std.specs.Prelude.{ℕ, true, false, Option, Some, None, is_some, unwrap_or}
+use Rattle.std.specs.Prelude.{true, false, Option, Some, None, is_some, unwrap_or}
 use Rattle.qa_base.specs.declared.totals.Totals.{Totals}
 use Rattle.qa_base.specs.values.Names.{rule_number}
 use Rattle.qa_format.specs.declared.verdict.Verdict.{Verdict}

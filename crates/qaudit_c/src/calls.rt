@@ -1,9 +1,9 @@
 //! What the calls do with a session that C keeps.
-ghost use Rattle.std.specs.Prelude.{◌≡◌, ◌≢◌, IfOk, IfSome, OnOk, Option, true, false};
+ghost use Rattle.std.specs.Prelude.{◌≡◌, ◌≢◌, None, Option, Some, true, false};
 ghost use Rattle.qa_check.specs.Auditor.{is_between};
 ghost use Rattle.qa_format.specs.declared.line.Line.{Line as ALine};
 ghost use Rattle.qa_format.specs.format.Written.{line_fits};
-ghost use Rattle.qa_base.specs.values.Events.{fits};
+ghost use Rattle.qa_session.specs.Session.{phase_of};
 ghost use Rattle.qa_session.specs.declared.Phase.TheVariants as phases;
 ghost use Rattle.qaudit_c.specs.Calls as calls;
 ghost use Rattle.qaudit_c.specs.Events as said;
@@ -12,21 +12,23 @@ use crate::kept::{Qaudit, put, take};
 use qa_base::{Event, Header};
 use qa_check::Line;
 use qa_session::{Phase, Session};
-use std::alloc::{AllocError, Global};
+use std::alloc::Global;
 
 /// Nothing is open.
 pub const CLOSED: u32 = 4;
 /// A value is outside its range; nothing was taken.
-pub const OUT_OF_RANGE: u32 = 5;
+const OUT_OF_RANGE: u32 = 5;
 /// There was no memory for what the event says; nothing was taken.
-pub const NOT_TAKEN: u32 = 6;
+const NOT_TAKEN: u32 = 6;
 /// The bytes that were fed end inside a line; nothing was taken.
-pub const INSIDE_LINE: u32 = 7;
+const INSIDE_LINE: u32 = 7;
 
 /// The number of a phase, 0 to 3.
+#[inline(always)]
 pub fn number(phase: Phase) -> u32
     ensures number { result ≡ calls.phase_number phase }
     ensures known { phase ≢ phases.Open → result ≢ 0 }
+    ensures memory { result ≢ 6 }
 {
     match phase {
         Phase::Open => 0,
@@ -36,75 +38,133 @@ pub fn number(phase: Phase) -> u32
     }
 }
 
-/// The line that says the event.
-pub fn event_line(event: Option<Event>) -> Option<Line>
-    requires fitting { IfSome event (λ e. fits e ≡ true) }
-    ensures line { result ≡ said.line_of_event event }
-    ensures fits { IfSome result (λ line. line_fits line ≡ true) }
+// ---- lines that are taken
+
+/// Hands the line in to a session that is open.
+#[inline(always)]
+fn hand_open(session: &mut Session, line: &Line) -> u32
+    requires open { session.old.finished ≡ false }
+    requires fitting { line_fits line.now ≡ true }
+    ensures inside { is_between session.old.audit ≡ false
+        → (result ≡ 7) × (session.new ≡ session.old) }
+    ensures between { is_between session.old.audit ≡ true
+        → calls.Took (Some line.now) result session.old session.new }
+    ensures memory { result ≢ 6 }
 {
-    match event {
-        Some(event) => Some(Line::Event(event)),
-        None => None,
+    if !session.is_between_lines() {
+        return INSIDE_LINE;
     }
+    if session.take_said(line) {
+        return 0;
+    }
+    number(session.phase())
 }
 
-/// The line that says the header.
-pub fn header_line(header: Option<Header>) -> Option<Line>
-    ensures line { result ≡ said.line_of_header header }
-    ensures fits { IfSome result (λ line. line_fits line ≡ true) }
-{
-    match header {
-        Some(header) => Some(Line::Header(header)),
-        None => None,
-    }
-}
-
-/// Hands the line in, where there is one and there was memory for it.
-fn hand_to(session: &mut Session, built: &Result<Option<Line>, AllocError>) -> u32
-    requires fitting { IfOk built.now (λ line. IfSome line (λ x. line_fits x ≡ true)) }
-    ensures handed { (x : Option ALine) → IfOk built.now (λ line. line ≡ x)
-        → calls.HandsRun x result session.old session.new }
-    ensures memory { OnOk built.now (result ≢ 6) }
+/// Hands the line in.
+#[inline(always)]
+fn hand_to(session: &mut Session, line: &Line) -> u32
+    requires fitting { line_fits line.now ≡ true }
+    ensures handed { calls.HandsRun (Some line.now) result session.old session.new }
+    ensures memory { result ≢ 6 }
 {
     match session.phase() {
-        Phase::Open => hand_open(session, built),
+        Phase::Open => hand_open(session, line),
         Phase::Fixed(_) => 1,
         Phase::Finished(_) => 2,
         Phase::OutOfMemory => 3,
     }
 }
 
-/// Hands the line in to a session that is open.
-fn hand_open(session: &mut Session, built: &Result<Option<Line>, AllocError>) -> u32
-    requires open { session.old.finished ≡ false }
-    requires fitting { IfOk built.now (λ line. IfSome line (λ x. line_fits x ≡ true)) }
-    ensures inside { is_between session.old.audit ≡ false
-        → (result ≡ 7) × (session.new ≡ session.old) }
-    ensures between { is_between session.old.audit ≡ true → (x : Option ALine)
-        → IfOk built.now (λ line. line ≡ x) → calls.Took x result session.old session.new }
-    ensures memory { OnOk built.now (result ≢ 6) }
-{
-    if !session.is_between_lines() {
-        return INSIDE_LINE;
-    }
-    match built {
-        Ok(Some(line)) => number(session.push_said(line)),
-        Ok(None) => OUT_OF_RANGE,
-        Err(_) => NOT_TAKEN,
-    }
-}
-
 /// Hands the line in to what C keeps.
-pub fn hand(alloc: Global, qaudit: &mut Qaudit, built: Result<Option<Line>, AllocError>) -> u32
-    requires fitting { IfOk built (λ line. IfSome line (λ x. line_fits x ≡ true)) }
-    ensures handed { (x : Option ALine) → IfOk built (λ line. line ≡ x)
-        → calls.Hands x result qaudit.old.handle.held qaudit.new.handle.held }
-    ensures memory { OnOk built (result ≢ 6) }
+#[inline(always)]
+fn hand(alloc: Global, qaudit: &mut Qaudit, line: &Line) -> u32
+    requires fitting { line_fits line.now ≡ true }
+    ensures handed { calls.Hands (Some line.now) result qaudit.old.handle.held qaudit.new.handle.held }
+    ensures memory { result ≢ 6 }
 {
     let Some(mut session) = take(alloc, qaudit) else {
         return CLOSED;
     };
-    let status = hand_to(&mut session, &built);
+    let status = hand_to(&mut session, line);
+    put(qaudit, session);
+    status
+}
+
+/// Hands in the line that says the event, where a line can.
+///
+/// The line is made here alone and goes on by reference: it has more than a hundred bytes.
+#[inline(always)]
+pub fn hand_event(alloc: Global, qaudit: &mut Qaudit, event: Event) -> u32
+    ensures handed { calls.Hands (said.line_of_event (said.fitting event)) result qaudit.old.handle.held qaudit.new.handle.held }
+    ensures memory { result ≢ 6 }
+{
+    if !event.fits() {
+        return out_of_range(alloc, qaudit);
+    }
+    hand(alloc, qaudit, &Line::Event(event))
+}
+
+/// Hands in the line that says the header.
+pub fn hand_header(alloc: Global, qaudit: &mut Qaudit, header: Option<Header>) -> u32
+    ensures handed { calls.Hands (said.line_of_header header) result qaudit.old.handle.held qaudit.new.handle.held }
+    ensures memory { result ≢ 6 }
+{
+    match header {
+        Some(header) => hand(alloc, qaudit, &Line::Header(header)),
+        None => out_of_range(alloc, qaudit),
+    }
+}
+
+// ---- what is not taken
+
+/// What a call returns by which nothing is taken: for the reason alone where a line would be taken.
+fn refusal(session: &Session, reason: u32) -> u32
+    ensures over { phase_of session.now ≢ phases.Open
+        → result ≡ calls.phase_number (phase_of session.now) }
+    ensures inside { phase_of session.now ≡ phases.Open → is_between session.now.audit ≡ false
+        → result ≡ 7 }
+    ensures between { phase_of session.now ≡ phases.Open → is_between session.now.audit ≡ true
+        → result ≡ reason }
+    ensures memory { reason ≢ 6 → result ≢ 6 }
+{
+    match session.phase() {
+        Phase::Open => {
+            if session.is_between_lines() {
+                reason
+            } else {
+                INSIDE_LINE
+            }
+        }
+        phase => number(phase),
+    }
+}
+
+/// Nothing is taken, for a value is outside its range.
+#[cold]
+#[inline(never)]
+pub fn out_of_range(alloc: Global, qaudit: &mut Qaudit) -> u32
+    ensures handed { calls.Hands None result qaudit.old.handle.held qaudit.new.handle.held }
+    ensures memory { result ≢ 6 }
+{
+    let Some(session) = take(alloc, qaudit) else {
+        return CLOSED;
+    };
+    let status = refusal(&session, OUT_OF_RANGE);
+    put(qaudit, session);
+    status
+}
+
+/// Nothing is taken, for there was no memory for what the event says.
+#[cold]
+#[inline(never)]
+pub fn not_taken(alloc: Global, qaudit: &mut Qaudit) -> u32
+    ensures { (x : Option ALine)
+        → calls.Hands x result qaudit.old.handle.held qaudit.new.handle.held }
+{
+    let Some(session) = take(alloc, qaudit) else {
+        return CLOSED;
+    };
+    let status = refusal(&session, NOT_TAKEN);
     put(qaudit, session);
     status
 }

@@ -25,6 +25,7 @@ impl Model for Handle {
 
 impl Handle {
     /// A handle that holds no session.
+    #[inline(always)]
     pub fn closed(alloc: Global) -> Handle
         ensures { result.held ≡ None }
     {
@@ -35,6 +36,7 @@ impl Handle {
     }
 
     /// A handle that holds the session.
+    #[inline(always)]
     pub fn of(parts: Parts<Session, Global>) -> Handle
         ensures { result.held ≡ Some parts.value }
     {
@@ -46,6 +48,7 @@ impl Handle {
     }
 
     /// The session that it holds. Asks for a handle that holds one.
+    #[inline(always)]
     pub fn into_parts(self) -> Parts<Session, Global>
         requires { IsOpen self.held }
         ensures { self.held ≡ Some result.value }

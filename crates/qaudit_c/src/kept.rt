@@ -20,6 +20,7 @@ pub struct Qaudit {
 }
 
 /// None.
+#[inline(always)]
 fn closed(alloc: Global) -> Qaudit
     ensures { result.handle.held ≡ None }
 {
@@ -30,6 +31,7 @@ fn closed(alloc: Global) -> Qaudit
 }
 
 /// Takes the session out, where there is one.
+#[inline(always)]
 pub fn take(alloc: Global, qaudit: &mut Qaudit) -> Option<Box<Session, Global>>
     ensures taken { qaudit.old.handle.held ≡ option_map (λ b. b.value) result }
     ensures left { qaudit.new.handle.held ≡ None }
@@ -43,6 +45,7 @@ pub fn take(alloc: Global, qaudit: &mut Qaudit) -> Option<Box<Session, Global>>
 }
 
 /// Puts a session in, where there is none.
+#[inline(always)]
 pub fn put(qaudit: &mut Qaudit, session: Box<Session, Global>)
     ensures { qaudit.new.handle.held ≡ Some session.value }
 {

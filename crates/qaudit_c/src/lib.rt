@@ -23,15 +23,13 @@ mod structs;
 mod telling;
 mod texts;
 
-use calls::{CLOSED, event_line, hand, header_line, number};
-use events::{
-    ack_event, confirmed_event, discard_event, keys_event, lost_event, metrics_event, sent_event,
-    timer_event,
-};
+use calls::{CLOSED, hand_event, hand_header, not_taken, number, out_of_range};
+use events::{moment_of, sent_values, spans_of, timer_values, values_of};
 pub use handle::Handle;
 use header::header_of;
 pub use kept::Qaudit;
 use kept::{close, put, take, try_open};
+use qa_base::{Event, Ticks};
 use qa_check::Verdict;
 use std::alloc::Global;
 pub use structs::{Acknowledgment, FiredTimer, Metrics, PacketRange, SentPacket, TraceHeader};
@@ -88,7 +86,7 @@ pub extern "C" fn qaudit_header(alloc: Global, qaudit: &mut Qaudit, header: &Tra
     ensures handed { Hands (said.line_of_header (said.header_said header.now)) result qaudit.old.handle.held qaudit.new.handle.held }
     ensures memory { result ≢ 6 }
 {
-    hand(alloc, qaudit, Ok(header_line(header_of(header))))
+    hand_header(alloc, qaudit, header_of(header))
 }
 
 /// Takes a packet that was sent.
@@ -97,7 +95,21 @@ pub extern "C" fn qaudit_sent(alloc: Global, qaudit: &mut Qaudit, packet: &SentP
     ensures handed { Hands (said.line_of_event (said.sent_said packet.now)) result qaudit.old.handle.held qaudit.new.handle.held }
     ensures memory { result ≢ 6 }
 {
-    hand(alloc, qaudit, Ok(event_line(sent_event(packet))))
+    match sent_values(packet) {
+        Some((time, space, number, leave)) => {
+            let event = Event::Sent {
+                time,
+                space,
+                number,
+                size: packet.size,
+                eliciting: packet.eliciting,
+                in_flight: packet.in_flight,
+                leave,
+            };
+            hand_event(alloc, qaudit, event)
+        }
+        None => out_of_range(alloc, qaudit),
+    }
 }
 
 /// Takes an acknowledgment.
@@ -110,9 +122,22 @@ pub extern "C" fn qaudit_ack(
 ) -> u32
     ensures { Hands (said.line_of_event (said.ack_said ack.now ranges.now)) result qaudit.old.handle.held qaudit.new.handle.held }
 {
-    match ack_event(alloc, ack, ranges) {
-        Ok(event) => hand(alloc, qaudit, Ok(event_line(event))),
-        Err(fault) => hand(alloc, qaudit, Err(fault)),
+    let Some((time, space)) = moment_of(ack.time, ack.space) else {
+        return out_of_range(alloc, qaudit);
+    };
+    match spans_of(alloc, ranges) {
+        Ok(Some(ranges)) => {
+            let event = Event::Ack {
+                time,
+                space,
+                ranges,
+                delay: ack.delay,
+                app_limited: ack.app_limited,
+            };
+            hand_event(alloc, qaudit, event)
+        }
+        Ok(None) => out_of_range(alloc, qaudit),
+        Err(_) => not_taken(alloc, qaudit),
     }
 }
 
@@ -127,9 +152,20 @@ pub extern "C" fn qaudit_lost(
 ) -> u32
     ensures { Hands (said.line_of_event (said.lost_said time space ranges.now)) result qaudit.old.handle.held qaudit.new.handle.held }
 {
-    match lost_event(alloc, time, space, ranges) {
-        Ok(event) => hand(alloc, qaudit, Ok(event_line(event))),
-        Err(fault) => hand(alloc, qaudit, Err(fault)),
+    let Some((time, space)) = moment_of(time, space) else {
+        return out_of_range(alloc, qaudit);
+    };
+    match spans_of(alloc, ranges) {
+        Ok(Some(ranges)) => {
+            let event = Event::Lost {
+                time,
+                space,
+                ranges,
+            };
+            hand_event(alloc, qaudit, event)
+        }
+        Ok(None) => out_of_range(alloc, qaudit),
+        Err(_) => not_taken(alloc, qaudit),
     }
 }
 
@@ -139,7 +175,10 @@ pub extern "C" fn qaudit_timer(alloc: Global, qaudit: &mut Qaudit, timer: &Fired
     ensures handed { Hands (said.line_of_event (said.timer_said timer.now)) result qaudit.old.handle.held qaudit.new.handle.held }
     ensures memory { result ≢ 6 }
 {
-    hand(alloc, qaudit, Ok(event_line(timer_event(timer))))
+    match timer_values(timer) {
+        Some((time, kind, space)) => hand_event(alloc, qaudit, Event::Timer { time, kind, space }),
+        None => out_of_range(alloc, qaudit),
+    }
 }
 
 /// Takes keys that were discarded.
@@ -148,7 +187,10 @@ pub extern "C" fn qaudit_discard(alloc: Global, qaudit: &mut Qaudit, time: u64, 
     ensures handed { Hands (said.line_of_event (said.discard_said time space)) result qaudit.old.handle.held qaudit.new.handle.held }
     ensures memory { result ≢ 6 }
 {
-    hand(alloc, qaudit, Ok(event_line(discard_event(time, space))))
+    match moment_of(time, space) {
+        Some((time, space)) => hand_event(alloc, qaudit, Event::Discard { time, space }),
+        None => out_of_range(alloc, qaudit),
+    }
 }
 
 /// Takes a handshake that was confirmed.
@@ -157,7 +199,10 @@ pub extern "C" fn qaudit_confirmed(alloc: Global, qaudit: &mut Qaudit, time: u64
     ensures handed { Hands (said.line_of_event (said.confirmed_said time)) result qaudit.old.handle.held qaudit.new.handle.held }
     ensures memory { result ≢ 6 }
 {
-    hand(alloc, qaudit, Ok(event_line(confirmed_event(time))))
+    match Ticks::new(time) {
+        Some(time) => hand_event(alloc, qaudit, Event::Confirmed { time }),
+        None => out_of_range(alloc, qaudit),
+    }
 }
 
 /// Takes Handshake keys that are there.
@@ -166,7 +211,10 @@ pub extern "C" fn qaudit_keys(alloc: Global, qaudit: &mut Qaudit, time: u64) -> 
     ensures handed { Hands (said.line_of_event (said.keys_said time)) result qaudit.old.handle.held qaudit.new.handle.held }
     ensures memory { result ≢ 6 }
 {
-    hand(alloc, qaudit, Ok(event_line(keys_event(time))))
+    match Ticks::new(time) {
+        Some(time) => hand_event(alloc, qaudit, Event::Keys { time }),
+        None => out_of_range(alloc, qaudit),
+    }
 }
 
 /// Takes what a sender reports of itself.
@@ -175,7 +223,13 @@ pub extern "C" fn qaudit_metrics(alloc: Global, qaudit: &mut Qaudit, metrics: &M
     ensures handed { Hands (said.line_of_event (said.metrics_said metrics.now)) result qaudit.old.handle.held qaudit.new.handle.held }
     ensures memory { result ≢ 6 }
 {
-    hand(alloc, qaudit, Ok(event_line(metrics_event(metrics))))
+    match Ticks::new(metrics.time) {
+        Some(time) => {
+            let values = values_of(metrics);
+            hand_event(alloc, qaudit, Event::Metrics { time, values })
+        }
+        None => out_of_range(alloc, qaudit),
+    }
 }
 
 /// Says that nothing follows.

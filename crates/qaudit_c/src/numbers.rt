@@ -10,6 +10,7 @@ use qa_base::{
 use qa_format::Fault;
 
 /// The space of this number.
+#[inline(always)]
 pub fn space_of(number: u32) -> Option<Space>
     ensures { result ≡ numbers.space_numbered number }
 {
@@ -22,6 +23,7 @@ pub fn space_of(number: u32) -> Option<Space>
 }
 
 /// The leave of this number.
+#[inline(always)]
 pub fn leave_of(number: u32) -> Option<Leave>
     ensures { result ≡ numbers.leave_numbered number }
 {
@@ -34,6 +36,7 @@ pub fn leave_of(number: u32) -> Option<Leave>
 }
 
 /// The kind of timer of this number.
+#[inline(always)]
 pub fn timer_of(number: u32) -> Option<TimerKind>
     ensures { result ≡ numbers.timer_numbered number }
 {

@@ -1,4 +1,4 @@
-use Rattle.std.proofs.Common.{◌≡◌, ◌∙◌, ◌+◌, ◌<◌, ℕ, List, ◌++◌, [], ◌∷◌, length, take, drop, get_or, Some, sym, ap, take-append-drop}
+use Rattle.std.proofs.Common.{◌≡◌, ◌∙◌, ◌+◌, ◌<◌, ℕ, List, ◌++◌, ◌∷◌, length, take, drop, get_or, Some, sym, ap, take-append-drop}
 use Rattle.std.proofs.lemmas.List.{take_more, drop_more}
 use Rattle.qaudit_c.specs.declared.structs.PacketRange.{PacketRange}
 use Rattle.qaudit_c.specs.Events.{ranges_of}
