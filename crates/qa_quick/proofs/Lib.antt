@@ -5,3 +5,4 @@ pub mod Finding
 pub mod Taking
 pub mod Saying
 pub mod Listing
+pub mod Items

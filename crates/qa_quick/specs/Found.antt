@@ -1,5 +1,5 @@
 -- What was found of an object's keys so far, and what a line's bytes then still have to be.
-use Rattle.std.specs.Prelude.{◌≡◌, ◌≤◌, ◌∷◌, ℕ, List, Option, Bool, true, false, ◌||◌, bytes_eq, codes, option_map, IfSome, Ok, Some, None}
+use Rattle.std.specs.Prelude.{◌≡◌, ◌≤◌, [], ◌∷◌, ◌++◌, ℕ, List, length, drop, Option, Bool, true, false, ◌||◌, bytes_eq, codes, option_map, IfSome, Ok, Some, None}
 use Rattle.std.specs.List.{AllByRecursion}
 use Rattle.std.specs.Str.{IsUtf8}
 use Rattle.json.specs.Json as form
@@ -153,6 +153,11 @@ PutsIf key old new bytes rest = ends_word rest ≡ true → Puts key old new byt
 -- from the bytes to the rest one member more is found: where the earlier ones began is for the caller to say
 abbrev pub Continues : Found → Found → List ℕ → List ℕ → Type 0
 Continues old new bytes rest = (whole : List ℕ) → EndsIf old whole bytes → EndsIf new whole rest
+
+-- the bytes are a comma, this text in quotes, a colon, and what begins at the place
+pub record IsNextKey (text bytes : List ℕ) (place : ℕ) : Type 0 where
+  pub within : place ≤ length bytes
+  pub is : bytes ≡ (44 ∷ 34 ∷ (text ++ 34 ∷ 58 ∷ [])) ++ drop place bytes
 
 -- what was found says this line
 abbrev pub SaysLine : Found → Line → Type 0

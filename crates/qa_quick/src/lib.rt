@@ -13,6 +13,7 @@ mod line;
 mod members;
 mod names;
 mod ranges;
+mod reports;
 mod unknown;
 
 pub use line::quick_line;

@@ -6,6 +6,7 @@ ghost use Rattle.qa_quick.specs.Found.{Reads};
 
 use crate::exact::{exact_line, exact_lost};
 use crate::found::Found;
+use crate::reports::exact_report;
 use qa_format::Line;
 use qa_tokens::{begin_object, comma, end_object};
 use std::alloc::Global;
@@ -32,6 +33,9 @@ fn rarer_line(alloc: Global, bytes: &[u8]) -> Option<Line>
     ensures { Reads bytes.now result }
 {
     if let Some(line) = exact_lost(alloc, bytes) {
+        return Some(line);
+    }
+    if let Some(line) = exact_report(bytes) {
         return Some(line);
     }
     any_order(alloc, bytes)
