@@ -16,4 +16,5 @@ mod ranges;
 mod reports;
 mod unknown;
 
+pub use exact::usual_line;
 pub use line::quick_line;

@@ -4,7 +4,7 @@ ghost use Rattle.qa_format.specs.format.Reading as reading;
 ghost use Rattle.qa_format.specs.format.Written.{line_fits};
 ghost use Rattle.qa_quick.specs.Found.{Reads};
 
-use crate::exact::{exact_line, exact_lost};
+use crate::exact::exact_lost;
 use crate::found::Found;
 use crate::reports::exact_report;
 use qa_format::Line;
@@ -20,17 +20,6 @@ use std::alloc::Global;
 pub fn quick_line(alloc: Global, bytes: &[u8]) -> Option<Line>
     ensures read { IfSome result (λ line. reading.reading bytes.now ≡ Ok line) }
     ensures fitting { IfSome result (λ line. line_fits line ≡ true) }
-{
-    if let Some(line) = exact_line(alloc, bytes) {
-        return Some(line);
-    }
-    rarer_line(alloc, bytes)
-}
-
-/// The same of the lines that are rarer.
-#[inline(never)]
-fn rarer_line(alloc: Global, bytes: &[u8]) -> Option<Line>
-    ensures { Reads bytes.now result }
 {
     if let Some(line) = exact_lost(alloc, bytes) {
         return Some(line);
