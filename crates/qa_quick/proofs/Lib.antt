@@ -6,3 +6,4 @@ pub mod Taking
 pub mod Saying
 pub mod Listing
 pub mod Items
+pub mod Making

@@ -12,9 +12,11 @@ mod keys;
 mod line;
 mod members;
 mod names;
+mod objects;
 mod ranges;
 mod reports;
 mod unknown;
 
 pub use exact::usual_line;
 pub use line::quick_line;
+pub use objects::flat_object;

@@ -1,5 +1,6 @@
 //! Members whose key no event has, where their value is simple or a list of simple values.
 ghost use Rattle.std.specs.Prelude.{ℕ, List, IfSome};
+ghost use Rattle.serde_json.specs.Data.{Data};
 ghost use Rattle.qa_quick.specs.Found.{TakesNothing};
 ghost use Rattle.qa_quick.specs.Items.{FollowsItems, IsSimpleValue};
 ghost use Rattle.qa_tokens.specs.Lexes.{IsValue};
@@ -33,7 +34,8 @@ fn value(bytes: &[u8]) -> Option<&[u8]>
 
 /// What follows a list of simple values, of which there is one at least, from the first of them on.
 fn list_end(bytes: &[u8]) -> Option<&[u8]>
-    ensures { (whole : List ℕ) → FollowsItems whole bytes.now → IfSome result (λ rest. IsValue whole rest.now) }
+    ensures { (whole : List ℕ) (seen : List Data) → FollowsItems seen whole bytes.now
+        → IfSome result (λ rest. IsValue whole rest.now) }
 {
     let mut rest = bytes;
     for i in 0..u64::MAX {

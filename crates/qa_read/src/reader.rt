@@ -1,5 +1,5 @@
 //! What a line says: a header, an event, or nothing.
-ghost use Rattle.std.specs.Prelude.{◌≡◌, true, false, Ok, IfOk, IsErrOf};
+ghost use Rattle.std.specs.Prelude.{◌≡◌, true, false, Ok, IfOk, OnOk, IsOk, IsErrOf};
 ghost use Rattle.std.specs.List.{list_all};
 ghost use Rattle.std.specs.Str.{is_utf8};
 ghost use Rattle.serde_json.specs.View.{view};
@@ -12,7 +12,7 @@ use crate::json::{is_blank, json_of};
 use crate::{fields, tables};
 use qa_base::{Key, LineKind};
 use qa_format::{Fault, Line};
-use qa_quick::quick_line;
+use qa_quick::{quick_line, usual_line};
 use serde_json::Value;
 use std::alloc::Global;
 
@@ -62,14 +62,9 @@ fn read_value(alloc: Global, bytes: &[u8]) -> Result<Line, LineFault>
     object_says(alloc, &value)
 }
 
-/// What the bytes of a line say, its LF not among them, or the first of the line's faults.
-///
-/// The values of the line are in the ranges of their tables, and its event fits (`Event::fits`).
-/// A line of any length is read: how long a line of a trace may be is for its splitter to say.
-/// `LineFault::OutOfMemory` comes where memory was refused, and then the call can be made again; a
-/// blank line and bytes that are not UTF-8 take no memory.
+/// What the bytes of a line say, or the first of the line's faults, where it is none of the usual ones.
 #[tactic(auto, unfolding(qa_format::specs::format::Reading::reading_by))]
-pub fn read_line(alloc: Global, bytes: &[u8]) -> Result<Line, LineFault>
+fn other_line(alloc: Global, bytes: &[u8]) -> Result<Line, LineFault>
     ensures read { Gives (λ line. line) result (reading.reading bytes.now) }
     ensures fitting { IfOk result (λ line. line_fits line ≡ true) }
     ensures blank { list_all reading.is_blank bytes.now ≡ true → result ≡ Ok Line.Blank }
@@ -82,4 +77,38 @@ pub fn read_line(alloc: Global, bytes: &[u8]) -> Result<Line, LineFault>
         return Ok(line);
     }
     read_value(alloc, bytes)
+}
+
+/// The same; the line is put where it is to stand.
+#[inline(never)]
+fn put_other(alloc: Global, bytes: &[u8], into: &mut Line) -> Result<(), LineFault>
+    ensures read { Gives (λ _. into.new) result (reading.reading bytes.now) }
+    ensures fitting { OnOk result (line_fits into.new ≡ true) }
+    ensures blank { list_all reading.is_blank bytes.now ≡ true → IsOk result }
+    ensures memory { IsErrOf result LineFault.OutOfMemory → is_utf8 bytes.now ≡ true }
+{
+    *into = other_line(alloc, bytes)?;
+    Ok(())
+}
+
+/// What the bytes of a line say, its LF not among them, or the first of the line's faults.
+///
+/// The values of the line are in the ranges of their tables, and its event fits (`Event::fits`).
+/// A line of any length is read: how long a line of a trace may be is for its splitter to say.
+/// `LineFault::OutOfMemory` comes where memory was refused, and then the call can be made again; a
+/// blank line and bytes that are not UTF-8 take no memory.
+#[inline(always)]
+#[tactic(auto, unfolding(qa_format::specs::format::Reading::reading_by))]
+pub fn read_line(alloc: Global, bytes: &[u8]) -> Result<Line, LineFault>
+    ensures read { Gives (λ line. line) result (reading.reading bytes.now) }
+    ensures fitting { IfOk result (λ line. line_fits line ≡ true) }
+    ensures blank { list_all reading.is_blank bytes.now ≡ true → result ≡ Ok Line.Blank }
+    ensures memory { IsErrOf result LineFault.OutOfMemory → is_utf8 bytes.now ≡ true }
+{
+    // Where a line is put at once, it is not copied from one call's result to the next.
+    let mut line = Line::Blank;
+    if !usual_line(alloc, bytes, &mut line) {
+        put_other(alloc, bytes, &mut line)?;
+    }
+    Ok(line)
 }

@@ -6,7 +6,7 @@ use Rattle.qa_format.specs.format.Written.{line_fits}
 use Rattle.qa_format.proofs.format.ProperReadings.{reading_fits}
 use Rattle.qa_read.specs.declared.fault.LineFault.{LineFault}
 use Rattle.qa_read.specs.Gives.{Gives}
-use Rattle.qa_read.proofs.reader.read_line.Goals as goal
+use Rattle.qa_read.proofs.reader.other_line.Goals as goal
 
 fits : (bytes : List ℕ) (r : Result Line LineFault) → Gives (λ x. x) r (reading bytes) → IfOk r (λ x. line_fits x ≡ true)
 fits bytes (Ok x) h = reading_fits bytes x h
