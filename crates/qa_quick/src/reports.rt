@@ -124,9 +124,23 @@ fn report_begun<'a>(found: &mut Found, bytes: &'a [u8]) -> Option<&'a [u8]>
 }
 
 /// A report, where its kind comes first, or behind the bytes in flight alone: so it is in the order of the format and where
-/// the keys ascend.
-#[inline(never)]
+/// the keys ascend. It is not begun where a look at two bytes tells that there is none.
+#[inline(always)]
 pub fn exact_report(bytes: &[u8]) -> Option<Line>
+    ensures { Reads bytes.now result }
+{
+    let [_, _, first, _, _, _, _, _, _, _, kind, ..] = bytes else {
+        return None;
+    };
+    if *first != b'b' && *kind != b'm' {
+        return None;
+    }
+    report(bytes)
+}
+
+/// The same.
+#[inline(never)]
+fn report(bytes: &[u8]) -> Option<Line>
     ensures { Reads bytes.now result }
 {
     let mut found = Found::nothing();

@@ -62,24 +62,26 @@ fn read_value(alloc: Global, bytes: &[u8]) -> Result<Line, LineFault>
     object_says(alloc, &value)
 }
 
-/// What the bytes of a line say, or the first of the line's faults, where it is none of the usual ones.
+/// What the bytes of a line say is put where it is to stand, by way of a JSON value, where the line is not blank; or the
+/// first of the line's faults.
+#[cold]
+#[inline(never)]
 #[tactic(auto, unfolding(qa_format::specs::format::Reading::reading_by))]
-fn other_line(alloc: Global, bytes: &[u8]) -> Result<Line, LineFault>
-    ensures read { Gives (λ line. line) result (reading.reading bytes.now) }
-    ensures fitting { IfOk result (λ line. line_fits line ≡ true) }
-    ensures blank { list_all reading.is_blank bytes.now ≡ true → result ≡ Ok Line.Blank }
+fn put_value(alloc: Global, bytes: &[u8], into: &mut Line) -> Result<(), LineFault>
+    ensures read { Gives (λ _. into.new) result (reading.reading bytes.now) }
+    ensures fitting { OnOk result (line_fits into.new ≡ true) }
+    ensures blank { list_all reading.is_blank bytes.now ≡ true → IsOk result }
     ensures memory { IsErrOf result LineFault.OutOfMemory → is_utf8 bytes.now ≡ true }
 {
     if is_blank(bytes) {
-        return Ok(Line::Blank);
+        *into = Line::Blank;
+        return Ok(());
     }
-    if let Some(line) = quick_line(alloc, bytes) {
-        return Ok(line);
-    }
-    read_value(alloc, bytes)
+    *into = read_value(alloc, bytes)?;
+    Ok(())
 }
 
-/// The same; the line is put where it is to stand.
+/// The same of a line that is none of the usual ones.
 #[inline(never)]
 fn put_other(alloc: Global, bytes: &[u8], into: &mut Line) -> Result<(), LineFault>
     ensures read { Gives (λ _. into.new) result (reading.reading bytes.now) }
@@ -87,8 +89,11 @@ fn put_other(alloc: Global, bytes: &[u8], into: &mut Line) -> Result<(), LineFau
     ensures blank { list_all reading.is_blank bytes.now ≡ true → IsOk result }
     ensures memory { IsErrOf result LineFault.OutOfMemory → is_utf8 bytes.now ≡ true }
 {
-    *into = other_line(alloc, bytes)?;
-    Ok(())
+    if let Some(line) = quick_line(alloc, bytes) {
+        *into = line;
+        return Ok(());
+    }
+    put_value(alloc, bytes, into)
 }
 
 /// What the bytes of a line say, its LF not among them, or the first of the line's faults.
@@ -97,7 +102,7 @@ fn put_other(alloc: Global, bytes: &[u8], into: &mut Line) -> Result<(), LineFau
 /// A line of any length is read: how long a line of a trace may be is for its splitter to say.
 /// `LineFault::OutOfMemory` comes where memory was refused, and then the call can be made again; a
 /// blank line and bytes that are not UTF-8 take no memory.
-#[inline(always)]
+#[inline(never)]
 #[tactic(auto, unfolding(qa_format::specs::format::Reading::reading_by))]
 pub fn read_line(alloc: Global, bytes: &[u8]) -> Result<Line, LineFault>
     ensures read { Gives (λ line. line) result (reading.reading bytes.now) }
