@@ -13,7 +13,7 @@ use Rattle.serde_json.proofs.Views.{Entry, view-Array, view-Object, members_view
 use Rattle.qa_format.specs.format.Reading.{json_of}
 use Rattle.qa_format.specs.format.Written.{integer, string, boolean}
 use Rattle.qa_tokens.specs.Lexes.{Lexes, is_plain, IsQuoted, IsValueOf}
-use Rattle.qa_quick.specs.Found.{FollowsMembers, IsMember, PutsMember}
+use Rattle.qa_quick.specs.Found.{FollowsMembers, PutsMember}
 use Rattle.qa_quick.specs.Items.{IsSimpleOf, FollowsItems, items_after}
 use Rattle.qa_quick.proofs.Items.{simple_integer, simple_boolean, simple_string, simple_null, empty_is_value, items_go_on, items_end}
 use Rattle.qa_quick.proofs.Taking.{is_member, members_begin, members_go_on, members_end}

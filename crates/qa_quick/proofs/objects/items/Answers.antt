@@ -1,4 +1,4 @@
-use Rattle.std.proofs.Common.{List, ℕ, map, sym, subst, rules}
+use Rattle.std.proofs.Common.{List, map, sym, subst, rules}
 use Rattle.std.proofs.lemmas.Option.{IfSome_then}
 use Rattle.serde_json.specs.View.{view}
 use Rattle.serde_json.specs.declared.value.Value.{Value}

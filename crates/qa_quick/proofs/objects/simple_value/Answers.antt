@@ -1,4 +1,3 @@
-use Rattle.std.proofs.Common.{sym, rules}
 use Rattle.qa_quick.proofs.Making.{string_made, boolean_made, null_made, integer_made}
 use Rattle.qa_quick.proofs.objects.simple_value.Goals as goal
 

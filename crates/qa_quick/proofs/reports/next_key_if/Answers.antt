@@ -1,4 +1,4 @@
-use Rattle.std.proofs.Common.{◌≤◌, ◌∙◌, ◌++◌, length, drop, sym, ap, arith, refl}
+use Rattle.std.proofs.Common.{◌∙◌, ◌++◌, length, drop, sym, ap, arith, refl}
 use Rattle.std.proofs.lemmas.List.{drop_at, length-append}
 use Rattle.qa_quick.proofs.reports.next_key_if.Goals as goal
 

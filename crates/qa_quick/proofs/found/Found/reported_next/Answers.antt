@@ -1,4 +1,4 @@
-use Rattle.std.proofs.Common.{◌∷◌, [], List, ℕ, drop}
+use Rattle.std.proofs.Common.{drop}
 use Rattle.qa_base.specs.values.Names.{key_name}
 use Rattle.qa_format.specs.format.Written.{integer}
 use Rattle.qa_quick.proofs.Spelling.{key_is_plain}
