@@ -289,6 +289,11 @@ IGNORED = (
     '"Event":5', '"EVENT":"ack"',
     '"event ":"ack"', '"Time":-1', '"TIME":-1', '" time":-1', '"time\\\\":-1', '"\\"time\\"":-1',
     '"\\u0000time":-1', '"":""',
+    # Lists.
+    '"x":[]', '"x":[ ]', '"x":["a"]', '"x":["a","b c"]', '"x":[1,"a",true,false,null]',
+    '"x":[ 1 ,\t2 ]', '"x":["\\u0061","b"]', '"x":["\u00e9"]', '"x":[[]]', '"x":[[1],2]',
+    '"x":[1,[2]]', '"x":[{},1]', '"x":[1,{"y":[2]}]', '"x":[-1,0.5]', '"x":[18446744073709551616]',
+    '"time ":[5]', '"events":["ack"]',
 )
 NOT_JSON = (
     '"x":1e400', '"x":-1e400', '"x":[{"y":1e400}]', '"x":1.5e309', '"x":"\\ud800"', '"x":"\\udc00"',
@@ -299,6 +304,10 @@ NOT_JSON = (
     '"x":"\udcf4\udc90\udc80\udc80"',
     '"\udc80":0', '"x":[{"\udcff":0}]', '"x":"\x1f"', '"x":"\\x41"', '"x":00', '"x":nul', '"x":',
     '"x"', "",
+    # Lists.
+    '"x":[1,]', '"x":[,1]', '"x":[,]', '"x":[1,,2]', '"x":[1 2]', '"x":["a" "b"]', '"x":["a",]',
+    '"x":[1', '"x":[1,', '"x":[', '"x":["a"}', '"x":["a]', '"x":[00]', '"x":[1a]', '"x":[nul]',
+    '"x":[1]]', '"x":]', '"x":["a\x1f"]', '"x":["\udcff"]',
 )
 
 
@@ -437,6 +446,7 @@ def good_lines(kind: str) -> Iterator[Members]:
     if kind == "sent":
         yield changed(kind, {"eliciting": "false", "in_flight": "false"})
     yield usual(kind)[::-1]
+    yield from lines_with_a_key_twice(kind)
     yield from lines_with_keys_of_others(kind)
 
 
@@ -452,6 +462,17 @@ def lines_without(kind: str) -> Iterator[Members]:
     for name in names:
         yield changed(kind, {name: "null"})
     yield changed(kind, {name: "null" for name in names})
+
+
+def lines_with_a_key_twice(kind: str) -> Iterator[Members]:
+    """Lines of events with a key twice, of whose values the later one counts; in the order of the
+    table and in ascending order."""
+    if event_of(kind) == "header":
+        return
+    for key in TABLES[kind]:
+        for members in (usual(kind), sorted(usual(kind))):
+            yield [*members, (key.name, key.good[-1])]
+            yield [members[0], (key.name, key.good[-1]), *members[1:]]
 
 
 def lines_with_keys_of_others(kind: str) -> Iterator[Members]:
@@ -531,11 +552,12 @@ def spared_cases(kind: str) -> Iterator[Case]:
 
 def orders_of(members: Members) -> list[Members]:
     """All orders of up to four members; of more, those that go round from each member, forwards and
-    backwards."""
+    backwards, and the ascending one."""
     if len(members) <= 4:
         return [list(order) for order in itertools.permutations(members)]
     lines = (members, members[::-1])
-    return [line[at:] + line[:at] for line in lines for at in range(len(members))]
+    turned = [line[at:] + line[:at] for line in lines for at in range(len(members))]
+    return [*turned, sorted(members)]
 
 
 def order_cases(kind: str) -> Iterator[Case]:

@@ -5,3 +5,5 @@ pub mod Finding
 pub mod Taking
 pub mod Saying
 pub mod Listing
+pub mod Items
+pub mod Making

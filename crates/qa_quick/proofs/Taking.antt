@@ -1,5 +1,5 @@
 -- Members that are found one after another, up to the end of their object.
-use Rattle.std.proofs.Common.{◌≡◌, ◌∙◌, ◌<◌, ◌≤◌, ◌^◌, ℕ, List, [], ◌∷◌, ◌++◌, Bool, true, false, Some, None, Ok, Equal, IsUtf8, decimal, codes, length, is_eq, Option, option_map, option_and_then, refl, sym, ap, arith, append_assoc}
+use Rattle.std.proofs.Common.{◌≡◌, ◌∙◌, ◌<◌, ◌≤◌, ◌^◌, ℕ, List, [], ◌∷◌, ◌++◌, Bool, true, false, Some, None, Ok, Equal, IsUtf8, decimal, codes, length, is_eq, Option, option_map, option_and_then, refl, sym, ap, subst, arith, append_assoc}
 use Rattle.std.specs.Cmp.Lexicographic.{slice_cmp}
 use Rattle.std.specs.Ordering.{nat_cmp}
 use Rattle.std.specs.List.{list_all}
@@ -25,7 +25,7 @@ use Rattle.qa_format.proofs.format.AnyOrder.{get_put_other}
 use Rattle.qa_format.proofs.format.ProperReadings.{reading_fits}
 use Rattle.qa_quick.specs.declared.found.Found.{Found}
 use Rattle.qa_tokens.specs.Lexes.{Lexes, lexemes, members_lexemes, is_plain, IsQuoted, IsKey, IsValueOf, IsValue}
-use Rattle.qa_quick.specs.Found.{Holds, Keeps, Puts, Takes, TakesNothing, Follows, Ends, EndsIf, PutsIf, SaysLine, Reads, nothing, is_known}
+use Rattle.qa_quick.specs.Found.{Holds, Keeps, Puts, Takes, TakesNothing, Follows, Ends, EndsIf, PutsIf, SaysLine, Reads, IsLineOf, IsMember, FollowsMembers, nothing, is_known}
 use Rattle.qa_tokens.proofs.Lexing.{then, lexes_quoted, lexes_colon, lexes_comma, lexes_begin_object, lexes_end_object}
 use Rattle.qa_quick.proofs.Reading.{json_of-lexemes, not_blank}
 
@@ -46,14 +46,20 @@ null_value bytes rest lexed = record { form = form.null; reads = refl; shallow =
 -- ---- members
 
 -- a key with its colon, and a value
+pub is_member : (key : List ℕ) (value : Data) (bytes middle behind rest : List ℕ) → list_all is_plain key ≡ true → IsQuoted key bytes middle → Lexes middle behind (colon ∷ [])
+    → IsValueOf value behind rest → IsMember key value bytes rest
+is_member key value bytes middle behind rest all_plain quoted at_colon is = record {
+  form = is.form;
+  reads = is.reads;
+  shallow = is.shallow;
+  lexed = then (lexes_quoted key bytes middle all_plain quoted) (then at_colon is.lexed);
+}
+
 pub takes : (key : List ℕ) (old new : Found) (bytes behind rest : List ℕ) → list_all is_plain key ≡ true → IsKey key bytes behind → Puts key old new behind rest → Takes old new bytes rest
 takes key old new bytes behind rest all_plain is puts = record {
   key = key;
   value = puts.value;
-  form = puts.is.form;
-  reads = puts.is.reads;
-  shallow = puts.is.shallow;
-  lexed = then (lexes_quoted key bytes is.middle all_plain is.quoted) (then is.at_colon puts.is.lexed);
+  member = is_member key puts.value bytes is.middle behind rest all_plain is.quoted is.at_colon puts.is;
   keeps = puts.keeps;
 }
 
@@ -118,30 +124,33 @@ no_word n e = cc
 nothing_holds : Holds nothing no_members
 nothing_holds = record { event = refl; time = refl; space = refl; number = refl; size = refl; eliciting = refl; in_flight = refl; leave = refl; ranges = refl; delay = refl; app_limited = refl; kind = refl; window = refl; ssthresh = refl; bytes_in_flight = refl; latest_rtt = refl; min_rtt = refl; smoothed_rtt = refl; rttvar = refl; are_words = (no_word, no_word, no_word, no_word, no_word, no_word, no_word); are_ranges = tt }
 
+pub members_begin : (bytes rest : List ℕ) → Lexes bytes rest (token tokens.begin_object ∷ []) → FollowsMembers no_members bytes rest
+members_begin bytes rest opened key j ms all shallow put_in lexed utf8 =
+    json_of-lexemes bytes (form.member key j ms) all shallow put_in (opened.lexes ∙ ap (λ ls. token tokens.begin_object ∷ ls) lexed) (opened.utf8 utf8)
+
 pub begins : (bytes rest : List ℕ) → Lexes bytes rest (token tokens.begin_object ∷ []) → Follows nothing bytes rest
-begins bytes rest opened = record {
-  before = no_members;
-  holds = nothing_holds;
-  reads = λ key j ms all shallow put_in lexed utf8.
-      json_of-lexemes bytes (form.member key j ms) all shallow put_in (opened.lexes ∙ ap (λ ls. token tokens.begin_object ∷ ls) lexed) (opened.utf8 utf8);
-}
+begins bytes rest opened = record { before = no_members; holds = nothing_holds; reads = members_begin bytes rest opened }
 
 -- a member before others
-member_then : (old new : Found) (bytes rest behind : List ℕ) (before : Follows old bytes rest) (one : Takes old new rest behind) (ms : form.Members) (all : Members)
-    → tree_depth ms ≤ 2 → of_members ms (put one.key one.value before.before) ≡ Some all → lex between behind ≡ members_lexemes true ms → IsUtf8 behind
+member_then : (key : List ℕ) (value : Data) (old : Members) (bytes rest behind : List ℕ) → FollowsMembers old bytes rest → (one : IsMember key value rest behind) (ms : form.Members) (all : Members)
+    → tree_depth ms ≤ 2 → of_members ms (put key value old) ≡ Some all → lex between behind ≡ members_lexemes true ms → IsUtf8 behind
     → json_of bytes ≡ Ok (json.object all)
-member_then old new bytes rest behind before one ms all shallow put_in lexed utf8 =
-    before.reads one.key one.form ms all (omega (arith, one.shallow, shallow))
-    (ap (option_and_then (λ d. of_members ms (put one.key d before.before))) one.reads ∙ put_in)
-    (one.lexed.lexes ∙ ap (λ ls. token (tokens.string one.key) ∷ colon ∷ (lexemes one.form ++ ls)) lexed)
+member_then key value old bytes rest behind before one ms all shallow put_in lexed utf8 =
+    before key one.form ms all (omega (arith, one.shallow, shallow))
+    (ap (option_and_then (λ d. of_members ms (put key d old))) one.reads ∙ put_in)
+    (one.lexed.lexes ∙ ap (λ ls. token (tokens.string key) ∷ colon ∷ (lexemes one.form ++ ls)) lexed)
     (one.lexed.utf8 utf8)
+
+pub members_go_on : (key : List ℕ) (value : Data) (old : Members) (bytes rest behind more : List ℕ) → FollowsMembers old bytes rest → IsMember key value rest behind → Lexes behind more (comma ∷ [])
+    → FollowsMembers (put key value old) bytes more
+members_go_on key value old bytes rest behind more before one parted next j ms all shallow put_in lexed utf8 =
+    member_then key value old bytes rest behind before one (form.member next j ms) all shallow put_in (parted.lexes ∙ ap (λ ls. comma ∷ ls) lexed) (parted.utf8 utf8)
 
 pub goes_on : (old new : Found) (bytes rest behind more : List ℕ) → Follows old bytes rest → Takes old new rest behind → Lexes behind more (comma ∷ []) → Follows new bytes more
 goes_on old new bytes rest behind more before one parted = record {
   before = put one.key one.value before.before;
   holds = one.keeps before.before before.holds;
-  reads = λ key j ms all shallow put_in lexed utf8.
-      member_then old new bytes rest behind before one (form.member key j ms) all shallow put_in (parted.lexes ∙ ap (λ ls. comma ∷ ls) lexed) (parted.utf8 utf8);
+  reads = members_go_on one.key one.value before.before bytes rest behind more before.reads one.member parted;
 }
 
 lex-nil : lex between [] ≡ []
@@ -153,18 +162,19 @@ none_left [] h = refl
 none_left (b ∷ bs) h = absurd (omega arith)
 
 -- the object that the bytes are
-ends : (old new : Found) (bytes rest behind end : List ℕ) (before : Follows old bytes rest) (one : Takes old new rest behind) → Lexes behind end (token tokens.end_object ∷ []) → end ≡ []
-    → json_of bytes ≡ Ok (json.object (put one.key one.value before.before))
-ends old new bytes rest behind end before one closed none =
-    member_then old new bytes rest behind before one form.no_members _ (omega arith) refl
-    (closed.lexes ∙ ap (λ ls. token tokens.end_object ∷ ls) (ap (lex between) none ∙ lex-nil)) (closed.utf8 (rw none IsUtf8-nil))
+pub members_end : (key : List ℕ) (value : Data) (old : Members) (bytes rest behind end : List ℕ) → FollowsMembers old bytes rest → IsMember key value rest behind
+    → Lexes behind end (token tokens.end_object ∷ []) → length end ≡ 0 → json_of bytes ≡ Ok (json.object (put key value old))
+members_end key value old bytes rest behind end before one closed none =
+    let is_end = none_left end none in
+    member_then key value old bytes rest behind before one form.no_members _ (omega arith) refl
+    (closed.lexes ∙ ap (λ ls. token tokens.end_object ∷ ls) (ap (lex between) is_end ∙ lex-nil)) (closed.utf8 (rw is_end IsUtf8-nil))
 
 -- the line is what was found, where the object ends
 quick_says : (old new : Found) (l : Line) (bytes rest behind end : List ℕ) → Follows old bytes rest → Takes old new rest behind
     → Lexes behind end (token tokens.end_object ∷ []) → length end ≡ 0 → SaysLine new l → reading bytes ≡ Ok l
 unfolding reading_by
 quick_says old new l bytes rest behind end before one closed none says =
-    let is = ends old new bytes rest behind end before one closed (none_left end none) in
+    let is = members_end one.key one.value before.before bytes rest behind end before.reads one.member closed none in
     rw (not_blank bytes _ is, is) (says (put one.key one.value before.before) (one.keeps before.before before.holds))
 
 pub quick_reads : (old new : Found) (o : Option Line) (bytes rest behind end : List ℕ) → Follows old bytes rest → Takes old new rest behind
@@ -220,3 +230,7 @@ pub last_member : (new : Found) (o : Option Line) (whole rest : List ℕ) → En
 last_member new o whole rest before_if is says =
     let before = before_if (ap ends_word is) in
     quick_reads before.old new o whole before.last rest [] before.before before.takes (lexes_end_object rest [] is) refl says
+
+-- a line that is returned is one of these bytes
+pub some_reads : (bytes : List ℕ) (o : Option Line) (l : Line) → Reads bytes o → o ≡ Some l → IsLineOf bytes l
+some_reads bytes o l reads is = let P : Option Line → Type 0 = λ p. Reads bytes p in let one = subst P is reads in record { read = one.read; fitting = one.fitting }

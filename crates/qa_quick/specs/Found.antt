@@ -1,5 +1,5 @@
 -- What was found of an object's keys so far, and what a line's bytes then still have to be.
-use Rattle.std.specs.Prelude.{◌≡◌, ◌≤◌, ◌∷◌, ℕ, List, Option, Bool, true, false, ◌||◌, bytes_eq, codes, option_map, IfSome, Ok, Some, None}
+use Rattle.std.specs.Prelude.{◌≡◌, ◌≤◌, [], ◌∷◌, ◌++◌, ℕ, List, length, drop, Option, Bool, true, false, ◌||◌, bytes_eq, codes, option_map, IfSome, Ok, Some, None}
 use Rattle.std.specs.List.{AllByRecursion}
 use Rattle.std.specs.Str.{IsUtf8}
 use Rattle.json.specs.Json as form
@@ -108,14 +108,18 @@ pub record Puts (key : List ℕ) (old new : Found) (bytes rest : List ℕ) : Typ
   pub is : IsValueOf value bytes rest
   pub keeps : Keeps key value old new
 
--- the bytes are a key, its value and the rest, and what was found is then found of this key too
-pub record Takes (old new : Found) (bytes rest : List ℕ) : Type 0 where
-  pub key : List ℕ
-  pub value : Data
+-- the bytes are this key, a text of its value, and the rest
+pub record IsMember (key : List ℕ) (value : Data) (bytes rest : List ℕ) : Type 0 where
   pub form : Json
   pub reads : of_json form ≡ Some value
   pub shallow : depth form ≤ 2
   pub lexed : Lexes bytes rest (token (tokens.string key) ∷ colon ∷ lexemes form)
+
+-- the bytes are a key, its value and the rest, and what was found is then found of this key too
+pub record Takes (old new : Found) (bytes rest : List ℕ) : Type 0 where
+  pub key : List ℕ
+  pub value : Data
+  pub member : IsMember key value bytes rest
   pub keeps : Keeps key value old new
 
 -- the bytes are a key, its value and the rest, and nothing that an event asks for
@@ -124,12 +128,24 @@ TakesNothing bytes rest = (f : Found) → Takes f f bytes rest
 
 -- ---- the line
 
--- the members before the rest gave what was found: if the rest is more members, then the bytes read as all of them
+-- these members stand before the rest: if the rest is more members, then the bytes read as all of them
+abbrev pub FollowsMembers : Members → List ℕ → List ℕ → Type 0
+FollowsMembers before bytes rest =
+    (key : List ℕ) (j : Json) (ms : form.Members) (all : Members) → members_depth (form.member key j ms) ≤ 2 → of_members (form.member key j ms) before ≡ Some all
+    → lex between rest ≡ members_lexemes false (form.member key j ms) → IsUtf8 rest → json_of bytes ≡ Ok (json.object all)
+
+-- the members before the rest gave what was found
 pub record Follows (f : Found) (bytes rest : List ℕ) : Type 0 where
   pub before : Members
   pub holds : Holds f before
-  pub reads : (key : List ℕ) (j : Json) (ms : form.Members) (all : Members) → members_depth (form.member key j ms) ≤ 2 → of_members (form.member key j ms) before ≡ Some all
-      → lex between rest ≡ members_lexemes false (form.member key j ms) → IsUtf8 rest → json_of bytes ≡ Ok (json.object all)
+  pub reads : FollowsMembers before bytes rest
+
+-- the bytes are a member and the rest, and the member is put to the others
+pub record PutsMember (old new : Members) (bytes rest : List ℕ) : Type 0 where
+  pub key : List ℕ
+  pub value : Data
+  pub member : IsMember key value bytes rest
+  pub is : new ≡ put key value old
 
 -- before any key
 abbrev pub nothing : Found
@@ -154,6 +170,11 @@ PutsIf key old new bytes rest = ends_word rest ≡ true → Puts key old new byt
 abbrev pub Continues : Found → Found → List ℕ → List ℕ → Type 0
 Continues old new bytes rest = (whole : List ℕ) → EndsIf old whole bytes → EndsIf new whole rest
 
+-- the bytes are a comma, this text in quotes, a colon, and what begins at the place
+pub record IsNextKey (text bytes : List ℕ) (place : ℕ) : Type 0 where
+  pub within : place ≤ length bytes
+  pub is : bytes ≡ (44 ∷ 34 ∷ (text ++ 34 ∷ 58 ∷ [])) ++ drop place bytes
+
 -- what was found says this line
 abbrev pub SaysLine : Found → Line → Type 0
 SaysLine f l = (ms : Members) → Holds f ms → object_says reader_named (json.object ms) ≡ Ok l
@@ -166,3 +187,8 @@ Says f e = SaysLine f (line.Event e)
 pub record Reads (bytes : List ℕ) (o : Option Line) : Type 0 where
   pub read : IfSome o (λ l. reading bytes ≡ Ok l)
   pub fitting : IfSome o (λ l. line_fits l ≡ true)
+
+-- these bytes are read as this line, and its values are in their ranges
+pub record IsLineOf (bytes : List ℕ) (l : Line) : Type 0 where
+  pub read : reading bytes ≡ Ok l
+  pub fitting : line_fits l ≡ true

@@ -1,5 +1,6 @@
 //! Lines in one of the usual orders of keys, without white space.
-ghost use Rattle.qa_quick.specs.Found.{Reads};
+ghost use Rattle.std.specs.Prelude.{◌≡◌, true};
+ghost use Rattle.qa_quick.specs.Found.{IsLineOf, Reads};
 
 use crate::found::Found;
 use qa_format::Line;
@@ -94,24 +95,32 @@ fn lost_in_order(alloc: Global, bytes: &[u8]) -> Option<Line>
     found.ended(rest)
 }
 
-/// The event that the bytes of a line say, where its keys stand in a usual order without white space.
+/// Whether the bytes of a line say a packet that was sent or an acknowledgment, its keys in a usual order without white
+/// space; the line is put where it is to stand, so that it is not handed from one function to the next.
 #[inline(always)]
-pub fn exact_line(alloc: Global, bytes: &[u8]) -> Option<Line>
-    ensures { Reads bytes.now result }
+pub fn usual_line(alloc: Global, bytes: &[u8], into: &mut Line) -> bool
+    ensures { result ≡ true → IsLineOf bytes.now into.new }
 {
     if let Some(line) = sent_sorted(bytes) {
-        return Some(line);
+        *into = line;
+        return true;
     }
     if let Some(line) = ack_sorted(alloc, bytes) {
-        return Some(line);
+        *into = line;
+        return true;
     }
     if let Some(line) = sent_in_order(bytes) {
-        return Some(line);
+        *into = line;
+        return true;
     }
-    ack_in_order(alloc, bytes)
+    if let Some(line) = ack_in_order(alloc, bytes) {
+        *into = line;
+        return true;
+    }
+    false
 }
 
-/// The same of packets that were declared lost.
+/// The packets that the bytes of a line declare lost, where its keys stand in a usual order without white space.
 #[inline(always)]
 pub fn exact_lost(alloc: Global, bytes: &[u8]) -> Option<Line>
     ensures { Reads bytes.now result }

@@ -239,7 +239,7 @@ impl Found {
 
     /// A reported value is put in its place.
     #[inline(always)]
-    fn metric(&mut self, field: Field, value: u64)
+    pub fn metric(&mut self, field: Field, value: u64)
         ensures { Keeps (field_name field) (written.integer value) self.old self.new }
     {
         match field {

@@ -4,8 +4,9 @@ ghost use Rattle.qa_format.specs.format.Reading as reading;
 ghost use Rattle.qa_format.specs.format.Written.{line_fits};
 ghost use Rattle.qa_quick.specs.Found.{Reads};
 
-use crate::exact::{exact_line, exact_lost};
+use crate::exact::exact_lost;
 use crate::found::Found;
+use crate::reports::exact_report;
 use qa_format::Line;
 use qa_tokens::{begin_object, comma, end_object};
 use std::alloc::Global;
@@ -13,25 +14,18 @@ use std::alloc::Global;
 /// The event that the bytes of a line say, where the line has the form that most loggers write; None for any other line.
 ///
 /// The form is one object with the keys of an event, each with a value of its kind, and any other keys: their values are
-/// integers without sign of at most 19 digits, strings of printable ASCII without an escape, booleans or null. A line with
+/// integers without sign of at most 19 digits, strings of printable ASCII without an escape, booleans, null, or lists of
+/// these. Lines in a usual order (`usual_line`) are read here too, and more quickly there. A line with
 /// a fault is never of this form, and neither are a header and a blank line. Only ranges take memory, and None comes where
 /// it was refused.
 pub fn quick_line(alloc: Global, bytes: &[u8]) -> Option<Line>
     ensures read { IfSome result (λ line. reading.reading bytes.now ≡ Ok line) }
     ensures fitting { IfSome result (λ line. line_fits line ≡ true) }
 {
-    if let Some(line) = exact_line(alloc, bytes) {
+    if let Some(line) = exact_lost(alloc, bytes) {
         return Some(line);
     }
-    rarer_line(alloc, bytes)
-}
-
-/// The same of the lines that are rarer.
-#[inline(never)]
-fn rarer_line(alloc: Global, bytes: &[u8]) -> Option<Line>
-    ensures { Reads bytes.now result }
-{
-    if let Some(line) = exact_lost(alloc, bytes) {
+    if let Some(line) = exact_report(bytes) {
         return Some(line);
     }
     any_order(alloc, bytes)

@@ -8,6 +8,7 @@ ghost use Rattle.qa_read.specs.Gives.{Gives};
 
 use crate::fault::LineFault;
 use qa_format::Fault;
+use qa_quick::flat_object;
 use serde_json::Value;
 use std::alloc::Global;
 
@@ -21,8 +22,21 @@ pub fn is_blank(bytes: &[u8]) -> bool
 }
 
 /// The JSON value that the bytes are. `Fault::NotJson` where they are none or are not UTF-8.
-#[tactic(auto, unfolding(qa_format::specs::format::Reading::json_of))]
 pub fn json_of(alloc: Global, bytes: &[u8]) -> Result<Value, LineFault>
+    ensures read { Gives view result (reading.json_of bytes.now) }
+    ensures memory { IsErrOf result LineFault.OutOfMemory → is_utf8 bytes.now ≡ true }
+{
+    if let Some(value) = flat_object(alloc, bytes) {
+        return Ok(value);
+    }
+    parsed(alloc, bytes)
+}
+
+/// The same by the reader of `serde_json`. It stands apart, so that a value that is read without it does not pay for its
+/// table.
+#[inline(never)]
+#[tactic(auto, unfolding(qa_format::specs::format::Reading::json_of))]
+fn parsed(alloc: Global, bytes: &[u8]) -> Result<Value, LineFault>
     ensures read { Gives view result (reading.json_of bytes.now) }
     ensures memory { IsErrOf result LineFault.OutOfMemory → is_utf8 bytes.now ≡ true }
 {

@@ -1,5 +1,5 @@
 //! What a line says: a header, an event, or nothing.
-ghost use Rattle.std.specs.Prelude.{◌≡◌, true, false, Ok, IfOk, IsErrOf};
+ghost use Rattle.std.specs.Prelude.{◌≡◌, true, false, Ok, IfOk, OnOk, IsOk, IsErrOf};
 ghost use Rattle.std.specs.List.{list_all};
 ghost use Rattle.std.specs.Str.{is_utf8};
 ghost use Rattle.serde_json.specs.View.{view};
@@ -12,7 +12,7 @@ use crate::json::{is_blank, json_of};
 use crate::{fields, tables};
 use qa_base::{Key, LineKind};
 use qa_format::{Fault, Line};
-use qa_quick::quick_line;
+use qa_quick::{quick_line, usual_line};
 use serde_json::Value;
 use std::alloc::Global;
 
@@ -62,12 +62,47 @@ fn read_value(alloc: Global, bytes: &[u8]) -> Result<Line, LineFault>
     object_says(alloc, &value)
 }
 
+/// What the bytes of a line say is put where it is to stand, by way of a JSON value, where the line is not blank; or the
+/// first of the line's faults.
+#[cold]
+#[inline(never)]
+#[tactic(auto, unfolding(qa_format::specs::format::Reading::reading_by))]
+fn put_value(alloc: Global, bytes: &[u8], into: &mut Line) -> Result<(), LineFault>
+    ensures read { Gives (λ _. into.new) result (reading.reading bytes.now) }
+    ensures fitting { OnOk result (line_fits into.new ≡ true) }
+    ensures blank { list_all reading.is_blank bytes.now ≡ true → IsOk result }
+    ensures memory { IsErrOf result LineFault.OutOfMemory → is_utf8 bytes.now ≡ true }
+{
+    if is_blank(bytes) {
+        *into = Line::Blank;
+        return Ok(());
+    }
+    *into = read_value(alloc, bytes)?;
+    Ok(())
+}
+
+/// The same of a line that is none of the usual ones.
+#[inline(never)]
+fn put_other(alloc: Global, bytes: &[u8], into: &mut Line) -> Result<(), LineFault>
+    ensures read { Gives (λ _. into.new) result (reading.reading bytes.now) }
+    ensures fitting { OnOk result (line_fits into.new ≡ true) }
+    ensures blank { list_all reading.is_blank bytes.now ≡ true → IsOk result }
+    ensures memory { IsErrOf result LineFault.OutOfMemory → is_utf8 bytes.now ≡ true }
+{
+    if let Some(line) = quick_line(alloc, bytes) {
+        *into = line;
+        return Ok(());
+    }
+    put_value(alloc, bytes, into)
+}
+
 /// What the bytes of a line say, its LF not among them, or the first of the line's faults.
 ///
 /// The values of the line are in the ranges of their tables, and its event fits (`Event::fits`).
 /// A line of any length is read: how long a line of a trace may be is for its splitter to say.
 /// `LineFault::OutOfMemory` comes where memory was refused, and then the call can be made again; a
 /// blank line and bytes that are not UTF-8 take no memory.
+#[inline(never)]
 #[tactic(auto, unfolding(qa_format::specs::format::Reading::reading_by))]
 pub fn read_line(alloc: Global, bytes: &[u8]) -> Result<Line, LineFault>
     ensures read { Gives (λ line. line) result (reading.reading bytes.now) }
@@ -75,11 +110,10 @@ pub fn read_line(alloc: Global, bytes: &[u8]) -> Result<Line, LineFault>
     ensures blank { list_all reading.is_blank bytes.now ≡ true → result ≡ Ok Line.Blank }
     ensures memory { IsErrOf result LineFault.OutOfMemory → is_utf8 bytes.now ≡ true }
 {
-    if is_blank(bytes) {
-        return Ok(Line::Blank);
+    // Where a line is put at once, it is not copied from one call's result to the next.
+    let mut line = Line::Blank;
+    if !usual_line(alloc, bytes, &mut line) {
+        put_other(alloc, bytes, &mut line)?;
     }
-    if let Some(line) = quick_line(alloc, bytes) {
-        return Ok(line);
-    }
-    read_value(alloc, bytes)
+    Ok(line)
 }
