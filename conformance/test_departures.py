@@ -155,7 +155,7 @@ class Texts(unittest.TestCase):
             why = TRACES / f"{name}.why"
             text = why.read_bytes() if why.exists() else course.end
             with self.subTest(name):
-                told = (*course.firsts, course.end)[0]
+                told = (*(it.text for it in course.firsts), course.end)[0]
                 self.assertEqual(told.replace(b": departure ", b": refused ", 1), text)
 
     def test_words(self) -> None:

@@ -12,7 +12,7 @@ from pathlib import Path
 from types import TracebackType
 from typing import NamedTuple, Self
 
-from around import rows_before
+from around import rows_behind
 from constants import MAX_LINE_LENGTH
 from processes import Outcome, Words, differences, joined, status_of
 from runners import Parser, Result, Results, tell_of
@@ -216,8 +216,7 @@ class Auditor(NamedTuple):
 
 def with_options(name: str, data: bytes, report: bytes) -> Command:
     """A trace that is told of with the lines before, and with its warnings on standard error."""
-    is_accepted = report.startswith(b"accepted")
-    rows = b"" if is_accepted else rows_before(data, report.decode(), LINES_BEFORE)
+    rows = rows_behind(data, report.decode(), LINES_BEFORE)
     text = why(STANDARD_INPUT, data, report.decode()) + rows
     told = warnings_of(STANDARD_INPUT, data, report.decode())
     arguments = ["--warn", "--around", str(LINES_BEFORE)]
