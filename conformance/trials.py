@@ -12,8 +12,9 @@ from pathlib import Path
 from types import TracebackType
 from typing import NamedTuple, Self
 
-from around import rows_behind
+from around import member_of, rows_behind
 from constants import MAX_LINE_LENGTH
+from objects import line_of, object_of
 from processes import Outcome, Words, differences, joined, status_of
 from runners import Parser, Result, Results, tell_of
 from silent import warnings_of
@@ -202,6 +203,7 @@ class Auditor(NamedTuple):
             yield Command(f"why {trace.stem}", [], data, report, whole, text)
             if trace.stem in WITH_OPTIONS:
                 yield with_options(trace.stem, data, report)
+                yield as_object(trace.stem, data, report)
         for word in self.subcommands:
             wanted = trace.with_suffix(".explain" if word == "explain" else ".report")
             text = wanted.read_bytes() if wanted.exists() else self.written([word], data)
@@ -221,6 +223,15 @@ def with_options(name: str, data: bytes, report: bytes) -> Command:
     told = warnings_of(STANDARD_INPUT, data, report.decode())
     arguments = ["--warn", "--around", str(LINES_BEFORE)]
     whole = Outcome(status_of(report), text, told)
+    return Command(f"why {name} {' '.join(arguments)}", arguments, data, report, whole, text)
+
+
+def as_object(name: str, data: bytes, report: bytes) -> Command:
+    """A trace that is told of as an object, with the lines before."""
+    members = member_of(data, report.decode(), LINES_BEFORE)
+    text = line_of(object_of(STANDARD_INPUT, data, report.decode()) | members)
+    arguments = ["--json", "--around", str(LINES_BEFORE)]
+    whole = Outcome(status_of(report), text, b"")
     return Command(f"why {name} {' '.join(arguments)}", arguments, data, report, whole, text)
 
 
