@@ -158,10 +158,10 @@ conformance-rows:
 	conformance/rows $(program_why)
 	conformance/rows --all $(program_why)
 
-# All departures from the rules of conduct, as a text and as objects.
+# All departures from the rules of conduct, as a text and as objects, with rows before too.
 conformance-departures:
-	conformance/departures $(program_why)
-	conformance/departures --json $(program_why)
+	conformance/departures --around $(program_why)
+	conformance/departures --json --around $(program_why)
 
 conformance-allocations:
 	conformance/allocations $(program)

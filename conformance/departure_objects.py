@@ -64,9 +64,10 @@ STORED = (
 )
 
 
-def text_of(name: str, trace: bytes, report: str, course: Course) -> bytes:
-    """The line of a trace under a name whose report is this, and of which this comes."""
-    return line_of(object_of(name, trace, report) | members_of(course))
+def text_of(name: str, trace: bytes, report: str, course: Course, around: Object) -> bytes:
+    """The line of a trace under a name whose report is this, and of which this comes, with the
+    member of the rows before (around.py), where they are wanted."""
+    return line_of(object_of(name, trace, report) | around | members_of(course))
 
 
 def members_of(course: Course) -> Object:
@@ -101,7 +102,7 @@ def row_of(what: str, found: list[Departure], unit: str) -> Object:
 def text_of_file(path: Path) -> bytes:
     """The line of the trace in a file, by its report."""
     trace, report = path.read_bytes(), path.with_suffix(".report").read_text()
-    return text_of(path.name, trace, report, course_of(path.name, trace, report))
+    return text_of(path.name, trace, report, course_of(path.name, trace, report), {})
 
 
 def write(traces: Path) -> None:

@@ -113,6 +113,13 @@ class Departure(NamedTuple):
     amount: int | None
 
 
+class First(NamedTuple):
+    """What is written of the first departure of a kind, and its line."""
+
+    line: int
+    text: bytes
+
+
 @dataclass
 class Course:
     """What came of a trace: its verdict once departures are passed over, the departures, how many
@@ -123,7 +130,7 @@ class Course:
     departures: list[Departure] = field(default_factory=list)
     events: int = 0
     unit: str = "us"
-    firsts: list[bytes] = field(default_factory=list)
+    firsts: list[First] = field(default_factory=list)
     end: bytes = b""
     ending: Object = field(default_factory=dict)
 
@@ -141,9 +148,19 @@ def text_of(name: str, trace: bytes, report: str) -> bytes:
 
 def written(name: str, course: Course) -> bytes:
     """What is written of a course."""
+    firsts = b"".join(it.text for it in course.firsts)
+    return firsts + end_of(course) + table_text(name, course)
+
+
+def end_of(course: Course) -> bytes:
+    """What is written of the end of a course: nothing where it departs and is accepted but for that."""
     is_told = course.verdict != "accepted" or not course.departures
-    end = course.end if is_told else b""
-    return b"".join(course.firsts) + end + "".join(table_of(name, course)).encode()
+    return course.end if is_told else b""
+
+
+def table_text(name: str, course: Course) -> bytes:
+    """The table of a course."""
+    return "".join(table_of(name, course)).encode()
 
 
 # Courses.
@@ -219,7 +236,8 @@ class Follower:
     def depart(self, number: int, event: Event, what: str) -> None:
         """Takes a rule that an event of a line breaks."""
         if all(it.what != what for it in self.found.departures):
-            self.found.firsts.append(self.text_of(number, event, "departure", what))
+            text = self.text_of(number, event, "departure", what)
+            self.found.firsts.append(First(number, text))
         amount = amount_of(self.sender, event, what)
         self.found.departures.append(Departure(number, what, amount))
 

@@ -96,14 +96,19 @@ def followed(trace: bytes, last: int | None) -> Iterator[tuple[int, Sender, Even
 
 def rows_of(trace: bytes, last: int | None) -> Iterator[bytes]:
     """The rows of the lines of a trace before this one, or of all."""
+    for row in objects_of(trace, last):
+        yield json.dumps(row, separators=(",", ":")).encode() + b"\n"
+
+
+def objects_of(trace: bytes, last: int | None) -> Iterator[Object]:
+    """The rows of the lines of a trace before this one, or of all, as objects."""
     unit = "us"
     for number, sender, event in followed(trace, last):
         if event["event"] == "header":
             unit, said = unit_of(event), header_written(event, sender)
         else:
             said = event_written(event)
-        row = {"line": number, "event": said, "state": state_of(sender, unit)}
-        yield json.dumps(row, separators=(",", ":")).encode() + b"\n"
+        yield {"line": number, "event": said, "state": state_of(sender, unit)}
 
 
 def state_of(sender: Sender, unit: str) -> Object:

@@ -58,7 +58,7 @@ class OfForm(RunnerCase):
         how = {"options": list(self.asked.options), "suffix": self.asked.suffix}
         self.write_program(TELLS.format(change=change, error=error, status=status, **how))
         found = [
-            self.script.result_of_trace(self.asked, str(self.program), self.trace),
+            *self.script.results_of_trace(self.asked, str(self.program), self.trace),
             self.script.result_of_all(self.asked, str(self.program), self.trace.parent),
         ]
         return [it.failure for it in found if it.failure]
@@ -155,7 +155,7 @@ class Texts(unittest.TestCase):
             why = TRACES / f"{name}.why"
             text = why.read_bytes() if why.exists() else course.end
             with self.subTest(name):
-                told = (*course.firsts, course.end)[0]
+                told = (*(it.text for it in course.firsts), course.end)[0]
                 self.assertEqual(told.replace(b": departure ", b": refused ", 1), text)
 
     def test_words(self) -> None:

@@ -12,8 +12,9 @@ from pathlib import Path
 from types import TracebackType
 from typing import NamedTuple, Self
 
-from around import rows_before
+from around import member_of, rows_behind
 from constants import MAX_LINE_LENGTH
+from objects import line_of, object_of
 from processes import Outcome, Words, differences, joined, status_of
 from runners import Parser, Result, Results, tell_of
 from silent import warnings_of
@@ -202,6 +203,7 @@ class Auditor(NamedTuple):
             yield Command(f"why {trace.stem}", [], data, report, whole, text)
             if trace.stem in WITH_OPTIONS:
                 yield with_options(trace.stem, data, report)
+                yield as_object(trace.stem, data, report)
         for word in self.subcommands:
             wanted = trace.with_suffix(".explain" if word == "explain" else ".report")
             text = wanted.read_bytes() if wanted.exists() else self.written([word], data)
@@ -216,12 +218,20 @@ class Auditor(NamedTuple):
 
 def with_options(name: str, data: bytes, report: bytes) -> Command:
     """A trace that is told of with the lines before, and with its warnings on standard error."""
-    is_accepted = report.startswith(b"accepted")
-    rows = b"" if is_accepted else rows_before(data, report.decode(), LINES_BEFORE)
+    rows = rows_behind(data, report.decode(), LINES_BEFORE)
     text = why(STANDARD_INPUT, data, report.decode()) + rows
     told = warnings_of(STANDARD_INPUT, data, report.decode())
     arguments = ["--warn", "--around", str(LINES_BEFORE)]
     whole = Outcome(status_of(report), text, told)
+    return Command(f"why {name} {' '.join(arguments)}", arguments, data, report, whole, text)
+
+
+def as_object(name: str, data: bytes, report: bytes) -> Command:
+    """A trace that is told of as an object, with the lines before."""
+    members = member_of(data, report.decode(), LINES_BEFORE)
+    text = line_of(object_of(STANDARD_INPUT, data, report.decode()) | members)
+    arguments = ["--json", "--around", str(LINES_BEFORE)]
+    whole = Outcome(status_of(report), text, b"")
     return Command(f"why {name} {' '.join(arguments)}", arguments, data, report, whole, text)
 
 

@@ -10,11 +10,11 @@ use Rattle.qa_why_trace.proofs.Told.{good_stays, told_alike, why_stays}
 use Rattle.qa_why_trace.specs.Why.{good_lines, why_by}
 use Rattle.qa_why_trace.specs.declared.form.Form.{Form}
 
-text_stays : (form : Form) (name f g : List ℕ) → IsFixed past_conduct f → told_by form name (f ++ g) ≡ told_by form name f
+text_stays : (count : ℕ) (form : Form) (name f g : List ℕ) → IsFixed past_conduct f → told_by count form name (f ++ g) ≡ told_by count form name f
 unfolding told_by
-text_stays form name f g fixed =
-    ap (λ (ls : List (List ℕ)). course_in form name ls (outcome_of (verdict past_conduct (f ++ g))) (why_by past_conduct form name (f ++ g))) (good_stays past_conduct f g fixed)
-    ∙ ap₂ (course_in form name (good_lines past_conduct f)) (ap outcome_of (fixed_stays past_conduct f g fixed)) (why_stays past_conduct form name f g fixed)
+text_stays count form name f g fixed =
+    ap (λ (ls : List (List ℕ)). course_in count form name ls (outcome_of (verdict past_conduct (f ++ g))) (why_by past_conduct form name (f ++ g))) (good_stays past_conduct f g fixed)
+    ∙ ap₂ (course_in count form name (good_lines past_conduct f)) (ap outcome_of (fixed_stays past_conduct f g fixed)) (why_stays past_conduct form name f g fixed)
 
 outcome_stays : (f g : List ℕ) → IsFixed past_conduct f → all_outcome (f ++ g) ≡ all_outcome f
 unfolding all_outcome
@@ -22,8 +22,8 @@ outcome_stays f g fixed =
     ap₂ (λ (ls : List (List ℕ)) (outcome : Outcome). outcome_with (findings (all_departed ls)) outcome) (good_stays past_conduct f g fixed) (ap outcome_of (fixed_stays past_conduct f g fixed))
 
 -- what was read is told of as all the bytes that a reader tells
-pub told_text : {last : ℕ} (form : Form) (name : List ℕ) (old new : Option (List ℕ)) (read bytes : List ℕ) → old ≡ Some bytes → ReadsEnoughBy past_conduct old new last read → told_by form name bytes ≡ told_by form name read
-told_text form name old new read bytes tells enough = told_alike past_conduct (told_by form name) (text_stays form name) old new read bytes tells enough
+pub told_text : {last : ℕ} (count : ℕ) (form : Form) (name : List ℕ) (old new : Option (List ℕ)) (read bytes : List ℕ) → old ≡ Some bytes → ReadsEnoughBy past_conduct old new last read → told_by count form name bytes ≡ told_by count form name read
+told_text count form name old new read bytes tells enough = told_alike past_conduct (told_by count form name) (text_stays count form name) old new read bytes tells enough
 
 pub told_outcome : {last : ℕ} (old new : Option (List ℕ)) (read bytes : List ℕ) → old ≡ Some bytes → ReadsEnoughBy past_conduct old new last read → all_outcome bytes ≡ all_outcome read
 told_outcome old new read bytes tells enough = told_alike past_conduct all_outcome outcome_stays old new read bytes tells enough

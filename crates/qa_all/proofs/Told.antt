@@ -5,10 +5,12 @@ use Rattle.std.proofs.lemmas.List.{append-nil, map-append, take_more}
 use Rattle.std.specs.Option.{option_or}
 use Rattle.std.specs.Prelude.{filter_map, nat_eq}
 use Rattle.qa_all.specs.All.{first_text, firsts, firsts_after}
-use Rattle.qa_all.specs.Departed.{Departed, all_departed, departed_after, departed_at, departed_on, finding_of, findings, history_in, unit_of}
-use Rattle.qa_all.specs.Keeping.{departed_by}
+use Rattle.qa_all.specs.Bearing.{latest_of}
+use Rattle.qa_all.specs.Departed.{Departed, all_departed, departed, departed_after, departed_at, departed_on, finding_of, findings, history_in, lines_before, unit_of}
+use Rattle.qa_all.specs.Keeping.{departed_by, kept_behind}
 use Rattle.qa_all.specs.declared.bearing.Departure.{Departure}
 use Rattle.qa_all.specs.Objects.{first_members, named, named_after, named_behind}
+use Rattle.qa_around.specs.Rows.{objects}
 use Rattle.qa_base.specs.declared.event.Event.{Event}
 use Rattle.qa_base.proofs.machine.Histories.{history_of-snoc}
 use Rattle.qa_base.specs.declared.space.TimeUnit.{TimeUnit}
@@ -38,16 +40,16 @@ pub findings-snoc : (ds : List Departed) (d : Departed) → findings (ds ++ d �
 findings-snoc [] d = refl
 findings-snoc (e ∷ ds) d = ap (λ fs. finding_of e ∷ fs) (findings-snoc ds d)
 
-firsts_after-snoc : (name : List ℕ) (before : List Finding) (ds : List Departed) (d : Departed)
-    → firsts_after name before (ds ++ d ∷ []) ≡ firsts_after name before ds ++ first_text name (before ++ findings ds) d
-firsts_after-snoc name before [] d = append-nil (first_text name before d) ∙ ap (λ fs. first_text name fs d) (sym (append-nil before))
-firsts_after-snoc name before (e ∷ ds) d =
-    ap (λ text. first_text name before e ++ text) (firsts_after-snoc name (before ++ finding_of e ∷ []) ds d)
-    ∙ (ap (λ fs. first_text name before e ++ (firsts_after name (before ++ finding_of e ∷ []) ds ++ first_text name fs d)) (append_assoc before (finding_of e ∷ []) (findings ds))
-    ∙ sym (append_assoc (first_text name before e) (firsts_after name (before ++ finding_of e ∷ []) ds) (first_text name (before ++ finding_of e ∷ findings ds) d)))
+firsts_after-snoc : (count : ℕ) (name : List ℕ) (before : List Finding) (ds : List Departed) (d : Departed)
+    → firsts_after count name before (ds ++ d ∷ []) ≡ firsts_after count name before ds ++ first_text count name (before ++ findings ds) d
+firsts_after-snoc count name before [] d = append-nil (first_text count name before d) ∙ ap (λ fs. first_text count name fs d) (sym (append-nil before))
+firsts_after-snoc count name before (e ∷ ds) d =
+    ap (λ text. first_text count name before e ++ text) (firsts_after-snoc count name (before ++ finding_of e ∷ []) ds d)
+    ∙ (ap (λ fs. first_text count name before e ++ (firsts_after count name (before ++ finding_of e ∷ []) ds ++ first_text count name fs d)) (append_assoc before (finding_of e ∷ []) (findings ds))
+    ∙ sym (append_assoc (first_text count name before e) (firsts_after count name (before ++ finding_of e ∷ []) ds) (first_text count name (before ++ finding_of e ∷ findings ds) d)))
 
-pub firsts-snoc : (name : List ℕ) (ds : List Departed) (d : Departed) → firsts name (ds ++ d ∷ []) ≡ firsts name ds ++ first_text name (findings ds) d
-firsts-snoc name ds d = firsts_after-snoc name [] ds d
+pub firsts-snoc : (count : ℕ) (name : List ℕ) (ds : List Departed) (d : Departed) → firsts count name (ds ++ d ∷ []) ≡ firsts count name ds ++ first_text count name (findings ds) d
+firsts-snoc count name ds d = firsts_after-snoc count name [] ds d
 
 -- ---- one more line
 
@@ -63,9 +65,9 @@ all_departed-snoc ls l = departed_after-snoc [] ls l
 
 -- ---- what a line says
 
-none_said : (n : ℕ) (l : List ℕ) (header : Option Settings) (h : List Event) → departed_at n l header h None ≡ []
-none_said n l None h = refl
-none_said n l (Some c) h = refl
+none_said : (n : ℕ) (before : List (List ℕ)) (l : List ℕ) (header : Option Settings) (h : List Event) → departed_at n before l header h None ≡ []
+none_said n before l None h = refl
+none_said n before l (Some c) h = refl
 
 or_nothing : (o p : Option Settings) → option_or o p ≡ None → o ≡ None
 or_nothing None p none = refl
@@ -101,12 +103,23 @@ none_before ls l none = no_history (events_in reading ls) (reading l) (sym (ap h
 
 -- the departures on a line are those by what it says
 pub departed_same : (ls : List (List ℕ)) (l : List ℕ) (said : Line) (c : Settings) → reading l ≡ Ok said → header_in reading (ls ++ l ∷ []) ≡ Some c
-    → departed_by (length ls + 1) l said c (history_in (ls ++ l ∷ [])) ≡ departed_on ls l
+    → departed_by (length ls + 1) ls l said c (history_in (ls ++ l ∷ [])) ≡ departed_on ls l
 departed_same ls l (line.Event e) c says headed =
     let before : header_in reading ls ≡ Some c = sym (or_none (header_in reading ls)) ∙ (sym (header_in-snoc reading ls l ∙ ap (λ s. option_or (header_in reading ls) (header_said s)) says) ∙ headed) in
     rw (history_with ls l e says, says, before) refl
-departed_same ls l line.Blank c says headed = rw says (sym (none_said (length ls + 1) l (header_in reading ls) (history_in ls)))
-departed_same ls l (line.Header d) c says headed = rw says (sym (none_said (length ls + 1) l (header_in reading ls) (history_in ls)))
+departed_same ls l line.Blank c says headed = rw says (sym (none_said (length ls + 1) ls l (header_in reading ls) (history_in ls)))
+departed_same ls l (line.Header d) c says headed = rw says (sym (none_said (length ls + 1) ls l (header_in reading ls) (history_in ls)))
+
+-- so are all on one more line
+pub departed_more : (ls : List (List ℕ)) (l : List ℕ) (said : Line) (n : ℕ) (c : Settings) → reading l ≡ Ok said → header_in reading (ls ++ l ∷ []) ≡ Some c → n ≡ length ls + 1
+    → all_departed ls ++ departed_by n ls l said c (history_in (ls ++ l ∷ [])) ≡ all_departed (ls ++ l ∷ [])
+departed_more ls l said n c says headed count =
+    let h = history_in (ls ++ l ∷ []) in
+    ap (λ m. all_departed ls ++ departed_by m ls l said c h) count ∙ (ap (λ ds. all_departed ls ++ ds) (departed_same ls l said c says headed) ∙ sym (all_departed-snoc ls l))
+
+-- without a header there are no more
+pub departed_no_more : (ls : List (List ℕ)) (l : List ℕ) → header_in reading (ls ++ l ∷ []) ≡ None → all_departed ls ≡ all_departed (ls ++ l ∷ [])
+departed_no_more ls l none = sym (all_departed-snoc ls l ∙ (ap (λ ds. all_departed ls ++ ds) (departed_headless ls l none) ∙ append-nil (all_departed ls)))
 
 -- ---- what is kept of the lines: their departures, their unit and the number of their events
 
@@ -115,24 +128,19 @@ CoversBy keeps unit events ls = keeps (all_departed ls) × (unit ≡ unit_of (he
 
 -- one more line behind a header
 pub covers_more : (keeps : List Departed → Type 0) (unit : TimeUnit) (events : ℕ) (ls : List (List ℕ)) (l : List ℕ) (said : Line) (n : ℕ) (c : Settings) → reading l ≡ Ok said → header_in reading (ls ++ l ∷ []) ≡ Some c → n ≡ length ls + 1
-    → keeps (all_departed ls ++ departed_by n l said c (history_in (ls ++ l ∷ []))) → unit ≡ c.unit → events ≡ length (history_in (ls ++ l ∷ []))
+    → keeps (all_departed ls ++ departed_by n ls l said c (history_in (ls ++ l ∷ []))) → unit ≡ c.unit → events ≡ length (history_in (ls ++ l ∷ []))
     → CoversBy keeps unit events (ls ++ l ∷ [])
 covers_more keeps unit events ls l said n c says headed count kept is_unit are_events =
-    let h = history_in (ls ++ l ∷ []) in
-    let same : all_departed ls ++ departed_by n l said c h ≡ all_departed (ls ++ l ∷ []) =
-    ap (λ m. all_departed ls ++ departed_by m l said c h) count ∙ (ap (λ ds. all_departed ls ++ ds) (departed_same ls l said c says headed) ∙ sym (all_departed-snoc ls l)) in
-    (subst keeps same kept, is_unit ∙ sym (ap unit_of headed), are_events)
+    (subst keeps (departed_more ls l said n c says headed count) kept, is_unit ∙ sym (ap unit_of headed), are_events)
 
 -- one more line, and no header yet
 pub covers_headless : (keeps : List Departed → Type 0) (unit : TimeUnit) (events : ℕ) (ls : List (List ℕ)) (l : List ℕ) → header_in reading (ls ++ l ∷ []) ≡ None → history_in (ls ++ l ∷ []) ≡ []
     → CoversBy keeps unit events ls → CoversBy keeps unit events (ls ++ l ∷ [])
-covers_headless keeps unit events ls l none nothing covers =
-    let same : all_departed ls ≡ all_departed (ls ++ l ∷ []) =
-    sym (all_departed-snoc ls l ∙ (ap (λ ds. all_departed ls ++ ds) (departed_headless ls l none) ∙ append-nil (all_departed ls))) in (
-      subst keeps same covers.0,
-      covers.1 ∙ (ap unit_of (headless_before ls l none) ∙ sym (ap unit_of none)),
-      covers.2 ∙ (ap length (none_before ls l nothing) ∙ sym (ap length nothing)),
-    )
+covers_headless keeps unit events ls l none nothing covers = (
+  subst keeps (departed_no_more ls l none) covers.0,
+  covers.1 ∙ (ap unit_of (headless_before ls l none) ∙ sym (ap unit_of none)),
+  covers.2 ∙ (ap length (none_before ls l nothing) ∙ sym (ap length nothing)),
+)
 
 -- ---- what is listed
 
@@ -145,3 +153,23 @@ named_after-snoc before (g ∷ fs) f =
 
 pub named-snoc : (fs : List Finding) (f : Finding) → named (fs ++ f ∷ []) ≡ named fs ++ named_behind fs f
 named-snoc fs f = named_after-snoc [] fs f
+
+-- ---- the rows before the first departure
+
+first_of_line : (xs : List Departure) (u : TimeUnit) (n : ℕ) (ls all : List (List ℕ)) (l : List ℕ) (e : Event) (more : List (List ℕ)) → objects ls ++ more ≡ objects all
+    → kept_behind (map (departed u n ls l e) xs) (objects ls) more ≡ objects (lines_before (map (departed u n ls l e) xs) all)
+first_of_line [] u n ls all l e more is = is
+first_of_line (x ∷ xs) u n ls all l e more is = refl
+
+-- one more line
+pub before_more : (ds : List Departed) (n : ℕ) (ls all : List (List ℕ)) (l : List ℕ) (said : Line) (c : Settings) (h : List Event) (more : List (List ℕ)) → objects ls ++ more ≡ objects all
+    → kept_behind (ds ++ departed_by n ls l said c h) (objects (lines_before ds ls)) more ≡ objects (lines_before (ds ++ departed_by n ls l said c h) all)
+before_more [] n ls all l (line.Event e) c h more is = first_of_line (latest_of c h) c.unit n ls all l e more is
+before_more [] n ls all l line.Blank c h more is = is
+before_more [] n ls all l (line.Header s) c h more is = is
+before_more (d ∷ ds) n ls all l said c h more is = refl
+
+-- and one that has no row
+pub before_no_more : (ds : List Departed) (ls all : List (List ℕ)) → objects ls ≡ objects all → objects (lines_before ds ls) ≡ objects (lines_before ds all)
+before_no_more [] ls all is = is
+before_no_more (d ∷ ds) ls all is = refl

@@ -3,8 +3,11 @@ use Rattle.std.specs.Prelude.{ℕ, codes, decimal, length, List, [], ◌∷◌, 
 use Rattle.json.specs.Token.{Token}
 use Rattle.json.specs.Token as token
 use Rattle.qa_all.specs.Departed.{Departed, all_departed, findings, history_in, unit_of}
+use Rattle.qa_around.specs.Around.{objects_behind}
+use Rattle.qa_around.specs.Members.{objects_before}
 use Rattle.qa_base.specs.declared.rule.Rule.{Rule}
 use Rattle.qa_base.specs.declared.space.TimeUnit.{TimeUnit}
+use Rattle.qa_check.specs.declared.auditing.Outcome.{Outcome}
 use Rattle.qa_departures.specs.Table.{are_known, is_found, table}
 use Rattle.qa_departures.specs.Texts as texts
 use Rattle.qa_departures.specs.declared.finding.Finding.{Finding}
@@ -78,10 +81,12 @@ members_of_none end = end ++ codes ",\"departures\":[]"
 unfoldable pub members_of_some : List ℕ → List ℕ → List ℕ → List ℕ
 members_of_some first all end = first ++ codes "," ++ all ++ codes ",\"end\":{" ++ end ++ codes "}"
 
-abbrev pub members_of : TimeUnit → ℕ → List Departed → List ℕ → List ℕ
-members_of u events [] end = members_of_none end
-members_of u events (d ∷ ds) end = members_of_some (first_members (d ∷ ds)) (table_members u events (findings (d ∷ ds))) end
+-- of these departures on good lines, with how the trace ends and what is told of that; the rows before the first departure, or before the end, are the member behind
+abbrev pub members_of : ℕ → TimeUnit → ℕ → List Departed → List (List ℕ) → Outcome → List ℕ → List ℕ
+members_of count u events [] ls outcome end = members_of_none (end ++ objects_behind outcome count ls)
+members_of count u events (d ∷ ds) ls outcome end =
+    members_of_some (first_members (d ∷ ds) ++ objects_before count d.before) (table_members u events (findings (d ∷ ds))) end
 
--- of good lines, with what is told of how it ends
-abbrev pub course_members : List (List ℕ) → List ℕ → List ℕ
-course_members ls end = members_of (unit_of (header_in reading ls)) (length (history_in ls)) (all_departed ls) end
+abbrev pub course_members : ℕ → List (List ℕ) → Outcome → List ℕ → List ℕ
+course_members count ls outcome end =
+    members_of count (unit_of (header_in reading ls)) (length (history_in ls)) (all_departed ls) ls outcome end

@@ -4,7 +4,9 @@ ghost use Rattle.qa_all.specs.All as all;
 ghost use Rattle.qa_all.specs.Departed as departed;
 ghost use Rattle.qa_all.specs.Departed.{Departed};
 ghost use Rattle.qa_all.specs.Bearing.{StandsFor};
-ghost use Rattle.qa_all.specs.Keeping.{Covers, Keeps, departed_by, is_nil};
+ghost use Rattle.qa_all.specs.Keeping.{Covers, Keeps, KeepsRows, departed_by, is_nil};
+ghost use Rattle.qa_all.specs.declared.keeping.Kept.{Kept as AKept};
+ghost use Rattle.qa_around.specs.Rows.{row_of, rows as all_rows};
 ghost use Rattle.qa_departures.specs.Table.{Holds};
 ghost use Rattle.qa_departures.specs.declared.finding.Finding.{Finding as AFinding};
 ghost use Rattle.qa_base.specs.declared.event.Event.{Event as AnEvent};
@@ -12,6 +14,7 @@ ghost use Rattle.qa_base.specs.declared.space.TimeUnit.{TimeUnit as AUnit};
 ghost use Rattle.qa_base.specs.values.Settings.{Settings};
 
 use crate::bearing::{Bearing, Departure};
+use qa_around::Latest;
 use qa_base::{Event, TimeUnit};
 use qa_causes::Explains;
 use qa_check::{Judge, Outcome};
@@ -22,11 +25,12 @@ use qa_names::shown_name;
 use qa_why_trace::{Why, broken, extend};
 use std::alloc::{AllocError, Global};
 
-/// What is kept of the departures of a trace: what is told of the first of each kind, and the table,
-/// whose times are in the unit of the trace.
+/// What is kept of the departures of a trace: the last rows, what is told of the first of each kind, and
+/// the table, whose times are in the unit of the trace.
 #[derive(Drop)]
 pub(crate) struct Kept {
     alloc: Global,
+    latest: Latest,
     firsts: Vec<u8>,
     table: Table,
     unit: TimeUnit,
@@ -35,8 +39,8 @@ pub(crate) struct Kept {
 
 /// The departure as the table has it, of an event on this line.
 pub(crate) fn finding(line: u64, event: &Event, departure: &Departure) -> Finding
-    ensures { (u : AUnit) (bytes : List ℕ)
-        → result ≡ departed.finding_of (departed.departed u line bytes event.now departure.now) }
+    ensures { (u : AUnit) (before : List (List ℕ)) (bytes : List ℕ)
+        → result ≡ departed.finding_of (departed.departed u line before bytes event.now departure.now) }
 {
     Finding {
         line,
@@ -46,12 +50,14 @@ pub(crate) fn finding(line: u64, event: &Event, departure: &Departure) -> Findin
 }
 
 impl Kept {
-    /// Of no lines. Takes no memory.
-    pub(crate) fn new(alloc: Global) -> Kept
-        ensures { (name : List ℕ) → Covers name result [] }
+    /// Of no lines, with up to so many rows before what is told. Takes no memory.
+    pub(crate) fn new(alloc: Global, around: u16) -> Kept
+        ensures count { result.latest.count ≡ around }
+        ensures fresh { (name : List ℕ) → Covers name result result [] }
     {
         Kept {
             alloc,
+            latest: Latest::new(alloc, around),
             firsts: Vec::new(alloc),
             table: Table::new(),
             unit: TimeUnit::Microseconds,
@@ -59,7 +65,7 @@ impl Kept {
         }
     }
 
-    /// Tells of a departure, where none of its kind was found before.
+    /// Tells of a departure, and of the rows before it, where none of its kind was found before.
     fn tell(
         &mut self,
         name: &str,
@@ -68,16 +74,17 @@ impl Kept {
         event: &Event,
         departure: &Departure,
     ) -> Result<(), AllocError>
-        ensures { OnOk result ((u : AUnit) (ds : List Departed) → Keeps name.now self.old ds
-            → (self.new.firsts.items ≡ self.old.firsts.items
-            ++ all.first_text name.now (departed.findings ds) (departed.departed u n line.now event.now departure.now))
-            × (self.new.table ≡ self.old.table) × (self.new.unit ≡ self.old.unit)
-            × (self.new.events ≡ self.old.events)) }
+        ensures first { OnOk result ((count : ℕ) (u : AUnit) (ls : List (List ℕ))
+            (ds : List Departed) → Keeps count name.now self.old ds
+            → KeepsRows count self.old (all_rows ls)
+            → self.new.firsts.items ≡ self.old.firsts.items
+            ++ all.first_text count name.now (departed.findings ds) (departed.departed u n ls line.now event.now departure.now)) }
+        ensures rest { (self.new.table ≡ self.old.table) × (self.new.latest ≡ self.old.latest) }
     {
         if self.table.has(departure.rule) {
             return Ok(());
         }
-        let text = broken(
+        let mut text = broken(
             self.alloc,
             "departure",
             name,
@@ -87,6 +94,7 @@ impl Kept {
             &departure.cause,
             line,
         )?;
+        self.latest.push_text(&mut text)?;
         extend(&mut self.firsts, &text)
     }
 
@@ -99,8 +107,11 @@ impl Kept {
         event: &Event,
         departure: &Departure,
     ) -> Result<(), AllocError>
-        ensures { OnOk result ((u : AUnit) (ds : List Departed) → Keeps name.now self.old ds
-            → Keeps name.now self.new (ds ++ departed.departed u n line.now event.now departure.now ∷ [])) }
+        ensures kept { OnOk result ((count : ℕ) (u : AUnit) (ls : List (List ℕ))
+            (ds : List Departed) → Keeps count name.now self.old ds
+            → KeepsRows count self.old (all_rows ls)
+            → Keeps count name.now self.new (ds ++ departed.departed u n ls line.now event.now departure.now ∷ [])) }
+        ensures rest { self.new.latest ≡ self.old.latest }
     {
         self.tell(name, n, line, event, departure)?;
         self.table.note(&finding(n, event, departure));
@@ -116,8 +127,11 @@ impl Kept {
         event: &Event,
         departures: &[Departure],
     ) -> Result<(), AllocError>
-        ensures { OnOk result ((u : AUnit) (ds : List Departed) → Keeps name.now self.old ds
-            → Keeps name.now self.new (ds ++ map (departed.departed u n line.now event.now) departures.now)) }
+        ensures kept { OnOk result ((count : ℕ) (u : AUnit) (ls : List (List ℕ))
+            (ds : List Departed) → Keeps count name.now self.old ds
+            → KeepsRows count self.old (all_rows ls)
+            → Keeps count name.now self.new (ds ++ map (departed.departed u n ls line.now event.now) departures.now)) }
+        ensures rest { self.new.latest ≡ self.old.latest }
     {
         for departure in departures {
             self.note(name, n, line, event, departure)?;
@@ -125,7 +139,7 @@ impl Kept {
         Ok(())
     }
 
-    /// Notes the departures on a good line, by the judge after it.
+    /// Notes the departures on a good line, and its row, by the judge after it.
     pub(crate) fn note_said<L: Bears + Explains + Drop>(
         &mut self,
         name: &str,
@@ -135,14 +149,17 @@ impl Kept {
         judge: &Bearing<L>,
     ) -> Result<(), AllocError>
         requires works { judge.now.failed ≡ false }
-        ensures { OnOk result ((ds : List Departed) (c : Settings) (h : List AnEvent)
-            → Keeps name.now self.old ds → StandsFor L.stands judge.now c h
-            → Keeps name.now self.new (ds ++ departed_by n line.now said.now c h)
+        ensures { OnOk result ((count : ℕ) (ls : List (List ℕ)) (ds : List Departed)
+            (c : Settings) (h : List AnEvent) → Keeps count name.now self.old ds
+            → KeepsRows count self.old (all_rows ls) → StandsFor L.stands judge.now c h
+            → KeepsRows count self.new (all_rows ls ++ row_of n said.now c h)
+            × Keeps count name.now self.new (ds ++ departed_by n ls line.now said.now c h)
             × (self.new.unit ≡ c.unit) × (self.new.events ≡ length h)) }
     {
         if let Line::Event(event) = said {
             self.note_each(name, n, line, event, judge.latest())?;
         }
+        self.latest.note_said(n, said, judge.ledger())?;
         self.unit = judge.unit();
         self.events = judge.state().events;
         Ok(())
@@ -150,8 +167,8 @@ impl Kept {
 
     /// The table behind the name; empty where there is no departure.
     fn table_text(&self, name: &str) -> Result<Vec<u8>, AllocError>
-        ensures { IfOk result (λ text. (ds : List Departed) → Keeps name.now self.now ds
-            → text.items ≡ all.table_of name.now self.now.unit self.now.events (departed.findings ds)) }
+        ensures { IfOk result (λ text. (count : ℕ) (ds : List Departed)
+            → Keeps count name.now self.now ds → text.items ≡ all.table_of name.now self.now.unit self.now.events (departed.findings ds)) }
     {
         if self.table.is_empty() {
             return Ok(Vec::new(self.alloc));
@@ -163,13 +180,15 @@ impl Kept {
     }
 
     /// All that is told, with how the trace ends and what is told of that.
-    pub(crate) fn finish(mut self, name: &str, end: Why) -> Result<Why, AllocError>
-        ensures { IfOk result (λ why. (ls : List (List ℕ)) → Covers name.now self ls
-            → (why.text.items ≡ all.course_text name.now ls end.outcome end.text.items)
+    pub(crate) fn finish(mut self, name: &str, mut end: Why) -> Result<Why, AllocError>
+        ensures { IfOk result (λ why. (begun : AKept) (ls : List (List ℕ))
+            → Covers name.now begun self ls
+            → (why.text.items ≡ all.course_text begun.latest.count name.now ls end.outcome end.text.items)
             × (why.outcome ≡ all.outcome_with (departed.findings (departed.all_departed ls)) end.outcome)) }
     {
         let table = self.table_text(name)?;
         let departs = !self.table.is_empty();
+        self.latest.push_behind(end.outcome, &mut end.text)?;
         extend(&mut self.firsts, end_of(departs, end.outcome, &end.text))?;
         extend(&mut self.firsts, &table)?;
         Ok(Why {

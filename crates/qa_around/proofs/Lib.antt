@@ -1,5 +1,5 @@
-mod Rows
+pub mod Rows
 mod Headed
-mod Noted
+pub mod Noted
 mod Staying
 pub mod Laws

@@ -1,4 +1,5 @@
 pub mod Texts
 pub mod Rows
+pub mod Members
 pub mod Keeping
 pub mod Around

@@ -16,38 +16,53 @@ use Rattle.qa_format.specs.declared.line.Line.{Line}
 use Rattle.qa_format.specs.declared.line.Line.TheVariants as line
 use Rattle.qa_format.specs.format.Reading.{reading}
 use Rattle.qa_format.specs.verdicts.Verdict.{events_in, header_in}
+use Rattle.qa_rows.specs.Rows.{object}
 
 -- ---- of a line
 
--- of line n, which is of this kind and has this time, and behind which the trace has this header and this history
+-- what rows there are of line n, which says this, and behind which the trace has this header and this history
+abbrev pub RowsOf : Type 0 → Type 0
+RowsOf A = ℕ → Line → Settings → List Event → List A
+
+-- for people: a line of this kind, which has this time
 abbrev pub row : ℕ → LineKind → Option ℕ → Settings → List Event → Row
 row n kind time c h = record { line = n; kind = kind; time = time; totals = totals c h; due = deadline c h }
 
--- of line n, which says this; a blank line has none
-abbrev pub row_of : ℕ → Line → Settings → List Event → List Row
+-- a blank line has none
+abbrev pub row_of : RowsOf Row
 row_of n line.Blank c h = []
 row_of n (line.Header s) c h = row n kinds.Header None c h ∷ []
 row_of n (line.Event e) c h = row n (event_kind e) (Some (time_of e)) c h ∷ []
 
-abbrev pub row_said : ℕ → Result Line Fault → Option Settings → List Event → List Row
-row_said n (Ok l) (Some c) h = row_of n l c h
-row_said n said header h = []
+-- for programs: the object that `--rows` writes; a blank line has none
+abbrev pub object_of : RowsOf (List ℕ)
+object_of n line.Blank c h = []
+object_of n (line.Header s) c h = object n (line.Header s) c h ∷ []
+object_of n (line.Event e) c h = object n (line.Event e) c h ∷ []
+
+abbrev pub rows_said : {A : Type 0} → RowsOf A → ℕ → Result Line Fault → Option Settings → List Event → List A
+rows_said of n (Ok l) (Some c) h = of n l c h
+rows_said of n said header h = []
 
 -- of a line behind these
-abbrev pub row_on : List (List ℕ) → List ℕ → List Row
-row_on before l = row_said (length before + 1) (reading l) (header_in reading (before ++ l ∷ [])) (history_of (events_in reading (before ++ l ∷ [])))
+abbrev pub rows_on : {A : Type 0} → RowsOf A → List (List ℕ) → List ℕ → List A
+rows_on of before l =
+    rows_said of (length before + 1) (reading l) (header_in reading (before ++ l ∷ [])) (history_of (events_in reading (before ++ l ∷ [])))
 
 -- ---- of lines
 
-abbrev pub rows_after : List (List ℕ) → List (List ℕ) → List Row
-rows_after before [] = []
-rows_after before (l ∷ ls) = row_on before l ++ rows_after (before ++ l ∷ []) ls
+abbrev pub rows_after : {A : Type 0} → RowsOf A → List (List ℕ) → List (List ℕ) → List A
+rows_after of before [] = []
+rows_after of before (l ∷ ls) = rows_on of before l ++ rows_after of (before ++ l ∷ []) ls
 
 abbrev pub rows : List (List ℕ) → List Row
-rows ls = rows_after [] ls
+rows ls = rows_after row_of [] ls
+
+abbrev pub objects : List (List ℕ) → List (List ℕ)
+objects ls = rows_after object_of [] ls
 
 -- the last of them, up to so many
-abbrev pub last_of : ℕ → List Row → List Row
+abbrev pub last_of : {A : Type 0} → ℕ → List A → List A
 last_of count rs = drop (length rs - count) rs
 
 -- ---- the text

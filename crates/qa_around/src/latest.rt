@@ -1,5 +1,6 @@
 //! The rows of the last good lines of a trace, which are kept while it is judged.
 ghost use Rattle.std.specs.Prelude.{◌≡◌, ◌<◌, ◌++◌, [], ◌∷◌, ℕ, List, false, IfOk, OnOk, string_bytes};
+ghost use Rattle.qa_around.specs.Around.{rows_behind};
 ghost use Rattle.qa_around.specs.Keeping.{Covers, Keeps, room_in};
 ghost use Rattle.qa_around.specs.Rows.{row, row_of, rows, rows_before};
 ghost use Rattle.qa_around.specs.Texts as text;
@@ -11,8 +12,10 @@ ghost use Rattle.qa_base.specs.values.Settings.{Settings};
 use crate::row::{Row, push_row};
 use qa_base::LineKind;
 use qa_causes::Explains;
+use qa_check::Outcome;
 use qa_format::Line;
 use qa_why::push_words;
+use qa_why_trace::extend;
 use std::alloc::{AllocError, Global};
 use std::collections::VecDeque;
 
@@ -22,8 +25,9 @@ use std::collections::VecDeque;
 /// It takes memory for so many rows, and none for a line that comes after them.
 #[derive(Drop)]
 pub struct Latest {
-    pub(crate) count: u16,
-    pub(crate) rows: VecDeque<Row>,
+    alloc: Global,
+    count: u16,
+    rows: VecDeque<Row>,
 }
 
 impl Latest {
@@ -33,6 +37,7 @@ impl Latest {
         ensures fresh { (name : List ℕ) → Covers name result result [] }
     {
         Latest {
+            alloc,
             count,
             rows: VecDeque::new(alloc),
         }
@@ -61,20 +66,23 @@ impl Latest {
         Ok(())
     }
 
-    /// Keeps the row of a good line, by the ledger behind it.
-    pub(crate) fn note_said<L: Explains>(
+    /// Keeps the row of a good line, by the ledger behind it. `AllocError` comes where it is out of
+    /// memory; nothing is promised then of what is kept.
+    pub fn note_said<L: Explains>(
         &mut self,
         n: u64,
         said: &Line,
         ledger: &L,
     ) -> Result<(), AllocError>
-        requires some { 0 < self.old.count }
         requires works { L.has_failed ledger.now ≡ false }
         ensures count { OnOk result (self.new.count ≡ self.old.count) }
         ensures kept { OnOk result ((rs : List ARow) (c : Settings) (h : List AnEvent)
             → Keeps self.old rs → L.stands ledger.now c h
             → Keeps self.new (rs ++ row_of n said.now c h)) }
     {
+        if self.count == 0 {
+            return Ok(());
+        }
         match said {
             Line::Blank => Ok(()),
             Line::Header(_) => self.keep(n, LineKind::Header, None, ledger),
@@ -82,20 +90,32 @@ impl Latest {
         }
     }
 
-    /// The rows with a heading; empty where there are none. `AllocError` comes where it is out of
-    /// memory.
-    pub fn text(&self, alloc: Global) -> Result<Vec<u8>, AllocError>
-        ensures { IfOk result (λ text. (ls : List (List ℕ)) → Keeps self.now (rows ls)
-            → text.items ≡ rows_before self.now.count ls) }
+    /// Appends the rows with a heading; nothing where there are none. `AllocError` comes where it is out
+    /// of memory.
+    pub fn push_text(&self, out: &mut Vec<u8>) -> Result<(), AllocError>
+        ensures { OnOk result ((ls : List (List ℕ)) → Keeps self.now (rows ls)
+            → out.new.items ≡ out.old.items ++ rows_before self.now.count ls) }
     {
-        let mut text = String::new(alloc);
+        let mut text = String::new(self.alloc);
         push_under_heading(&mut text, &self.rows)?;
-        Ok(text.into_bytes())
+        extend(out, text.as_bytes())
+    }
+
+    /// Appends the rows behind what is told of a verdict of this kind: nothing where a trace is accepted.
+    /// `AllocError` comes where it is out of memory.
+    pub fn push_behind(&self, outcome: Outcome, out: &mut Vec<u8>) -> Result<(), AllocError>
+        ensures { OnOk result ((ls : List (List ℕ)) → Keeps self.now (rows ls)
+            → out.new.items ≡ out.old.items ++ rows_behind outcome self.now.count ls) }
+    {
+        match outcome {
+            Outcome::Accepted => Ok(()),
+            Outcome::Refused | Outcome::Unreadable => self.push_text(out),
+        }
     }
 }
 
 /// Drops the first row, where there are so many.
-fn make_room(rows: &mut VecDeque<Row>, count: usize)
+pub(crate) fn make_room<T: Drop>(rows: &mut VecDeque<T>, count: usize)
     ensures { rows.new.items ≡ room_in count rows.old.items }
 {
     if rows.len() >= count {

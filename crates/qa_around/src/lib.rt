@@ -3,8 +3,12 @@
 #![tactic(auto)]
 
 mod latest;
+mod manner;
+mod objects;
 mod row;
 mod trace;
 
 pub use latest::Latest;
+pub use manner::Manner;
+pub use objects::LatestObjects;
 pub use trace::why_around;

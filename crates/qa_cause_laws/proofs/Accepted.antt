@@ -7,6 +7,8 @@ use Rattle.qa_all.specs.All.{all_outcome, all_text, course_in, outcome_with, pas
 use Rattle.qa_all.specs.Bearing.{explained}
 use Rattle.qa_all.specs.Departed.{Departed, all_departed, departed, departed_after, departed_at, departed_on, findings, history_in}
 use Rattle.qa_all.specs.Objects.{members_of_none}
+use Rattle.qa_around.specs.Around.{around_told, objects_behind}
+use Rattle.qa_around.specs.Members.{member_of}
 use Rattle.qa_base.proofs.machine.RunLaws.{unbroken_is_borne}
 use Rattle.qa_base.specs.declared.event.Event.{Event}
 use Rattle.qa_base.specs.declared.rule.Rule.{Rule}
@@ -87,15 +89,15 @@ borne_at n None h (Ok (line.Event e)) good = cc
 borne_at n (Some c) h (Ok (line.Event e)) good =
     ap (λ (o : Option Rule). option_map (λ r. Refused n r (totals c h)) o) (unbroken_is_borne c h e (none_broken n (totals c h) (first_broken c h e) good))
 
-none_at : (n m : ℕ) (l : List ℕ) (header : Option Settings) (h : List Event) (s : Result Line Fault) → stop_at first_broken n header h s ≡ None → departed_at m l header h (event_said s) ≡ []
-none_at n m l header h (Err f) good = cc
-none_at n m l None h (Ok line.Blank) good = refl
-none_at n m l (Some c) h (Ok line.Blank) good = refl
-none_at n m l None h (Ok (line.Header c)) good = refl
-none_at n m l (Some d) h (Ok (line.Header c)) good = cc
-none_at n m l None h (Ok (line.Event e)) good = cc
-none_at n m l (Some c) h (Ok (line.Event e)) good =
-    ap (λ (rules : List Rule). map (departed c.unit m l e) (explained c h e rules)) (no_departures c h e (none_broken n (totals c h) (first_broken c h e) good))
+none_at : (n m : ℕ) (before : List (List ℕ)) (l : List ℕ) (header : Option Settings) (h : List Event) (s : Result Line Fault) → stop_at first_broken n header h s ≡ None → departed_at m before l header h (event_said s) ≡ []
+none_at n m before l header h (Err f) good = cc
+none_at n m before l None h (Ok line.Blank) good = refl
+none_at n m before l (Some c) h (Ok line.Blank) good = refl
+none_at n m before l None h (Ok (line.Header c)) good = refl
+none_at n m before l (Some d) h (Ok (line.Header c)) good = cc
+none_at n m before l None h (Ok (line.Event e)) good = cc
+none_at n m before l (Some c) h (Ok (line.Event e)) good =
+    ap (λ (rules : List Rule). map (departed c.unit m before l e) (explained c h e rules)) (no_departures c h e (none_broken n (totals c h) (first_broken c h e) good))
 
 -- a line that is good was read
 read_so : (n : ℕ) (header : Option Settings) (h : List Event) (count : ℕ) (l : List ℕ) (s : Result Line Fault) → said reading count l ≡ s → stop_at first_broken n header h s ≡ None → reading l ≡ s
@@ -111,8 +113,8 @@ unfolding stop_after
 none_on before l good =
     let s = said reading (length before) l in
     let read = read_so (length before + 1) (header_in reading before) (history_of (events_in reading before)) (length before) l s refl good in
-    ap (λ (r : Result Line Fault). departed_at (length before + 1) l (header_in reading before) (history_in before) (event_said r)) read
-    ∙ none_at (length before + 1) (length before + 1) l (header_in reading before) (history_in before) s good
+    ap (λ (r : Result Line Fault). departed_at (length before + 1) before l (header_in reading before) (history_in before) (event_said r)) read
+    ∙ none_at (length before + 1) (length before + 1) before l (header_in reading before) (history_in before) s good
 
 pub borne_lines : (before ls : List (List ℕ)) → first_stop (strict reading) before ls ≡ None → first_stop past_conduct before ls ≡ None
 borne_lines before [] good = refl
@@ -139,25 +141,41 @@ why_same form name bytes good =
     why_at_end past_conduct form name bytes ls borne refl
     ∙ (ap (λ v. told form name v (header_in reading ls) (history_of (events_in reading ls)) None) (verdict_same ls good borne) ∙ sym (why_at_end (strict reading) form name bytes ls good refl))
 
-told_same : (form : Form) (name bytes : List ℕ) → AreGood (strict reading) (lines bytes)
-    → told_by form name bytes ≡ course_in form name (lines bytes) (outcome_of (verdict past_conduct bytes)) (why_by (strict reading) form name bytes)
+-- the verdict, past departures too
+accepted_past : (bytes : List ℕ) (t : Totals) → verdict (strict reading) bytes ≡ Accepted t → outcome_of (verdict past_conduct bytes) ≡ outcomes.Accepted
+accepted_past bytes t is =
+    let good = accepted_is_good bytes t is in
+    ap outcome_of (verdict_same (lines bytes) good (borne_lines [] (lines bytes) good) ∙ is)
+
+told_same : (count : ℕ) (form : Form) (name bytes : List ℕ) (t : Totals) → verdict (strict reading) bytes ≡ Accepted t
+    → told_by count form name bytes ≡ course_in count form name (lines bytes) outcomes.Accepted (why_by (strict reading) form name bytes)
 unfolding told_by
-told_same form name bytes good =
+told_same count form name bytes t is =
+    let good = accepted_is_good bytes t is in
     let borne = borne_lines [] (lines bytes) good in
-    ap₂ (λ (ls : List (List ℕ)) (text : List ℕ). course_in form name ls (outcome_of (verdict past_conduct bytes)) text) (good_at_end past_conduct bytes (lines bytes) borne refl) (why_same form name bytes good)
+    ap₂ (λ (ls : List (List ℕ)) (text : List ℕ). course_in count form name ls (outcome_of (verdict past_conduct bytes)) text) (good_at_end past_conduct bytes (lines bytes) borne refl) (why_same form name bytes good)
+    ∙ ap (λ outcome. course_in count form name (lines bytes) outcome (why_by (strict reading) form name bytes)) (accepted_past bytes t is)
 
-pub text_of_accepted : (name bytes : List ℕ) (t : Totals) → verdict (strict reading) bytes ≡ Accepted t → all_text forms.Text name bytes ≡ why forms.Text name bytes
-text_of_accepted name bytes t is =
+pub text_of_accepted : (count : ℕ) (name bytes : List ℕ) (t : Totals) → verdict (strict reading) bytes ≡ Accepted t → all_text count forms.Text name bytes ≡ why forms.Text name bytes
+text_of_accepted count name bytes t is =
     let good = accepted_is_good bytes t is in
     let none : all_departed (lines bytes) ≡ [] = none_departed [] (lines bytes) good in
-    told_same forms.Text name bytes good ∙ (rw none (append-nil (why_by (strict reading) forms.Text name bytes)))
+    let text = why_by (strict reading) forms.Text name bytes in
+    told_same count forms.Text name bytes t is ∙ (rw none (append-nil (text ++ []) ∙ append-nil text))
 
-pub object_of_accepted : (name bytes : List ℕ) (t : Totals) → verdict (strict reading) bytes ≡ Accepted t
-    → all_text forms.Json name bytes ≡ object_line name (members_of_none (why_by (strict reading) forms.Json name bytes))
-object_of_accepted name bytes t is =
+-- the members of the trace itself
+around_accepted : (count : ℕ) (name bytes : List ℕ) (t : Totals) → verdict (strict reading) bytes ≡ Accepted t
+    → around_told count forms.Json name bytes ≡ why_by (strict reading) forms.Json name bytes ++ member_of count []
+unfolding around_told
+around_accepted count name bytes t is =
+    ap (λ (outcome : Outcome). why_by (strict reading) forms.Json name bytes ++ objects_behind outcome count (good_lines (strict reading) bytes)) (ap outcome_of is)
+
+pub object_of_accepted : (count : ℕ) (name bytes : List ℕ) (t : Totals) → verdict (strict reading) bytes ≡ Accepted t
+    → all_text count forms.Json name bytes ≡ object_line name (members_of_none (around_told count forms.Json name bytes))
+object_of_accepted count name bytes t is =
     let good = accepted_is_good bytes t is in
     let none : all_departed (lines bytes) ≡ [] = none_departed [] (lines bytes) good in
-    ap (object_line name) (told_same forms.Json name bytes good ∙ (rw none refl))
+    ap (object_line name) (told_same count forms.Json name bytes t is ∙ (rw none (ap members_of_none (sym (around_accepted count name bytes t is)))))
 
 pub outcome_of_accepted : (bytes : List ℕ) (t : Totals) → verdict (strict reading) bytes ≡ Accepted t → all_outcome bytes ≡ outcomes.Accepted
 unfolding all_outcome
@@ -165,5 +183,4 @@ outcome_of_accepted bytes t is =
     let good = accepted_is_good bytes t is in
     let borne = borne_lines [] (lines bytes) good in
     let none : all_departed (lines bytes) ≡ [] = none_departed [] (lines bytes) good in
-    let kind : outcome_of (verdict past_conduct bytes) ≡ outcomes.Accepted = ap outcome_of (verdict_same (lines bytes) good borne ∙ is) in
-    ap₂ (λ (ls : List (List ℕ)) (outcome : Outcome). outcome_with (findings (all_departed ls)) outcome) (good_at_end past_conduct bytes (lines bytes) borne refl) kind ∙ (rw none refl)
+    ap₂ (λ (ls : List (List ℕ)) (outcome : Outcome). outcome_with (findings (all_departed ls)) outcome) (good_at_end past_conduct bytes (lines bytes) borne refl) (accepted_past bytes t is) ∙ (rw none refl)

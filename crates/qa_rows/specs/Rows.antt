@@ -1,4 +1,4 @@
--- The row of a line: its number, what it says, and the state of the machine behind it.
+-- The row of a line: an object with its number, what it says, and the state of the machine behind it.
 use Rattle.std.specs.Prelude.{◌≡◌, ℕ, codes, decimal, List, [], ◌++◌, Option}
 use Rattle.std.specs.Io.KnownBytes.{Appends}
 use Rattle.qa_base.specs.declared.event.Event.{Event}
@@ -22,17 +22,21 @@ unfoldable pub saying : List ℕ → List ℕ
 saying said = codes ",\"event\":" ++ said
 
 unfoldable pub leaving : List ℕ → List ℕ
-leaving state = codes ",\"state\":" ++ state ++ codes "}\n"
+leaving state = codes ",\"state\":" ++ state ++ codes "}"
 
--- the row of line n, of what it says and of the state behind it
-unfoldable pub row_text : ℕ → List ℕ → List ℕ → List ℕ
-row_text n said state = numbered n ++ saying said ++ leaving state
+-- the object of line n, of what it says and of the state behind it
+unfoldable pub object_text : ℕ → List ℕ → List ℕ → List ℕ
+object_text n said state = numbered n ++ saying said ++ leaving state
 
 -- ---- the row
 
--- the row of line n, behind which the trace has this header and this history
+-- the object of line n, behind which the trace has this header and this history
+abbrev pub object : ℕ → Line → Settings → List Event → List ℕ
+object n l c h = object_text n (written l) (state_text c h)
+
+-- its row
 abbrev pub row : ℕ → Line → Settings → List Event → List ℕ
-row n l c h = row_text n (written l) (state_text c h)
+row n l c h = object n l c h ++ codes "\n"
 
 -- the same; a blank line has none
 abbrev pub row_of : ℕ → Line → Settings → List Event → List ℕ

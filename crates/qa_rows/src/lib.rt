@@ -8,5 +8,5 @@ mod line;
 mod state;
 mod trace;
 
-pub use line::row;
+pub use line::{object, row};
 pub use trace::{JsonRow, rows};

@@ -44,22 +44,44 @@ fn push_state(row: &mut Vec<u8>, state: &[u8]) -> Result<(), AllocError>
 {
     extend(row, b",\"state\":")?;
     extend(row, state)?;
-    extend(row, b"}\n")
+    extend(row, b"}")
 }
 
-/// The row of line n, of what it says and of the state behind it.
-#[tactic(auto, unfolding(crate::specs::Rows::row_text))]
-fn row_text(alloc: Global, n: u64, said: &str, state: &[u8]) -> Result<Vec<u8>, AllocError>
-    ensures { IfOk result (λ row. row.items ≡ text.row_text n said.now state.now) }
+/// The object of line n, of what it says and of the state behind it.
+#[tactic(auto, unfolding(crate::specs::Rows::object_text))]
+fn object_text(alloc: Global, n: u64, said: &str, state: &[u8]) -> Result<Vec<u8>, AllocError>
+    ensures { IfOk result (λ object. object.items ≡ text.object_text n said.now state.now) }
 {
-    let mut row = Vec::new(alloc);
-    push_number(&mut row, n)?;
-    push_said(&mut row, said)?;
-    push_state(&mut row, state)?;
-    Ok(row)
+    let mut object = Vec::new(alloc);
+    push_number(&mut object, n)?;
+    push_said(&mut object, said)?;
+    push_state(&mut object, state)?;
+    Ok(object)
 }
 
 // ---- the row
+
+/// The JSON object of line n of a trace, which is not blank, by a ledger that has admitted the events up
+/// to it, its own included: the line's number, what it says as `write_line` has it, and the state of the
+/// machine behind it. It has no white space, and no LF behind it.
+///
+/// Sizes and windows are in bytes, times in the unit of the trace. Asks for an event that fits
+/// (`Event::fits`), as every line does that was read. `AllocError` comes where it is out of memory.
+/// Of a ledger that has failed nothing is promised.
+pub fn object<L: Explains>(
+    alloc: Global,
+    n: u64,
+    line: &Line,
+    ledger: &L,
+) -> Result<Vec<u8>, AllocError>
+    requires fitting { line_fits line.now ≡ true }
+    ensures { L.has_failed ledger.now ≡ false → IfOk result (λ object. (c : Settings)
+        (h : List AnEvent) → L.stands ledger.now c h → object.items ≡ text.object n line.now c h) }
+{
+    let said = write_line(alloc, line)?;
+    let state = state_text(alloc, ledger)?;
+    object_text(alloc, n, said.as_str(), &state)
+}
 
 /// The row of a line that is not blank.
 fn row_of_line<L: Explains>(
@@ -72,18 +94,16 @@ fn row_of_line<L: Explains>(
     ensures { L.has_failed ledger.now ≡ false → IfOk result (λ row. (c : Settings)
         (h : List AnEvent) → L.stands ledger.now c h → row.items ≡ text.row n line.now c h) }
 {
-    let said = write_line(alloc, line)?;
-    let state = state_text(alloc, ledger)?;
-    row_text(alloc, n, said.as_str(), &state)
+    let mut row = object(alloc, n, line, ledger)?;
+    extend(&mut row, b"\n")?;
+    Ok(row)
 }
 
-/// The row of line n of a trace, by a ledger that has admitted the events up to it, its own included:
-/// one JSON object with the line's number, what it says as `write_line` has it, and the state of the
-/// machine behind it, and then LF. A blank line has no row, and the answer is empty.
+/// The row of line n of a trace: its `object`, and then LF. A blank line has no row, and the answer is
+/// empty.
 ///
-/// Sizes and windows are in bytes, times in the unit of the trace. Asks for an event that fits
-/// (`Event::fits`), as every line does that was read. `AllocError` comes where it is out of memory.
-/// Of a ledger that has failed nothing is promised.
+/// Asks for an event that fits (`Event::fits`), as every line does that was read. `AllocError` comes
+/// where it is out of memory. Of a ledger that has failed nothing is promised.
 pub fn row<L: Explains>(
     alloc: Global,
     n: u64,

@@ -331,10 +331,7 @@ module _ (done : List Item) (found : List Row) (holds : Holds done found) where
         ap₂ (◌&&◌) given_rows given_warn,
         (
           ap₂ (◌&&◌) given_rows given_around,
-          (
-            ap₂ (◌&&◌) given_around given_json,
-            (ap₂ (◌&&◌) given_around given_all, tt),
-          ),
+          tt,
         ),
       ),
     ),

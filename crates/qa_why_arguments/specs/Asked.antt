@@ -119,8 +119,7 @@ is_given name rows = by_words (option_and_then (λ row. row.source) (find (λ ro
 -- the options that exclude each other
 abbrev pub exclusive : List (List ℕ × List ℕ)
 exclusive =
-    (codes "rows", codes "json") ∷ (codes "rows", codes "quiet") ∷ (codes "rows", codes "warn") ∷ (codes "rows", codes "around")
-    ∷ (codes "around", codes "json") ∷ (codes "around", codes "all") ∷ []
+    (codes "rows", codes "json") ∷ (codes "rows", codes "quiet") ∷ (codes "rows", codes "warn") ∷ (codes "rows", codes "around") ∷ []
 
 -- two options were given
 abbrev pub are_given : List Row → List ℕ × List ℕ → Bool

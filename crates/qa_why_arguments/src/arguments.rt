@@ -30,16 +30,9 @@ const ALL: &str = "all";
 const AROUND: &str = "around";
 
 /// The options that exclude each other.
-const EXCLUSIVE: [(&str, &str); 6] = [
-    (ROWS, JSON),
-    (ROWS, QUIET),
-    (ROWS, WARN),
-    (ROWS, AROUND),
-    (AROUND, JSON),
-    (AROUND, ALL),
-];
+const EXCLUSIVE: [(&str, &str); 4] = [(ROWS, JSON), (ROWS, QUIET), (ROWS, WARN), (ROWS, AROUND)];
 
-/// The most lines before a refusal that may be asked for.
+/// The most lines before a refusal or a departure that may be asked for.
 const MOST_AROUND: i64 = 1000;
 
 /// The version of the program.
@@ -67,7 +60,7 @@ pub struct Inquiry<'a> {
     pub quiet: bool,
     /// What does nothing silently is told of on standard error.
     pub warn: bool,
-    /// How many lines before a refusal are written with it, up to 1000.
+    /// How many lines before a refusal or a departure are written with it, up to 1000.
     pub around: u16,
     /// The names of files; none for standard input.
     pub files: Vec<&'a str>,
@@ -272,7 +265,7 @@ fn flag_argument<'a>(alloc: Global, name: &'a str, short: char, help: &'a str) -
         .action(ArgAction::SetTrue)
 }
 
-/// The option for lines before a refusal.
+/// The option for lines before a refusal or a departure.
 fn around_argument<'a>(alloc: Global) -> Arg<'a>
     ensures rule { rule_of result ≡ defined.around_rule }
     ensures local { result.global ≡ false }
@@ -280,7 +273,7 @@ fn around_argument<'a>(alloc: Global) -> Arg<'a>
     Arg::new(alloc, AROUND)
         .long(AROUND)
         .value_name("N")
-        .help("Write the N lines before a refusal too, with the state behind each")
+        .help("Write the N lines before a refusal or departure too, with the state behind each")
         .value_parser(clap::value_parser!(u16).range(0..=MOST_AROUND))
         .action(ArgAction::Set)
 }

@@ -3,6 +3,7 @@ use Rattle.std.specs.Prelude.{◌≡◌, ◌&&◌, ℕ, Bool, not, true, false, 
 use Rattle.std.specs.Io.KnownBytes.{Appends}
 use Rattle.qa_all.specs.All.{all_outcome, all_written, past_conduct}
 use Rattle.qa_around.specs.Around.{around_written}
+use Rattle.qa_around.specs.declared.manner.Manner.{Manner}
 use Rattle.qa_check.specs.Audit.{ReadsBy, ReadsEnoughBy, is_read_fault, is_write_fault, outcome_of}
 use Rattle.qa_check.specs.Failures.{failures_after}
 use Rattle.qa_check.specs.Writing.{Begins, BeginsToldRead, ShowsToldRead}
@@ -19,8 +20,8 @@ use Rattle.qa_why_arguments.specs.Asked.{Wanted}
 use Rattle.qa_why_arguments.specs.declared.arguments.Told.{Told}
 use Rattle.qa_why_arguments.specs.declared.arguments.Told.TheVariants.{All, AllRows, Rows, Why}
 use Rattle.qa_why_command.specs.Streams.{Stream, Streams, WasTold}
-use Rattle.qa_why_trace.specs.Why.{good_lines, written}
-use Rattle.qa_why_trace.specs.declared.form.Form.TheVariants.{Json, Text}
+use Rattle.qa_why_trace.specs.Why.{good_lines}
+use Rattle.qa_why_trace.specs.declared.form.Form.{Form}
 
 -- ---- what is wanted
 
@@ -37,11 +38,14 @@ are_rows (All form) = false
 are_rows Rows = true
 are_rows AllRows = true
 
+-- how it is told in this form: with these lines before
+abbrev pub manner : Form → Wanted → Manner
+manner form w = record { form = form; quiet = w.quiet; around = w.around }
+
 -- what is written of bytes under the name of their file, where this is told
 abbrev pub text_of : Told → Wanted → List ℕ → List ℕ → List ℕ
-text_of (Why Text) w name bytes = around_written w.around w.quiet name bytes
-text_of (Why Json) w name bytes = written Json w.quiet name bytes
-text_of (All form) w name bytes = all_written form w.quiet name bytes
+text_of (Why form) w name bytes = around_written (manner form w) name bytes
+text_of (All form) w name bytes = all_written (manner form w) name bytes
 text_of Rows w name bytes = told row_of (strict reading) bytes
 text_of AllRows w name bytes = told row_of past_conduct bytes
 

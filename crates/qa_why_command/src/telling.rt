@@ -1,21 +1,19 @@
 //! What is told of a trace, with warnings of what does nothing silently in it where they are wanted.
-ghost use Rattle.std.specs.Prelude.{◌≡◌, []};
-ghost use Rattle.qa_format.specs.format.Reading.{reading};
-ghost use Rattle.qa_format.specs.verdicts.Verdict.{strict};
+ghost use Rattle.std.specs.Prelude.{◌≡◌};
 ghost use Rattle.qa_why_arguments.specs.Asked.{wanted};
 ghost use Rattle.qa_why_arguments.specs.declared.arguments.Told.TheVariants.{All, Why};
-ghost use Rattle.qa_why_command.specs.Noted.{TellsNoted, WasWarned, unnoted};
+ghost use Rattle.qa_why_command.specs.Noted.{WasWarned, unnoted};
 ghost use Rattle.qa_why_command.specs.Streams.{streams};
-ghost use Rattle.qa_why_command.specs.Telling.{TellsRead, outcome_by, text_of};
+ghost use Rattle.qa_why_command.specs.Telling.{TellsRead, manner as manner_of};
 
 use qa_all::{rows_all, why_all};
-use qa_around::why_around;
+use qa_around::{Manner, why_around};
 use qa_check::{AuditFault, Outcome, Sink, Source, write_whole};
 use qa_rows::rows;
 use qa_running::Running;
 use qa_warnings::Warnings;
 use qa_why_arguments::{Inquiry, Told};
-use qa_why_trace::{Form, NoNotes, Notes, why};
+use qa_why_trace::{Form, NoNotes};
 use std::alloc::Global;
 
 /// Tells of the trace of this name that is read, and of its warnings on the error stream, whose failure
@@ -40,6 +38,17 @@ pub fn tell_read<R: Source, O: Sink, E: Sink>(
     }
 }
 
+/// How it is told in this form.
+fn manner(inquiry: &Inquiry<'_>, form: Form) -> Manner
+    ensures { result ≡ manner_of form (wanted inquiry.now) }
+{
+    Manner {
+        form,
+        quiet: inquiry.quiet,
+        around: inquiry.around,
+    }
+}
+
 /// Tells of a trace why it is refused, with the lines before where they are wanted.
 fn tell_why<R: Source, O: Sink, E: Sink>(
     alloc: Global,
@@ -54,39 +63,19 @@ fn tell_why<R: Source, O: Sink, E: Sink>(
         (streams (R.left reader.old, R.read_failures reader.old) (O.held output.old, O.write_failures output.old) (E.held error.old, E.write_failures error.old))
         (streams (R.left reader.new, R.read_failures reader.new) (O.held output.new, O.write_failures output.new) (E.held error.new, E.write_failures error.new)) }
 {
+    let manner = manner(inquiry, form);
     if inquiry.warn {
         let warnings = Warnings::new(alloc);
-        let noted = why_noted(alloc, inquiry, form, name, warnings, reader, output);
+        let noted = why_around::<Running, Warnings, R, O>(
+            alloc, manner, name, warnings, reader, output,
+        );
         return warned(noted, error);
     }
-    without_notes(why_noted(alloc, inquiry, form, name, NoNotes, reader, output))
+    let told = why_around::<Running, NoNotes, R, O>(alloc, manner, name, NoNotes, reader, output);
+    without_notes(told)
 }
 
-/// Tells of a trace why it is refused, and takes notes of its good lines.
-fn why_noted<N: Notes<Running> + Drop, R: Source, O: Sink>(
-    alloc: Global,
-    inquiry: &Inquiry<'_>,
-    form: Form,
-    name: &str,
-    notes: N,
-    reader: &mut R,
-    output: &mut O,
-) -> Result<(Outcome, N), AuditFault>
-    requires fresh { N.covers name.now notes notes [] }
-    ensures { TellsNoted (strict reading) (text_of (Why form) (wanted inquiry.now) name.now) (outcome_by (Why form)) (N.covers name.now notes) result
-        (R.left reader.old, R.read_failures reader.old) (R.left reader.new, R.read_failures reader.new)
-        (O.held output.old, O.write_failures output.old) (O.held output.new, O.write_failures output.new) }
-{
-    let (around, quiet) = (inquiry.around, inquiry.quiet);
-    match form {
-        Form::Text => {
-            why_around::<Running, N, R, O>(alloc, around, name, quiet, notes, reader, output)
-        }
-        Form::Json => why::<Running, N, R, O>(alloc, form, name, quiet, notes, reader, output),
-    }
-}
-
-/// Tells of all departures of a trace.
+/// Tells of all departures of a trace, with the lines before where they are wanted.
 fn tell_all<R: Source, O: Sink, E: Sink>(
     alloc: Global,
     inquiry: &Inquiry<'_>,
@@ -100,15 +89,15 @@ fn tell_all<R: Source, O: Sink, E: Sink>(
         (streams (R.left reader.old, R.read_failures reader.old) (O.held output.old, O.write_failures output.old) (E.held error.old, E.write_failures error.old))
         (streams (R.left reader.new, R.read_failures reader.new) (O.held output.new, O.write_failures output.new) (E.held error.new, E.write_failures error.new)) }
 {
-    let quiet = inquiry.quiet;
+    let manner = manner(inquiry, form);
     if inquiry.warn {
         let warnings = Warnings::new(alloc);
         let noted = why_all::<Running, Warnings, R, O>(
-            alloc, form, name, quiet, warnings, reader, output,
+            alloc, manner, name, warnings, reader, output,
         );
         return warned(noted, error);
     }
-    let told = why_all::<Running, NoNotes, R, O>(alloc, form, name, quiet, NoNotes, reader, output);
+    let told = why_all::<Running, NoNotes, R, O>(alloc, manner, name, NoNotes, reader, output);
     without_notes(told)
 }
 

@@ -1,5 +1,6 @@
 //! All departures of a trace, and its rows behind them, as conformance/ has them.
 use qa_all::{rows_all, why_all};
+use qa_around::Manner;
 use qa_check::{Metered, Outcome};
 use qa_running::Running;
 use qa_why_trace::{Form, NoNotes};
@@ -16,6 +17,14 @@ const TEXT: &str =
 const OBJECT: &str =
     "{\"file\":\"a\",\"verdict\":\"refused\",\"line\":2,\"rule\":\"V8\",\"name\":\"past-probe\",\"event\":\"sent\",\"time_us\":0,\"space\":\"app\",\"number\":0,\"size_bytes\":1200,\"allowance_bytes\":2400,\"spent_bytes\":null,\"events\":1,\"departures\":[{\"rule\":\"V8\",\"name\":\"past-probe\",\"count\":1,\"first\":2,\"last\":2,\"lines\":[2]}],\"end\":{\"verdict\":\"accepted\",\"events\":1}}\n";
 
+/// The departure with the row before it, and the table.
+const TEXT_AROUND: &str =
+    "a:2: departure V8 past-probe: packet 0 of app goes past what a probe timeout allows\n  2 | {\"event\":\"sent\",\"time\":0,\"space\":\"app\",\"number\":0,\"size\":1200,\"eliciting\":true,\"in_flight\":true,\"leave\":\"probe\"}\n  no probe timeout yet\n  RFC 9002, 6.2.4, 7.5: a probe timeout allows two datagrams.\n  before it:\n  line 1 header: window 12000 bytes_in_flight 0 ssthresh none latest_rtt 0 min_rtt 0 smoothed_rtt 333000 rttvar 166500 pto_count 0 owed 0 no timer\na: departs once in 1 events\n  V8 past-probe: once, line 2\n";
+
+/// The same as an object.
+const OBJECT_AROUND: &str =
+    "{\"file\":\"a\",\"verdict\":\"refused\",\"line\":2,\"rule\":\"V8\",\"name\":\"past-probe\",\"event\":\"sent\",\"time_us\":0,\"space\":\"app\",\"number\":0,\"size_bytes\":1200,\"allowance_bytes\":2400,\"spent_bytes\":null,\"around\":[{\"line\":1,\"event\":{\"event\":\"header\",\"initial_rtt\":333000,\"initial_window\":12000,\"max_ack_delay\":25000,\"max_datagram_size\":1200,\"role\":\"server\",\"version\":1},\"state\":{\"events\":0,\"window_bytes\":12000,\"ssthresh_bytes\":null,\"in_flight_bytes\":0,\"latest_rtt_us\":0,\"min_rtt_us\":0,\"smoothed_rtt_us\":333000,\"rttvar_us\":166500,\"pto_count\":0,\"owed_space\":null,\"owed\":[],\"set_kind\":null,\"set_space\":null,\"deadline_us\":null}}],\"events\":1,\"departures\":[{\"rule\":\"V8\",\"name\":\"past-probe\",\"count\":1,\"first\":2,\"last\":2,\"lines\":[2]}],\"end\":{\"verdict\":\"accepted\",\"events\":1}}\n";
+
 /// The rows of the header and of the probe.
 const ROWS: &str =
     "{\"line\":1,\"event\":{\"event\":\"header\",\"initial_rtt\":333000,\"initial_window\":12000,\"max_ack_delay\":25000,\"max_datagram_size\":1200,\"role\":\"server\",\"version\":1},\"state\":{\"events\":0,\"window_bytes\":12000,\"ssthresh_bytes\":null,\"in_flight_bytes\":0,\"latest_rtt_us\":0,\"min_rtt_us\":0,\"smoothed_rtt_us\":333000,\"rttvar_us\":166500,\"pto_count\":0,\"owed_space\":null,\"owed\":[],\"set_kind\":null,\"set_space\":null,\"deadline_us\":null}}\n{\"line\":2,\"event\":{\"eliciting\":true,\"event\":\"sent\",\"in_flight\":true,\"leave\":\"probe\",\"number\":0,\"size\":1200,\"space\":\"app\",\"time\":0},\"state\":{\"events\":1,\"window_bytes\":12000,\"ssthresh_bytes\":null,\"in_flight_bytes\":1200,\"latest_rtt_us\":0,\"min_rtt_us\":0,\"smoothed_rtt_us\":333000,\"rttvar_us\":166500,\"pto_count\":0,\"owed_space\":null,\"owed\":[],\"set_kind\":null,\"set_space\":null,\"deadline_us\":null}}\n";
@@ -27,9 +36,12 @@ fn a_trace_departs(rt: HostRuntime) {
     let mut writer = Metered::new(Vec::new(rt.alloc()));
     let ended = why_all::<Running, _, _, _>(
         rt.alloc(),
-        Form::Text,
+        Manner {
+            form: Form::Text,
+            quiet: true,
+            around: 0,
+        },
         "a",
-        true,
         NoNotes,
         &mut reader,
         &mut writer,
@@ -45,9 +57,12 @@ fn a_trace_departs_as_an_object(rt: HostRuntime) {
     let mut writer = Metered::new(Vec::new(rt.alloc()));
     let ended = why_all::<Running, _, _, _>(
         rt.alloc(),
-        Form::Json,
+        Manner {
+            form: Form::Json,
+            quiet: true,
+            around: 0,
+        },
         "a",
-        true,
         NoNotes,
         &mut reader,
         &mut writer,
@@ -64,9 +79,12 @@ fn a_trace_departs_from_nothing(rt: HostRuntime) {
     let mut writer = Metered::new(Vec::new(rt.alloc()));
     let ended = why_all::<Running, _, _, _>(
         rt.alloc(),
-        Form::Text,
+        Manner {
+            form: Form::Text,
+            quiet: true,
+            around: 0,
+        },
         "a",
-        true,
         NoNotes,
         &mut reader,
         &mut writer,
@@ -83,4 +101,46 @@ fn a_row_stands_behind_a_departure(rt: HostRuntime) {
     let ended = rows_all::<Running, _, _>(rt.alloc(), &mut reader, &mut writer);
     assert_eq!(rt; ended, Ok(Outcome::Accepted));
     assert_eq!(rt; writer.into_inner().as_slice(), ROWS.as_bytes());
+}
+
+/// Behind a departure stand the rows before it.
+#[test]
+fn a_row_stands_before_a_departure(rt: HostRuntime) {
+    let mut reader = Metered::new(TRACE.as_bytes());
+    let mut writer = Metered::new(Vec::new(rt.alloc()));
+    let ended = why_all::<Running, _, _, _>(
+        rt.alloc(),
+        Manner {
+            form: Form::Text,
+            quiet: true,
+            around: 3,
+        },
+        "a",
+        NoNotes,
+        &mut reader,
+        &mut writer,
+    );
+    assert!(rt; ended.is_ok_and(|told| told.0 == Outcome::Refused));
+    assert_eq!(rt; writer.into_inner().as_slice(), TEXT_AROUND.as_bytes());
+}
+
+/// In an object the rows before the first departure are a member.
+#[test]
+fn an_object_stands_before_a_departure(rt: HostRuntime) {
+    let mut reader = Metered::new(TRACE.as_bytes());
+    let mut writer = Metered::new(Vec::new(rt.alloc()));
+    let ended = why_all::<Running, _, _, _>(
+        rt.alloc(),
+        Manner {
+            form: Form::Json,
+            quiet: true,
+            around: 3,
+        },
+        "a",
+        NoNotes,
+        &mut reader,
+        &mut writer,
+    );
+    assert!(rt; ended.is_ok_and(|told| told.0 == Outcome::Refused));
+    assert_eq!(rt; writer.into_inner().as_slice(), OBJECT_AROUND.as_bytes());
 }

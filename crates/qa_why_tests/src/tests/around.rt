@@ -1,8 +1,8 @@
-//! The rows of the last good lines before a trace is refused.
-use qa_around::why_around;
+//! The rows of the last good lines before a trace is refused, as conformance/ has them.
+use qa_around::{Manner, why_around};
 use qa_check::{Metered, Outcome};
 use qa_running::Running;
-use qa_why_trace::NoNotes;
+use qa_why_trace::{Form, NoNotes};
 use std::test::Fail;
 
 /// A packet number that is sent twice, which breaks V6, behind a blank line.
@@ -20,6 +20,10 @@ const HEADER: &str =
 const SENT: &str =
     "  line 2 sent at 10: window 12000 bytes_in_flight 1200 ssthresh none latest_rtt 0 min_rtt 0 smoothed_rtt 333000 rttvar 166500 pto_count 0 owed 0 timer pto initial 999010\n";
 
+/// The same as an object, with one row.
+const OBJECT: &str =
+    "{\"file\":\"a\",\"verdict\":\"refused\",\"line\":4,\"rule\":\"V6\",\"name\":\"number-not-higher\",\"event\":\"sent\",\"time_us\":11,\"space\":\"initial\",\"number\":0,\"size_bytes\":1200,\"greatest_sent\":0,\"around\":[{\"line\":2,\"event\":{\"eliciting\":true,\"event\":\"sent\",\"in_flight\":true,\"leave\":\"window\",\"number\":0,\"size\":1200,\"space\":\"initial\",\"time\":10},\"state\":{\"events\":1,\"window_bytes\":12000,\"ssthresh_bytes\":null,\"in_flight_bytes\":1200,\"latest_rtt_us\":0,\"min_rtt_us\":0,\"smoothed_rtt_us\":333000,\"rttvar_us\":166500,\"pto_count\":0,\"owed_space\":null,\"owed\":[],\"set_kind\":\"pto\",\"set_space\":\"initial\",\"deadline_us\":999010}}]}\n";
+
 /// The last line that is not blank stands behind the text, and no more where one row is asked for.
 #[test]
 fn one_row_stands_before(rt: HostRuntime) -> Result<(), Fail> {
@@ -27,9 +31,12 @@ fn one_row_stands_before(rt: HostRuntime) -> Result<(), Fail> {
     let mut writer = Metered::new(Vec::new(rt.alloc()));
     let ended = why_around::<Running, _, _, _>(
         rt.alloc(),
-        1,
+        Manner {
+            form: Form::Text,
+            quiet: false,
+            around: 1,
+        },
         "a",
-        false,
         NoNotes,
         &mut reader,
         &mut writer,
@@ -47,9 +54,12 @@ fn all_rows_stand_before(rt: HostRuntime) -> Result<(), Fail> {
     let mut writer = Metered::new(Vec::new(rt.alloc()));
     let ended = why_around::<Running, _, _, _>(
         rt.alloc(),
-        5,
+        Manner {
+            form: Form::Text,
+            quiet: false,
+            around: 5,
+        },
         "a",
-        false,
         NoNotes,
         &mut reader,
         &mut writer,
@@ -58,4 +68,25 @@ fn all_rows_stand_before(rt: HostRuntime) -> Result<(), Fail> {
     let text = format!(in rt.alloc(); "{REFUSED}{HEADER}{SENT}")?;
     assert_eq!(rt; writer.into_inner().as_slice(), text.as_bytes());
     Ok(())
+}
+
+/// In an object the last line that is not blank is the member behind the others.
+#[test]
+fn one_object_stands_before(rt: HostRuntime) {
+    let mut reader = Metered::new(TRACE.as_bytes());
+    let mut writer = Metered::new(Vec::new(rt.alloc()));
+    let ended = why_around::<Running, _, _, _>(
+        rt.alloc(),
+        Manner {
+            form: Form::Json,
+            quiet: false,
+            around: 1,
+        },
+        "a",
+        NoNotes,
+        &mut reader,
+        &mut writer,
+    );
+    assert!(rt; ended.is_ok_and(|told| told.0 == Outcome::Refused));
+    assert_eq!(rt; writer.into_inner().as_slice(), OBJECT.as_bytes());
 }

@@ -6,12 +6,12 @@ use Rattle.qa_departures.specs.Table.{Holds}
 use Rattle.qa_departures.specs.declared.table.Table.{Table}
 use Rattle.qa_all.proofs.keeping.Kept.note.Goals as goal
 
-pub returns : goal.returns
-returns c = λ u ds keeps.
-    let d = departed u c.args.n c.args.line.now c.args.event.now c.args.departure.now in
-    let told = c.in_ok-tell.ensures u ds keeps in
-    let holds = subst (λ (t : Table). Holds t (findings ds)) (sym told.1) keeps.1 in
+pub returns-clause-kept : goal.returns-clause-kept
+returns-clause-kept c = λ count u ls ds keeps rows.
+    let d = departed u c.args.n ls c.args.line.now c.args.event.now c.args.departure.now in
+    let told = c.in_ok-tell.ensures.first count u ls ds keeps rows in
+    let holds = subst (λ (t : Table). Holds t (findings ds)) (sym c.in_ok-tell.ensures.rest.0) keeps.1 in
     let noted = c.note.ensures.holds (findings ds) holds in (
-      told.0 ∙ (ap (λ (text : List ℕ). text ++ first_text c.args.name.now (findings ds) d) keeps.0 ∙ sym (firsts-snoc c.args.name.now ds d)),
-      rw (findings-snoc ds d, ← c.finding.ensures u c.args.line.now) noted,
+      told ∙ (ap (λ (text : List ℕ). text ++ first_text count c.args.name.now (findings ds) d) keeps.0 ∙ sym (firsts-snoc count c.args.name.now ds d)),
+      rw (findings-snoc ds d, ← c.finding.ensures u ls c.args.line.now) noted,
     )

@@ -1,8 +1,10 @@
+use Rattle.std.proofs.Common.{◌∙◌, ◌∷◌, ◌++◌, [], ap, refl}
 use Rattle.std.proofs.lemmas.Result.{on_ok_weaker}
+use Rattle.qa_all.proofs.Told.{covers_headless, covers_more}
 use Rattle.qa_all.specs.Departed.{all_departed, history_in}
 use Rattle.qa_all.specs.Keeping.{Keeps}
-use Rattle.std.proofs.Common.{◌∷◌, ◌++◌, [], refl}
-use Rattle.qa_all.proofs.Told.{covers_headless, covers_more}
+use Rattle.qa_around.proofs.Rows.{rows_headless, rows_more}
+use Rattle.qa_around.specs.Rows.{last_of, row_of}
 use Rattle.qa_all.proofs.trace.KeptNotesBearing.note.Goals as goal
 
 pub note_said-requires : goal.note_said-requires
@@ -12,12 +14,17 @@ note_said-requires g c =
 
 pub returns-in-Some : goal.returns-in-Some
 returns-in-Some g c =
-    on_ok_weaker c.note_said.result (λ noted begun ls covers count held.
+    on_ok_weaker c.note_said.result (λ noted begun ls covers number held.
     let run = rw c.in-Some.is at held in
-    let kept = noted (all_departed ls) run.0 (history_in (ls ++ c.args.line.now ∷ [])) covers.0 run.2 in
-    covers_more (Keeps c.args.name.now c.note_said.new.self) c.note_said.new.self.unit c.note_said.new.self.events ls c.args.line.now c.args.said.now c.args.n run.0 c.requires.says run.1 count kept.0 kept.1 kept.2) c.note_said.ensures
+    let new = c.note_said.new.self in
+    let kept = noted begun.latest.count ls (all_departed ls) run.0 (history_in (ls ++ c.args.line.now ∷ [])) covers.1 covers.0 run.2 in
+    let more = rows_more row_of ls c.args.line.now c.args.said.now c.args.n run.0 c.requires.says number run.1 in
+    let rest = covers_more (Keeps begun.latest.count c.args.name.now new) new.unit new.events ls c.args.line.now c.args.said.now c.args.n run.0 c.requires.says run.1 number kept.1 kept.2 kept.3 in
+    ((kept.0.0, kept.0.1 ∙ ap (last_of new.latest.count) more), rest.0, rest.1, rest.2)) c.note_said.ensures
 
 pub returns-in-None : goal.returns-in-None
-returns-in-None g c = λ begun ls covers count held.
+returns-in-None g c = λ begun ls covers number held.
     let none = rw c.in-None.is at held in
-    covers_headless (Keeps c.args.name.now c.args.self.now) c.args.self.now.unit c.args.self.now.events ls c.args.line.now none.0 none.1 covers
+    let old = c.args.self.now in
+    let rest = covers_headless (Keeps begun.latest.count c.args.name.now old) old.unit old.events ls c.args.line.now none.0 none.1 (covers.1, covers.2, covers.3) in
+    ((covers.0.0, covers.0.1 ∙ ap (last_of old.latest.count) (rows_headless row_of ls c.args.line.now none.0)), rest.0, rest.1, rest.2)
