@@ -268,6 +268,7 @@ impl Connection {
     }
 
     /// One event more happened, at this time, which looked for losses or did not.
+    #[inline(always)]
     pub fn count(&mut self, now: Ticks, detection: Option<Detection>)
         ensures { self.new ≡ steps.counted now detection self.old }
     {

@@ -277,6 +277,7 @@ pub(crate) fn is_not_confirmed<S: State>(state: &S, event: &Event) -> bool
 }
 
 /// V18: a timer that is set for packets should have fired before the event, by the header's limit.
+#[inline(always)]
 pub(crate) fn is_timer_late<S: State>(state: &S, event: &Event) -> bool
     ensures { (c : Settings) (h : List AnEvent) → S.tells state.now c h
         → result ≡ breaches.is_timer_late c h event.now }
@@ -317,6 +318,7 @@ fn is_above_collapse(least: u64, window: Option<u64>, acknowledged: Option<u64>)
 
 /// V19: persistent congestion was established, and the first other window that is reported since is
 /// too great, by more than the header's slack.
+#[inline(always)]
 pub(crate) fn is_collapse_missing<S: State>(state: &S, event: &Event) -> bool
     ensures { (c : Settings) (h : List AnEvent) → S.tells state.now c h
         → result ≡ breaches.is_collapse_missing c h event.now }
