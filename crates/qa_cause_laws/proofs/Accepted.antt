@@ -33,7 +33,7 @@ use Rattle.qa_format.specs.format.Reading.{reading}
 use Rattle.qa_format.specs.verdicts.Verdict.{AreGood, end_of, event_said, events_in, first_stop, header_in, said, stop_after, stop_at, strict, verdict, verdict_of}
 use Rattle.qa_why_trace.proofs.Told.{good_at_end, why_at_end}
 use Rattle.qa_why_trace.specs.Objects.{object_line}
-use Rattle.qa_why_trace.specs.Why.{good_lines, told, whole, why, why_by}
+use Rattle.qa_why_trace.specs.Why.{good_lines, told, why, why_by}
 use Rattle.qa_why_trace.specs.declared.form.Form.{Form}
 use Rattle.qa_why_trace.specs.declared.form.Form.TheVariants as forms
 

@@ -1,4 +1,4 @@
-use Rattle.std.proofs.Common.{ap, refl}
+use Rattle.std.proofs.Common.{refl}
 use Rattle.qa_all.specs.All.{past_conduct}
 use Rattle.qa_warnings.specs.Keeping.{Covers}
 use Rattle.qa_why_arguments.specs.Asked.{wanted}

@@ -1,4 +1,4 @@
-use Rattle.std.proofs.Common.{ap, refl}
+use Rattle.std.proofs.Common.{refl}
 use Rattle.qa_format.specs.format.Reading.{reading}
 use Rattle.qa_format.specs.verdicts.Verdict.{strict}
 use Rattle.qa_warnings.specs.Keeping.{Covers}
