@@ -22,8 +22,8 @@ VALUES = ("window", "bytes_in_flight", "ssthresh", *METRICS_IN_MICROSECONDS, "pt
 
 
 def rows_behind(trace: bytes, report: str, count: int) -> bytes:
-    """What stands behind the text of a trace whose report is this: nothing where it is accepted, and
-    else the last rows before its end, up to so many."""
+    """What stands behind the text of a trace whose report is this: nothing where it is accepted,
+    and else the last rows before its end, up to so many."""
     if verdict_of(report).word == "accepted":
         return b""
     return rows_before(trace, first_not_good(trace, report), count)

@@ -153,7 +153,7 @@ def written(name: str, course: Course) -> bytes:
 
 
 def end_of(course: Course) -> bytes:
-    """What is written of the end of a course: nothing where it departs and is accepted but for that."""
+    """What is written of the end of a course: nothing where it is accepted but for departures."""
     is_told = course.verdict != "accepted" or not course.departures
     return course.end if is_told else b""
 
