@@ -70,7 +70,7 @@ def written(options: frozenset[str], trace: bytes) -> tuple[Iterator[bytes], str
         return rows_of(trace, last_of(trace, said, course)), word_of(said, course)
     if course is None:
         return iter([object_line("-", trace, said)]), word_of(said, course)
-    return iter([departure_objects.text_of("-", trace, said, course)]), word_of(said, course)
+    return iter([departure_objects.text_of("-", trace, said, course, {})]), word_of(said, course)
 
 
 def last_of(trace: bytes, said: str, course: Course | None) -> int | None:

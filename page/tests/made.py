@@ -65,7 +65,7 @@ def told(data: bytes, report: str, *, is_strict: bool) -> tuple[bytes, int | Non
     if is_strict:
         return object_line("-", data, report), first_not_good(data, report)
     course = course_of("-", data, report)
-    said = departure_objects.text_of("-", data, report, course)
+    said = departure_objects.text_of("-", data, report, course, {})
     return said, first_not_followed(data, report, course)
 
 
