@@ -11,10 +11,12 @@ ghost use Rattle.qa_format.specs.format.Written.{line_fits};
 ghost use Rattle.qa_format.specs.verdicts.Verdict as verdicts;
 ghost use Rattle.qa_session.specs.Session.{IsFed, phase_of, verdict_in};
 
+use qa_base::Spans;
 use qa_check::{Auditor, Line, Progress, Verdict};
 use qa_running::Running;
 use std::alloc::Global;
 use std::marker::Model;
+use std::mem::replace;
 
 /// How far an audit is.
 #[derive(Clone, Copy, Debug, PartialEq, Eq)]
@@ -32,21 +34,24 @@ pub enum Phase {
 /// An audit that is handed bytes and events, in any order of calls.
 ///
 /// What it stands for is bytes: those that were fed, and for an event a line that says it.
+///
+/// It keeps the memory of an event's ranges for the next event that has some; `ranges` is empty between them.
 #[derive(Drop)]
 pub struct Session {
     auditor: Auditor<Running>,
     finished: bool,
+    ranges: Spans,
 }
 
 impl Model for Session {
-    ghost use Rattle.std.specs.Prelude.{◌≡◌, true};
+    ghost use Rattle.std.specs.Prelude.{◌≡◌, [], true};
     ghost use Rattle.qa_session.specs.Session.{Run, IsOver};
 
     ghost Value = { Run };
 
     ghost view = { λ s. record { audit = s.auditor; finished = s.finished } };
 
-    ghost invariant = { λ s. s.finished ≡ true → IsOver s.auditor.progress };
+    ghost invariant = { λ s. (s.finished ≡ true → IsOver s.auditor.progress) × (s.ranges ≡ []) };
 }
 
 impl Session {
@@ -59,6 +64,7 @@ impl Session {
         Session {
             auditor: Auditor::new(alloc),
             finished: false,
+            ranges: Spans::new(alloc),
         }
     }
 
@@ -153,6 +159,24 @@ impl Session {
             return false;
         }
         self.auditor.take_said(line)
+    }
+
+    /// An empty list for the ranges of an event, in the memory that `take_back` kept.
+    #[inline(always)]
+    pub fn lend_ranges(&mut self, alloc: Global) -> Spans
+        ensures empty { result ≡ [] }
+        ensures same { self.new ≡ self.old }
+    {
+        replace(&mut self.ranges, Spans::new(alloc))
+    }
+
+    /// Keeps the memory of an event's ranges, which nobody wants any more, for the next event; that of more
+    /// than 1,024 ranges is given back.
+    #[inline(always)]
+    pub fn take_back(&mut self, alloc: Global, ranges: Spans)
+        ensures { self.new ≡ self.old }
+    {
+        self.ranges = ranges.emptied(alloc);
     }
 
     /// Says that nothing follows, and returns how far it is then: it is finished, or out of memory.

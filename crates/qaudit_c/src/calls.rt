@@ -17,9 +17,9 @@ use std::alloc::Global;
 /// Nothing is open.
 pub const CLOSED: u32 = 4;
 /// A value is outside its range; nothing was taken.
-const OUT_OF_RANGE: u32 = 5;
+pub const OUT_OF_RANGE: u32 = 5;
 /// There was no memory for what the event says; nothing was taken.
-const NOT_TAKEN: u32 = 6;
+pub const NOT_TAKEN: u32 = 6;
 /// The bytes that were fed end inside a line; nothing was taken.
 const INSIDE_LINE: u32 = 7;
 
@@ -62,7 +62,7 @@ fn hand_open(session: &mut Session, line: &Line) -> u32
 
 /// Hands the line in.
 #[inline(always)]
-fn hand_to(session: &mut Session, line: &Line) -> u32
+pub fn hand_to(session: &mut Session, line: &Line) -> u32
     requires fitting { line_fits line.now ≡ true }
     ensures handed { calls.HandsRun (Some line.now) result session.old session.new }
     ensures memory { result ≢ 6 }
@@ -118,7 +118,9 @@ pub fn hand_header(alloc: Global, qaudit: &mut Qaudit, header: Option<Header>) -
 // ---- what is not taken
 
 /// What a call returns by which nothing is taken: for the reason alone where a line would be taken.
-fn refusal(session: &Session, reason: u32) -> u32
+#[cold]
+#[inline(never)]
+pub fn refusal(session: &Session, reason: u32) -> u32
     ensures over { phase_of session.now ≢ phases.Open
         → result ≡ calls.phase_number (phase_of session.now) }
     ensures inside { phase_of session.now ≡ phases.Open → is_between session.now.audit ≡ false
@@ -150,21 +152,6 @@ pub fn out_of_range(alloc: Global, qaudit: &mut Qaudit) -> u32
         return CLOSED;
     };
     let status = refusal(&session, OUT_OF_RANGE);
-    put(qaudit, session);
-    status
-}
-
-/// Nothing is taken, for there was no memory for what the event says.
-#[cold]
-#[inline(never)]
-pub fn not_taken(alloc: Global, qaudit: &mut Qaudit) -> u32
-    ensures { (x : Option ALine)
-        → calls.Hands x result qaudit.old.handle.held qaudit.new.handle.held }
-{
-    let Some(session) = take(alloc, qaudit) else {
-        return CLOSED;
-    };
-    let status = refusal(&session, NOT_TAKEN);
     put(qaudit, session);
     status
 }

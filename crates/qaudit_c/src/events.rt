@@ -1,12 +1,12 @@
 //! The values that the structs of C say.
-ghost use Rattle.std.specs.Prelude.{◌≡◌, ◌⊎◌, IfSome, IfOk, None, Some};
+ghost use Rattle.std.specs.Prelude.{◌≡◌, ◌⊎◌, [], IfSome, IfOk, None, Some};
 ghost use Rattle.qaudit_c.specs.Events as said;
 ghost use Rattle.qaudit_c.specs.Numbers as numbers;
 
 use crate::numbers::{leave_of, space_of, timer_of};
 use crate::structs::{FiredTimer, Metrics, PacketRange, SentPacket};
 use qa_base::{Event, Leave, MetricValues, PacketNumber, Space, Span, Spans, Ticks, TimerKind};
-use std::alloc::{AllocError, Global};
+use std::alloc::AllocError;
 
 /// The time, the space, the number and the leave of a packet that was sent, where each is in its range.
 #[inline(always)]
@@ -85,12 +85,14 @@ fn span_of(range: &PacketRange) -> Option<Span>
     Span::new(least, greatest)
 }
 
-/// The spans of the ranges, in their order; None where one is no range of packet numbers.
+/// The spans of the ranges, in their order, in an empty list that is lent; None where one is no range of
+/// packet numbers.
 #[inline(always)]
-pub fn spans_of(alloc: Global, ranges: &[PacketRange]) -> Result<Option<Spans>, AllocError>
+pub fn spans_of(lent: Spans, ranges: &[PacketRange]) -> Result<Option<Spans>, AllocError>
+    requires { lent ≡ [] }
     ensures { IfOk result (λ spans. spans ≡ said.ranges_of ranges.now) }
 {
-    let mut spans = Spans::new(alloc);
+    let mut spans = lent;
     spans.reserve(ranges.len())?;
     for range in ranges {
         let Some(span) = span_of(range) else {

@@ -22,9 +22,10 @@ mod parts;
 mod structs;
 mod telling;
 mod texts;
+mod with_ranges;
 
-use calls::{CLOSED, hand_event, hand_header, not_taken, number, out_of_range};
-use events::{moment_of, sent_values, spans_of, timer_values, values_of};
+use calls::{CLOSED, hand_event, hand_header, number, out_of_range};
+use events::{moment_of, sent_values, timer_values, values_of};
 pub use handle::Handle;
 use header::header_of;
 pub use kept::Qaudit;
@@ -36,6 +37,7 @@ pub use structs::{Acknowledgment, FiredTimer, Metrics, PacketRange, SentPacket, 
 use telling::for_c;
 pub use telling::{Told, ToldTotals};
 use texts::{put_fault_name, put_key_name, put_line, put_report, put_rule_name};
+use with_ranges::{ack_to, lost_to};
 
 // ---- opening and closing
 
@@ -122,23 +124,12 @@ pub extern "C" fn qaudit_ack(
 ) -> u32
     ensures { Hands (said.line_of_event (said.ack_said ack.now ranges.now)) result qaudit.old.handle.held qaudit.new.handle.held }
 {
-    let Some((time, space)) = moment_of(ack.time, ack.space) else {
-        return out_of_range(alloc, qaudit);
+    let Some(mut session) = take(alloc, qaudit) else {
+        return CLOSED;
     };
-    match spans_of(alloc, ranges) {
-        Ok(Some(ranges)) => {
-            let event = Event::Ack {
-                time,
-                space,
-                ranges,
-                delay: ack.delay,
-                app_limited: ack.app_limited,
-            };
-            hand_event(alloc, qaudit, event)
-        }
-        Ok(None) => out_of_range(alloc, qaudit),
-        Err(_) => not_taken(alloc, qaudit),
-    }
+    let status = ack_to(alloc, &mut session, ack, ranges);
+    put(qaudit, session);
+    status
 }
 
 /// Takes packets that were declared lost.
@@ -152,21 +143,12 @@ pub extern "C" fn qaudit_lost(
 ) -> u32
     ensures { Hands (said.line_of_event (said.lost_said time space ranges.now)) result qaudit.old.handle.held qaudit.new.handle.held }
 {
-    let Some((time, space)) = moment_of(time, space) else {
-        return out_of_range(alloc, qaudit);
+    let Some(mut session) = take(alloc, qaudit) else {
+        return CLOSED;
     };
-    match spans_of(alloc, ranges) {
-        Ok(Some(ranges)) => {
-            let event = Event::Lost {
-                time,
-                space,
-                ranges,
-            };
-            hand_event(alloc, qaudit, event)
-        }
-        Ok(None) => out_of_range(alloc, qaudit),
-        Err(_) => not_taken(alloc, qaudit),
-    }
+    let status = lost_to(alloc, &mut session, time, space, ranges);
+    put(qaudit, session);
+    status
 }
 
 /// Takes a timer that fired.
