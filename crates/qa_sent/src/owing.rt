@@ -31,6 +31,7 @@ pub(crate) fn owed_numbers_in(
 }
 
 /// When the last of the packets in this part was sent that are owed.
+#[inline(never)]
 pub(crate) fn last_owed_in(packets: &VecDeque<SentPacket>, part: Range<usize>) -> Option<Ticks>
     requires order { part.start ≤ part.end }
     requires within { part.end ≤ length packets.now.items }
@@ -46,6 +47,7 @@ pub(crate) fn last_owed_in(packets: &VecDeque<SentPacket>, part: Range<usize>) -
 }
 
 /// Whether two of the packets in this part that are owed establish persistent congestion.
+#[inline(never)]
 pub(crate) fn are_apart_in(
     packets: &VecDeque<SentPacket>,
     part: Range<usize>,

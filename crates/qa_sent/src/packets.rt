@@ -284,6 +284,7 @@ impl SentPackets {
 
     /// When the last of the packets was sent that are owed, by which a congestion controller tells
     /// whether they stand in recovery (RFC 9002, B.8). None where nothing is owed.
+    #[inline(always)]
     pub fn last_owed(&self) -> Option<Ticks>
         ensures { result ≡ walks.last_owed None self.now.packets }
     {
@@ -296,6 +297,7 @@ impl SentPackets {
     /// Whether the losses that are owed establish persistent congestion (RFC 9002, section 7.6):
     /// two of them are ack-eliciting and were sent after the first RTT sample, at `first`, more
     /// than `limit` apart, and nothing that was sent between them was acknowledged.
+    #[inline(always)]
     pub fn is_persistent(&self, limit: u64, first: Ticks) -> bool
         ensures { result ≡ walks.are_apart limit first None self.now.packets }
     {
@@ -381,7 +383,19 @@ impl SentPackets {
     }
 
     /// Drops the packets before the oldest that is still open or owed. Each packet is dropped once.
+    #[inline(always)]
     pub fn drop_closed(&mut self)
+        ensures { self.new ≡ trimmed self.old }
+    {
+        // Behind most events there is none.
+        if self.is_first_closed() {
+            self.drop_front();
+        }
+    }
+
+    /// Drops the first packets that are neither open nor owed.
+    #[inline(never)]
+    fn drop_front(&mut self)
         ensures { self.new ≡ trimmed self.old }
     {
         while self.is_first_closed() {
@@ -390,6 +404,7 @@ impl SentPackets {
     }
 
     /// Whether there is a packet, and the first is neither open nor owed.
+    #[inline(always)]
     fn is_first_closed(&self) -> bool
         ensures { result ≡ is_first_closed self.now.packets }
     {

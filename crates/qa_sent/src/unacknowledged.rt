@@ -117,6 +117,7 @@ impl Unacknowledged {
     }
 
     /// The first entry with this number or a higher one.
+    #[inline(always)]
     pub(crate) fn first_from(&self, lo: u64) -> Option<(u64, u64)>
         ensures first { result ≡ first_from lo self.now.entries }
         ensures clear { IfSome result (λ e. AreClear lo e.0 self.now.entries) }
@@ -138,6 +139,7 @@ impl Unacknowledged {
     }
 
     /// Removes the entry of this number, where there is one.
+    #[inline(always)]
     pub(crate) fn remove(&mut self, number: u64)
         ensures entries { self.new.entries ≡ remove_entry (is_at (nat_cmp number)) self.old.entries }
     {
@@ -145,6 +147,15 @@ impl Unacknowledged {
             self.recent.pop_front();
             return;
         }
+        self.remove_elsewhere(number);
+    }
+
+    /// Removes the entry of this number, where there is one, wherever it stands. It is a function of its
+    /// own, since mostly the queue begins with the entry.
+    #[inline(never)]
+    fn remove_elsewhere(&mut self, number: u64)
+        ensures entries { self.new.entries ≡ remove_entry (is_at (nat_cmp number)) self.old.entries }
+    {
         match self.gaps.remove(&number) {
             Some(_) => {}
             None => remove_recent(&mut self.recent, number),
@@ -237,6 +248,7 @@ fn begins_by(spans: &[Span], falling: bool, at: usize, number: u64) -> bool
 }
 
 /// The first entry of the map with this number or a higher one. All of them are below the end.
+#[inline(always)]
 fn first_gap(gaps: &BTreeMap<u64, u64>, end: u64, lo: u64) -> Option<(u64, u64)>
     requires { AllByRecursion (λ e. e.0 < end) gaps.now.entries }
     ensures { result ≡ first_from lo gaps.now.entries }
@@ -244,6 +256,14 @@ fn first_gap(gaps: &BTreeMap<u64, u64>, end: u64, lo: u64) -> Option<(u64, u64)>
     if end <= lo || gaps.is_empty() {
         return None;
     }
+    first_in_map(gaps, lo)
+}
+
+/// The same, by a search in the map, which few spans ask for.
+#[inline(never)]
+fn first_in_map(gaps: &BTreeMap<u64, u64>, lo: u64) -> Option<(u64, u64)>
+    ensures { result ≡ first_from lo gaps.now.entries }
+{
     match gaps.range(lo..).next() {
         None => None,
         Some((number, place)) => Some((*number, *place)),

@@ -2,7 +2,7 @@ use Rattle.std.proofs.Common.{◌≡◌, ◌∙◌, true, sym, ap}
 use Rattle.qa_sent.specs.Dropping.{is_first_closed}
 use Rattle.qa_sent.specs.Steps.{trimmed}
 use Rattle.qa_sent.proofs.Dropped.{trimmed_more}
-use Rattle.qa_sent.proofs.packets.SentPackets.drop_closed.Goals as goal
+use Rattle.qa_sent.proofs.packets.SentPackets.drop_front.Goals as goal
 
 pub loop-self-preserved : goal.loop-self-preserved
 loop-self-preserved c =
