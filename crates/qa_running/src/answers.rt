@@ -130,6 +130,7 @@ impl State for Running {
         self.machine.connection.handshake.confirmed
     }
 
+    #[inline(always)]
     fn is_late(&self, time: Ticks) -> bool {
         match self.machine.connection.header.options().timer_late {
             None => false,

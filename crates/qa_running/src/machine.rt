@@ -299,6 +299,7 @@ impl Machine {
 
     /// Looks for losses in a space as of a time, and takes in what they mean for the window, now (A.10
     /// and B.8). Nothing may be owed before.
+    #[inline(always)]
     fn find_losses(&mut self, space: Space, looked: u64, now: Ticks)
         requires { NoneOwed self.old.packets.packets }
         ensures packets { (c : Settings) (h : List AnEvent) → IsMeasured self.old.connection c h
@@ -337,6 +338,7 @@ impl Machine {
 
 /// Drops the packets that are of no more use. The first that is left is open or owed.
 #[tactic(auto, using(crate::proofs::Dropping::stands_trimmed, crate::proofs::Dropping::front_dropped))]
+#[inline(always)]
 fn trim(packets: &mut SentPackets)
     ensures stands { (c : Settings) (h : List AnEvent) → IsCourse c h → StandsFor packets.old c h
         → StandsFor packets.new c h }
@@ -397,6 +399,7 @@ fn thresholds(connection: &Connection, space: Space, now: u64) -> Thresholds
 }
 
 /// What is lost by the last event: what is held as owed.
+#[inline(always)]
 fn losses(packets: &SentPackets, connection: &Connection) -> Losses
     ensures { (c : Settings) (h : List AnEvent) → HoldsLosses packets.now c h → IsCourse c h
         → IsMeasured connection.now c h → AreLosses result c h }
@@ -408,6 +411,7 @@ fn losses(packets: &SentPackets, connection: &Connection) -> Losses
 }
 
 /// Whether what is lost by the last event establishes persistent congestion (RFC 9002, section 7.6).
+#[inline(always)]
 fn is_persistent(packets: &SentPackets, connection: &Connection) -> bool
     ensures { (c : Settings) (h : List AnEvent) → HoldsLosses packets.now c h → IsCourse c h
         → IsMeasured connection.now c h → result ≡ loss.is_persistent c h }

@@ -64,14 +64,25 @@ impl TimerWatch {
 
     /// Takes in an event that happened now, by what is kept of the connection and the packets after
     /// it. Nothing is asked of them, and nothing changes, where the header has no limit.
+    #[inline(always)]
     pub(crate) fn follow(&mut self, connection: &Connection, packets: &SentPackets, now: Ticks)
         ensures { (c : Settings) (e : AnEvent) (h : List AnEvent) → IsOf connection.now c (e ∷ h)
             → IsProperCourse c (e ∷ h) → StandsFor packets.now c (e ∷ h)
             → now ≡ events.time_of e → IsWatched self.old c h → IsWatched self.new c (e ∷ h) }
     {
         if connection.header.options().timer_late.is_some() {
-            self.set(connection.deadline(&open_packets(packets)), now);
+            self.look(connection, packets, now);
         }
+    }
+
+    /// Takes in an event as `follow` does, also where the header has no limit.
+    #[inline(never)]
+    fn look(&mut self, connection: &Connection, packets: &SentPackets, now: Ticks)
+        ensures { (c : Settings) (e : AnEvent) (h : List AnEvent) → IsOf connection.now c (e ∷ h)
+            → IsProperCourse c (e ∷ h) → StandsFor packets.now c (e ∷ h)
+            → now ≡ events.time_of e → IsWatched self.old c h → IsWatched self.new c (e ∷ h) }
+    {
+        self.set(connection.deadline(&open_packets(packets)), now);
     }
 
     /// Whether a time is past a deadline by more than a limit, where there is a
