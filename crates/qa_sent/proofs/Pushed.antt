@@ -1,5 +1,5 @@
 -- A packet more behind the others: what lanes, losses and order make of it.
-use Rattle.std.proofs.Common.{◌≡◌, ◌∙◌, ℕ, zero, suc, ◌+◌, ◌-◌, ◌≤◌, ◌<◌, Bool, true, false, ◌&&◌, List, [], ◌∷◌, ◌++◌, length, take, drop, Result, Ok, Err, OnOk, OnErr, length-append, refl, sym, ap, arith, inl, inr, cond}
+use Rattle.std.proofs.Common.{◌≡◌, ◌∙◌, ℕ, zero, suc, ◌+◌, ◌-◌, ◌≤◌, ◌<◌, Bool, true, false, ◌&&◌, List, [], ◌∷◌, ◌++◌, length, take, drop, Result, Ok, Err, OnOk, OnErr, length-append, refl, sym, ap, subst, sum_by, arith, inl, inr, cond}
 use Rattle.std.specs.Prelude.{if◌then◌else◌}
 use Rattle.std.specs.List.{AllByRecursion}
 use Rattle.qa_base.specs.declared.space.Space.{Space}
@@ -7,7 +7,7 @@ use Rattle.qa_base.specs.declared.space.Space.TheVariants.{Initial, Handshake, A
 use Rattle.qa_base.specs.values.Events.{is_space}
 use Rattle.qa_base.specs.values.Limits.{max_packet_size}
 use Rattle.qa_sent.specs.Fates.{flight_bytes, flight_bytes_in, is_flying, is_open, is_owed, is_unacknowledged, is_waiting}
-use Rattle.qa_sent.specs.Held.{AreLosses, AreOrdered, FirstFlies, IsBefore, IsBehind, IsIndexed, IsLane, IsSound, unacknowledged_in}
+use Rattle.qa_sent.specs.Held.{AreLosses, AreOrdered, FirstFlies, IsBefore, IsBehind, IsIndexed, IsLane, IsSound, NoneFlies, unacknowledged_in}
 use Rattle.qa_sent.specs.Lanes.{awaiting_count}
 use Rattle.qa_base.specs.values.PerSpace.{of_space, with_space}
 use Rattle.qa_sent.specs.declared.fate.Fate.{Fate}
@@ -18,7 +18,7 @@ use Rattle.qa_sent.specs.declared.packet.SentPacket.{SentPacket}
 use Rattle.qa_sent.specs.declared.packets.Losses.{Losses}
 use Rattle.qa_sent.proofs.Entries.{unacknowledged_push, unacknowledged_push_other, waits_here}
 use Rattle.qa_sent.proofs.Sound.{IsSoundBeside, beside, lane_sound, sound_with}
-use Rattle.qa_sent.proofs.Sums.{awaiting_elsewhere, awaiting_here, awaiting_in, bytes_elsewhere, bytes_here, sum_push, sum_push_none}
+use Rattle.qa_sent.proofs.Sums.{awaiting_elsewhere, awaiting_here, awaiting_in, bytes_elsewhere, bytes_here, sum_front, sum_push, sum_push_none}
 
 -- ---- what holds of each
 
@@ -95,6 +95,36 @@ behind_push s d ps p next behind =
       high = omega (arith, long, high);
       none = each_take_kept (λ q. is_flying s q ≡ false) (next - d) ps p (omega (arith, low, high)) behind.none;
     }
+
+-- ---- a packet of it that flies already
+
+zero_of : (b : Bool) (c : Bool) (n : ℕ) → (b && c) ≡ false → (if b then (if c then n else 0) else 0) ≡ 0
+zero_of true c n out = rw out refl
+zero_of false c n out = refl
+
+no_sum : (s : Space) (ps : List SentPacket) → NoneFlies s ps → sum_by (flight_bytes_in s) ps ≡ 0
+no_sum s [] none = refl
+no_sum s (p ∷ ps) none = sum_front (flight_bytes_in s) p ps (zero_of (is_space s p.space) (p.in_flight && is_open p.fate) p.size none.0) ∙ no_sum s ps none.1
+
+-- where bytes are in flight, the first packet that flies stays the first
+first_stays : (s : Space) (n : ℕ) (ps : List SentPacket) (p : SentPacket) → 0 < sum_by (flight_bytes_in s) ps → NoneFlies s (take n ps) → FirstFlies s (drop n ps) → FirstFlies s (drop n (ps ++ p ∷ []))
+first_stays s zero [] p some none first = absurd (omega arith)
+first_stays s zero (x ∷ ps) p some none first = elim first [
+  | inl flies ↦ inl flies
+  | inr none ↦ (let z = no_sum s (x ∷ ps) none in absurd (omega (arith, some, z)))
+]
+first_stays s (suc n) [] p some none first = absurd (omega arith)
+first_stays s (suc n) (x ∷ ps) p some none first =
+    let e = sum_front (flight_bytes_in s) x ps (zero_of (is_space s x.space) (x.in_flight && is_open x.fate) x.size none.0) in
+    first_stays s n ps p (rw e at some) none.1 first
+
+pub lane_stays : (s : Space) (d : ℕ) (ps : List SentPacket) (p : SentPacket) (before after : Lane) → IsLane s d ps before → 0 < before.in_flight → IsIndexed s d (ps ++ p ∷ []) after → after.next ≡ before.next
+    → IsLane s d (ps ++ p ∷ []) after
+lane_stays s d ps p before after is some indexed same = record {
+  indexed = indexed;
+  behind = subst (λ n. IsBehind s d (ps ++ p ∷ []) n) (sym same) (behind_push s d ps p before.next is.behind);
+  first = subst (λ n. FirstFlies s (drop (n - d) (ps ++ p ∷ []))) (sym same) (first_stays s (before.next - d) ps p (rw is.indexed.in_flight at some) is.behind.none is.first);
+}
 
 -- ---- the other lanes
 

@@ -44,8 +44,12 @@ pub(crate) fn add(
     let place = dropped + packets.len() as u64;
     packets.reserve(1)?;
     lane.unacknowledged.enter(packet.number.get(), place)?;
+    // Where bytes are in flight, the lane stands at the first packet that flies, and stays there.
+    let flew = 0 < lane.in_flight;
     lane.put_on(&packet);
     packets.push_back_reserved(packet);
-    advance(packets, dropped, lane, packet.space);
+    if !flew {
+        advance(packets, dropped, lane, packet.space);
+    }
     Ok(())
 }

@@ -1,6 +1,6 @@
-use Rattle.std.proofs.Common.{◌≡◌, ◌∙◌, ◌+◌, List, [], ◌∷◌, ◌++◌, length, ap}
+use Rattle.std.proofs.Common.{◌≡◌, ◌∙◌, ◌+◌, ◌<◌, List, [], ◌∷◌, ◌++◌, length, ap, rules}
 use Rattle.qa_sent.specs.declared.packet.SentPacket.{SentPacket}
-use Rattle.qa_sent.proofs.Pushed.{entries_below, indexed_push, space_same}
+use Rattle.qa_sent.proofs.Pushed.{entries_below, indexed_push, lane_stays, space_same}
 use Rattle.qa_sent.proofs.Sums.{bytes_fit}
 use Rattle.qa_sent.proofs.pushing.add.Goals as goal
 
@@ -22,3 +22,17 @@ advance-requires-clause-indexed c =
     rw items
     (indexed_push p.space c.args.dropped ps p c.args.lane.now c.put_on.new.self c.get.result (c.args.dropped + c.len.result) (space_same p.space) c.requires.open c.requires.lane.indexed
     c.get.ensures.value (ap (λ k. c.args.dropped + k) len) (c.put_on.ensures.entries ∙ c.in_ok-enter.ensures.ok) c.put_on.ensures.in_flight c.put_on.ensures.awaiting)
+
+pub returns-else-not-flew-clause-lane : goal.returns-else-not-flew-clause-lane
+returns-else-not-flew-clause-lane c =
+    let p = c.args.packet in
+    let ps = c.args.packets.now.items in
+    let items : c.push_back_reserved.new.self.items ≡ ps ++ p ∷ [] =
+    ◌∙◌ {A = List SentPacket} c.push_back_reserved.ensures.items (ap (λ xs. xs ++ p ∷ []) c.in_ok-reserve.ensures.items) in
+    let len : c.len.result ≡ length ps = c.len.ensures ∙ c.args.packets.now.ok.0 in
+    let some : 0 < c.args.lane.now.in_flight = search (rules, c.if-not-flew.false) in
+    rw items
+    (lane_stays p.space c.args.dropped ps p c.args.lane.now c.put_on.new.self c.requires.lane some
+    (indexed_push p.space c.args.dropped ps p c.args.lane.now c.put_on.new.self c.get.result (c.args.dropped + c.len.result) (space_same p.space) c.requires.open c.requires.lane.indexed
+    c.get.ensures.value (ap (λ k. c.args.dropped + k) len) (c.put_on.ensures.entries ∙ c.in_ok-enter.ensures.ok) c.put_on.ensures.in_flight c.put_on.ensures.awaiting)
+    c.put_on.ensures.next)
