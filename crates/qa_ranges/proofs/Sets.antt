@@ -1,13 +1,14 @@
 -- Runs as sets of numbers.
-use Rattle.std.proofs.Common.{◌≡◌, ℕ, zero, suc, ◌+◌, ◌-◌, ◌≤◌, ◌<◌, Bool, true, false, ◌&&◌, ◌||◌, min, max, List, [], ◌∷◌, ◌++◌, length, get_or, take, drop, find, slice_get, Option, Some, None, is_some, IfSome, option_copied, Bor, refl, sym, ◌∙◌, ap, arith, inl, inr, Result, Ok, Err, OnOk, OnErr, nat_le, nat_lt}
+use Rattle.std.proofs.Common.{◌≡◌, ℕ, zero, suc, ◌+◌, ◌-◌, ◌≤◌, ◌<◌, Bool, true, false, ◌&&◌, ◌||◌, min, max, List, [], ◌∷◌, ◌++◌, length, get_or, take, drop, find, slice_get, Option, Some, None, is_some, IfSome, option_copied, Bor, refl, sym, ◌∙◌, ap, arith, inl, inr, Result, Ok, Err, OnOk, OnErr, nat_eq, nat_le, nat_lt, slice_set}
 use Rattle.std.specs.List.{AllByRecursion}
 use Rattle.std.specs.List.Sorted.{IsNonDecreasingBy, IsPartitionedBy, IsPartitionPoint}
-use Rattle.std.proofs.lemmas.Bool.{cases_Bool, cases_lt, and_parts, and_from, or_cases, or_left, or_right, le-ltb, lt-ltb, le-leb, lt-leb, leb-true, leb-false, ltb-true, ltb-false, false_from_ne_true}
+use Rattle.std.proofs.lemmas.Bool.{cases_Bool, cases_lt, and_parts, and_from, or_cases, or_left, or_right, eqb-true, le-ltb, lt-ltb, le-leb, lt-leb, leb-true, leb-false, ltb-true, ltb-false, false_from_ne_true}
 use Rattle.std.proofs.lemmas.Bool.Decides.{nat_tests}
 use Rattle.std.proofs.lemmas.List.Sorted.{IsPartitionedBy-ltb}
-use Rattle.std.proofs.lemmas.Option.{slice_get-get_or, slice_get_past, slice_get_within, get_or_from_slice_get}
+use Rattle.std.proofs.lemmas.List.{drop_all, drop_more, drop-set, take-append-drop, take-set}
+use Rattle.std.proofs.lemmas.Option.{same_Some, slice_get_cases, slice_get-get_or, slice_get_past, slice_get_within, get_or_from_slice_get}
 use Rattle.qa_base.specs.values.Events.{is_named}
-use Rattle.qa_ranges.specs.Runs.{AreApart, HasEach, IsGreatest, ends_before, is_within, joined, inserted}
+use Rattle.qa_ranges.specs.Runs.{AreApart, HasEach, IsGreatest, ends_before, is_within, joined, inserted, lengthened}
 
 -- the number is in the run
 abbrev pub is_between : ℕ × ℕ → ℕ → Bool
@@ -286,6 +287,52 @@ reach_end s run r rs reached low behind =
 pub placed : (s run : ℕ × ℕ) (runs : List (ℕ × ℕ)) (first end : ℕ) → IsPartitionPoint (λ r. ends_before r s.0 ≡ true) (λ r. ends_before r s.0 ≡ false) runs first → first ≤ length runs
     → inserted s (drop first runs) ≡ run ∷ drop end runs → inserted s runs ≡ take first runs ++ (run ∷ drop end runs)
 placed s run runs first end point within joins = inserted_behind s runs first point.0 within ∙ ap (λ rest. take first runs ++ rest) joins
+
+-- a run and a span directly behind it are one run
+joined_behind : (s r : ℕ × ℕ) → s.0 ≤ s.1 → r.0 ≤ r.1 → r.1 + 1 ≡ s.0 → inserted s (r ∷ []) ≡ (r.0, s.1) ∷ []
+joined_behind s r order begins next =
+    let reached : ends_before r s.0 ≡ false = le-ltb (r.1 + 1) s.0 (omega arith) in
+    let touching : ends_before s r.0 ≡ false = le-ltb (s.1 + 1) r.0 (omega arith) in
+    let low : min s.0 r.0 ≡ r.0 = omega arith in
+    let high : max s.1 r.1 ≡ s.1 = omega arith in
+    rw (reached, touching, low, high) refl
+
+-- the last run stands alone behind those before it
+last_alone : (runs : List (ℕ × ℕ)) (last : ℕ × ℕ) → slice_get runs (length runs - 1) ≡ Some last → drop (length runs - 1) runs ≡ last ∷ []
+last_alone runs last at =
+    let within = slice_get_within runs (length runs - 1) last at in
+    drop_more runs (length runs - 1) last within
+    ∙ rw (get_or_from_slice_get runs (length runs - 1) last last at, drop_all (length runs - 1 + 1) runs (omega (arith, within))) refl
+
+-- a span directly behind the last run makes that run longer
+inserted_next : (s last : ℕ × ℕ) (runs : List (ℕ × ℕ)) → s.0 ≤ s.1 → AreApart runs → slice_get runs (length runs - 1) ≡ Some last → last.1 + 1 ≡ s.0
+    → inserted s runs ≡ slice_set runs (length runs - 1) (last.0, s.1)
+inserted_next s last runs order apart at next =
+    let i = length runs - 1 in
+    let run : ℕ × ℕ = (last.0, s.1) in
+    let within = slice_get_within runs i last at in
+    let begins : last.0 ≤ last.1 = rw (get_or_from_slice_get runs i last last at) at (order_at runs i last apart within) in
+    let point = all_before_last runs last s.0 apart at (le-ltb (last.1 + 1) s.0 (omega arith)) (omega arith) in
+    let none : drop (i + 1) runs ≡ [] = drop_all (i + 1) runs (omega (arith, within)) in
+    let joins : inserted s (drop i runs) ≡ run ∷ drop (i + 1) runs = rw (last_alone runs last at, none) (joined_behind s last order begins next) in
+    placed s run runs i (i + 1) point (omega (arith, within)) joins
+    ∙ sym (sym (take-append-drop i (slice_set runs i run)) ∙ rw (take-set runs i run, drop-set runs i run within) refl)
+
+-- the same of the run that is found for the last one to become
+pub inserted_last : (s run : ℕ × ℕ) (runs : List (ℕ × ℕ)) → s.0 ≤ s.1 → AreApart runs → lengthened s (slice_get runs (length runs - 1)) ≡ Some run
+    → inserted s runs ≡ slice_set runs (length runs - 1) run
+inserted_last s run runs order apart found =
+    elim ((slice_get_cases runs (length runs - 1)).1) [
+      | inl some ↦ (let last = some.0 in
+          let at = some.2 in
+          let becomes : lengthened s (Some last) ≡ Some run = rw at at found in
+          elim (cases_Bool (nat_eq (last.1 + 1) s.0)) [
+            | inl next ↦ (let same : (last.0, s.1) ≡ run = same_Some (last.0, s.1) run (rw next at becomes) in
+                rw (← same) (inserted_next s last runs order apart at (eqb-true (last.1 + 1) s.0 next)))
+            | inr elsewhere ↦ (let wrong : None ≡ Some run = rw elsewhere at becomes in cc)
+          ])
+      | inr none ↦ (let wrong : None ≡ Some run = rw none.1 at found in cc)
+    ]
 
 pub apart_after : {U E : Type 0} (r : Result U E) (s : ℕ × ℕ) (old new : List (ℕ × ℕ)) → s.0 ≤ s.1 → OnOk r (new ≡ inserted s old) → OnErr r (new ≡ old) → AreApart old → AreApart new
 apart_after (Ok u) s old new order ok err apart = rw ok (apart_inserted s old order apart)

@@ -1,6 +1,6 @@
 -- Sets of packet numbers, seen as their runs of consecutive numbers: each run is a pair of its least and its greatest
 -- number, and the runs stand in rising order. Which numbers are in the set, `is_named` says of the runs.
-use Rattle.std.specs.Prelude.{◌≡◌, ℕ, ◌+◌, ◌<◌, ◌≤◌, Bool, true, false, not, ◌&&◌, nat_le, nat_lt, min, max, count_by, List, [], ◌∷◌, Option, Some, None, option_to_list, ◌++◌, ◌-◌, if◌then◌else◌}
+use Rattle.std.specs.Prelude.{◌≡◌, ℕ, ◌+◌, ◌<◌, ◌≤◌, Bool, true, false, not, ◌&&◌, nat_eq, nat_le, nat_lt, min, max, count_by, List, [], ◌∷◌, Option, Some, None, option_to_list, ◌++◌, ◌-◌, if◌then◌else◌}
 use Rattle.std.specs.List.{AllByRecursion}
 use Rattle.qa_base.specs.machine.Numbers.{is_in}
 use Rattle.qa_base.specs.values.Events.{is_named}
@@ -49,6 +49,11 @@ inserted span (run ∷ runs) =
     if ends_before run span.0 then run ∷ inserted span runs else
     (if ends_before span run.0 then span ∷ run ∷ runs else
     inserted (joined span run) runs)
+
+-- what the last run becomes with the span, where the span begins directly behind it
+abbrev pub lengthened : ℕ × ℕ → Option (ℕ × ℕ) → Option (ℕ × ℕ)
+lengthened span None = None
+lengthened span (Some last) = if nat_eq (last.1 + 1) span.0 then Some (last.0, span.1) else None
 
 -- ---- one number less
 

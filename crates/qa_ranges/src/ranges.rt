@@ -1,5 +1,5 @@
 //! Sets of packet numbers, kept as runs.
-ghost use Rattle.std.specs.Prelude.{◌≡◌, ◌≤◌, ◌<◌, ◌↔◌, ℕ, List, [], ◌∷◌, ◌++◌, length, take, drop, find, nat_le, true, false, IsTrue, OnOk, OnErr};
+ghost use Rattle.std.specs.Prelude.{◌≡◌, ◌≤◌, ◌<◌, ◌↔◌, ℕ, List, [], ◌∷◌, ◌++◌, ◌-◌, length, take, drop, find, slice_get, nat_le, true, false, IsTrue, OnOk, OnErr};
 ghost use Rattle.std.specs.List.{AllWithin};
 ghost use Rattle.std.specs.List.Sorted.{IsPartitionPoint};
 ghost use Rattle.qa_base.specs.machine.Numbers.{Names, has_range};
@@ -46,7 +46,24 @@ impl Ranges {
     ///
     /// At or behind the last run this takes amortised constant time; before it, time that grows
     /// with the number of runs.
+    #[inline(always)]
     pub fn insert_range(&mut self, span: Span) -> Result<(), AllocError>
+        ensures ok { OnOk result ((n : ℕ) → is_named self.new n ≡ is_named (span ∷ self.old) n) }
+        ensures exact { OnOk result (self.new ≡ inserted span self.old) }
+        ensures err { OnErr result (self.new ≡ self.old) }
+    {
+        // Numbers are sent in rising order, so that one mostly makes the last run longer.
+        if let Some(run) = lengthened(&self.runs, span) {
+            let last = self.runs.len() - 1;
+            self.runs[last] = run;
+            return Ok(());
+        }
+        self.insert_anywhere(span)
+    }
+
+    /// Adds the numbers of a span that may stand anywhere, as `insert_range` says.
+    #[inline(never)]
+    fn insert_anywhere(&mut self, span: Span) -> Result<(), AllocError>
         ensures ok { OnOk result ((n : ℕ) → is_named self.new n ≡ is_named (span ∷ self.old) n) }
         ensures exact { OnOk result (self.new ≡ inserted span self.old) }
         ensures err { OnErr result (self.new ≡ self.old) }
@@ -124,6 +141,17 @@ fn joined(a: Span, b: Span) -> Span
     Span::new(a.lo().min(b.lo()), a.hi().max(b.hi())).unwrap()
 }
 
+/// What the last run becomes with the span, where the span begins directly behind it.
+#[inline(always)]
+fn lengthened(runs: &[Span], span: Span) -> Option<Span>
+    ensures { result ≡ defined.lengthened span (slice_get runs.now (length runs.now - 1)) }
+{
+    match runs.last() {
+        Some(last) if last.hi().get() + 1 == span.lo().get() => Span::new(last.lo(), span.hi()),
+        _ => None,
+    }
+}
+
 /// How many runs end before the number with one missing between them.
 fn count_before(runs: &[Span], number: PacketNumber) -> usize
     requires apart { AreApart runs.now }
@@ -170,7 +198,7 @@ fn replace(runs: &mut Vec<Span>, first: usize, end: usize, run: Span) -> Result<
         return Ok(());
     }
     runs[first] = run;
-    // Mostly a number makes the last run longer, and no run goes.
+    // Where the new run stands for one run alone, none goes.
     if first + 1 < end {
         runs.drain(first + 1..end);
     }

@@ -1,32 +1,30 @@
-use Rattle.qa_ranges.proofs.Sets.{apart_after, names_after, placed}
+use Rattle.std.proofs.Common.{◌≡◌, ◌≤◌, ◌∙◌, length, rules, sym}
+use Rattle.qa_ranges.proofs.Sets.{apart_inserted, inserted_last, names_inserted}
 use Rattle.qa_ranges.proofs.ranges.Ranges.insert_range.Goals as goal
 
 pub invariant_of-self : goal.invariant_of-self
 invariant_of-self c =
     let items = c.self.inside.runs.items in
-    let point = rw (c.deref.ensures.value, c.lo.ensures.value) at c.count_before-first.ensures.point in
-    let within = rw c.deref.ensures.value at c.count_before-first.ensures.bound in
-    let joins = rw c.deref-2.ensures.value at c.reach-end.ensures.joined in
-    let same = placed c.args.span c.reach-end.result.1 items c.count_before-first.result c.reach-end.result.0 point within joins in
-    let ok = rw (← same) at c.replace.ensures.ok in
-    apart_after c.replace.result c.args.span items c.replace.new.runs.items c.lo.ensures.order ok c.replace.ensures.err c.self.invariant
+    let long : c.len-last.result ≡ length items = search rules in
+    let order : c.args.span.0 ≤ c.args.span.1 = search rules in
+    let found = rw c.deref.ensures.value at (sym c.lengthened.ensures ∙ c.in-Some.is) in
+    let longer = inserted_last c.args.span c.in-Some.run' items order c.self.invariant found in
+    rw (long, ← longer) (apart_inserted c.args.span items order c.self.invariant)
 
-pub returns-clause-ok : goal.returns-clause-ok
-returns-clause-ok c =
+pub returns-in-Some-clause-ok : goal.returns-in-Some-clause-ok
+returns-in-Some-clause-ok c =
     let items = c.self.inside.runs.items in
-    let point = rw (c.deref.ensures.value, c.lo.ensures.value) at c.count_before-first.ensures.point in
-    let within = rw c.deref.ensures.value at c.count_before-first.ensures.bound in
-    let joins = rw c.deref-2.ensures.value at c.reach-end.ensures.joined in
-    let same = placed c.args.span c.reach-end.result.1 items c.count_before-first.result c.reach-end.result.0 point within joins in
-    let ok = rw (← same) at c.replace.ensures.ok in
-    rw (← c.self.view_is) (names_after c.replace.result c.args.span items c.replace.new.runs.items c.lo.ensures.order ok c.self.invariant)
+    let long : c.len-last.result ≡ length items = search rules in
+    let order : c.args.span.0 ≤ c.args.span.1 = search rules in
+    let found = rw c.deref.ensures.value at (sym c.lengthened.ensures ∙ c.in-Some.is) in
+    let longer = inserted_last c.args.span c.in-Some.run' items order c.self.invariant found in
+    rw (long, ← longer, ← c.self.view_is) (λ n. names_inserted c.args.span items n order c.self.invariant)
 
-pub returns-clause-exact : goal.returns-clause-exact
-returns-clause-exact c =
+pub returns-in-Some-clause-exact : goal.returns-in-Some-clause-exact
+returns-in-Some-clause-exact c =
     let items = c.self.inside.runs.items in
-    let point = rw (c.deref.ensures.value, c.lo.ensures.value) at c.count_before-first.ensures.point in
-    let within = rw c.deref.ensures.value at c.count_before-first.ensures.bound in
-    let joins = rw c.deref-2.ensures.value at c.reach-end.ensures.joined in
-    let same = placed c.args.span c.reach-end.result.1 items c.count_before-first.result c.reach-end.result.0 point within joins in
-    let ok = rw (← same) at c.replace.ensures.ok in
-    rw (← c.self.view_is) ok
+    let long : c.len-last.result ≡ length items = search rules in
+    let order : c.args.span.0 ≤ c.args.span.1 = search rules in
+    let found = rw c.deref.ensures.value at (sym c.lengthened.ensures ∙ c.in-Some.is) in
+    let longer = inserted_last c.args.span c.in-Some.run' items order c.self.invariant found in
+    rw (long, ← c.self.view_is) (sym longer)
