@@ -299,7 +299,6 @@ impl Machine {
 
     /// Looks for losses in a space as of a time, and takes in what they mean for the window, now (A.10
     /// and B.8). Nothing may be owed before.
-    #[inline(always)]
     fn find_losses(&mut self, space: Space, looked: u64, now: Ticks)
         requires { NoneOwed self.old.packets.packets }
         ensures packets { (c : Settings) (h : List AnEvent) → IsMeasured self.old.connection c h
