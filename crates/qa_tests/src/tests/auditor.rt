@@ -1,5 +1,5 @@
 //! An audit of bytes that are handed in, piece by piece.
-use qa_base::{Header, Role, Totals};
+use qa_base::{Header, PacketNumber, Role, Span, Totals};
 use qa_check::{AuditFault, Auditor, Fault, Line, Progress, Verdict, verdict_line};
 use qa_running::Running;
 use qa_session::{Phase, Session};
@@ -121,4 +121,24 @@ fn a_session_is_finished_once(rt: HostRuntime) {
     let phases = [Phase::Open, Phase::Finished(none), Phase::Finished(none)];
     let found = finish_a_new_session(rt.alloc());
     assert_eq!(rt; found, (phases, [None, Some(none)], true));
+}
+
+/// How many ranges stand in a list that the session lends, once one was put in, and in the next that it
+/// lends once that list was taken back.
+fn lend_twice(session: &mut Session, alloc: Global) -> Option<(usize, usize)> {
+    let span = Span::new(PacketNumber::new(7)?, PacketNumber::new(9)?)?;
+    let mut ranges = session.lend_ranges(alloc);
+    ranges.push(span).ok()?;
+    let count = ranges.as_slice().len();
+    session.take_back(alloc, ranges);
+    let next = session.lend_ranges(alloc);
+    Some((count, next.as_slice().len()))
+}
+
+/// A list of ranges that was taken back is lent without them.
+#[test]
+fn ranges_are_lent_empty(rt: HostRuntime) {
+    let alloc = rt.alloc();
+    let mut session = Session::new(alloc);
+    assert_eq!(rt; lend_twice(&mut session, alloc), Some((1, 0)));
 }
