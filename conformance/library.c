@@ -4,6 +4,7 @@
  *     library events         hands in what the commands of standard input say, which are below
  *     library refused N      feeds standard input in pieces of N bytes with each allocation refused in turn
  *     library orders         calls each function where it has nothing to do
+ *     library kept           counts what the acknowledgments behind the first ask for: nothing
  *
  * The first two write the report. A command is a line, and its numbers are the fields of a struct:
  *
@@ -335,11 +336,54 @@ static int run_orders(void) {
     return 0;
 }
 
+/* ---- memory that is kept */
+
+/* Sends a packet, and acknowledges all so far. Returns how often the acknowledgment asked for memory; less than 0 where a
+ * call was not as wanted. */
+static long asked_by_an_acknowledgment(qaudit *q, uint64_t number) {
+    qaudit_packet packet;
+    qaudit_acknowledgment ack;
+    qaudit_range range;
+    long before;
+    memset(&packet, 0, sizeof packet);
+    memset(&ack, 0, sizeof ack);
+    packet.time = ack.time = number;
+    packet.number = range.greatest = number;
+    packet.size = 1200;
+    packet.space = ack.space = QAUDIT_APP;
+    packet.eliciting = packet.in_flight = true;
+    range.least = 0;
+    if (qaudit_sent(q, &packet) != QAUDIT_OPEN) return -1;
+    before = calls;
+    if (qaudit_ack(q, &ack, &range, 1) != QAUDIT_OPEN) return -1;
+    return calls - before;
+}
+
+/* The first acknowledgment asks for memory, and leaves it to those behind it. */
+static int run_kept(void) {
+    qaudit q = {NULL, false};
+    qaudit_trace_header header;
+    uint64_t number;
+    int failed = 0;
+    memset(&header, 0, sizeof header);
+    header.max_datagram_size = 1200;
+    header.role = QAUDIT_SERVER;
+    is_counting = 1;
+    if (qaudit_open(&q) != QAUDIT_OPEN || qaudit_header(&q, &header) != QAUDIT_OPEN) failed = fail("it took no header");
+    if (!failed && asked_by_an_acknowledgment(&q, 0) < 1) failed = fail("the first acknowledgment asked for nothing, or was not taken");
+    for (number = 1; !failed && number < 100; number++)
+        if (asked_by_an_acknowledgment(&q, number) != 0) failed = fail("an acknowledgment asked for memory, or was not taken");
+    qaudit_close(&q);
+    if (!failed && blocks != 0) failed = fail("memory was not given back");
+    return failed;
+}
+
 int main(int argc, char **argv) {
     size_t piece = argc > 2 ? (size_t)strtoull(argv[2], NULL, 10) : 0;
     if (argc == 3 && piece > 0 && strcmp(argv[1], "pieces") == 0) return run_pieces(piece);
     if (argc == 3 && piece > 0 && strcmp(argv[1], "refused") == 0) return run_all_refused(piece);
     if (argc == 2 && strcmp(argv[1], "events") == 0) return run_events();
     if (argc == 2 && strcmp(argv[1], "orders") == 0) return run_orders();
+    if (argc == 2 && strcmp(argv[1], "kept") == 0) return run_kept();
     return 2;
 }
