@@ -1,7 +1,6 @@
 //! What the calls do with a session that C keeps.
-ghost use Rattle.std.specs.Prelude.{◌≡◌, ◌≢◌, None, Option, Some, true, false};
+ghost use Rattle.std.specs.Prelude.{◌≡◌, ◌≢◌, None, Some, true, false};
 ghost use Rattle.qa_check.specs.Auditor.{is_between};
-ghost use Rattle.qa_format.specs.declared.line.Line.{Line as ALine};
 ghost use Rattle.qa_format.specs.format.Written.{line_fits};
 ghost use Rattle.qa_session.specs.Session.{phase_of};
 ghost use Rattle.qa_session.specs.declared.Phase.TheVariants as phases;

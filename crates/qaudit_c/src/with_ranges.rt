@@ -1,5 +1,5 @@
-//! What the calls do that hand in ranges of packet numbers: they lie in memory that the session keeps from one such call to
-//! the next.
+//! What the calls do that hand in ranges of packet numbers: the ranges lie in memory that the session
+//! keeps from one such call to the next.
 ghost use Rattle.std.specs.Prelude.{◌≡◌, ◌≢◌};
 ghost use Rattle.qaudit_c.specs.Calls as calls;
 ghost use Rattle.qaudit_c.specs.Events as said;
