@@ -25,10 +25,11 @@ library := bin/libqaudit.a
 library_shared := bin/libqaudit.so
 example := examples/ten-packets.trace
 # The tests of the programs of conformance/, which mostly wait for one another's processes.
-runner_tests := test_run test_trials test_mutations test_rows test_departures test_simulate test_links test_made_up
+runner_tests := test_run test_trials test_mutations test_rows test_departures test_simulate test_links test_made_up \
+	test_contracts test_crates test_edits
 
 # All programs in Python, by the places where their names are unlike each other.
-python := $(addprefix conformance/,allocations cuts failing large library links made_up malicious memory mutations reasons \
+python := $(addprefix conformance/,allocations contracts crates cuts failing large library links made_up malicious memory mutations reasons \
 	refusals run simulate) \
 	conformance/fuzz/instrument conformance/lines/make.py $(wildcard conformance/*.py)
 python_of_fuzz := conformance/fuzz/run
@@ -38,6 +39,7 @@ python_of_page_tests := page/measure $(wildcard page/*.py page/tests/*.py)
 python_of_qlog := qlog/qlog-to-trace qlog/test_qlog.py $(wildcard qlog/qlog_to_trace/*.py)
 # captures/transfer.py runs where aioquic is, and is checked for style alone.
 python_of_captures := captures/audit.py captures/run captures/table examples/delay.py examples/logger.py
+python_of_release := release/edits
 python_of_bindings := $(wildcard bindings/python/*.py)
 python_of_bench := $(addprefix bench/,instructions library peers run trace) $(wildcard bench/*.py) bench/programs/read.py
 
@@ -49,8 +51,8 @@ conformance := conformance-cuts conformance-failing conformance-refusals conform
 # What is handed to the library for C, in each language.
 bindings := conformance-library bindings-rust bindings-go bindings-python
 
-.PHONY: help build run lib one_byte lines test test_library gate conformance $(bindings) $(conformance) links made_up $(runner_tests) test_qlog test_page lint \
-	bench install dist clean
+.PHONY: help build run lib one_byte lines test test_library gate conformance $(bindings) $(conformance) links made_up contracts crates $(runner_tests) test_qlog test_page lint \
+	edits tried bench install dist clean
 
 help:
 	@echo 'make build     proves the programs and builds $(built) and $(built_why)'
@@ -59,6 +61,7 @@ help:
 	@echo 'make test      runs the merge gate, and then the program over conformance/'
 	@echo 'make test_library  builds the library for C and runs it over conformance/, in each language that is there'
 	@echo 'make gate      runs the merge gate alone'
+	@echo 'make edits     tries the must-fail edits in edits/, which the gate does not try, in about an hour'
 	@echo 'make conformance runs the programs over conformance/ alone, once the gate has built them'
 	@echo 'make test_page runs the tests of qaudit-page and qaudit-matrix, those in a browser where one is there'
 	@echo 'make lint      checks the types and the style of the programs in Python'
@@ -66,7 +69,7 @@ help:
 	@echo '               the library for C too, where `make lib` built it before'
 	@echo 'make install   builds it and installs it in $$(DESTDIR)$$(PREFIX), with its man page, completions and docs;'
 	@echo '               PREFIX is $(PREFIX)'
-	@echo 'make dist      builds it and packs dist/$(release).tar.gz, which needs no kit'
+	@echo 'make dist      builds it and packs dist/$(release).tar.gz, which needs no kit, after `make edits`'
 	@echo 'make clean     removes what was built'
 
 # Proving both programs at once leaves the first too.
@@ -100,7 +103,7 @@ lines:
 # The tests of the runners and the checks of pages and sources need no program of ours, so they run beside the gate,
 # in its first minutes.
 test:
-	$(MAKE) --no-print-directory -j 2 gate links made_up $(runner_tests) test_qlog
+	$(MAKE) --no-print-directory -j 2 gate links made_up contracts crates $(runner_tests) test_qlog
 	$(MAKE) --no-print-directory -j 4 --output-sync=target $(conformance)
 	QAUDIT_WHY='$(abspath $(program_why))' $(MAKE) --no-print-directory test_page
 	if [ -f $(library) ]; then $(MAKE) --no-print-directory test_library; else \
@@ -114,7 +117,7 @@ test_library: $(bindings)
 gate:
 	rt ci
 
-conformance: $(conformance) links made_up $(runner_tests) test_qlog
+conformance: $(conformance) links made_up contracts crates $(runner_tests) test_qlog
 
 conformance-cuts:
 	conformance/cuts $(program)
@@ -193,6 +196,21 @@ links:
 made_up:
 	conformance/made_up
 
+# The contracts that replace must-fail edits must be as they are listed, and each edit in edits/ must have its reason.
+contracts:
+	conformance/contracts
+
+# docs/architecture.md must name the crates as they are, and no line may be too long.
+crates:
+	conformance/crates
+
+# The edits that the gate does not try. A release needs them tried on the same crates.
+edits:
+	release/edits
+
+tried:
+	release/edits --check
+
 $(runner_tests):
 	python3 conformance/$@.py
 
@@ -214,6 +232,7 @@ lint:
 	mypy $(python_of_bench)
 	mypy $(python_of_qlog)
 	mypy $(python_of_bindings)
+	mypy $(python_of_release)
 	mypy $(python_of_captures)
 	MYPYPATH=page mypy $(python_of_page)
 	MYPYPATH=page mypy $(python_of_page_tests)
@@ -222,7 +241,7 @@ lint:
 	if command -v ruff > /dev/null; then ruff check; else \
 		flake8 --max-line-length 100 --extend-ignore E203,W503 \
 			--per-file-ignores '*/test_*.py:N802' $(python) $(python_of_fuzz) $(python_of_bench) \
-			$(python_of_qlog) $(python_of_captures) captures/transfer.py \
+			$(python_of_qlog) $(python_of_release) $(python_of_captures) captures/transfer.py \
 			$(python_of_page) $(python_of_page_tests) conformance/rows conformance/departures; fi
 
 # No part of `test`, for no number of seconds is right on every machine.
@@ -238,7 +257,7 @@ install: build lib
 	release/pack $(built) $(built_why) $(library) $(library_shared) bin/$(release)
 	bin/$(release)/install '$(DESTDIR)$(PREFIX)'
 
-dist: build lib
+dist: tried build lib
 	release/pack $(built) $(built_why) $(library) $(library_shared) bin/$(release)
 	mkdir -p dist
 	tar --sort=name --owner=0 --group=0 --numeric-owner -C bin -czf dist/$(release).tar.gz $(release)

@@ -8,7 +8,7 @@
 ghost use Rattle.std.specs.Prelude.{None};
 
 use qa_check::{Metered, Outcome, Sink, Source, audit};
-use qa_plain::Whole;
+use qa_reference::Whole;
 use std::io;
 use std::process::ExitCode;
 

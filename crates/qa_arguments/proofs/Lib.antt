@@ -1,3 +1,4 @@
 mod Asking
 mod Files
 mod Words
+pub mod why_lemmas

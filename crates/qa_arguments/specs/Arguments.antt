@@ -1,5 +1,7 @@
 -- What the arguments of the command line ask for, and the parser that reads them.
-use Rattle.std.specs.Prelude.{◌≡◌, ◌⊎◌, ◌==◌, ◌&&◌, ℕ, Bool, true, false, List, [], ◌∷◌, map, codes, length, nat_le, is_some, slice_get, Option, Some, None, option_map, option_and_then, unwrap_or, if◌then◌else◌}
+use Rattle.std.specs.Prelude.{◌≡◌, ◌⊎◌, ◌==◌, ◌&&◌, ℕ, Bool, true, false, List, [], ◌∷◌, map, codes}
+use Rattle.std.specs.Prelude.{length, nat_le, is_some, slice_get, Option, Some, None, option_map}
+use Rattle.std.specs.Prelude.{option_and_then, unwrap_or, if◌then◌else◌}
 use Rattle.std.specs.Option.{option_to_list}
 use Rattle.std.specs.Str.{bytes_eq, chars}
 use Rattle.clap.specs.Simple.{App, new_app, new_rule, on_top, with_rule, with_subcommand}
@@ -19,18 +21,21 @@ abbrev pub is_option : List ℕ → Bool
 is_option [] = false
 is_option (byte ∷ rest) = byte == 45 && is_some (slice_get (chars rest) 0)
 
--- the names of files among the arguments behind a subcommand. Up to the first `--` none may be an option; behind it all are names
+-- the names of files among the arguments behind a subcommand. Up to the first `--` none may be an
+-- option; behind it all are names
 abbrev pub names_in : List (List ℕ) → Option (List (List ℕ))
 names_in [] = Some []
 names_in (argument ∷ rest) =
     if bytes_eq argument (codes "--") then Some rest
-    else (if is_option argument then None else option_map (λ names. argument ∷ names) (names_in rest))
+    else (if is_option argument then None else option_map (λ names. argument ∷ names)
+    (names_in rest))
 
 -- a subcommand with its files, of which `explain` has one at most
 abbrev pub asked_of : List ℕ → List (List ℕ) → Option (List ℕ × List (List ℕ))
 asked_of command names =
     if bytes_eq (codes "check") command then Some (codes "check", names)
-    else (if bytes_eq (codes "explain") command && nat_le (length names) 1 then Some (codes "explain", names) else None)
+    else (if bytes_eq (codes "explain") command
+    && nat_le (length names) 1 then Some (codes "explain", names) else None)
 
 -- what the arguments behind the program's name ask for
 abbrev pub asked : List (List ℕ) → Option (List ℕ × List (List ℕ))
@@ -64,10 +69,16 @@ abbrev pub explain_parser : App
 explain_parser = with_rule (without_help (new_app (codes "explain"))) one_file
 
 abbrev pub parser_alone : App
-parser_alone = on_top (λ s. record s { no_binary_name = true; disable_help_subcommand = true; subcommand_required = true }) (without_help (new_app (codes "qaudit")))
+parser_alone =
+    on_top (λ s. record s {
+      no_binary_name = true;
+      disable_help_subcommand = true;
+      subcommand_required = true;
+    }) (without_help (new_app (codes "qaudit")))
 
 abbrev pub parser_of_arguments : App
-parser_of_arguments = with_subcommand (with_subcommand parser_alone check_parser.top) explain_parser.top
+parser_of_arguments =
+    with_subcommand (with_subcommand parser_alone check_parser.top) explain_parser.top
 
 -- the files of a subcommand, by what its parser found
 pub record HasFiles (command : List ℕ) (names : List (List ℕ)) (rows : List Row) : Type 0 where

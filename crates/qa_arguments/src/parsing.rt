@@ -1,9 +1,14 @@
 //! What arguments ask for.
-ghost use Rattle.std.specs.Prelude.{◌≡◌, ◌⊎◌, ℕ, false, List, [], Some, None, IfOk, IfErr, codes, map, string_bytes, unwrap_or};
-ghost use Rattle.clap.specs.Words.{all_of, app_of, found_of, kind_of, new_app, new_rule, rows_of, with_rule, with_subcommand, FailsBy, HasMatchesOf, Row, fault_of};
+ghost use Rattle.std.specs.Prelude.{◌≡◌, ◌⊎◌, ℕ, false, List, [], Some, None, IfOk, IfErr, codes};
+ghost use Rattle.std.specs.Prelude.{map, string_bytes, unwrap_or};
+ghost use Rattle.clap.specs.Words.{all_of, app_of, found_of, kind_of, new_app, new_rule, rows_of};
+ghost use Rattle.clap.specs.Words.{with_rule, with_subcommand, FailsBy, HasMatchesOf, Row};
+ghost use Rattle.clap.specs.Words.{fault_of};
 ghost use Rattle.clap.specs.Simple.{subcommand_rows_of};
 ghost use Rattle.clap.specs.declared.builder.command.Command.TheViews.{out-Command as fields_of};
-ghost use Rattle.qa_arguments.specs.Arguments.{asked, fault_of_kind, parser_alone, parser_of_arguments, request, without_help, HasFiles, IsCommand};
+ghost use Rattle.qa_arguments.specs.Arguments.{asked, fault_of_kind, parser_alone};
+ghost use Rattle.qa_arguments.specs.Arguments.{parser_of_arguments, request, without_help};
+ghost use Rattle.qa_arguments.specs.Arguments.{HasFiles, IsCommand};
 
 use crate::fault::ArgumentsFault;
 use clap::error::ErrorKind;
@@ -53,7 +58,8 @@ fn fault_of_error(error: &Error) -> ArgumentsFault
 
 /// What the parser finds in the arguments.
 fn matches_of<'a>(alloc: Global, arguments: &'a [String]) -> Result<ArgMatches<'a>, Error>
-    ensures matches { IfOk result (HasMatchesOf parser_of_arguments (map string_bytes arguments.now)) }
+    ensures matches { IfOk result
+        (HasMatchesOf parser_of_arguments (map string_bytes arguments.now)) }
     ensures kinds { FailsBy (fault_of parser_of_arguments (map string_bytes arguments.now)) result }
 {
     parser(alloc)?.try_get_matches_from(arguments)
@@ -64,7 +70,8 @@ fn subcommand_of<'a>(
     alloc: Global,
     matches: &ArgMatches<'a>,
 ) -> Result<Subcommand<'a>, ArgumentsFault>
-    ensures ok { IfOk result (λ subcommand. (name : List ℕ) (rows : List Row) (names : List (List ℕ))
+    ensures ok { IfOk result
+        (λ subcommand. (name : List ℕ) (rows : List Row) (names : List (List ℕ))
         → subcommand_rows_of matches.now ≡ Some (name, rows) → HasFiles name names rows
         → request subcommand ≡ (name, names)) }
     ensures err { IfErr result (λ fault. (fault ≡ ArgumentsFault.OutOfMemory)

@@ -1,2 +1,3 @@
 pub mod values
 pub mod machine
+pub mod history

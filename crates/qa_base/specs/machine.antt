@@ -9,13 +9,13 @@ pub mod Loss
 pub mod Reno
 pub mod Window
 pub mod Timer
-pub mod Leave
+pub mod Permission
 pub mod Numbers
 pub mod State
 pub mod Metrics
 pub mod Breaches
 pub mod Rules
-pub mod Departures
+pub mod Violations
 pub mod FirstVersion
 pub mod Slack
 pub mod Order

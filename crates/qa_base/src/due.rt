@@ -15,8 +15,8 @@ pub struct Due {
     pub kind: TimerKind,
     /// The packet number space that it is for.
     pub space: Space,
-    /// When, in the unit of times. It can lie beyond every time of a trace: a probe timeout's duration
-    /// is doubled for each before it.
+    /// When, in the unit of times. It can lie beyond every time of a trace: a probe timeout's
+    /// duration is doubled for each before it.
     pub time: u128,
 }
 
@@ -34,8 +34,8 @@ impl Due {
     /// A probe timeout of the space: so long after a time, and doubled for each probe
     /// timeout before it (RFC 9002, section 6.2.1).
     ///
-    /// Asks for a timeout of at most six times the greatest time. More than 40 doublings count as 40;
-    /// no run has more.
+    /// Asks for a timeout of at most six times the greatest time. More than 40 doublings count as
+    /// 40; no run has more.
     pub fn probe_timeout(space: Space, since: Ticks, timeout: u64, pto_count: u64) -> Due
         requires timeout { timeout ≤ 6 * max_time }
         ensures { result ≡ record {

@@ -10,7 +10,7 @@ ghost use Rattle.qa_base.specs.values.Kinds.{event_kind};
 use crate::limits::MAX_PACKET_SIZE;
 use crate::line_kind::LineKind;
 use crate::number::{PacketNumber, Spans, Ticks};
-use crate::space::{Leave, Space, TimerKind};
+use crate::space::{Permission, Space, TimerKind};
 use std::alloc::{AllocError, Global};
 
 /// What a sender reports of its own state, each value where it reports it.
@@ -38,10 +38,10 @@ pub enum Event {
         size: u64,
         eliciting: bool,
         in_flight: bool,
-        leave: Leave,
+        permission: Permission,
     },
-    /// An acknowledgment came (A.7). `delay` is in the unit of times, as the sender used it before it
-    /// limited it; `limited` says that the sender did not use the window it had (7.8).
+    /// An acknowledgment came (A.7). `delay` is in the unit of times, as the sender used it before
+    /// it limited it; `limited` says that the sender did not use the window it had (7.8).
     Ack {
         time: Ticks,
         space: Space,
@@ -113,8 +113,8 @@ impl Event {
         )
     }
 
-    /// Whether it is an acknowledgment that came while the sender did not use the window that it had
-    /// (RFC 9002, section 7.8).
+    /// Whether it is an acknowledgment that came while the sender did not use the window that it
+    /// had (RFC 9002, section 7.8).
     pub fn is_app_limited(&self) -> bool
         ensures { result ≡ is_app_limited self.now }
     {
@@ -175,7 +175,7 @@ impl Event {
                 size,
                 eliciting,
                 in_flight,
-                leave,
+                permission,
             } => Event::Sent {
                 time: *time,
                 space: *space,
@@ -183,7 +183,7 @@ impl Event {
                 size: *size,
                 eliciting: *eliciting,
                 in_flight: *in_flight,
-                leave: *leave,
+                permission: *permission,
             },
             Event::Ack {
                 time,

@@ -1,6 +1,7 @@
 //! The header of a trace.
 ghost use Rattle.std.specs.Prelude.{◌≡◌, ◌≤◌};
-ghost use Rattle.qa_base.specs.values.Limits.{max_packet_size, max_max_ack_delay_ns, max_initial_rtt_ns};
+ghost use Rattle.qa_base.specs.values.Limits.{max_packet_size, max_max_ack_delay_ns};
+ghost use Rattle.qa_base.specs.values.Limits.{max_initial_rtt_ns};
 ghost use Rattle.qa_base.specs.values.Settings.{default_window as default_window_of};
 
 use crate::constants::{
@@ -66,9 +67,10 @@ impl Version {
     }
 }
 
-/// What a header asks of the sender and of its reports, beyond what version 1 does. The default asks
-/// no more: no limit, no refresh and no slack, and a sender as RFC 9002 has it. Version 2 says the
-/// first four, version 3 all. What is counted in microseconds is so whatever the unit of the trace.
+/// What a header asks of the sender and of its reports, beyond what version 1 does. The default
+/// asks no more: no limit, no refresh and no slack, and a sender as RFC 9002 has it. Version 2 says
+/// the first four, version 3 all. What is counted in microseconds is so whatever the unit of the
+/// trace.
 #[derive(Clone, Copy, PartialEq, Eq)]
 pub struct Options {
     /// By how many microseconds the timer may be late, 0 to 10^15; None: by any number.
@@ -77,7 +79,8 @@ pub struct Options {
     pub refresh_min_rtt: bool,
     /// By how many microseconds a reported time may differ, 0 to 1000000000.
     pub report_slack_us: u64,
-    /// By how many bytes a reported window, `ssthresh` or bytes in flight may differ, 0 to 4294967295.
+    /// By how many bytes a reported window, `ssthresh` or bytes in flight may differ, 0 to
+    /// 4294967295.
     pub report_slack_bytes: u64,
     /// By whose congestion window packets are judged.
     pub controller: Controller,
@@ -143,9 +146,9 @@ impl Options {
 /// What holds of a whole trace: the sender's role, the parameters of its connection, and what is
 /// asked of it.
 ///
-/// Each value is in its range, as `Header::in_unit` and `Header::with` test it. A header of version 1
-/// has the default options, one of version 2 those that it can say, and times in nanoseconds are of
-/// version 3 alone.
+/// Each value is in its range, as `Header::in_unit` and `Header::with` test it. A header of version
+/// 1 has the default options, one of version 2 those that it can say, and times in nanoseconds are
+/// of version 3 alone.
 #[derive(Clone, Copy, PartialEq, Eq)]
 pub struct Header {
     role: Role,
@@ -209,7 +212,10 @@ fn default_window(max_datagram_size: u64) -> u64
 impl Header {
     ghost use Rattle.std.specs.Prelude.{◌≢◌};
     ghost use Rattle.qa_base.specs.declared.header.Version.TheVariants.{One, Three};
-    ghost use Rattle.qa_base.specs.values.Settings.{AreInRange, IsSaidIn, early, granularity as granularity_of, in_version, settings_in, settings_of, with_options, choosing_options};
+    ghost use Rattle.qa_base.specs.values.Settings.{AreInRange, IsSaidIn, early};
+    ghost use Rattle.qa_base.specs.values.Settings.{granularity as granularity_of, in_version};
+    ghost use Rattle.qa_base.specs.values.Settings.{settings_in, settings_of, with_options};
+    ghost use Rattle.qa_base.specs.values.Settings.{choosing_options};
 
     /// The header of these values in version 1; a value of None is the default.
     ///
@@ -228,7 +234,8 @@ impl Header {
         initial_rtt: Option<u64>,
         initial_window: Option<u64>,
     ) -> Result<Header, RangeFault>
-        ensures { result ≡ settings_of role max_datagram_size max_ack_delay initial_rtt initial_window }
+        ensures { result ≡ settings_of role max_datagram_size max_ack_delay initial_rtt
+            initial_window }
     {
         Header::in_unit(
             TimeUnit::Microseconds,
@@ -250,7 +257,8 @@ impl Header {
         initial_rtt: Option<u64>,
         initial_window: Option<u64>,
     ) -> Result<Header, RangeFault>
-        ensures { result ≡ settings_in unit role max_datagram_size max_ack_delay initial_rtt initial_window }
+        ensures { result ≡ settings_in unit role max_datagram_size max_ack_delay initial_rtt
+            initial_window }
     {
         let scale = unit.per_microsecond();
         if max_datagram_size < MIN_DATAGRAM_SIZE || MAX_PACKET_SIZE < max_datagram_size {
@@ -282,8 +290,8 @@ impl Header {
         })
     }
 
-    /// This header with these options in place of its own: in version 2, or in version 3 where it is
-    /// of it already or version 2 cannot say them.
+    /// This header with these options in place of its own: in version 2, or in version 3 where it
+    /// is of it already or version 2 cannot say them.
     ///
     /// Where an option is outside its range the fault names the first such, in the order of
     /// `timer_late`, `report_slack_us`, `report_slack_bytes`, `packet_threshold`, `timer_early_us`
@@ -371,8 +379,8 @@ impl Header {
         self.max_datagram_size
     }
 
-    /// The peer's `max_ack_delay`, at most 16383000 microseconds (RFC 9002, section 5.3), in the unit
-    /// of the trace.
+    /// The peer's `max_ack_delay`, at most 16383000 microseconds (RFC 9002, section 5.3), in the
+    /// unit of the trace.
     pub fn max_ack_delay(&self) -> u64
         ensures value { result ≡ self.now.max_ack_delay }
         ensures range { AreInRange self.now }

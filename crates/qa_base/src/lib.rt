@@ -1,7 +1,8 @@
 //! What a trace of a QUIC sender is made of: values in their ranges, headers, events and rules.
 //!
 //! The definitions of these and of the machine stand in `specs/`, one subject a file. The other
-//! crates are proved against them.
+//! crates are proved against them. `history` in `specs/` and `proofs/` says what one more event
+//! makes of a history: words and lemmas for the sender, the reference and the laws.
 #![tactic(auto)]
 
 pub mod constants;
@@ -25,5 +26,5 @@ pub use line_kind::LineKind;
 pub use number::{PacketNumber, Span, Spans, Ticks};
 pub use per_space::PerSpace;
 pub use rule::{Field, Rule};
-pub use space::{Controller, Leave, LossByNumber, Role, Space, TimeUnit, TimerKind};
+pub use space::{Controller, LossByNumber, Permission, Role, Space, TimeUnit, TimerKind};
 pub use totals::Totals;

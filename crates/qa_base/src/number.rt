@@ -1,5 +1,6 @@
 //! Numbers in their ranges, and ranges of packet numbers.
-ghost use Rattle.std.specs.Prelude.{◌≡◌, ◌≤◌, [], ◌∷◌, ◌++◌, IfOk, OnOk, OnErr, nat_le, Some, None, if◌then◌else◌};
+ghost use Rattle.std.specs.Prelude.{◌≡◌, ◌≤◌, [], ◌∷◌, ◌++◌, IfOk, OnOk, OnErr, nat_le, Some, None};
+ghost use Rattle.std.specs.Prelude.{if◌then◌else◌};
 ghost use Rattle.qa_base.specs.machine.Packets as packets;
 ghost use Rattle.qa_base.specs.values.Limits.{max_time, max_packet_number, in_range};
 
@@ -58,7 +59,8 @@ impl Ticks {
     }
 }
 
-/// The number of a packet within its packet number space, from 0 to 2^62 - 1 (RFC 9000, section 12.3).
+/// The number of a packet within its packet number space, from 0 to 2^62 - 1 (RFC 9000, section
+/// 12.3).
 #[derive(Clone, Copy, PartialEq, Eq, PartialOrd, Ord)]
 pub struct PacketNumber {
     value: u64,
@@ -152,7 +154,8 @@ impl Span {
 /// For how many spans an emptied list has memory at most.
 const KEPT_SPANS: usize = 1_024;
 
-/// A list of spans in the order in which they stand on a line; they may overlap and stand in any order.
+/// A list of spans in the order in which they stand on a line; they may overlap and stand in any
+/// order.
 ///
 /// It stands for a `Vec<Span>` in an event: contracts see it as the list of its pairs, so that an
 /// equal list of spans is an equal value.
@@ -202,14 +205,16 @@ impl Spans {
         }
     }
 
-    /// Makes room for so many spans more. `AllocError` comes where it is out of memory. The list stays as it is.
+    /// Makes room for so many spans more. `AllocError` comes where it is out of memory. The list
+    /// stays as it is.
     pub fn reserve(&mut self, additional: usize) -> Result<(), AllocError>
         ensures { self.new ≡ self.old }
     {
         self.items.reserve(additional)
     }
 
-    /// Puts a span at the end. `AllocError` comes where it is out of memory, and leaves the list as it was.
+    /// Puts a span at the end. `AllocError` comes where it is out of memory, and leaves the list as
+    /// it was.
     #[inline(always)]
     pub fn push(&mut self, span: Span) -> Result<(), AllocError>
         ensures ok { OnOk result (self.new ≡ self.old ++ span ∷ []) }
@@ -219,8 +224,8 @@ impl Spans {
         Ok(())
     }
 
-    /// An empty list in the memory of this one, so that the next list need not ask for any. Memory for more
-    /// than 1,024 spans, which is 16 KiB, is given back.
+    /// An empty list in the memory of this one, so that the next list need not ask for any. Memory
+    /// for more than 1,024 spans, which is 16 KiB, is given back.
     #[inline(always)]
     pub fn emptied(self, alloc: Global) -> Spans
         ensures { result ≡ [] }

@@ -31,7 +31,8 @@ impl<T> PerSpace<T> {
 
     /// That of a space, to be changed.
     pub fn of_mut(&mut self, space: Space) -> &mut T
-        ensures* writes_back { sem 𝓛 (Lends (the_row T.row) T.row self.entry result (with_space space self.old)) }
+        ensures* writes_back { sem 𝓛
+            (Lends (the_row T.row) T.row self.entry result (with_space space self.old)) }
         ensures value { result.now ≡ of_space space self.old }
     {
         match space {

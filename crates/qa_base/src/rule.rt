@@ -33,7 +33,8 @@ impl Field {
     }
 }
 
-/// A rule that an event or the end of a trace breaks, V1 to V19. An event is judged by them in this order.
+/// A rule that an event or the end of a trace breaks, V1 to V19. An event is judged by them in this
+/// order.
 #[derive(Clone, Copy, Debug, PartialEq, Eq)]
 pub enum Rule {
     /// V1: the event's time is below that of the event before.

@@ -1,6 +1,10 @@
 //! The small choices that a line of a trace names by a string.
 ghost use Rattle.std.specs.Prelude.{◌≡◌};
-ghost use Rattle.qa_base.specs.values.Names.{role_name, role_named, unit_name, unit_named, controller_name, controller_named, loss_by_number_name, loss_by_number_named, space_name, space_named, leave_name, leave_named, kind_name, kind_named};
+ghost use Rattle.qa_base.specs.values.Names.{role_name, role_named, unit_name, unit_named};
+ghost use Rattle.qa_base.specs.values.Names.{controller_name, controller_named};
+ghost use Rattle.qa_base.specs.values.Names.{loss_by_number_name, loss_by_number_named, space_name};
+ghost use Rattle.qa_base.specs.values.Names.{space_named, permission_name, permission_named};
+ghost use Rattle.qa_base.specs.values.Names.{kind_name, kind_named};
 
 /// Which end of the connection the audited sender is.
 #[derive(Clone, Copy, PartialEq, Eq)]
@@ -203,33 +207,33 @@ impl Space {
 /// By whose leave an in-flight packet goes out: the congestion window's (RFC 9002, section 7), a
 /// probe timeout's (6.2.4), or that of the one packet on entering recovery (7.3.2).
 #[derive(Clone, Copy, PartialEq, Eq)]
-pub enum Leave {
+pub enum Permission {
     Window,
     Probe,
     Recovery,
 }
 
-impl Leave {
+impl Permission {
     /// The mark of this name: `window`, `probe` or `recovery`; None for any other string.
-    pub fn named(text: &str) -> Option<Leave>
-        ensures { result ≡ leave_named text.now }
+    pub fn named(text: &str) -> Option<Permission>
+        ensures { result ≡ permission_named text.now }
     {
         match text {
-            "window" => Some(Leave::Window),
-            "probe" => Some(Leave::Probe),
-            "recovery" => Some(Leave::Recovery),
+            "window" => Some(Permission::Window),
+            "probe" => Some(Permission::Probe),
+            "recovery" => Some(Permission::Recovery),
             _ => None,
         }
     }
 
     /// The mark's name, which `named` reads.
     pub fn name(self) -> &'static str
-        ensures { result.now ≡ leave_name self }
+        ensures { result.now ≡ permission_name self }
     {
         match self {
-            Leave::Window => "window",
-            Leave::Probe => "probe",
-            Leave::Recovery => "recovery",
+            Permission::Window => "window",
+            Permission::Probe => "probe",
+            Permission::Recovery => "recovery",
         }
     }
 }

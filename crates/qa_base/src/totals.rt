@@ -2,8 +2,8 @@
 
 /// The state of the machine after the events that were admitted.
 ///
-/// `window`, `ssthresh` and `bytes_in_flight` are in bytes, the four values of the RTT in the unit of
-/// times.
+/// `window`, `ssthresh` and `bytes_in_flight` are in bytes, the four values of the RTT in the unit
+/// of times.
 #[derive(Clone, Copy, Debug, PartialEq, Eq)]
 pub struct Totals {
     /// How many events were admitted.

@@ -10,7 +10,7 @@ use Rattle.qa_format.proofs.verdicts.Fixed.{fixed_by_line, fixed_by_length}
 use Rattle.qa_format.proofs.verdicts.Rows.{told_by}
 use Rattle.qa_format.proofs.verdicts.Stops.{good_are_few}
 use Rattle.qa_format.specs.verdicts.Explain.{told_of}
-use Rattle.qa_split.specs.Stream.{Stream, IsFirstLine, IsLastLine, BeginsTooLong}
+use Rattle.qa_read.specs.Stream.{Stream, IsFirstLine, IsLastLine, BeginsTooLong}
 use Rattle.qa_check.specs.Following.{FollowsBy, AnswersBy}
 
 -- how a splitter took a line off its bytes

@@ -7,3 +7,4 @@ pub mod Writing
 pub mod LinesTaken
 pub mod Fed
 pub mod Pushed
+pub mod names_lemmas

@@ -1,5 +1,6 @@
 -- What an audit reads, writes and tells.
-use Rattle.std.specs.Prelude.{◌≡◌, ◌⊎◌, ◌≤◌, ◌++◌, ℕ, Bool, true, false, List, length, take, Option, Result, Err}
+use Rattle.std.specs.Prelude.{◌≡◌, ◌⊎◌, ◌≤◌, ◌++◌, ℕ, Bool, true, false, List, length, take, Option}
+use Rattle.std.specs.Prelude.{Result, Err}
 use Rattle.std.specs.Io.KnownBytes.{Appends, Consumes, IsAtEnd}
 use Rattle.qa_format.specs.declared.verdict.Verdict.{Verdict}
 use Rattle.qa_format.specs.declared.verdict.Verdict.TheVariants as verdicts
@@ -20,18 +21,24 @@ outcome_of (verdicts.Unreadable n f t) = Unreadable
 
 -- ---- reading
 
--- the verdict was not fixed by the bytes without those of the last read, 4,096 at most: no read was made that did not count
+-- the verdict was not fixed by the bytes without those of the last read, 4,096 at most: no read was
+-- made that did not count
 abbrev pub IsReadNoFurtherBy : Judging → ℕ → List ℕ → Type 0
 IsReadNoFurtherBy judging last bytes =
-    (front : List ℕ) × (piece : List ℕ) × (bytes ≡ front ++ piece) × (length piece ≡ last) × (last ≤ 4096) × (IsFixed judging front → ⊥)
+    (front : List ℕ) × (piece : List ℕ) × (bytes ≡ front ++ piece) × (length piece ≡ last)
+    × (last ≤ 4096) × (IsFixed judging front → ⊥)
 
--- from a reader that had old left and has new left, some bytes were read, so many of them by the last read, and none that did not count
+-- from a reader that had old left and has new left, some bytes were read, so many of them by the
+-- last read, and none that did not count
 abbrev pub ReadsBy : Judging → Option (List ℕ) → Option (List ℕ) → ℕ → Type 0
-ReadsBy judging old new last = (bytes : List ℕ) × Consumes old new bytes × IsReadNoFurtherBy judging last bytes
+ReadsBy judging old new last =
+    (bytes : List ℕ) × Consumes old new bytes × IsReadNoFurtherBy judging last bytes
 
 -- these bytes were read, which are all that counts
 abbrev pub ReadsEnoughBy : Judging → Option (List ℕ) → Option (List ℕ) → ℕ → List ℕ → Type 0
-ReadsEnoughBy judging old new last bytes = Consumes old new bytes × (IsAtEnd new ⊎ IsFixed judging bytes) × IsReadNoFurtherBy judging last bytes
+ReadsEnoughBy judging old new last bytes =
+    Consumes old new bytes × (IsAtEnd new ⊎ IsFixed judging bytes)
+    × IsReadNoFurtherBy judging last bytes
 
 -- the same where a trace ends at an event that breaks a rule
 abbrev pub Reads : Option (List ℕ) → Option (List ℕ) → ℕ → Type 0
@@ -44,11 +51,14 @@ ReadsEnough old new last bytes = ReadsEnoughBy (strict reading) old new last byt
 
 -- the report of the bytes was written, and the kind of their verdict is returned
 abbrev pub Reports : Option (List ℕ) → Option (List ℕ) → Outcome → List ℕ → Type 0
-Reports held held' outcome bytes = Appends held held' (report (verdict (strict reading) bytes)) × (outcome ≡ outcome_of (verdict (strict reading) bytes))
+Reports held held' outcome bytes =
+    Appends held held' (report (verdict (strict reading) bytes))
+    × (outcome ≡ outcome_of (verdict (strict reading) bytes))
 
 -- the beginning of the report of the bytes was written
 abbrev pub BeginsReport : Option (List ℕ) → Option (List ℕ) → List ℕ → Type 0
-BeginsReport held held' bytes = (n : ℕ) × Appends held held' (take n (report (verdict (strict reading) bytes)))
+BeginsReport held held' bytes =
+    (n : ℕ) × Appends held held' (take n (report (verdict (strict reading) bytes)))
 
 -- ---- faults
 
@@ -62,6 +72,8 @@ abbrev pub is_write_fault : {A : Type 0} → Result A AuditFault → Bool
 is_write_fault (Err faults.Write) = true
 is_write_fault _ = false
 
--- the count of failures of a writer is now that after a call with this result, in which no reader failed
+-- the count of failures of a writer is now that after a call with this result, in which no reader
+-- failed
 abbrev pub CountsFailure : {A : Type 0} → ℕ → ℕ → Result A AuditFault → Type 0
-CountsFailure old new result = (is_read_fault result ≡ false) × (new ≡ failures_after (is_write_fault result) old)
+CountsFailure old new result =
+    (is_read_fault result ≡ false) × (new ≡ failures_after (is_write_fault result) old)

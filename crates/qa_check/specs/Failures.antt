@@ -1,5 +1,6 @@
 -- What one call does to what is counted of a reader or a writer.
-use Rattle.std.specs.Prelude.{ℕ, ◌+◌, ◌%◌, ◌^◌, ◌&&◌, ◌==◌, nat_lt, Bool, true, false, List, length, Result, Ok, Err}
+use Rattle.std.specs.Prelude.{ℕ, ◌+◌, ◌%◌, ◌^◌, ◌&&◌, ◌==◌, nat_lt, Bool, true, false, List, length}
+use Rattle.std.specs.Prelude.{Result, Ok, Err}
 
 -- the count after a call, which failed or not; it wraps at 2^64
 abbrev pub failures_after : Bool → ℕ → ℕ

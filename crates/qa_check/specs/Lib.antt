@@ -4,3 +4,4 @@ pub mod Following
 pub mod Audit
 pub mod Writing
 pub mod Auditor
+pub mod names

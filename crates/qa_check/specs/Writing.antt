@@ -15,11 +15,14 @@ use Rattle.qa_check.specs.Standing.{Held, Judges, by, StandsFor}
 
 -- a beginning of the text was written
 abbrev pub Begins : Option (List ℕ) → Option (List ℕ) → List ℕ → Type 0
-Begins held held' text = (front : List ℕ) × (rest : List ℕ) × (text ≡ front ++ rest) × Appends held held' front
+Begins held held' text =
+    (front : List ℕ) × (rest : List ℕ) × (text ≡ front ++ rest) × Appends held held' front
 
 -- what explains the bytes was written, and the kind of their verdict is returned
 abbrev pub Explains : Option (List ℕ) → Option (List ℕ) → Outcome → List ℕ → Type 0
-Explains held held' outcome bytes = Appends held held' (explain (strict reading) bytes) × (outcome ≡ outcome_of (verdict (strict reading) bytes))
+Explains held held' outcome bytes =
+    Appends held held' (explain (strict reading) bytes)
+    × (outcome ≡ outcome_of (verdict (strict reading) bytes))
 
 -- what is told of the lines that an LF ends in the bytes
 abbrev pub told_ended : Judging → Telling → List ℕ → List ℕ
@@ -27,36 +30,52 @@ told_ended judging tell bytes = told_of tell judging (ended_lines bytes)
 
 -- ---- what was read, and written of it
 
--- these bytes were read, which do not fix the verdict, and all was written that is told of the lines that an LF ends in them
-abbrev pub ShowsToldRead : Judging → Telling → Option (List ℕ) → Option (List ℕ) → Option (List ℕ) → Option (List ℕ) → Type 0
+-- these bytes were read, which do not fix the verdict, and all was written that is told of the
+-- lines that an LF ends in them
+abbrev pub ShowsToldRead : Judging → Telling → Option (List ℕ) → Option (List ℕ) → Option (List ℕ)
+    → Option (List ℕ) → Type 0
 ShowsToldRead judging tell old new held held' =
-    (bytes : List ℕ) × Consumes old new bytes × (IsFixed judging bytes → ⊥) × Appends held held' (told_ended judging tell bytes)
+    (bytes : List ℕ) × Consumes old new bytes × (IsFixed judging bytes → ⊥)
+    × Appends held held' (told_ended judging tell bytes)
 
 -- the same of their rows
-abbrev pub ShowsRead : Option (List ℕ) → Option (List ℕ) → Option (List ℕ) → Option (List ℕ) → Type 0
+abbrev pub ShowsRead : Option (List ℕ) → Option (List ℕ) → Option (List ℕ) → Option (List ℕ)
+    → Type 0
 ShowsRead old new held held' = ShowsToldRead (strict reading) row_said old new held held'
 
--- of the bytes that were read what is told of the lines that an LF ends was begun; or this text, where those bytes are all that counts
-abbrev pub BeginsToldRead : Judging → Telling → Option (List ℕ) → Option (List ℕ) → ℕ → Option (List ℕ) → Option (List ℕ) → (List ℕ → List ℕ) → Type 0
+-- of the bytes that were read what is told of the lines that an LF ends was begun; or this text,
+-- where those bytes are all that counts
+abbrev pub BeginsToldRead : Judging → Telling → Option (List ℕ) → Option (List ℕ) → ℕ
+    → Option (List ℕ) → Option (List ℕ) → (List ℕ → List ℕ) → Type 0
 BeginsToldRead judging tell old new last held held' text =
     (bytes : List ℕ) × Consumes old new bytes × IsReadNoFurtherBy judging last bytes
-    × (Begins held held' (told_ended judging tell bytes) ⊎ ((IsAtEnd new ⊎ IsFixed judging bytes) × Begins held held' (text bytes)))
+    × (Begins held held' (told_ended judging tell bytes)
+    ⊎ ((IsAtEnd new ⊎ IsFixed judging bytes) × Begins held held' (text bytes)))
 
 -- the same of their rows
-abbrev pub BeginsRead : Option (List ℕ) → Option (List ℕ) → ℕ → Option (List ℕ) → Option (List ℕ) → (List ℕ → List ℕ) → Type 0
-BeginsRead old new last held held' text = BeginsToldRead (strict reading) row_said old new last held held' text
+abbrev pub BeginsRead : Option (List ℕ) → Option (List ℕ) → ℕ → Option (List ℕ) → Option (List ℕ)
+    → (List ℕ → List ℕ) → Type 0
+BeginsRead old new last held held' text =
+    BeginsToldRead (strict reading) row_said old new last held held' text
 
--- these bytes were read, which are all that counts, this is their verdict, and all was written that is told of them
-abbrev pub JudgesShown : Judging → Telling → Option (List ℕ) → Option (List ℕ) → ℕ → Option (List ℕ) → Option (List ℕ) → Verdict → Type 0
+-- these bytes were read, which are all that counts, this is their verdict, and all was written that
+-- is told of them
+abbrev pub JudgesShown : Judging → Telling → Option (List ℕ) → Option (List ℕ) → ℕ → Option (List ℕ)
+    → Option (List ℕ) → Verdict → Type 0
 JudgesShown judging tell old new last held held' v =
-    (bytes : List ℕ) × ReadsEnoughBy judging old new last bytes × (v ≡ verdict judging bytes) × Appends held held' (told tell judging bytes)
+    (bytes : List ℕ) × ReadsEnoughBy judging old new last bytes × (v ≡ verdict judging bytes)
+    × Appends held held' (told tell judging bytes)
 
 -- ---- what a checker stands for of which all was written that is told
 
 -- the checker stands for the lines, and since the start all was written that is told of them
-abbrev pub Shows : {L : Type 0} → Judges L → Telling → Held L → Option (List ℕ) → Option (List ℕ) → List (List ℕ) → Type 0
-Shows judges tell held start now ls = StandsFor judges held ls × Appends start now (told_of tell (by judges) ls)
+abbrev pub Shows : {L : Type 0} → Judges L → Telling → Held L → Option (List ℕ) → Option (List ℕ)
+    → List (List ℕ) → Type 0
+Shows judges tell held start now ls =
+    StandsFor judges held ls × Appends start now (told_of tell (by judges) ls)
 
 -- the lines are those that an LF ends in the bytes, all good, and this rest is behind them
-abbrev pub Shown : {L : Type 0} → Judges L → Telling → List ℕ → Held L → Option (List ℕ) → Option (List ℕ) → List ℕ → Type 0
-Shown judges tell rest held start now bytes = FollowsBy (by judges) (Shows judges tell held start now) rest bytes
+abbrev pub Shown : {L : Type 0} → Judges L → Telling → List ℕ → Held L → Option (List ℕ)
+    → Option (List ℕ) → List ℕ → Type 0
+Shown judges tell rest held start now bytes =
+    FollowsBy (by judges) (Shows judges tell held start now) rest bytes

@@ -1,11 +1,13 @@
 //! The audit: from a reader of bytes to a report on a writer.
-ghost use Rattle.std.specs.Prelude.{◌≡◌, ◌≢◌, ℕ, List, false, Some, Err, OnOk, OnErr, IfOk, IfErr, take};
+ghost use Rattle.std.specs.Prelude.{◌≡◌, ◌≢◌, ℕ, List, false, Some, Err, OnOk, OnErr, IfOk, IfErr};
+ghost use Rattle.std.specs.Prelude.{take};
 ghost use Rattle.std.specs.Io.KnownBytes.{Appends};
 ghost use Rattle.qa_format.specs.format.Reading.{reading};
 ghost use Rattle.qa_format.specs.verdicts.Report as text;
 ghost use Rattle.qa_format.specs.verdicts.Explain as explanation;
 ghost use Rattle.qa_format.specs.verdicts.Verdict.{verdict};
-ghost use Rattle.qa_check.specs.Audit.{outcome_of, Reads, ReadsBy, ReadsEnough, Reports, BeginsReport, is_read_fault, is_write_fault};
+ghost use Rattle.qa_check.specs.Audit.{outcome_of, Reads, ReadsBy, ReadsEnough, Reports};
+ghost use Rattle.qa_check.specs.Audit.{BeginsReport, is_read_fault, is_write_fault};
 ghost use Rattle.qa_check.specs.Standing.{by};
 ghost use Rattle.qa_check.specs.Failures.{failures_after};
 ghost use Rattle.qa_check.specs.Writing.{BeginsToldRead, JudgesShown, ShowsToldRead};
@@ -73,11 +75,13 @@ pub fn audit<L: Ledger + Drop, R: Source, W: Sink>(
     reader: &mut R,
     writer: &mut W,
 ) -> Result<Outcome, AuditFault>
-    // For a reader that tells its bytes: their report was written, and the kind of their verdict is returned.
+    // For a reader that tells its bytes: their report was written, and the kind of their verdict is
+    // returned.
     ensures told { (bytes : List ℕ) → R.left reader.old ≡ Some bytes
         → IfOk result (λ outcome. Reports (W.held writer.old) (W.held writer.new) outcome bytes) }
 
-    // For every reader: what was read decides, since it is all there is, or nothing behind it counts.
+    // For every reader: what was read decides, since it is all there is, or nothing behind it
+    // counts.
     ensures ok { IfOk result (λ outcome. (bytes : List ℕ)
         × ReadsEnough (R.left reader.old) (R.left reader.new) (R.last_read reader.new) bytes
         × Reports (W.held writer.old) (W.held writer.new) outcome bytes) }
@@ -105,19 +109,25 @@ pub fn audit<L: Ledger + Drop, R: Source, W: Sink>(
     write_report(alloc, writer, &verdict)
 }
 
-/// The verdict of what is read, once the observer was shown its lines: those of each piece before the
-/// next is asked for.
+/// The verdict of what is read, once the observer was shown its lines: those of each piece before
+/// the next is asked for.
 pub fn judge<L: Judge + Drop, T: LineText<L>, R: Source, O: Observer>(
     alloc: Global,
     reader: &mut R,
     observer: &mut O,
 ) -> Result<Verdict, AuditFault>
-    ensures verdict { IfOk result (JudgesShown (by L.judges) T.text (R.left reader.old) (R.left reader.new) (R.last_read reader.new) (O.shown observer.old) (O.shown observer.new)) }
-    ensures reads { ReadsBy (by L.judges) (R.left reader.old) (R.left reader.new) (R.last_read reader.new) }
+    ensures verdict { IfOk result
+        (JudgesShown (by L.judges) T.text (R.left reader.old) (R.left reader.new)
+        (R.last_read reader.new) (O.shown observer.old) (O.shown observer.new)) }
+    ensures reads { ReadsBy (by L.judges) (R.left reader.old) (R.left reader.new)
+        (R.last_read reader.new) }
     ensures rows { result ≡ Err AuditFault.Read
-        → ShowsToldRead (by L.judges) T.text (R.left reader.old) (R.left reader.new) (O.shown observer.old) (O.shown observer.new) }
+        → ShowsToldRead (by L.judges) T.text (R.left reader.old) (R.left reader.new)
+        (O.shown observer.old) (O.shown observer.new) }
     ensures begun { is_read_fault result ≡ false → OnErr result
-        (BeginsToldRead (by L.judges) T.text (R.left reader.old) (R.left reader.new) (R.last_read reader.new) (O.shown observer.old) (O.shown observer.new) (explanation.told T.text (by L.judges))) }
+        (BeginsToldRead (by L.judges) T.text (R.left reader.old) (R.left reader.new)
+        (R.last_read reader.new) (O.shown observer.old) (O.shown observer.new)
+        (explanation.told T.text (by L.judges))) }
     ensures read_failures { R.read_failures reader.new
         ≡ failures_after (is_read_fault result) (R.read_failures reader.old) }
     ensures failures { O.failures observer.new
@@ -138,7 +148,8 @@ pub fn judge<L: Judge + Drop, T: LineText<L>, R: Source, O: Observer>(
             Err(fault) => return Err(fault),
         }
     }
-    // A line more than a trace may have is not good, so that a reader without end is not read to here.
+    // A line more than a trace may have is not good, so that a reader without end is not read to
+    // here.
     unreachable!()
 }
 
@@ -148,7 +159,8 @@ pub fn write_report<W: Sink>(
     writer: &mut W,
     verdict: &Verdict,
 ) -> Result<Outcome, AuditFault>
-    ensures ok { IfOk result (λ outcome. Appends (W.held writer.old) (W.held writer.new) (text.report verdict.now)
+    ensures ok { IfOk result
+        (λ outcome. Appends (W.held writer.old) (W.held writer.new) (text.report verdict.now)
         × (outcome ≡ outcome_of verdict.now)) }
     ensures begun { result ≡ Err AuditFault.Write
         → (n : ℕ)
@@ -166,7 +178,8 @@ pub fn write_report<W: Sink>(
     Ok(Outcome::of(verdict))
 }
 
-/// Writes all of the bytes, in as many pieces as the writer takes. A failed write is not tried again.
+/// Writes all of the bytes, in as many pieces as the writer takes. A failed write is not tried
+/// again.
 pub fn write_whole<W: Sink>(writer: &mut W, bytes: &[u8]) -> Result<(), AuditFault>
     ensures ok { OnOk result (Appends (W.held writer.old) (W.held writer.new) bytes.now) }
     ensures err { OnErr result ((n : ℕ)

@@ -1,5 +1,6 @@
 //! An audit of bytes that are handed in, piece by piece.
-ghost use Rattle.std.specs.Prelude.{◌≡◌, ◌≢◌, ◌++◌, [], ℕ, List, Option, None, true, false, Ok, OnErr, IfOk, IfErr};
+ghost use Rattle.std.specs.Prelude.{◌≡◌, ◌≢◌, ◌++◌, [], ℕ, List, Option, None, true, false, Ok};
+ghost use Rattle.std.specs.Prelude.{OnErr, IfOk, IfErr};
 ghost use Rattle.std.specs.Io.KnownBytes.{Appends};
 ghost use Rattle.qa_format.specs.format.Lines.{with_lf};
 ghost use Rattle.qa_format.specs.format.Reading.{reading};
@@ -7,7 +8,7 @@ ghost use Rattle.qa_format.specs.format.Written.{line_fits};
 ghost use Rattle.qa_format.specs.verdicts.Explain as explanation;
 ghost use Rattle.qa_format.specs.verdicts.Explain.{Telling, told_nothing};
 ghost use Rattle.qa_format.specs.verdicts.Verdict.{verdict};
-ghost use Rattle.qa_split.specs.Stream.{Stream, HasNoLine};
+ghost use Rattle.qa_read.specs.Stream.{Stream, HasNoLine};
 ghost use Rattle.qa_check.specs.Audit.{CountsFailure};
 ghost use Rattle.qa_check.specs.Auditor.{BringsTo, Settles, TakesMore};
 ghost use Rattle.qa_check.specs.Following.{Answers, IsReady};
@@ -20,7 +21,7 @@ use crate::judges::Judge;
 use crate::observer::{LineText, NoText, Observer, Unobserved};
 use crate::taking::{Lines, take_last, take_lines};
 use qa_format::{Line, Verdict};
-use qa_split::Splitter;
+use qa_read::Splitter;
 use std::alloc::Global;
 use std::marker::Model;
 
@@ -36,8 +37,8 @@ pub enum Progress {
 /// An audit of bytes that are handed in, piece by piece, over any ledger.
 ///
 /// It serves callers with a loop of their own, where `audit` and `explain` read from a `Source`.
-/// However the bytes are cut, the verdict is that of all of them. An observer may be shown the lines
-/// as they are taken: the same one at each call.
+/// However the bytes are cut, the verdict is that of all of them. An observer may be shown the
+/// lines as they are taken: the same one at each call.
 #[derive(Drop)]
 pub struct Auditor<L: Judge> {
     alloc: Global,
@@ -76,7 +77,8 @@ impl<L: Judge + Drop> Auditor<L> {
         }
     }
 
-    /// Takes the next bytes, which may be any part of a trace, and returns how far the audit is then.
+    /// Takes the next bytes, which may be any part of a trace, and returns how far the audit is
+    /// then.
     ///
     /// Once the verdict is fixed, and after `finish`, it changes nothing and returns the verdict.
     /// `AuditFault::OutOfMemory` comes where it is out of memory, and from then on.
@@ -141,13 +143,14 @@ impl<L: Judge + Drop> Auditor<L> {
         self.splitter.is_empty()
     }
 
-    /// Takes the next line by what it says, without its text, and returns how far the audit is then.
+    /// Takes the next line by what it says, without its text, and returns how far the audit is
+    /// then.
     ///
-    /// It is judged as each line that says this would be, with its LF. Asks for an auditor whose next
-    /// byte begins a line (`is_between_lines`), and for an event that fits (`Event::fits`). No observer
-    /// is shown the line. Once the verdict is fixed, and after `finish`, it changes nothing and returns
-    /// the verdict.
-    /// `AuditFault::OutOfMemory` comes where it is out of memory, and from then on.
+    /// It is judged as each line that says this would be, with its LF. Asks for an auditor whose
+    /// next byte begins a line (`is_between_lines`), and for an event that fits (`Event::fits`). No
+    /// observer is shown the line. Once the verdict is fixed, and after `finish`, it changes
+    /// nothing and returns the verdict. `AuditFault::OutOfMemory` comes where it is out of memory,
+    /// and from then on.
     pub fn push_said(&mut self, line: &Line) -> Result<Progress, AuditFault>
         requires fitting { line_fits line.now ≡ true }
         requires between { is_between self.old ≡ true }
@@ -165,7 +168,8 @@ impl<L: Judge + Drop> Auditor<L> {
 
     /// Takes the next line as `push_said` does, and returns whether the audit is open then.
     ///
-    /// It serves callers that hand in one event after another: behind a good line no verdict is moved.
+    /// It serves callers that hand in one event after another: behind a good line no verdict is
+    /// moved.
     #[inline(always)]
     pub fn take_said(&mut self, line: &Line) -> bool
         requires fitting { line_fits line.now ≡ true }
@@ -200,8 +204,8 @@ impl<L: Judge + Drop> Auditor<L> {
         self.finish_to::<NoText, Unobserved>(&mut Unobserved)
     }
 
-    /// The verdict of all bytes that were fed, as `finish` returns it, once the observer was shown the
-    /// line that no LF ends.
+    /// The verdict of all bytes that were fed, as `finish` returns it, once the observer was shown
+    /// the line that no LF ends.
     ///
     /// A fault of the observer comes where it failed, here or before.
     pub fn finish_to<T: LineText<L>, O: Observer>(
@@ -251,7 +255,8 @@ fn take_piece<L: Judge + Drop, T: LineText<L>, O: Observer>(
     ensures more { result ≡ Ok Progress.Open → TakesMore splitter.new checker.new }
     ensures fed { (start : Option (List ℕ)) (bytes : List ℕ)
         → Shown L.judges T.text splitter.old.bytes checker.old start (O.shown observer.old) bytes
-        → BringsTo L.judges T.text result splitter.new checker.new start (O.shown observer.new) (bytes
+        → BringsTo L.judges T.text result splitter.new checker.new start (O.shown observer.new)
+        (bytes
         ++ piece.now) }
     ensures failures { CountsFailure (O.failures observer.old) (O.failures observer.new) result }
 {
@@ -268,8 +273,8 @@ fn take_piece<L: Judge + Drop, T: LineText<L>, O: Observer>(
     }
 }
 
-/// Takes the line that says this, and returns whether the audit is open then, whose next byte begins a
-/// line.
+/// Takes the line that says this, and returns whether the audit is open then, whose next byte
+/// begins a line.
 #[inline(always)]
 fn take_said<L: Judge + Drop>(
     checker: &mut Checker<L>,
@@ -283,7 +288,8 @@ fn take_said<L: Judge + Drop>(
     ensures whole { progress.new ≡ Ok Progress.Open → checker.new.failed ≡ false }
     ensures fed { (stream : Stream) (bytes : List ℕ) (l : List ℕ) → stream.bytes ≡ []
         → IsLineOf line.now l → Shown L.judges told_nothing [] checker.old None None bytes
-        → BringsTo L.judges told_nothing progress.new stream checker.new None None (bytes ++ with_lf l) }
+        → BringsTo L.judges told_nothing progress.new stream checker.new None None
+        (bytes ++ with_lf l) }
     ensures memory { IfErr progress.new (λ fault. fault ≡ AuditFault.OutOfMemory) }
 {
     match checker.push_said(line) {
@@ -295,8 +301,8 @@ fn take_said<L: Judge + Drop>(
     }
 }
 
-/// Notes how far an audit is whose checker has stopped. It stands apart, so that a good line does not
-/// pay for the room of a verdict.
+/// Notes how far an audit is whose checker has stopped. It stands apart, so that a good line does
+/// not pay for the room of a verdict.
 #[cold]
 #[inline(never)]
 fn settle<L: Judge + Drop>(

@@ -1,5 +1,7 @@
 //! The verdict of lines that come one after another.
-ghost use Rattle.std.specs.Prelude.{◌≡◌, ◌≢◌, ◌≤◌, ◌<◌, ◌+◌, ◌++◌, [], ◌∷◌, length, List, ℕ, true, false, Some, None, Option, Ok, Err, OnOk, IfOk, IsOk, not, is_some, IsSome, option_map};
+ghost use Rattle.std.specs.Prelude.{◌≡◌, ◌≢◌, ◌≤◌, ◌<◌, ◌+◌, ◌++◌, [], ◌∷◌, length, List, ℕ, true};
+ghost use Rattle.std.specs.Prelude.{false, Some, None, Option, Ok, Err, OnOk, IfOk, IsOk, not};
+ghost use Rattle.std.specs.Prelude.{is_some, IsSome, option_map};
 ghost use Rattle.std.specs.Option.{ForSome, option_copied};
 ghost use Rattle.qa_base.specs.declared.event.Event.{Event as AnEvent};
 ghost use Rattle.qa_format.specs.format.Lines.{line_limit};
@@ -11,7 +13,8 @@ ghost use Rattle.qa_base.specs.values.Settings.{Settings};
 ghost use Rattle.qa_base.specs.machine.State as state;
 ghost use Rattle.qa_format.specs.verdicts.Verdict as verdicts;
 ghost use Rattle.qa_read.specs.Gives.{Gives};
-ghost use Rattle.qa_check.specs.Standing.{StandsFor, by, HoldsRun, AddsGood, AddsBad, IsLineOf, TakesIn, StopsAt};
+ghost use Rattle.qa_check.specs.Standing.{StandsFor, by, HoldsRun, AddsGood, AddsBad, IsLineOf};
+ghost use Rattle.qa_check.specs.Standing.{TakesIn, StopsAt};
 
 use crate::judges::Judge;
 use qa_base::limits::{MAX_LINE_LENGTH, MAX_LINES};
@@ -55,7 +58,13 @@ impl<L: Judge> Model for Checker<L> {
 
     ghost Value = { Held L };
 
-    ghost view = { λ c. record { ledger = c.ledger; lines = c.lines; last_event = c.last_event; verdict = c.verdict; failed = c.failed } };
+    ghost view = { λ c. record {
+      ledger = c.ledger;
+      lines = c.lines;
+      last_event = c.last_event;
+      verdict = c.verdict;
+      failed = c.failed;
+    } };
 
     ghost invariant = { λ c. (c.lines ≤ max_lines)
         × (c.verdict ≡ None → c.failed ≡ false → ForSome c.ledger (λ l. L.admitted l ≤ c.lines))
@@ -80,9 +89,9 @@ impl<L: Judge + Drop> Checker<L> {
 
     /// Takes the next line, its LF not among its bytes.
     ///
-    /// `Stop::Decided` comes where this line or an earlier one is not good: the verdict is fixed, and
-    /// the ledger stands for the good lines before.
-    /// `Stop::OutOfMemory` comes where it is out of memory, and from then on.
+    /// `Stop::Decided` comes where this line or an earlier one is not good: the verdict is fixed,
+    /// and the ledger stands for the good lines before. `Stop::OutOfMemory` comes where it is out
+    /// of memory, and from then on.
     pub fn push_line(&mut self, bytes: &[u8]) -> Result<(), Stop>
         ensures failed { self.old.failed ≡ true → result ≡ Err Stop.OutOfMemory }
         ensures fails { (result ≡ Err Stop.OutOfMemory) → self.new.failed ≡ true }
@@ -100,7 +109,8 @@ impl<L: Judge + Drop> Checker<L> {
 
     /// Takes the next line as `push_line` does, and returns what it says.
     pub fn push_line_said(&mut self, bytes: &[u8]) -> Result<Line, Stop>
-        ensures said { IfOk result (λ said. (reading bytes.now ≡ Ok said) × (line_fits said ≡ true)) }
+        ensures said { IfOk result
+            (λ said. (reading bytes.now ≡ Ok said) × (line_fits said ≡ true)) }
         ensures failed { self.old.failed ≡ true → result ≡ Err Stop.OutOfMemory }
         ensures fails { (result ≡ Err Stop.OutOfMemory) → self.new.failed ≡ true }
         ensures good { OnOk result (AddsGood L.judges self.old self.new bytes.now) }
@@ -206,8 +216,8 @@ impl<L: Judge + Drop> Checker<L> {
         self.ledger.as_ref()
     }
 
-    /// Stops where no line is taken, whatever it says: out of memory, after the verdict was fixed, and
-    /// behind as many lines as a trace may have.
+    /// Stops where no line is taken, whatever it says: out of memory, after the verdict was fixed,
+    /// and behind as many lines as a trace may have.
     #[inline(always)]
     fn expect_line(&mut self) -> Result<(), Stop>
         ensures failed { self.old.failed ≡ true → result ≡ Err Stop.OutOfMemory }
@@ -231,7 +241,8 @@ impl<L: Judge + Drop> Checker<L> {
         Ok(())
     }
 
-    /// Stops where no line is taken that has these bytes: as `expect_line`, and where they are too many.
+    /// Stops where no line is taken that has these bytes: as `expect_line`, and where they are too
+    /// many.
     #[inline(always)]
     fn expect_bytes(&mut self, bytes: &[u8]) -> Result<(), Stop>
         ensures failed { self.old.failed ≡ true → result ≡ Err Stop.OutOfMemory }

@@ -23,11 +23,13 @@ pub fn explain<L: Ledger + Drop, R: Source, W: Sink>(
     reader: &mut R,
     writer: &mut W,
 ) -> Result<Outcome, AuditFault>
-    // For a reader that tells its bytes: what explains them was written, and the kind of their verdict is returned.
+    // For a reader that tells its bytes: what explains them was written, and the kind of their
+    // verdict is returned.
     ensures told { (bytes : List ℕ) → R.left reader.old ≡ Some bytes
         → IfOk result (λ outcome. Explains (W.held writer.old) (W.held writer.new) outcome bytes) }
 
-    // For every reader: what was read decides, since it is all there is, or nothing behind it counts.
+    // For every reader: what was read decides, since it is all there is, or nothing behind it
+    // counts.
     ensures ok { IfOk result (λ outcome. (bytes : List ℕ)
         × ReadsEnough (R.left reader.old) (R.left reader.new) (R.last_read reader.new) bytes
         × Explains (W.held writer.old) (W.held writer.new) outcome bytes) }
@@ -37,18 +39,22 @@ pub fn explain<L: Ledger + Drop, R: Source, W: Sink>(
 
     // After a failed read all rows of the lines that an LF ended were written, and nothing else.
     ensures rows { result ≡ Err AuditFault.Read
-        → ShowsRead (R.left reader.old) (R.left reader.new) (W.held writer.old) (W.held writer.new) }
+        → ShowsRead (R.left reader.old) (R.left reader.new) (W.held writer.old)
+        (W.held writer.new) }
 
     // Out of memory, the beginning of the rows was written.
     ensures out_of_memory { result ≡ Err AuditFault.OutOfMemory
-        → BeginsRead (R.left reader.old) (R.left reader.new) (R.last_read reader.new) (W.held writer.old) (W.held writer.new) (explanation.rows (strict reading)) }
+        → BeginsRead (R.left reader.old) (R.left reader.new) (R.last_read reader.new)
+        (W.held writer.old) (W.held writer.new) (explanation.rows (strict reading)) }
 
     // After a failed write the beginning of the rows and the report was written.
     ensures told_beginning { (bytes : List ℕ) → R.left reader.old ≡ Some bytes
         → result ≡ Err AuditFault.Write
-        → Begins (W.held writer.old) (W.held writer.new) (explanation.explain (strict reading) bytes) }
+        → Begins (W.held writer.old) (W.held writer.new)
+        (explanation.explain (strict reading) bytes) }
     ensures beginning { result ≡ Err AuditFault.Write
-        → BeginsRead (R.left reader.old) (R.left reader.new) (R.last_read reader.new) (W.held writer.old) (W.held writer.new) (explanation.explain (strict reading)) }
+        → BeginsRead (R.left reader.old) (R.left reader.new) (R.last_read reader.new)
+        (W.held writer.old) (W.held writer.new) (explanation.explain (strict reading)) }
 
     // A fault of the reader or the writer is returned exactly where it failed, once.
     ensures read_failures { R.read_failures reader.new

@@ -1,4 +1,5 @@
-//! The audit of a trace, and its explanation: from a reader of bytes to a report on a writer.
+//! From a reader of bytes to a report on a writer: the audit of a trace, and its explanation, over
+//! any ledger.
 #![tactic(auto)]
 
 mod auditing;
@@ -6,6 +7,7 @@ mod auditor;
 mod checker;
 mod explaining;
 mod judges;
+mod names;
 mod observer;
 mod streams;
 mod taking;
@@ -16,6 +18,7 @@ pub use auditor::{Auditor, Progress};
 pub use checker::{Checker, Stop};
 pub use explaining::explain;
 pub use judges::Judge;
+pub use names::{escaped, is_hidden, shown_name};
 pub use observer::{LineText, NoText, Observer, Row, Unobserved};
 pub use qa_base::{LineKind, Totals};
 pub use qa_format::{Fault, Line, Verdict};

@@ -21,14 +21,16 @@ pub trait LineText<L: Judge> {
     // The text of a line: by its number, what it says, and the header and the history with it.
     ghost text: { ℕ → ALine → Settings → List AnEvent → List ℕ };
 
-    /// The text of the line of this number, counted from 1, that says this, with the ledger after it.
+    /// The text of the line of this number, counted from 1, that says this, with the ledger after
+    /// it.
     ///
-    /// Asks for an event that fits and a ledger that works, as those of a line that was admitted are.
-    /// `AllocError` comes where it is out of memory.
+    /// Asks for an event that fits and a ledger that works, as those of a line that was admitted
+    /// are. `AllocError` comes where it is out of memory.
     fn of_line(alloc: Global, line: u64, said: &Line, ledger: &L) -> Result<Vec<u8>, AllocError>
         requires fitting { line_fits said.now ≡ true }
         requires works { L.has_failed ledger.now ≡ false }
-        ensures { IfOk result (λ bytes. (c : Settings) (h : List AnEvent) → L.judges.stands ledger.now c h
+        ensures { IfOk result
+            (λ bytes. (c : Settings) (h : List AnEvent) → L.judges.stands ledger.now c h
             → bytes.items ≡ text line said.now c h) };
 }
 
@@ -69,10 +71,11 @@ impl<L: Judge> LineText<L> for Row {
 
 /// Who is shown each line of a header or an event that the machine admits.
 ///
-/// It makes a text of them, one behind another, and counts its failures. Each `Sink` is one: it takes
-/// the text. `Unobserved` is nobody.
+/// It makes a text of them, one behind another, and counts its failures. Each `Sink` is one: it
+/// takes the text. `Unobserved` is nobody.
 pub trait Observer {
-    // The bytes that were made of the lines so far, after all that stood there before, where it tells them.
+    // The bytes that were made of the lines so far, after all that stood there before, where it
+    // tells them.
     ghost shown: { Self → Option (List ℕ) };
 
     // The count of failures.
@@ -84,8 +87,8 @@ pub trait Observer {
 
     /// Is shown the line of this number, counted from 1, that says this, with the ledger after it.
     ///
-    /// Asks for what `LineText::of_line` asks for. `AuditFault::Write` is a failure, which is counted, after a part of the text.
-    /// `AuditFault::OutOfMemory` is none.
+    /// Asks for what `LineText::of_line` asks for. `AuditFault::Write` is a failure, which is
+    /// counted, after a part of the text. `AuditFault::OutOfMemory` is none.
     fn see<L: Judge, T: LineText<L>>(
         &mut self,
         alloc: Global,
@@ -97,7 +100,8 @@ pub trait Observer {
         requires works { L.has_failed ledger.now ≡ false }
         ensures ok { OnOk result ((c : Settings) (h : List AnEvent) → L.judges.stands ledger.now c h
             → Appends (shown self.old) (shown self.new) (T.text line said.now c h)) }
-        ensures begun { OnErr result ((c : Settings) (h : List AnEvent) → L.judges.stands ledger.now c h
+        ensures begun { OnErr result
+            ((c : Settings) (h : List AnEvent) → L.judges.stands ledger.now c h
             → Begins (shown self.old) (shown self.new) (T.text line said.now c h)) }
         ensures failures { CountsFailure (failures self.old) (failures self.new) result };
 }

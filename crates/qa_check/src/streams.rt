@@ -111,7 +111,8 @@ fn given_by(read: &io::Result<usize>) -> usize
     }
 }
 
-/// Whether a write of this piece failed: by an error, or since nothing was taken of what is not empty.
+/// Whether a write of this piece failed: by an error, or since nothing was taken of what is not
+/// empty.
 fn has_failed(written: &io::Result<usize>, piece: &[u8]) -> bool
     ensures { result ≡ write_failed written.now piece.now }
 {

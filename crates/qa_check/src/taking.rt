@@ -1,5 +1,6 @@
 //! How the lines of pieces are taken: each goes to the checker, and a good one to the observer.
-ghost use Rattle.std.specs.Prelude.{◌≡◌, ◌++◌, ℕ, List, [], ◌∷◌, Option, false, true, Ok, Err, OnOk, OnErr, IfErr, IsOk};
+ghost use Rattle.std.specs.Prelude.{◌≡◌, ◌++◌, ℕ, List, [], ◌∷◌, Option, false, true, Ok, Err};
+ghost use Rattle.std.specs.Prelude.{OnOk, OnErr, IfErr, IsOk};
 ghost use Rattle.std.specs.Io.KnownBytes.{Appends};
 ghost use Rattle.qa_base.specs.declared.event.Event.{Event as AnEvent};
 ghost use Rattle.qa_base.specs.values.Settings.{Settings};
@@ -7,7 +8,7 @@ ghost use Rattle.qa_format.specs.format.Reading.{reading};
 ghost use Rattle.qa_format.specs.format.Written.{line_fits};
 ghost use Rattle.qa_format.specs.verdicts.Explain as explanation;
 ghost use Rattle.qa_format.specs.verdicts.Verdict.{IsFixed, AreGood, AreDecided};
-ghost use Rattle.qa_split.specs.Stream.{HasNoLine};
+ghost use Rattle.qa_read.specs.Stream.{HasNoLine};
 ghost use Rattle.qa_check.specs.Audit.{CountsFailure};
 ghost use Rattle.qa_check.specs.Auditor.{TakesMore};
 ghost use Rattle.qa_check.specs.Following.{AnswersBy, IsReady};
@@ -19,7 +20,7 @@ use crate::checker::{Checker, Stop};
 use crate::judges::Judge;
 use crate::observer::{LineText, Observer};
 use qa_format::Line;
-use qa_split::{SplitFault, Splitter};
+use qa_read::{SplitFault, Splitter};
 use std::alloc::Global;
 
 /// What lines are that were taken.
@@ -48,7 +49,8 @@ pub fn take_lines<L: Judge + Drop, T: LineText<L>, O: Observer>(
         → (checker.new.failed ≡ false) × ((start : Option (List ℕ)) (bytes : List ℕ)
         → Shown L.judges T.text splitter.old.bytes checker.old start (O.shown observer.old) bytes
         → IsFixed (by L.judges) bytes
-        × AnswersBy (by L.judges) (Shows L.judges T.text checker.new start (O.shown observer.new)) bytes) }
+        × AnswersBy (by L.judges)
+        (Shows L.judges T.text checker.new start (O.shown observer.new)) bytes) }
     ensures begun { OnErr result ((start : Option (List ℕ)) (bytes : List ℕ)
         → Shown L.judges T.text splitter.old.bytes checker.old start (O.shown observer.old) bytes
         → Begins start (O.shown observer.new) (told_ended (by L.judges) T.text bytes)) }
@@ -81,7 +83,8 @@ pub fn take_last<L: Judge + Drop, T: LineText<L>, O: Observer>(
     ensures ok { OnOk result ((checker.new.failed ≡ false)
         × ((start : Option (List ℕ)) (bytes : List ℕ)
         → Shown L.judges T.text splitter.old.bytes checker.old start (O.shown observer.old) bytes
-        → AnswersBy (by L.judges) (Shows L.judges T.text checker.new start (O.shown observer.new)) bytes)) }
+        → AnswersBy (by L.judges)
+        (Shows L.judges T.text checker.new start (O.shown observer.new)) bytes)) }
     ensures begun { OnErr result ((start : Option (List ℕ)) (bytes : List ℕ)
         → Shown L.judges T.text splitter.old.bytes checker.old start (O.shown observer.old) bytes
         → Begins start (O.shown observer.new) (explanation.told T.text (by L.judges) bytes)) }
@@ -114,7 +117,8 @@ fn take_line<L: Judge + Drop, T: LineText<L>, O: Observer>(
         × AreDecided (by L.judges) (ls ++ line.now ∷ []) }
     ensures begun { OnErr result ((start : Option (List ℕ)) (ls : List (List ℕ))
         → Shows L.judges T.text checker.old start (O.shown observer.old) ls
-        → Begins start (O.shown observer.new) (explanation.told_of T.text (by L.judges) (ls ++ line.now ∷ []))) }
+        → Begins start (O.shown observer.new)
+        (explanation.told_of T.text (by L.judges) (ls ++ line.now ∷ []))) }
     ensures failures { CountsFailure (O.failures observer.old) (O.failures observer.new) result }
 {
     if !observer.looks() {
@@ -141,10 +145,12 @@ fn show_line<L: Judge + Drop, T: LineText<L>, O: Observer>(
     requires whole { checker.now.failed ≡ false }
     ensures ok { OnOk result ((header : Option Settings) (h : List AnEvent)
         → HoldsRun L.judges checker.now.ledger header h
-        → Appends (O.shown observer.old) (O.shown observer.new) (explanation.told_said T.text checker.now.lines (Ok said.now) header h)) }
+        → Appends (O.shown observer.old) (O.shown observer.new)
+        (explanation.told_said T.text checker.now.lines (Ok said.now) header h)) }
     ensures begun { OnErr result ((header : Option Settings) (h : List AnEvent)
         → HoldsRun L.judges checker.now.ledger header h
-        → Begins (O.shown observer.old) (O.shown observer.new) (explanation.told_said T.text checker.now.lines (Ok said.now) header h)) }
+        → Begins (O.shown observer.old) (O.shown observer.new)
+        (explanation.told_said T.text checker.now.lines (Ok said.now) header h)) }
     ensures failures { CountsFailure (O.failures observer.old) (O.failures observer.new) result }
 {
     if said.kind().is_none() {

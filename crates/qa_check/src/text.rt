@@ -20,7 +20,7 @@ fn push_number(out: &mut String, number: u64) -> Result<(), AllocError>
 /// The first line of the report of a verdict, which says it, with its LF.
 ///
 /// `AllocError` comes only where it is out of memory.
-#[tactic(auto, unfolding(qa_format::specs::verdicts::Report::verdict_text, qa_format::specs::verdicts::Report::place_text))]
+#[tactic(auto, unfolding(qa_format::specs::verdicts::Report::verdict_text, qa_format::specs::verdicts::Report::place_text,))]
 pub fn verdict_line(alloc: Global, verdict: &Verdict) -> Result<String, AllocError>
     ensures { IfOk result (λ line. string_bytes line ≡ text.verdict_text verdict.now) }
 {

@@ -6,7 +6,7 @@ use Rattle.std.proofs.lemmas.Str.{encodes-chars}
 use Rattle.std.specs.Char.{encode_utf8}
 use Rattle.std.specs.List.{list_any}
 use Rattle.std.specs.Str.{chars, encode_utf8_all, IsUtf8}
-use Rattle.qa_names.specs.Names.{escaped, is_hidden, shown_character, shown_name}
+use Rattle.qa_check.specs.names.Names.{escaped, is_hidden, shown_character, shown_name}
 
 character_stays : (c : ℕ) → is_hidden c ≡ false → shown_character c ≡ encode_utf8 c
 character_stays c is = ap (λ (hidden : Bool). if hidden then flat_map escaped (encode_utf8 c) else encode_utf8 c) is

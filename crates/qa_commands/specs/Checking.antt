@@ -1,5 +1,6 @@
 -- What `check` writes, and how it ends.
-use Rattle.std.specs.Prelude.{◌≡◌, ◌⊎◌, ⊤, ℕ, Bool, true, false, List, [], ◌∷◌, codes, Option, Some, None, Result, Ok, Err}
+use Rattle.std.specs.Prelude.{◌≡◌, ◌⊎◌, ⊤, ℕ, Bool, true, false, List, [], ◌∷◌, codes, Option, Some}
+use Rattle.std.specs.Prelude.{None, Result, Ok, Err}
 use Rattle.std.specs.Borrow.{Bor}
 use Rattle.std.specs.List.{list_any}
 use Rattle.std.specs.Io.KnownBytes.{Appends}
@@ -8,7 +9,8 @@ use Rattle.qa_check.specs.Writing.{Begins}
 use Rattle.qa_check.specs.declared.auditing.Outcome.{Outcome}
 use Rattle.qa_commands.specs.Names.{line_with}
 use Rattle.qa_commands.specs.declared.ending.Failure.{Failure}
-use Rattle.qa_commands.specs.declared.ending.Failure.TheVariants.{Arguments, Open, Read, Write, OutOfMemory}
+use Rattle.qa_commands.specs.declared.ending.Failure.TheVariants.{Arguments, Open, Read, Write}
+use Rattle.qa_commands.specs.declared.ending.Failure.TheVariants.{OutOfMemory}
 use Rattle.qa_commands.specs.declared.ending.Origin.{Origin}
 use Rattle.qa_commands.specs.declared.ending.Origin.TheVariants as origins
 
@@ -26,17 +28,22 @@ abbrev pub AreOf : Option (List ℕ) → List ℕ → Type 0
 AreOf None bytes = ⊤
 AreOf (Some told) bytes = bytes ≡ told
 
--- what an audit of this origin wrote that ended so: the report of the bytes that the origin tells, or else of some; its beginning; or nothing
-abbrev pub Audited : Option (List ℕ) → Origin → Result Outcome Failure → Option (List ℕ) → Option (List ℕ) → Type 0
-Audited left origin (Ok outcome) old new = (bytes : List ℕ) × AreOf left bytes × Reports old new outcome bytes
+-- what an audit of this origin wrote that ended so: the report of the bytes that the origin tells,
+-- or else of some; its beginning; or nothing
+abbrev pub Audited : Option (List ℕ) → Origin → Result Outcome Failure → Option (List ℕ)
+    → Option (List ℕ) → Type 0
+Audited left origin (Ok outcome) old new =
+    (bytes : List ℕ) × AreOf left bytes × Reports old new outcome bytes
 Audited left origin (Err Arguments) old new = ⊥
 Audited left origin (Err (Open name)) old new = ⊥
 Audited left origin (Err (Read failed)) old new = (failed ≡ origin) × (new ≡ old)
-Audited left origin (Err Write) old new = (bytes : List ℕ) × AreOf left bytes × BeginsReport old new bytes
+Audited left origin (Err Write) old new =
+    (bytes : List ℕ) × AreOf left bytes × BeginsReport old new bytes
 Audited left origin (Err OutOfMemory) old new = new ≡ old
 
 -- what was written where no audit of a file began
-abbrev pub Unaudited : Bor (List ℕ) → Result Outcome Failure → Option (List ℕ) → Option (List ℕ) → Type 0
+abbrev pub Unaudited : Bor (List ℕ) → Result Outcome Failure → Option (List ℕ) → Option (List ℕ)
+    → Type 0
 Unaudited name (Ok outcome) old new = ⊥
 Unaudited name (Err Arguments) old new = ⊥
 Unaudited name (Err (Open unopened)) old new = (unopened ≡ name) × (new ≡ old)
@@ -45,9 +52,12 @@ Unaudited name (Err Write) old new = Begins old new (heading name.now)
 Unaudited name (Err OutOfMemory) old new = ⊥
 
 -- what was written for one file, one of several or not, which ended so
-abbrev pub Checks : Bool → Bor (List ℕ) → Result Outcome Failure → Option (List ℕ) → Option (List ℕ) → Type 0
+abbrev pub Checks : Bool → Bor (List ℕ) → Result Outcome Failure → Option (List ℕ) → Option (List ℕ)
+    → Type 0
 Checks several name ended old new =
-    Unaudited name ended old new ⊎ ((middle : Option (List ℕ)) × Headed several name.now old middle × Audited None (origins.File name) ended middle new)
+    Unaudited name ended old new
+    ⊎ ((middle : Option (List ℕ)) × Headed several name.now old middle
+    × Audited None (origins.File name) ended middle new)
 
 -- whether no file behind is audited: a failed write ends the program
 abbrev pub stops : Result Outcome Failure → Bool
@@ -68,10 +78,12 @@ Then true stopped goes_on = stopped
 Then false stopped goes_on = goes_on
 
 -- what was written for these files, in order, which ended so, up to one that stops
-abbrev pub ChecksAll : Bool → List (Bor (List ℕ)) → List (Result Outcome Failure) → Option (List ℕ) → Option (List ℕ) → Type 0
+abbrev pub ChecksAll : Bool → List (Bor (List ℕ)) → List (Result Outcome Failure) → Option (List ℕ)
+    → Option (List ℕ) → Type 0
 ChecksAll several [] [] old new = new ≡ old
 ChecksAll several [] (ended ∷ endings) old new = ⊥
 ChecksAll several (name ∷ names) [] old new = ⊥
 ChecksAll several (name ∷ names) (ended ∷ endings) old new =
     (middle : Option (List ℕ)) × Checks several name ended old middle
-    × Then (stops ended) ((endings ≡ []) × (new ≡ middle)) (ChecksAll several names endings middle new)
+    × Then (stops ended) ((endings ≡ []) × (new ≡ middle))
+    (ChecksAll several names endings middle new)

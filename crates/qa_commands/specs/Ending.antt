@@ -1,13 +1,15 @@
 -- How the program ends.
-use Rattle.std.specs.Prelude.{◌≡◌, ◌++◌, ℕ, Bool, List, [], ◌∷◌, codes, map, max, Option, Result, Ok, Err}
+use Rattle.std.specs.Prelude.{◌≡◌, ◌++◌, ℕ, Bool, List, [], ◌∷◌, codes, map, max, Option, Result}
+use Rattle.std.specs.Prelude.{Ok, Err}
 use Rattle.qa_check.specs.declared.auditing.Outcome.{Outcome}
 use Rattle.qa_check.specs.declared.auditing.Outcome.TheVariants.{Accepted, Refused, Unreadable}
 use Rattle.qa_check.specs.declared.auditing.AuditFault.{AuditFault}
 use Rattle.qa_check.specs.declared.auditing.AuditFault.TheVariants as faults
-use Rattle.qa_names.specs.Names.{shown_name}
+use Rattle.qa_check.specs.names.Names.{shown_name}
 use Rattle.qa_commands.specs.Writes.{Writes}
 use Rattle.qa_commands.specs.declared.ending.Failure.{Failure}
-use Rattle.qa_commands.specs.declared.ending.Failure.TheVariants.{Arguments, Open, Read, Write, OutOfMemory}
+use Rattle.qa_commands.specs.declared.ending.Failure.TheVariants.{Arguments, Open, Read, Write}
+use Rattle.qa_commands.specs.declared.ending.Failure.TheVariants.{OutOfMemory}
 use Rattle.qa_commands.specs.declared.ending.Origin.{Origin}
 use Rattle.qa_commands.specs.declared.ending.Origin.TheVariants.{StandardInput, File}
 
@@ -55,14 +57,19 @@ abbrev pub greatest : List ℕ → ℕ
 greatest [] = 0
 greatest (status ∷ statuses) = max status (greatest statuses)
 
--- on standard error stand the lines of these failures, in order: each in full, or a beginning of it where standard error failed, which is counted
-abbrev pub Tells : List (Result Outcome Failure) → Option (List ℕ) → Option (List ℕ) → ℕ → ℕ → Type 0
+-- on standard error stand the lines of these failures, in order: each in full, or a beginning of it
+-- where standard error failed, which is counted
+abbrev pub Tells : List (Result Outcome Failure) → Option (List ℕ) → Option (List ℕ) → ℕ → ℕ
+    → Type 0
 Tells [] old new count count' = (new ≡ old) × (count' ≡ count)
 Tells (ended ∷ endings) old new count count' =
     (failed : Bool) × (middle : Option (List ℕ)) × (so_far : ℕ)
-    × Writes failed old middle count so_far (line_told ended) × Tells endings middle new so_far count'
+    × Writes failed old middle count so_far (line_told ended)
+    × Tells endings middle new so_far count'
 
--- of audits that ended so, one after another, the exit status is the greatest, and their failures are told on standard error
-pub record Ends (endings : List (Result Outcome Failure)) (status : ℕ) (old new : Option (List ℕ)) (count count' : ℕ) : Type 0 where
+-- of audits that ended so, one after another, the exit status is the greatest, and their failures
+-- are told on standard error
+pub record Ends (endings : List (Result Outcome Failure)) (status : ℕ) (old new : Option (List ℕ))
+    (count count' : ℕ) : Type 0 where
   pub status_is : status ≡ greatest (map status_of endings)
   pub told : Tells endings old new count count'

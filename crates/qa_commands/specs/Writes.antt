@@ -10,6 +10,7 @@ Wrote false old new text = Appends old new text
 Wrote true old new text = Begins old new text
 
 -- the same by a writer that counts its failures, of which there was one or none
-pub record Writes (failed : Bool) (old new : Option (List ℕ)) (count count' : ℕ) (text : List ℕ) : Type 0 where
+pub record Writes (failed : Bool) (old new : Option (List ℕ)) (count count' : ℕ)
+    (text : List ℕ) : Type 0 where
   pub wrote : Wrote failed old new text
   pub counted : count' ≡ failures_after failed count

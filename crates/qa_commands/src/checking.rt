@@ -1,5 +1,6 @@
 //! The subcommand `check`.
-ghost use Rattle.std.specs.Prelude.{◌≡◌, ◌⊎◌, [], List, Result, OnOk, IfErr, is_err, length, nat_lt};
+ghost use Rattle.std.specs.Prelude.{◌≡◌, ◌⊎◌, [], List, Result, OnOk, IfErr, is_err, length};
+ghost use Rattle.std.specs.Prelude.{nat_lt};
 ghost use Rattle.std.specs.Io.KnownBytes.{Appends};
 ghost use Rattle.qa_check.specs.Failures.{failures_after};
 ghost use Rattle.qa_check.specs.Writing.{Begins};
@@ -11,7 +12,7 @@ ghost use Rattle.qa_commands.specs.Ending.{Ends};
 use crate::ending::{Failure, Origin, end, exit_status, tell};
 use crate::naming::write_line;
 use qa_check::{Metered, Outcome, Sink, Source, audit};
-use qa_running::Running;
+use qa_sender::Running;
 use std::alloc::Global;
 use std::fs;
 use std::rt::Files;
@@ -54,7 +55,8 @@ fn check_files<R: Files, O: Sink, E: Sink>(
     error: &mut E,
 ) -> u8
     ensures { (endings : List (Result Outcome Failure))
-        × ChecksAll (nat_lt 1 (length files.now)) files.now endings (O.held output.old) (O.held output.new)
+        × ChecksAll (nat_lt 1 (length files.now)) files.now endings (O.held output.old)
+        (O.held output.new)
         × (O.write_failures output.new
         ≡ failures_after (any_stops endings) (O.write_failures output.old))
         × Ends endings result (E.held error.old) (E.held error.new)
@@ -122,7 +124,8 @@ fn audited<'a, I: Source, O: Sink>(
     input: &mut I,
     output: &mut O,
 ) -> Result<Outcome, Failure<'a>>
-    ensures written { Audited (I.left input.old) origin.entry result (O.held output.old) (O.held output.new) }
+    ensures written { Audited (I.left input.old) origin.entry result (O.held output.old)
+        (O.held output.new) }
     ensures failures { O.write_failures output.new
         ≡ failures_after (checking.stops result) (O.write_failures output.old) }
 {

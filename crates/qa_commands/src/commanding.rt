@@ -16,9 +16,9 @@ use std::rt::Files;
 
 /// Does what the arguments behind the program's name ask for, and returns the exit status.
 ///
-/// Reports go to the output and the lines of failures to the error stream, whose own failure changes
-/// nothing: it gets the beginning of these lines up to where it failed. Files are opened by the
-/// runtime. Standard input is read only where the arguments name no file.
+/// Reports go to the output and the lines of failures to the error stream, whose own failure
+/// changes nothing: it gets the beginning of these lines up to where it failed. Files are opened by
+/// the runtime. Standard input is read only where the arguments name no file.
 pub fn command<R: Files, I: Source, O: Sink, E: Sink>(
     rt: &R,
     alloc: Global,
@@ -28,7 +28,8 @@ pub fn command<R: Files, I: Source, O: Sink, E: Sink>(
     error: &mut E,
 ) -> u8
     ensures ended { (endings : List (Result Outcome Failure))
-        × Commands (map string_bytes arguments.now) (I.left input.old) endings (O.held output.old) (O.held output.new)
+        × Commands (map string_bytes arguments.now) (I.left input.old) endings (O.held output.old)
+        (O.held output.new)
         × (O.write_failures output.new
         ≡ failures_after (any_stops endings) (O.write_failures output.old))
         × Ends endings result (E.held error.old) (E.held error.new)

@@ -1,7 +1,8 @@
 //! How the program ends.
 ghost use Rattle.std.specs.Prelude.{◌≡◌, ◌++◌, ◌∷◌, Bool, [], Err, is_err};
-ghost use Rattle.qa_commands.specs.Ending.{audit_status, failure_of, line_told, message_of, status_of, Ends};
-ghost use Rattle.qa_names.specs.Names.{shown_name};
+ghost use Rattle.qa_commands.specs.Ending.{audit_status, failure_of, line_told, message_of};
+ghost use Rattle.qa_commands.specs.Ending.{status_of, Ends};
+ghost use Rattle.qa_check.specs.names.Names.{shown_name};
 ghost use Rattle.qa_commands.specs.Writes.{Writes};
 
 use crate::naming::write_line;

@@ -7,7 +7,7 @@ ghost use Rattle.qa_commands.specs.Explaining.{Explained, ExplainsFile, Explains
 
 use crate::ending::{Failure, Origin, end};
 use qa_check::{Metered, Outcome, Sink, Source};
-use qa_running::Running;
+use qa_sender::Running;
 use std::alloc::Global;
 use std::fs;
 use std::rt::Files;
@@ -63,7 +63,8 @@ fn explained<'a, I: Source, O: Sink>(
     input: &mut I,
     output: &mut O,
 ) -> Result<Outcome, Failure<'a>>
-    ensures written { Explained (I.left input.old) origin.entry result (O.held output.old) (O.held output.new) }
+    ensures written { Explained (I.left input.old) origin.entry result (O.held output.old)
+        (O.held output.new) }
     ensures failures { O.write_failures output.new
         ≡ failures_after (stops result) (O.write_failures output.old) }
 {

@@ -1,4 +1,4 @@
-//! What the program does with its arguments: it audits or explains traces, of files or of standard
+//! What `qaudit` does with its arguments: it audits or explains traces, of files or of standard
 //! input, tells each failure on standard error, and returns the exit status.
 #![tactic(auto)]
 

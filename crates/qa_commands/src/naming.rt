@@ -1,12 +1,11 @@
 //! Lines that end in the name of a file.
 ghost use Rattle.std.specs.Prelude.{◌≡◌, true, is_err, flat_map};
 ghost use Rattle.qa_commands.specs.Names.{line_with};
-ghost use Rattle.qa_names.specs.Names as names;
-ghost use Rattle.qa_names.specs.Names.{shown_character, shown_name};
+ghost use Rattle.qa_check.specs.names.Names as names;
+ghost use Rattle.qa_check.specs.names.Names.{shown_character, shown_name};
 ghost use Rattle.qa_commands.specs.Writes.{Writes};
 
-use qa_check::{AuditFault, Sink, write_whole};
-use qa_names::{escaped, is_hidden};
+use qa_check::{AuditFault, Sink, escaped, is_hidden, write_whole};
 
 /// Writes a line: what it begins with, a name as it is shown, and LF. Takes no memory.
 pub fn write_line<S: Sink>(beginning: &str, name: &str, sink: &mut S) -> Result<(), AuditFault>

@@ -9,6 +9,7 @@ pub enum Verdict {
     Accepted(Totals),
     /// The first line that is not good breaks this rule; the totals are those before it.
     Refused(u64, Rule, Totals),
-    /// The first line that is not good has this fault; the totals are those before it, none before a header.
+    /// The first line that is not good has this fault; the totals are those before it, none before
+    /// a header.
     Unreadable(u64, Fault, Option<Totals>),
 }

@@ -1,5 +1,5 @@
 pub mod machine
 pub mod verdicts
 pub mod Shorthand
-pub mod rows
 pub mod edges
+pub mod losses_lemmas

@@ -4,7 +4,7 @@ use Rattle.qa_base.specs.declared.event.Event.{Event}
 use Rattle.qa_base.specs.declared.event.Event.TheVariants.{Sent, Ack, Lost, Timer, Metrics}
 use Rattle.qa_base.specs.declared.space.TimerKind.TheVariants as kind
 use Rattle.qa_base.specs.declared.space.Controller.TheVariants.{Reported}
-use Rattle.qa_base.specs.declared.space.Leave.TheVariants as leave
+use Rattle.qa_base.specs.declared.space.Permission.TheVariants as permission
 use Rattle.qa_base.specs.declared.space.LossByNumber.TheVariants.{May}
 use Rattle.qa_base.specs.declared.space.Role.TheVariants as role
 use Rattle.qa_base.specs.declared.space.Space.{Space}
@@ -52,28 +52,28 @@ in_nanoseconds s = record s { unit = Nanoseconds; max_ack_delay = 1000 * s.max_a
 -- ---- packets of a space and a number, sent at a time, with a size
 
 abbrev pub sent : Space → ℕ → ℕ → ℕ → Event
-sent space number time size = Sent time space number size true true leave.Window
+sent space number time size = Sent time space number size true true permission.Window
 
 -- in flight, but not ack-eliciting
 abbrev pub padded : Space → ℕ → ℕ → ℕ → Event
-padded space number time size = Sent time space number size false true leave.Window
+padded space number time size = Sent time space number size false true permission.Window
 
 -- so is this, and marked as a probe
 abbrev pub padded_probe : Space → ℕ → ℕ → ℕ → Event
-padded_probe space number time size = Sent time space number size false true leave.Probe
+padded_probe space number time size = Sent time space number size false true permission.Probe
 
 -- not in flight
 abbrev pub bare : Space → ℕ → ℕ → ℕ → Event
-bare space number time size = Sent time space number size false false leave.Window
+bare space number time size = Sent time space number size false false permission.Window
 
 abbrev pub probe : Space → ℕ → ℕ → ℕ → Event
-probe space number time size = Sent time space number size true true leave.Probe
+probe space number time size = Sent time space number size true true permission.Probe
 
 abbrev pub bare_probe : Space → ℕ → ℕ → ℕ → Event
-bare_probe space number time size = Sent time space number size false false leave.Probe
+bare_probe space number time size = Sent time space number size false false permission.Probe
 
 abbrev pub recovery : Space → ℕ → ℕ → ℕ → Event
-recovery space number time size = Sent time space number size true true leave.Recovery
+recovery space number time size = Sent time space number size true true permission.Recovery
 
 -- ---- acknowledgments and losses of a space, with ranges, at a time
 

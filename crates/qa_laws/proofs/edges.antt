@@ -8,7 +8,7 @@ pub mod fitting
 pub mod header
 pub mod handshake
 pub mod kept
-pub mod leave
+pub mod permission
 pub mod loss
 pub mod metrics
 pub mod order

@@ -1,4 +1,5 @@
--- Words for laws of the machine: what a sender does in a run, and what one more event makes of its packets.
+-- Words for laws of the machine: what a sender does in a run, and what one more event makes of its
+-- packets.
 pub mod Useful
 pub mod Fates
 pub mod Alike

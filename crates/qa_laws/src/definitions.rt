@@ -1,5 +1,7 @@
 //! Facts over the definitions alone. Each is the contract of a function that does nothing.
-ghost use Rattle.std.specs.Prelude.{◌≡◌, ◌≢◌, ◌≤◌, ◌++◌, ◌∷◌, ◌+◌, ◌-◌, ◌*◌, ◌&&◌, ◌↔◌, [], List, length, ℕ, Bool, true, false, not, Some, None, Ok, max, if◌then◌else◌};
+ghost use Rattle.std.specs.Prelude.{◌≡◌, ◌≢◌, ◌≤◌, ◌++◌, ◌∷◌, ◌+◌, ◌-◌, ◌*◌, ◌&&◌, ◌↔◌, [], List};
+ghost use Rattle.std.specs.Prelude.{length, ℕ, Bool, true, false, not, Some, None, Ok, max};
+ghost use Rattle.std.specs.Prelude.{if◌then◌else◌};
 ghost use Rattle.qa_base.specs.declared.event.Event.{Event};
 ghost use Rattle.qa_base.specs.declared.event.Event.TheVariants as events;
 ghost use Rattle.qa_base.specs.declared.header.Version.{Version};
@@ -9,19 +11,22 @@ ghost use Rattle.qa_format.specs.declared.line.Line.TheVariants as line;
 ghost use Rattle.qa_base.specs.declared.rule.Rule.TheVariants as rules;
 ghost use Rattle.qa_base.specs.declared.space.TimerKind.{TimerKind};
 ghost use Rattle.qa_base.specs.declared.space.TimerKind.TheVariants as kinds;
-ghost use Rattle.qa_base.specs.declared.space.Leave.{Leave};
+ghost use Rattle.qa_base.specs.declared.space.Permission.{Permission};
 ghost use Rattle.qa_base.specs.declared.space.Space.{Space};
 ghost use Rattle.qa_base.specs.declared.totals.Totals.{Totals};
 ghost use Rattle.qa_format.specs.declared.verdict.Verdict.TheVariants as verdicts;
 ghost use Rattle.qa_base.specs.values.Events.{fits, is_quiet};
 ghost use Rattle.qa_format.specs.format.AnyOrder.{AreOf, AreOfHeader, text_of};
 ghost use Rattle.qa_format.specs.format.Lines.{has_lf, lines};
-ghost use Rattle.qa_base.specs.machine.Breaches.{is_before, is_collapse_missing, is_timer_early, is_timer_late};
+ghost use Rattle.qa_base.specs.machine.Breaches.{is_before, is_collapse_missing, is_timer_early};
+ghost use Rattle.qa_base.specs.machine.Breaches.{is_timer_late};
 ghost use Rattle.qa_base.specs.machine.Detection.{is_old};
 ghost use Rattle.qa_base.specs.machine.Estimates.{rtt, sampled};
 ghost use Rattle.qa_base.specs.machine.FirstVersion.{exact_tests, rtt_by_samples};
-ghost use Rattle.qa_base.specs.machine.Loss.{bytes_in_flight, declared, detection, free, nameable, owed};
-ghost use Rattle.qa_base.specs.machine.Numbers.{AreRanges, NamesBetween, NamesOnly, has_all, names_between};
+ghost use Rattle.qa_base.specs.machine.Loss.{bytes_in_flight, declared, detection, free, nameable};
+ghost use Rattle.qa_base.specs.machine.Loss.{owed};
+ghost use Rattle.qa_base.specs.machine.Numbers.{AreRanges, NamesBetween, NamesOnly, has_all};
+ghost use Rattle.qa_base.specs.machine.Numbers.{names_between};
 ghost use Rattle.qa_base.specs.machine.Order.{NumbersFall};
 ghost use Rattle.qa_base.specs.machine.Packets.{Packet, packets, is_discarded, newly_acknowledged};
 ghost use Rattle.qa_format.specs.format.Proper.{IsProperEvent, IsProperLine};
@@ -32,16 +37,18 @@ ghost use Rattle.qa_base.specs.machine.Metrics.{metric_tests};
 ghost use Rattle.qa_base.specs.machine.Rules.{first_broken, IsComplete, IsRun};
 ghost use Rattle.qa_base.specs.machine.Slack.{with_slacks};
 ghost use Rattle.qa_base.specs.machine.State.{totals};
-ghost use Rattle.qa_base.specs.values.Constants.{minimum_window, time_threshold_divisor, time_threshold_parts};
+ghost use Rattle.qa_base.specs.values.Constants.{minimum_window, time_threshold_divisor};
+ghost use Rattle.qa_base.specs.values.Constants.{time_threshold_parts};
 ghost use Rattle.qa_base.specs.values.Limits.{max_packet_size};
-ghost use Rattle.qa_base.specs.values.Settings.{Settings, AreInRange, choosing_options, granularity, is_may, is_reported, no_options};
+ghost use Rattle.qa_base.specs.values.Settings.{Settings, AreInRange, choosing_options};
+ghost use Rattle.qa_base.specs.values.Settings.{granularity, is_may, is_reported, no_options};
 ghost use Rattle.qa_base.specs.machine.Timer.{deadline, pto_count};
 ghost use Rattle.qa_format.specs.verdicts.Verdict.{strict, Reading, IsFixed, IsTraceOfRun, verdict};
 ghost use Rattle.qa_format.specs.format.Written.{Pairs, written};
 ghost use Rattle.qa_base.specs.machine.Widths.{Fits, IsTimely, acknowledged_count};
 ghost use Rattle.qa_base.specs.machine.Window.{window};
 ghost use Rattle.qa_laws.specs.machine.Alike.{IsLooser, NothingFree, of_version, where_they_must};
-ghost use Rattle.qa_history.specs.machine.Declared.{named_free};
+ghost use Rattle.qa_base.specs.history.Declared.{named_free};
 ghost use Rattle.std.specs.List.{AllByRecursion};
 
 /// No byte that follows changes a verdict that is fixed, whatever the reading of lines.
@@ -65,8 +72,8 @@ pub fn written_is_read()
 
 /// An object without white space that has the keys and values of an event is read as that event,
 /// in whatever order its keys stand, and so is that of a header of each version, where the values
-/// are in their ranges. Keys that have their default may be left out. (The text may be longer than a
-/// line of a trace may be.)
+/// are in their ranges. Keys that have their default may be left out. (The text may be longer than
+/// a line of a trace may be.)
 pub fn any_order_is_read()
     ensures event { (e : Event) (ps : Pairs) → IsProperEvent e → AreOf e ps
         → reading (text_of ps) ≡ Ok (line.Event e) }
@@ -78,7 +85,8 @@ pub fn any_order_is_read()
 /// complete run with those totals, whatever the reading of lines.
 pub fn accepted_is_run()
     ensures { (reading : Reading) (bytes : List ℕ) (t : Totals)
-        → (verdict (strict reading) bytes ≡ verdicts.Accepted t) ↔ IsTraceOfRun reading (lines bytes) t }
+        → (verdict (strict reading) bytes ≡ verdicts.Accepted t) ↔ IsTraceOfRun reading
+        (lines bytes) t }
 {}
 
 /// A prefix of a run is a run.
@@ -89,9 +97,10 @@ pub fn prefix_of_run()
 /// Where nothing is owed, a packet that is sent adds its size to the bytes in flight; it adds
 /// nothing where it is not in flight or its space was discarded.
 pub fn sent_adds_its_size()
-    ensures { (c : Settings) (h : List Event) (time : ℕ) (space : Space) (number size : ℕ) (eliciting in_flight : Bool) (leave : Leave)
+    ensures { (c : Settings) (h : List Event) (time : ℕ) (space : Space) (number size : ℕ)
+        (eliciting in_flight : Bool) (permission : Permission)
         → owed c h ≡ []
-        → bytes_in_flight c (events.Sent time space number size eliciting in_flight leave ∷ h)
+        → bytes_in_flight c (events.Sent time space number size eliciting in_flight permission ∷ h)
         ≡ bytes_in_flight c h + (if in_flight && not (is_discarded h space) then size else 0) }
 {}
 
@@ -104,7 +113,8 @@ pub fn quiet_events_change_little()
         → declared c (e ∷ h) ≡ [] → rtt c (e ∷ h) ≡ rtt c h }
     ensures moves { (c : Settings) (e : Event) (h : List Event) → is_quiet e ≡ true
         → declared c (e ∷ h) ≡ [] → moves c (e ∷ h) ≡ moves c h }
-    ensures must { (c : Settings) (e : Event) (h : List Event) → is_may c.options.loss_by_number ≡ false
+    ensures must { (c : Settings) (e : Event) (h : List Event)
+        → is_may c.options.loss_by_number ≡ false
         → is_quiet e ≡ true → declared c (e ∷ h) ≡ [] }
     ensures unnamed { (c : Settings) (e : Event) (h : List Event) → is_quiet e ≡ true
         → named_free c e h ≡ [] → declared c (e ∷ h) ≡ [] }
@@ -132,10 +142,12 @@ pub fn ranges_name()
 /// Where losses by number must be declared, nothing is free: a Lost line may name what is owed and
 /// no more, and what is lost by an event is what it finds lost.
 pub fn losses_must_be_declared()
-    ensures free { (c : Settings) (h : List Event) → is_may c.options.loss_by_number ≡ false → free c h ≡ [] }
+    ensures free { (c : Settings) (h : List Event) → is_may c.options.loss_by_number ≡ false
+        → free c h ≡ [] }
     ensures nameable { (c : Settings) (h : List Event) → is_may c.options.loss_by_number ≡ false
         → nameable c h ≡ owed c h }
-    ensures declared { (c : Settings) (e : Event) (h : List Event) → is_may c.options.loss_by_number ≡ false
+    ensures declared { (c : Settings) (e : Event) (h : List Event)
+        → is_may c.options.loss_by_number ≡ false
         → declared c (e ∷ h) ≡ owed c (e ∷ h) }
 {}
 
@@ -167,12 +179,15 @@ pub fn pto_count_is_small()
         → pto_count c h ≤ 40 }
 {}
 
-/// Where the sender does not report its window, that is at least two datagrams (RFC 9002, section 7.2), and at
-/// most the initial window and the greatest size of a packet for each that was acknowledged.
+/// Where the sender does not report its window, that is at least two datagrams (RFC 9002, section
+/// 7.2), and at most the initial window and the greatest size of a packet for each that was
+/// acknowledged.
 pub fn window_is_bounded()
-    ensures low { (c : Settings) (h : List Event) → is_reported c.options.controller ≡ false → AreInRange c
+    ensures low { (c : Settings) (h : List Event) → is_reported c.options.controller ≡ false
+        → AreInRange c
         → minimum_window c.max_datagram_size ≤ window c h }
-    ensures high { (c : Settings) (h : List Event) → is_reported c.options.controller ≡ false → AreInRange c
+    ensures high { (c : Settings) (h : List Event) → is_reported c.options.controller ≡ false
+        → AreInRange c
         → AllByRecursion Fits h
         → window c h ≤ c.initial_window + max_packet_size * acknowledged_count h }
 {}
@@ -183,10 +198,10 @@ pub fn bytes_in_flight_are_bounded()
         → bytes_in_flight c h ≤ max_packet_size * length h }
 {}
 
-/// A header that asks for no refresh has the RTT of its samples, one without a limit has no event that
-/// shows a late timer, one without a reported window has none that shows no collapse, and one without slack
-/// besides compares reported values exactly. So it is with each header of version 1 that is read: it has no
-/// options.
+/// A header that asks for no refresh has the RTT of its samples, one without a limit has no event
+/// that shows a late timer, one without a reported window has none that shows no collapse, and one
+/// without slack besides compares reported values exactly. So it is with each header of version 1
+/// that is read: it has no options.
 pub fn first_version_asks_no_more()
     ensures rtt { (c : Settings) (h : List Event) → c.options.refresh_min_rtt ≡ false
         → rtt c h ≡ rtt_by_samples c h }
@@ -196,29 +211,34 @@ pub fn first_version_asks_no_more()
         → is_timer_late c h e ≡ false }
     ensures late { (c : Settings) (h : List Event) (e : Event) → c.options.timer_late ≡ None
         → first_broken c h e ≢ Some rules.TimerLate }
-    ensures collapses { (c : Settings) (h : List Event) (e : Event) → is_reported c.options.controller ≡ false
+    ensures persistent_congestions { (c : Settings) (h : List Event) (e : Event)
+        → is_reported c.options.controller ≡ false
         → is_collapse_missing c h e ≡ false }
-    ensures missing { (c : Settings) (h : List Event) (e : Event) → is_reported c.options.controller ≡ false
+    ensures missing { (c : Settings) (h : List Event) (e : Event)
+        → is_reported c.options.controller ≡ false
         → first_broken c h e ≢ Some rules.CollapseMissing }
-    ensures metrics { (c : Settings) (h : List Event) (e : Event) → is_reported c.options.controller ≡ false
+    ensures metrics { (c : Settings) (h : List Event) (e : Event)
+        → is_reported c.options.controller ≡ false
         → c.options.report_slack_us ≡ 0 → c.options.report_slack_bytes ≡ 0
         → metric_tests c h e ≡ exact_tests c h e }
     ensures read { (l : List ℕ) (c : Settings) → reading l ≡ Ok (line.Header c)
         → c.version ≡ versions.One → c.options ≡ no_options }
 {}
 
-/// Where a timer may not be early, a loss timer looks for losses when it goes off, and none goes off
-/// before its deadline.
+/// Where a timer may not be early, a loss timer looks for losses when it goes off, and none goes
+/// off before its deadline.
 pub fn no_tolerance_changes_nothing()
-    ensures detection { (c : Settings) (h : List Event) (time : ℕ) (space : Space) → c.options.timer_early_us ≡ 0
+    ensures detection { (c : Settings) (h : List Event) (time : ℕ) (space : Space)
+        → c.options.timer_early_us ≡ 0
         → detection c (events.Timer time kinds.Loss space ∷ h) ≡ Some (space, time) }
-    ensures timers { (c : Settings) (h : List Event) (time : ℕ) (kind : TimerKind) (space : Space) → c.options.timer_early_us ≡ 0
+    ensures timers { (c : Settings) (h : List Event) (time : ℕ) (kind : TimerKind) (space : Space)
+        → c.options.timer_early_us ≡ 0
         → is_timer_early c h (events.Timer time kind space) ≡ is_before time (deadline c h) }
 {}
 
-/// No rule asks for the version of a header: headers that differ in it alone refuse the same events by the
-/// same rules, with the same totals, and have the same complete runs. So a header that is made one of
-/// version 3 with the options that it had, as with none of them, asks what it asked.
+/// No rule asks for the version of a header: headers that differ in it alone refuse the same events
+/// by the same rules, with the same totals, and have the same complete runs. So a header that is
+/// made one of version 3 with the options that it had, as with none of them, asks what it asked.
 pub fn version_asks_nothing()
     ensures broken { (c : Settings) (version : Version) (h : List Event) (e : Event)
         → first_broken (of_version c version) h e ≡ first_broken c h e }
@@ -228,7 +248,8 @@ pub fn version_asks_nothing()
         → IsRun (of_version c version) h ↔ IsRun c h }
     ensures complete { (c : Settings) (version : Version) (h : List Event)
         → IsComplete (of_version c version) h ↔ IsComplete c h }
-    ensures chosen { (s c : Settings) (h : List Event) (e : Event) → choosing_options s s.options ≡ Ok c
+    ensures chosen { (s c : Settings) (h : List Event) (e : Event)
+        → choosing_options s s.options ≡ Ok c
         → first_broken c h e ≡ first_broken s h e }
 {}
 
@@ -241,7 +262,8 @@ pub fn version_asks_nothing()
 pub fn tolerance_admits_more()
     ensures runs { (c d : Settings) (h : List Event) → IsLooser c d → AllByRecursion Fits h
         → IsRun c h → IsRun d h }
-    ensures owed { (c d : Settings) (h : List Event) → IsLooser c d → IsRun c h → owed d h ≡ owed c h }
+    ensures owed { (c d : Settings) (h : List Event) → IsLooser c d → IsRun c h
+        → owed d h ≡ owed c h }
 {}
 
 /// A run is a run of the same events under a header with greater slacks and all else equal.

@@ -1,4 +1,4 @@
-//! Laws of every run and of every verdict, over the definitions alone.
+//! Laws of every run and of every verdict, over the definitions alone, and edges as theorems.
 //!
 //! Each is the contract of a function that does nothing.
 #![tactic(auto)]
@@ -6,4 +6,5 @@
 pub mod conduct;
 pub mod definitions;
 pub mod grounds;
+pub mod losses;
 pub mod running;

@@ -1,33 +1,42 @@
 //! What carries a ledger that keeps the open packets alone, in one pass over the events.
-ghost use Rattle.std.specs.Prelude.{◌≡◌, ◌≤◌, ◌<◌, ◌==◌, ◌++◌, [], ◌∷◌, ◌+◌, ◌&&◌, ◌||◌, List, ℕ, Bool, true, false, not, Contains, Option, Some, None, filter, find, length, nat_lt, reverse, sum_by, take_while};
+ghost use Rattle.std.specs.Prelude.{◌≡◌, ◌≤◌, ◌<◌, ◌==◌, ◌++◌, [], ◌∷◌, ◌+◌, ◌&&◌, ◌||◌, List, ℕ};
+ghost use Rattle.std.specs.Prelude.{Bool, true, false, not, Contains, Option, Some, None, filter};
+ghost use Rattle.std.specs.Prelude.{find, length, nat_lt, reverse, sum_by, take_while};
 ghost use Rattle.std.specs.List.{list_any};
 ghost use Rattle.qa_base.specs.declared.event.Event.{Event};
 ghost use Rattle.qa_base.specs.declared.event.Event.TheVariants as events;
 ghost use Rattle.qa_base.specs.declared.space.TimerKind.{TimerKind};
-ghost use Rattle.qa_base.specs.declared.space.Leave.{Leave};
+ghost use Rattle.qa_base.specs.declared.space.Permission.{Permission};
 ghost use Rattle.qa_base.specs.declared.space.Space.{Space};
 ghost use Rattle.qa_base.specs.declared.space.Space.TheVariants as spaces;
 ghost use Rattle.qa_base.specs.machine.Breaches.{has_at_or_above};
 ghost use Rattle.qa_base.specs.machine.Kept.{is_kept, kept_count, numbers_of, runs};
 ghost use Rattle.qa_base.specs.machine.Estimates.{sampled};
 ghost use Rattle.qa_base.specs.machine.Detection.{is_past_threshold};
-ghost use Rattle.qa_base.specs.machine.Loss.{bytes_in_flight, is_open, is_owed, is_persistent, owed, detection};
-ghost use Rattle.qa_base.specs.machine.Packets.{Packet, packet_of, packets, greatest, is_acknowledged, is_discarded, is_declared_lost, is_newly_acknowledged, is_of, is_some_packet, largest_acknowledged, newly_acknowledged, packets_of, is_below_largest};
+ghost use Rattle.qa_base.specs.machine.Loss.{bytes_in_flight, is_open, is_owed, is_persistent};
+ghost use Rattle.qa_base.specs.machine.Loss.{owed, detection};
+ghost use Rattle.qa_base.specs.machine.Packets.{Packet, packet_of, packets, greatest};
+ghost use Rattle.qa_base.specs.machine.Packets.{is_acknowledged, is_discarded, is_declared_lost};
+ghost use Rattle.qa_base.specs.machine.Packets.{is_newly_acknowledged, is_of, is_some_packet};
+ghost use Rattle.qa_base.specs.machine.Packets.{largest_acknowledged, newly_acknowledged};
+ghost use Rattle.qa_base.specs.machine.Packets.{packets_of, is_below_largest};
 ghost use Rattle.qa_base.specs.machine.Reno.{latest_sent};
 ghost use Rattle.qa_base.specs.machine.Rtt.{Estimate, persistent_after};
 ghost use Rattle.qa_base.specs.machine.Rules.{IsRun};
 ghost use Rattle.qa_base.specs.machine.Timer.{awaits_acknowledgment, loss_due};
 ghost use Rattle.qa_base.specs.values.Events.{acknowledges, is_quiet, is_space};
 ghost use Rattle.qa_base.specs.values.Settings.{Settings, granularity, is_may};
-ghost use Rattle.qa_history.specs.machine.Among.{counts_as_end, finds_apart, is_persistent_among};
-ghost use Rattle.qa_history.specs.machine.Declared.{is_named_free, named_free};
+ghost use Rattle.qa_base.specs.history.Among.{counts_as_end, finds_apart, is_persistent_among};
+ghost use Rattle.qa_base.specs.history.Declared.{is_named_free, named_free};
 ghost use Rattle.qa_laws.specs.machine.Fates.{fate, fate_next, is_unacknowledged};
-ghost use Rattle.qa_history.specs.machine.Latest.{first_if_numbered, is_first_at_or_above, time_of_first};
-ghost use Rattle.qa_history.specs.machine.Oldest.{NoneFlies, due_of, is_asked, is_flying, is_passed};
-ghost use Rattle.qa_history.specs.machine.Parts.{AreClosed, AreDropped, AreOf, BeginsKept};
-ghost use Rattle.qa_history.specs.machine.Sequence.{EachTwo, WasSentBefore};
+ghost use Rattle.qa_base.specs.history.Latest.{first_if_numbered, is_first_at_or_above};
+ghost use Rattle.qa_base.specs.history.Latest.{time_of_first};
+ghost use Rattle.qa_base.specs.history.Oldest.{NoneFlies, due_of, is_asked, is_flying, is_passed};
+ghost use Rattle.qa_base.specs.history.Parts.{AreClosed, AreDropped, AreOf, BeginsKept};
+ghost use Rattle.qa_base.specs.history.Sequence.{EachTwo, WasSentBefore};
 ghost use Rattle.qa_laws.specs.machine.Useful.{from_first, runs_begun};
-ghost use Rattle.qa_history.specs.machine.Sums.{asks_of, bytes, bytes_of, counted, discarded, is_discarded_by, open_sum, within_space};
+ghost use Rattle.qa_base.specs.history.Sums.{asks_of, bytes, bytes_of, counted, discarded};
+ghost use Rattle.qa_base.specs.history.Sums.{is_discarded_by, open_sum, within_space};
 
 /// In a run, of two packets of one space the one with the lower number was sent no later and stands
 /// no further on, and two with one number are one. All packets stand in the order of sending, the
@@ -50,7 +59,8 @@ pub fn lower_numbers_are_earlier()
 /// Where a packet is past a threshold, so is one with a lower number that was sent no later. So it
 /// is in a run with each packet of its space that has a lower number (RFC 9002, section 6.1).
 pub fn past_threshold_falls()
-    ensures any { (c : Settings) (r : Estimate) (now : ℕ) (largest : Option ℕ) (p q : Packet) → q.number ≤ p.number
+    ensures any { (c : Settings) (r : Estimate) (now : ℕ) (largest : Option ℕ) (p q : Packet)
+        → q.number ≤ p.number
         → q.time ≤ p.time
         → is_past_threshold c r now largest p ≡ true → is_past_threshold c r now largest q ≡ true }
     ensures in_run { (c : Settings) (h : List Event) → IsRun c h
@@ -78,22 +88,24 @@ pub fn closed_stays_closed()
         → is_acknowledged (e ∷ h) p ≡ (acknowledges p.space p.number e || is_acknowledged h p) }
     ensures lost { (c : Settings) (e : Event) (h : List Event) → IsRun c (e ∷ h) → (p : Packet)
         → Contains (packets h) p
-        → is_declared_lost (e ∷ h) p ≡ (is_owed c h p || is_named_free c e h p || is_declared_lost h p) }
+        → is_declared_lost (e ∷ h) p
+        ≡ (is_owed c h p || is_named_free c e h p || is_declared_lost h p) }
     ensures largest { (e : Event) (h : List Event) (s : Space) (n : ℕ)
         → is_below_largest n (largest_acknowledged h s) ≡ true
         → is_below_largest n (largest_acknowledged (e ∷ h) s) ≡ true }
 {}
 
 /// In a run the loss time of a space is that of its oldest packet that is open and in flight: the
-/// first, in the order of sending, behind packets none of which is (RFC 9002, section 6.1.2 and A.8).
+/// first, in the order of sending, behind packets none of which is (RFC 9002, section 6.1.2 and
+/// A.8).
 pub fn oldest_decides_loss_time()
     ensures { (c : Settings) (h : List Event) → IsRun c h → (s : Space) (front rest : List Packet)
         → reverse (packets h) ≡ front ++ rest → NoneFlies c h s front
         → loss_due c h s ≡ due_of c h s (find (λ p. is_of s p && is_flying c h p) rest) }
 {}
 
-/// In a run a front with no packet of a space that is open and in flight has none after one more event,
-/// so that the oldest only moves on.
+/// In a run a front with no packet of a space that is open and in flight has none after one more
+/// event, so that the oldest only moves on.
 pub fn fronts_stay()
     ensures { (c : Settings) (e : Event) (h : List Event) → IsRun c (e ∷ h)
         → (s : Space) (front rest : List Packet) → reverse (packets h) ≡ front ++ rest
@@ -101,26 +113,31 @@ pub fn fronts_stay()
 {}
 
 /// In a run, where no packet of a front is of the space, open and in flight, a detection may begin
-/// behind it: what it finds are those past a threshold, up to the first that is not, of the packets of the
-/// space that are in flight and unsettled. So one walk finds them that passes packets until the
-/// first that is asked of and past no threshold, and none of those that it passes is open and in flight after
-/// (RFC 9002, A.10).
+/// behind it: what it finds are those past a threshold, up to the first that is not, of the packets
+/// of the space that are in flight and unsettled. So one walk finds them that passes packets until
+/// the first that is asked of and past no threshold, and none of those that it passes is open and
+/// in flight after (RFC 9002, A.10).
 pub fn losses_are_a_front()
     ensures late { (c : Settings) (e : Event) (h : List Event) → IsRun c (e ∷ h)
         → (s : Space) (now : ℕ) → detection c (e ∷ h) ≡ Some (s, now)
         → (front rest : List Packet) → reverse (packets h) ≡ front ++ rest → NoneFlies c h s front
         → reverse (owed c (e ∷ h))
-        ≡ take_while (is_past_threshold c (sampled c (e ∷ h)) now (largest_acknowledged (e ∷ h) s)) (filter (is_asked (e ∷ h) s) rest) }
+        ≡ take_while (is_past_threshold c (sampled c (e ∷ h)) now (largest_acknowledged (e ∷ h) s))
+        (filter (is_asked (e ∷ h) s) rest) }
     ensures passed { (c : Settings) (e : Event) (h : List Event) → IsRun c (e ∷ h)
         → (s : Space) (now : ℕ) → detection c (e ∷ h) ≡ Some (s, now)
         → (front rest : List Packet) → reverse (packets h) ≡ front ++ rest → NoneFlies c h s front
         → reverse (owed c (e ∷ h))
-        ≡ filter (is_asked (e ∷ h) s) (take_while (is_passed (e ∷ h) s (is_past_threshold c (sampled c (e ∷ h)) now (largest_acknowledged (e ∷ h) s))) rest) }
+        ≡ filter (is_asked (e ∷ h) s)
+        (take_while
+        (is_passed (e ∷ h) s
+        (is_past_threshold c (sampled c (e ∷ h)) now (largest_acknowledged (e ∷ h) s))) rest) }
     ensures after { (c : Settings) (e : Event) (h : List Event) → IsRun c (e ∷ h)
         → (s : Space) (now : ℕ) → detection c (e ∷ h) ≡ Some (s, now)
         → (front rest : List Packet) → reverse (packets h) ≡ front ++ rest → NoneFlies c h s front
         → NoneFlies c (e ∷ h) s (front
-        ++ take_while (is_passed (e ∷ h) s (is_past_threshold c (sampled c (e ∷ h)) now (largest_acknowledged (e ∷ h) s))) rest) }
+        ++ take_while (is_passed (e ∷ h) s
+        (is_past_threshold c (sampled c (e ∷ h)) now (largest_acknowledged (e ∷ h) s))) rest) }
 {}
 
 /// In a run one more event adds the packet that it sends to a sum over the open packets, and takes
@@ -149,7 +166,8 @@ pub fn closed_are_forgotten()
     ensures persistent { (c : Settings) (e : Event) (h : List Event) → IsRun c (e ∷ h)
         → (gone kept : List Packet) → reverse (packets h) ≡ gone ++ kept → AreDropped c h gone
         → is_persistent c (e ∷ h)
-        ≡ finds_apart (is_acknowledged (e ∷ h)) (counts_as_end c (e ∷ h)) (persistent_after (granularity c) (sampled c (e ∷ h)) c.max_ack_delay) None kept }
+        ≡ finds_apart (is_acknowledged (e ∷ h)) (counts_as_end c (e ∷ h))
+        (persistent_after (granularity c) (sampled c (e ∷ h)) c.max_ack_delay) None kept }
     ensures among { (c : Settings) (e : Event) (h : List Event) → IsRun c (e ∷ h)
         → (kept gone : List Packet) → packets h ≡ kept ++ gone → AreDropped c h gone
         → is_persistent c (e ∷ h) ≡ is_persistent_among c (e ∷ h) kept }
@@ -157,7 +175,8 @@ pub fn closed_are_forgotten()
         → (gone kept : List Packet) → reverse (packets h) ≡ gone ++ kept
         → is_may c.options.loss_by_number ≡ false → AreClosed c h gone
         → is_persistent c (e ∷ h)
-        ≡ finds_apart (is_acknowledged (e ∷ h)) (counts_as_end c (e ∷ h)) (persistent_after (granularity c) (sampled c (e ∷ h)) c.max_ack_delay) None kept }
+        ≡ finds_apart (is_acknowledged (e ∷ h)) (counts_as_end c (e ∷ h))
+        (persistent_after (granularity c) (sampled c (e ∷ h)) c.max_ack_delay) None kept }
     ensures must_among { (c : Settings) (e : Event) (h : List Event) → IsRun c (e ∷ h)
         → (kept gone : List Packet) → packets h ≡ kept ++ gone
         → is_may c.options.loss_by_number ≡ false → AreClosed c h gone
@@ -173,8 +192,8 @@ pub fn closed_are_forgotten()
         → reverse (packets (e ∷ h)) ≡ gone ++ (kept ++ packet_of (length h) e) }
 {}
 
-/// Where a front of packets is neither open nor owed and the first behind it is, as many packets of a
-/// history are of use as stand behind the front.
+/// Where a front of packets is neither open nor owed and the first behind it is, as many packets of
+/// a history are of use as stand behind the front.
 pub fn kept_are_counted()
     ensures { (c : Settings) (h : List Event) (gone kept : List Packet)
         → reverse (packets h) ≡ gone ++ kept → AreDropped c h gone → BeginsKept c h kept
@@ -188,13 +207,15 @@ pub fn fates_after_an_event()
     ensures fate { (c : Settings) (e : Event) (h : List Event) → IsRun c (e ∷ h) → (p : Packet)
         → Contains (packets h) p
         → fate c (e ∷ h) p
-        ≡ fate_next (acknowledges p.space p.number e) (is_owed c (e ∷ h) p) (is_named_free c e h p) (fate c h p) }
+        ≡ fate_next (acknowledges p.space p.number e) (is_owed c (e ∷ h) p) (is_named_free c e h p)
+        (fate c h p) }
     ensures opened { (c : Settings) (h : List Event) (p : Packet)
         → is_open c h p ≡ (is_unacknowledged (fate c h p) && not (is_discarded h p.space)) }
 {}
 
 /// The bytes in flight are those of the three spaces, and some packet of a space awaits an
-/// acknowledgment exactly where their count is not 0. Of a space that was discarded nothing is left.
+/// acknowledgment exactly where their count is not 0. Of a space that was discarded nothing is
+/// left.
 pub fn sums_by_space()
     ensures bytes { (c : Settings) (h : List Event)
         → bytes_in_flight c h
@@ -207,8 +228,9 @@ pub fn sums_by_space()
         → is_discarded h s ≡ true → open_sum (within_space s weight) c h ≡ 0 }
 {}
 
-/// What a detection finds is of its space and in flight, and what an acknowledgment newly acknowledges
-/// is of its space. Of packets of one space the bytes are those of that space, and no other has any.
+/// What a detection finds is of its space and in flight, and what an acknowledgment newly
+/// acknowledges is of its space. Of packets of one space the bytes are those of that space, and no
+/// other has any.
 pub fn closed_are_of_one_space()
     ensures owed { (c : Settings) (h : List Event) (s : Space) (now : ℕ)
         → detection c h ≡ Some (s, now) → AreOf s (owed c h) }
@@ -232,7 +254,8 @@ pub fn bytes_after_an_event()
         × ℕ)) (delay : ℕ) (app_limited : Bool)
         → IsRun c (events.Ack time space ranges delay app_limited ∷ h)
         → bytes_in_flight c (events.Ack time space ranges delay app_limited ∷ h)
-        + (sum_by bytes (newly_acknowledged (events.Ack time space ranges delay app_limited ∷ h)) + sum_by bytes (owed c (events.Ack time space ranges delay app_limited ∷ h)))
+        + (sum_by bytes (newly_acknowledged (events.Ack time space ranges delay app_limited ∷ h))
+        + sum_by bytes (owed c (events.Ack time space ranges delay app_limited ∷ h)))
         ≡ bytes_in_flight c h }
     ensures timer { (c : Settings) (h : List Event) (time : ℕ) (kind : TimerKind) (space : Space)
         → IsRun c (events.Timer time kind space ∷ h)
@@ -248,15 +271,17 @@ pub fn bytes_after_an_event()
         ≡ bytes_in_flight c h + sum_by bytes (packet_of (length h) e) }
 {}
 
-/// In a run the latest packet decides: the packet with the largest number of an acknowledgment, where it
-/// is newly acknowledged, is the latest of those that are (RFC 9002, section 5.1); a number is at most
-/// that of some packet of a space exactly where it is at most that of the latest; and the last sending
-/// time of what is owed is that of the latest.
+/// In a run the latest packet decides: the packet with the largest number of an acknowledgment,
+/// where it is newly acknowledged, is the latest of those that are (RFC 9002, section 5.1); a
+/// number is at most that of some packet of a space exactly where it is at most that of the latest;
+/// and the last sending time of what is owed is that of the latest.
 pub fn latest_packets_decide()
     ensures sampled { (c : Settings) (h : List Event) → IsRun c h
         → (time : ℕ) (space : Space) (ranges : List (ℕ × ℕ)) (delay : ℕ) (app_limited : Bool)
-        → find (λ p. p.number == greatest ranges) (newly_acknowledged (events.Ack time space ranges delay app_limited ∷ h))
-        ≡ first_if_numbered (greatest ranges) (newly_acknowledged (events.Ack time space ranges delay app_limited ∷ h)) }
+        → find (λ p. p.number == greatest ranges)
+        (newly_acknowledged (events.Ack time space ranges delay app_limited ∷ h))
+        ≡ first_if_numbered (greatest ranges)
+        (newly_acknowledged (events.Ack time space ranges delay app_limited ∷ h)) }
     ensures number { (c : Settings) (h : List Event) → IsRun c h → (s : Space) (n : ℕ)
         → has_at_or_above s n h ≡ is_first_at_or_above n (packets_of h s) }
     ensures owed { (c : Settings) (h : List Event) → IsRun c h
@@ -274,9 +299,10 @@ pub fn kept_after_an_event()
     ensures dropped { (c : Settings) (e : Event) (h : List Event) → IsRun c (e ∷ h) → (p : Packet)
         → Contains (packets h) p
         → is_kept c h p ≡ false → is_kept c (e ∷ h) p ≡ false }
-    ensures sent { (c : Settings) (h : List Event) (time : ℕ) (space : Space) (number size : ℕ) (eliciting in_flight : Bool) (leave : Leave)
-        → IsRun c (events.Sent time space number size eliciting in_flight leave ∷ h)
-        → kept_count c (events.Sent time space number size eliciting in_flight leave ∷ h)
+    ensures sent { (c : Settings) (h : List Event) (time : ℕ) (space : Space) (number size : ℕ)
+        (eliciting in_flight : Bool) (permission : Permission)
+        → IsRun c (events.Sent time space number size eliciting in_flight permission ∷ h)
+        → kept_count c (events.Sent time space number size eliciting in_flight permission ∷ h)
         ≡ kept_count c h + 1 }
     ensures other { (c : Settings) (e : Event) (h : List Event) → IsRun c (e ∷ h)
         → packet_of (length h) e ≡ []
@@ -291,12 +317,13 @@ pub fn kept_after_an_event()
         → kept_count c (e ∷ h) ≡ kept_count c h }
 {}
 
-/// In a run a packet that is sent begins one run of numbers more, unless the number before its own was
-/// sent in its space. No other event changes how many there are, in a run or not.
+/// In a run a packet that is sent begins one run of numbers more, unless the number before its own
+/// was sent in its space. No other event changes how many there are, in a run or not.
 pub fn runs_after_an_event()
-    ensures sent { (c : Settings) (h : List Event) (time : ℕ) (space : Space) (number size : ℕ) (eliciting in_flight : Bool) (leave : Leave)
-        → IsRun c (events.Sent time space number size eliciting in_flight leave ∷ h)
-        → runs (events.Sent time space number size eliciting in_flight leave ∷ h)
+    ensures sent { (c : Settings) (h : List Event) (time : ℕ) (space : Space) (number size : ℕ)
+        (eliciting in_flight : Bool) (permission : Permission)
+        → IsRun c (events.Sent time space number size eliciting in_flight permission ∷ h)
+        → runs (events.Sent time space number size eliciting in_flight permission ∷ h)
         ≡ runs h + runs_begun (numbers_of h space) number }
     ensures other { (e : Event) (h : List Event) → packet_of (length h) e ≡ []
         → runs (e ∷ h) ≡ runs h }

@@ -5,8 +5,13 @@ use Rattle.qa_base.specs.declared.event.Event.TheVariants.{Timer}
 use Rattle.qa_base.specs.declared.rule.Rule.{Rule}
 use Rattle.qa_base.specs.declared.rule.Rule.TheVariants as rule
 use Rattle.qa_base.specs.declared.totals.Totals.{Totals}
-use Rattle.qa_base.specs.machine.Breaches.{is_time_back, is_loss_owed, is_loss_not_owed, is_other_loss_set, is_space_gone, is_number_not_higher, is_past_window, is_past_probe, is_past_recovery, is_ack_unsent, is_timer_not_set, is_timer_other, is_timer_early, is_probe_owed, is_not_confirmed, is_timer_late, is_collapse_missing}
-use Rattle.qa_base.specs.machine.Departures.{most_doublings}
+use Rattle.qa_base.specs.machine.Breaches.{is_time_back, is_loss_owed, is_loss_not_owed}
+use Rattle.qa_base.specs.machine.Breaches.{is_other_loss_set, is_space_gone, is_number_not_higher}
+use Rattle.qa_base.specs.machine.Breaches.{is_past_window, is_past_probe, is_past_recovery}
+use Rattle.qa_base.specs.machine.Breaches.{is_ack_unsent, is_timer_not_set, is_timer_other}
+use Rattle.qa_base.specs.machine.Breaches.{is_timer_early, is_probe_owed, is_not_confirmed}
+use Rattle.qa_base.specs.machine.Breaches.{is_timer_late, is_collapse_missing}
+use Rattle.qa_base.specs.machine.Violations.{most_doublings}
 use Rattle.qa_base.specs.machine.Rtt.{Estimate}
 use Rattle.qa_base.specs.machine.Timer.{Due, deadline, pto_count}
 use Rattle.qa_base.specs.values.Settings.{Settings}
@@ -16,7 +21,8 @@ abbrev pub deadline_at : Settings → List Event → Event → Option Due
 deadline_at c h (Timer time kind space) = deadline c h
 deadline_at c h _ = None
 
--- the totals of so many events with this window and ssthresh, estimate, bytes in flight, PTO count and number of packets owed
+-- the totals of so many events with this window and ssthresh, estimate, bytes in flight, PTO count
+-- and number of packets owed
 abbrev pub totals_of : ℕ → ℕ → Option ℕ → Estimate → ℕ → ℕ → ℕ → Totals
 totals_of events window ssthresh estimate bytes count owed = record {
   events = events;
@@ -45,8 +51,8 @@ tests_of_packets c h e =
     ∷ []
 
 -- V13, where the timeout cannot be doubled once more
-abbrev pub is_timer_unborne : Settings → List Event → Event → Bool
-is_timer_unborne c h e = is_timer_early c h e && not (nat_lt (pto_count c h) most_doublings)
+abbrev pub is_timer_untolerated : Settings → List Event → Event → Bool
+is_timer_untolerated c h e = is_timer_early c h e && not (nat_lt (pto_count c h) most_doublings)
 
 -- V10 to V13 and V15, whether the machine does not go on past each
 abbrev pub tests_of_answers : Settings → List Event → Event → List (Bool × Rule)
@@ -54,7 +60,7 @@ tests_of_answers c h e =
     (is_ack_unsent h e, rule.AckUnsent)
     ∷ (is_timer_not_set c h e, rule.TimerNotSet)
     ∷ (is_timer_other c h e, rule.TimerOther)
-    ∷ (is_timer_unborne c h e, rule.TimerEarly)
+    ∷ (is_timer_untolerated c h e, rule.TimerEarly)
     ∷ (is_not_confirmed h e, rule.NotConfirmed)
     ∷ []
 

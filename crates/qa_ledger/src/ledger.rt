@@ -1,5 +1,6 @@
 //! What a ledger is.
-ghost use Rattle.std.specs.Prelude.{◌≡◌, ◌<◌, ◌+◌, ℕ, Bool, true, false, List, [], ◌∷◌, Err, OnOk, Some, None};
+ghost use Rattle.std.specs.Prelude.{◌≡◌, ◌<◌, ◌+◌, ℕ, Bool, true, false, List, [], ◌∷◌, Err, OnOk};
+ghost use Rattle.std.specs.Prelude.{Some, None};
 ghost use Rattle.qa_base.specs.declared.event.Event.{Event as AnEvent};
 ghost use Rattle.qa_base.specs.declared.rule.Rule.{Rule as ARule};
 ghost use Rattle.qa_base.specs.values.Limits.{max_lines};
@@ -17,8 +18,8 @@ use thiserror::Error;
 /// Why a ledger does not admit an event.
 #[derive(Clone, Copy, Debug, PartialEq, Eq, Error)]
 pub enum LedgerFault {
-    /// The event breaks this rule, the first of V1 to V16, V18 and V19 that it breaks. The ledger is as it
-    /// was.
+    /// The event breaks this rule, the first of V1 to V16, V18 and V19 that it breaks. The ledger
+    /// is as it was.
     #[error("{0}")]
     Broken(Rule),
     /// The ledger is out of memory, now or since an earlier event. It has failed, holds the state
@@ -70,8 +71,8 @@ pub trait Ledger {
 
     /// The state of the machine after the events that were admitted. Takes no memory.
     ///
-    /// Its `events` say how many they are, so that a caller of any ledger can see that `admit` may be
-    /// called.
+    /// Its `events` say how many they are, so that a caller of any ledger can see that `admit` may
+    /// be called.
     fn totals(&self) -> Totals
         ensures totals { (c : Settings) (h : List AnEvent) → stands self.now c h
             → result ≡ state.totals c h }

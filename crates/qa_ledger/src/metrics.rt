@@ -10,8 +10,8 @@ use crate::state::State;
 use qa_base::{Event, Field, Header, MetricValues, Rule, Totals};
 use qa_recovery::Rtt;
 
-/// Whether a value is reported that differs by more than the slack from the machine's, which may have
-/// none.
+/// Whether a value is reported that differs by more than the slack from the machine's, which may
+/// have none.
 fn differs(slack: u128, reported: Option<u64>, own: Option<u64>) -> bool
     ensures { result ≡ metrics.differs slack reported own }
 {
@@ -22,9 +22,9 @@ fn differs(slack: u128, reported: Option<u64>, own: Option<u64>) -> bool
     }
 }
 
-/// Whether each of the reported values differs from the machine's by more than the header's slack, of
-/// bytes or of times, beside the rule that it breaks then. The window and `ssthresh` are compared
-/// where they are NewReno's.
+/// Whether each of the reported values differs from the machine's by more than the header's slack,
+/// of bytes or of times, beside the rule that it breaks then. The window and `ssthresh` are
+/// compared where they are NewReno's.
 pub(crate) fn differences(
     header: Header,
     values: &MetricValues,
@@ -54,8 +54,8 @@ pub(crate) fn differences(
     ]
 }
 
-/// The totals by their parts: how many events there were, the window and `ssthresh`, the RTT, the bytes
-/// in flight, the PTO count and how many packets are owed.
+/// The totals by their parts: how many events there were, the window and `ssthresh`, the RTT, the
+/// bytes in flight, the PTO count and how many packets are owed.
 pub fn totals_by(
     events: u64,
     window: u64,

@@ -11,7 +11,7 @@ ghost use Rattle.qa_ledger.specs.Tests.{deadline_at as deadline_at_of};
 use crate::metrics::metrics_rule;
 use crate::state::State;
 use qa_base::constants::{PROBE_DATAGRAMS, minimum_window};
-use qa_base::{Due, Event, Leave, Rule, Space, TimerKind};
+use qa_base::{Due, Event, Permission, Rule, Space, TimerKind};
 
 /// V1: the event is earlier than the one before it.
 pub(crate) fn is_time_back<S: State>(state: &S, event: &Event) -> bool
@@ -46,8 +46,8 @@ pub(crate) fn is_loss_not_owed<S: State>(state: &S, event: &Event) -> bool
     }
 }
 
-/// V4: a Lost line that does not name all packets owed, or names one that is not owed and may not be
-/// declared.
+/// V4: a Lost line that does not name all packets owed, or names one that is not owed and may not
+/// be declared.
 pub(crate) fn is_other_loss_set<S: State>(state: &S, event: &Event) -> bool
     ensures { (c : Settings) (h : List AnEvent) → S.tells state.now c h
         → result ≡ breaches.is_other_loss_set c h event.now }
@@ -122,7 +122,7 @@ pub(crate) fn is_past_window<S: State>(state: &S, event: &Event) -> bool
         Event::Sent {
             size,
             in_flight: true,
-            leave: Leave::Window,
+            permission: Permission::Window,
             ..
         } => is_past(
             state.header().options().window_overshoot,
@@ -143,7 +143,7 @@ pub(crate) fn is_past_probe<S: State>(state: &S, event: &Event) -> bool
         Event::Sent {
             size,
             in_flight: true,
-            leave: Leave::Probe,
+            permission: Permission::Probe,
             ..
         } => is_over(
             PROBE_DATAGRAMS * state.max_datagram_size(),
@@ -162,7 +162,7 @@ pub(crate) fn is_past_recovery<S: State>(state: &S, event: &Event) -> bool
     match event {
         Event::Sent {
             in_flight: true,
-            leave: Leave::Recovery,
+            permission: Permission::Recovery,
             ..
         } => is_over(1, 1, widened(state.recovery_spent())),
         _ => false,

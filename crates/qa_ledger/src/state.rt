@@ -5,7 +5,7 @@ ghost use Rattle.std.specs.Option.{ForSome};
 ghost use Rattle.qa_base.specs.declared.event.Event.{Event as AnEvent};
 ghost use Rattle.qa_base.specs.machine.Breaches as breaches;
 ghost use Rattle.qa_base.specs.machine.Handshake as handshake;
-ghost use Rattle.qa_base.specs.machine.Leave as leaves;
+ghost use Rattle.qa_base.specs.machine.Permission as leaves;
 ghost use Rattle.qa_base.specs.machine.Loss as loss;
 ghost use Rattle.qa_base.specs.machine.Numbers as tests;
 ghost use Rattle.qa_base.specs.machine.Packets as packets;
@@ -53,11 +53,12 @@ pub trait State {
         ensures { (c : Settings) (h : List AnEvent) → tells self.now c h
             → result ≡ list_any (packets.is_of space) (loss.nameable c h) };
 
-    /// Whether the ranges name the numbers of all packets that are detected as lost, and of no others
-    /// but those that may be declared beyond them.
+    /// Whether the ranges name the numbers of all packets that are detected as lost, and of no
+    /// others but those that may be declared beyond them.
     fn names_losses(&self, ranges: &[Span]) -> bool
         ensures { (c : Settings) (h : List AnEvent) → tells self.now c h
-            → result ≡ tests.names_between ranges.now (breaches.numbers (loss.owed c h)) (breaches.numbers (loss.nameable c h)) };
+            → result ≡ tests.names_between ranges.now (breaches.numbers (loss.owed c h))
+            (breaches.numbers (loss.nameable c h)) };
 
     /// Whether the keys of the space were discarded (RFC 9002, section 6.4).
     fn is_discarded(&self, space: Space) -> bool
@@ -74,7 +75,8 @@ pub trait State {
         ensures { (c : Settings) (h : List AnEvent) → tells self.now c h
             → result ≡ tests.has_all (breaches.numbers (packets.packets_of h space)) ranges.now };
 
-    /// The congestion window in bytes (RFC 9002, section 7): NewReno's, or the one that was reported.
+    /// The congestion window in bytes (RFC 9002, section 7): NewReno's, or the one that was
+    /// reported.
     fn window(&self) -> u64
         ensures { (c : Settings) (h : List AnEvent) → tells self.now c h
             → result ≡ windows.window c h };
@@ -96,7 +98,8 @@ pub trait State {
         ensures { (c : Settings) (h : List AnEvent) → tells self.now c h
             → result ≡ loss.bytes_in_flight c h };
 
-    /// The bytes of probes since the last probe timeout; None without one (RFC 9002, section 6.2.4).
+    /// The bytes of probes since the last probe timeout; None without one (RFC 9002, section
+    /// 6.2.4).
     fn probe_spent(&self) -> Option<u128>
         ensures value { (c : Settings) (h : List AnEvent) → tells self.now c h
             → result ≡ leaves.probe_spent h }
@@ -113,7 +116,8 @@ pub trait State {
         ensures { (c : Settings) (h : List AnEvent) → tells self.now c h
             → result ≡ timers.deadline c h };
 
-    /// Whether the next event, at this time, shows that the timer was too late, by the header's limit.
+    /// Whether the next event, at this time, shows that the timer was too late, by the header's
+    /// limit.
     fn is_late(&self, time: Ticks) -> bool
         ensures { (c : Settings) (h : List AnEvent) → tells self.now c h
             → result ≡ breaches.is_late_by c h time c.options.timer_late };

@@ -1,1 +1,3 @@
 pub mod Gives
+pub mod Lending
+pub mod Stream

@@ -8,13 +8,15 @@ ghost use Rattle.serde_json.specs.View.{view};
 ghost use Rattle.qa_format.specs.format.Keys as keys;
 ghost use Rattle.qa_base.specs.values.Constants.{default_packet_threshold};
 ghost use Rattle.qa_base.specs.values.Limits.{max_packet_number, max_packet_size};
-ghost use Rattle.qa_base.specs.values.Names.{role_named, unit_named, controller_named, loss_by_number_named, discarded_named, leave_named, kind_named};
+ghost use Rattle.qa_base.specs.values.Names.{role_named, unit_named, controller_named};
+ghost use Rattle.qa_base.specs.values.Names.{loss_by_number_named, discarded_named};
+ghost use Rattle.qa_base.specs.values.Names.{permission_named, kind_named};
 ghost use Rattle.qa_format.specs.format.Tables as tables;
 
 use qa_base::constants::DEFAULT_PACKET_THRESHOLD;
 use qa_base::limits::MAX_PACKET_SIZE;
 use qa_base::{
-    Controller, Field, Key, Leave, LossByNumber, PacketNumber, Role, Space, Ticks, TimeUnit,
+    Controller, Field, Key, LossByNumber, PacketNumber, Permission, Role, Space, Ticks, TimeUnit,
     TimerKind,
 };
 use qa_format::Fault;
@@ -168,7 +170,8 @@ pub fn space(object: &Value) -> Result<Space, Fault>
 
 /// The key `space` of a line that discards keys, which the application's space has none of.
 pub fn discarded_space(object: &Value) -> Result<Space, Fault>
-    ensures { result ≡ keys.required (keys.string_among discarded_named) Key.Space (view object.now) }
+    ensures { result ≡ keys.required (keys.string_among discarded_named) Key.Space
+        (view object.now) }
 {
     match space(object)? {
         Space::App => Err(Fault::OutOfRange(Key::Space)),
@@ -186,7 +189,8 @@ pub fn role(object: &Value) -> Result<Role, Fault>
 
 /// The key `unit`, which is `us` where it is absent.
 pub fn unit(object: &Value) -> Result<TimeUnit, Fault>
-    ensures { result ≡ keys.optional (keys.string_among unit_named) TimeUnit.Microseconds Key.Unit (view object.now) }
+    ensures { result ≡ keys.optional (keys.string_among unit_named) TimeUnit.Microseconds Key.Unit
+        (view object.now) }
 {
     match present(Key::Unit, object) {
         None => Ok(TimeUnit::Microseconds),
@@ -198,7 +202,8 @@ pub fn unit(object: &Value) -> Result<TimeUnit, Fault>
 
 /// The key `window` of a header, which is `newreno` where it is absent.
 pub fn controller(object: &Value) -> Result<Controller, Fault>
-    ensures { result ≡ keys.optional (keys.string_among controller_named) Controller.NewReno Key.Window (view object.now) }
+    ensures { result ≡ keys.optional
+        (keys.string_among controller_named) Controller.NewReno Key.Window (view object.now) }
 {
     match present(Key::Window, object) {
         None => Ok(Controller::NewReno),
@@ -211,7 +216,8 @@ pub fn controller(object: &Value) -> Result<Controller, Fault>
 /// What the key `loss_by_number` names, if anything; `must` where it is absent. A word that is none
 /// of its values is judged behind the numbers of the header.
 pub fn loss_by_number(object: &Value) -> Result<Option<LossByNumber>, Fault>
-    ensures { result ≡ keys.optional (keys.string_naming loss_by_number_named) (Some LossByNumber.Must) Key.LossByNumber (view object.now) }
+    ensures { result ≡ keys.optional (keys.string_naming loss_by_number_named)
+        (Some LossByNumber.Must) Key.LossByNumber (view object.now) }
 {
     match present(Key::LossByNumber, object) {
         None => Ok(Some(LossByNumber::Must)),
@@ -221,7 +227,8 @@ pub fn loss_by_number(object: &Value) -> Result<Option<LossByNumber>, Fault>
 
 /// The key `packet_threshold`, which is 3 where it is absent.
 pub fn packet_threshold(object: &Value) -> Result<u64, Fault>
-    ensures { result ≡ keys.optional keys.integer default_packet_threshold Key.PacketThreshold (view object.now) }
+    ensures { result ≡ keys.optional keys.integer default_packet_threshold Key.PacketThreshold
+        (view object.now) }
 {
     match present(Key::PacketThreshold, object) {
         None => Ok(DEFAULT_PACKET_THRESHOLD),
@@ -239,7 +246,8 @@ pub fn kind(object: &Value) -> Result<TimerKind, Fault>
 
 /// The key `number`.
 pub fn number(object: &Value) -> Result<PacketNumber, Fault>
-    ensures { result ≡ keys.required (keys.integer_from 0 max_packet_number) Key.Number (view object.now) }
+    ensures { result ≡ keys.required (keys.integer_from 0 max_packet_number) Key.Number
+        (view object.now) }
 {
     let number = required_integer(Key::Number, object)?;
     PacketNumber::new(number).ok_or(Fault::OutOfRange(Key::Number))
@@ -247,7 +255,8 @@ pub fn number(object: &Value) -> Result<PacketNumber, Fault>
 
 /// The key `size`.
 pub fn size(object: &Value) -> Result<u64, Fault>
-    ensures { result ≡ keys.required (keys.integer_from 1 max_packet_size) Key.Size (view object.now) }
+    ensures { result ≡ keys.required (keys.integer_from 1 max_packet_size) Key.Size
+        (view object.now) }
 {
     let size = required_integer(Key::Size, object)?;
     if 1 <= size && size <= MAX_PACKET_SIZE {
@@ -257,13 +266,14 @@ pub fn size(object: &Value) -> Result<u64, Fault>
     }
 }
 
-/// The key `leave`, which is `window` where it is absent.
-pub fn leave(object: &Value) -> Result<Leave, Fault>
-    ensures { result ≡ keys.optional (keys.string_among leave_named) Leave.Window Key.Leave (view object.now) }
+/// The key `permission`, which is `window` where it is absent.
+pub fn permission(object: &Value) -> Result<Permission, Fault>
+    ensures { result ≡ keys.optional
+        (keys.string_among permission_named) Permission.Window Key.Leave (view object.now) }
 {
     match present(Key::Leave, object) {
-        None => Ok(Leave::Window),
-        Some(value) => Leave::named(string(Key::Leave, value)?).ok_or(Fault::OutOfRange(
+        None => Ok(Permission::Window),
+        Some(value) => Permission::named(string(Key::Leave, value)?).ok_or(Fault::OutOfRange(
             Key::Leave,
         )),
     }

@@ -7,8 +7,8 @@ ghost use Rattle.qa_format.specs.format.Reading as reading;
 ghost use Rattle.qa_read.specs.Gives.{Gives};
 
 use crate::fault::LineFault;
+use qa_fast_reader::flat_object;
 use qa_format::Fault;
-use qa_quick::flat_object;
 use serde_json::Value;
 use std::alloc::Global;
 
@@ -32,8 +32,8 @@ pub fn json_of(alloc: Global, bytes: &[u8]) -> Result<Value, LineFault>
     parsed(alloc, bytes)
 }
 
-/// The same by the reader of `serde_json`. It stands apart, so that a value that is read without it does not pay for its
-/// table.
+/// The same by the reader of `serde_json`. It stands apart, so that a value that is read without it
+/// does not pay for its table.
 #[inline(never)]
 #[tactic(auto, unfolding(qa_format::specs::format::Reading::json_of))]
 fn parsed(alloc: Global, bytes: &[u8]) -> Result<Value, LineFault>

@@ -1,4 +1,5 @@
-//! What a line of a trace says: its bytes as JSON, its keys, and the first of its faults.
+//! Bytes that come in pieces are cut into lines, and a line is read: its bytes as JSON, its keys,
+//! and the first of its faults.
 #![tactic(auto)]
 
 mod fault;
@@ -6,7 +7,9 @@ mod fields;
 mod json;
 mod ranges;
 mod reader;
+mod split;
 mod tables;
 
 pub use fault::LineFault;
 pub use reader::read_line;
+pub use split::{SplitFault, Splitter};

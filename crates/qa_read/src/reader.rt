@@ -11,8 +11,8 @@ use crate::fault::LineFault;
 use crate::json::{is_blank, json_of};
 use crate::{fields, tables};
 use qa_base::{Key, LineKind};
+use qa_fast_reader::{quick_line, usual_line};
 use qa_format::{Fault, Line};
-use qa_quick::{quick_line, usual_line};
 use serde_json::Value;
 use std::alloc::Global;
 
@@ -37,7 +37,8 @@ fn line_of(alloc: Global, kind: LineKind, object: &Value) -> Result<Line, LineFa
 /// What an object says, by its key `event`.
 #[tactic(auto, unfolding(qa_format::specs::format::Reading::object_says))]
 fn object_says(alloc: Global, value: &Value) -> Result<Line, LineFault>
-    ensures { Gives (λ line. line) result (reading.object_says reading.reader_named (view value.now)) }
+    ensures { Gives (λ line. line) result
+        (reading.object_says reading.reader_named (view value.now)) }
 {
     if !value.is_object() {
         return Err(LineFault::Fault(Fault::NotObject));
@@ -47,7 +48,8 @@ fn object_says(alloc: Global, value: &Value) -> Result<Line, LineFault>
     line_of(alloc, kind, value)
 }
 
-/// What the bytes of a line that is not blank say, or the first of the line's faults, by way of a JSON value.
+/// What the bytes of a line that is not blank say, or the first of the line's faults, by way of a
+/// JSON value.
 ///
 /// It stands apart, so that a line that is read quickly does not pay for its locals.
 #[cold]
@@ -62,8 +64,8 @@ fn read_value(alloc: Global, bytes: &[u8]) -> Result<Line, LineFault>
     object_says(alloc, &value)
 }
 
-/// What the bytes of a line say is put where it is to stand, by way of a JSON value, where the line is not blank; or the
-/// first of the line's faults.
+/// What the bytes of a line say is put where it is to stand, by way of a JSON value, where the line
+/// is not blank; or the first of the line's faults.
 #[cold]
 #[inline(never)]
 #[tactic(auto, unfolding(qa_format::specs::format::Reading::reading_by))]

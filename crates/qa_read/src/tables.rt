@@ -10,8 +10,8 @@ use crate::fields;
 use crate::fields::both;
 use crate::ranges::ranges;
 use qa_base::{
-    Controller, Event, Field, Header, Key, Leave, LossByNumber, MetricValues, Options,
-    PacketNumber, RangeFault, Role, Space, Spans, Ticks, TimeUnit, TimerKind, Version,
+    Controller, Event, Field, Header, Key, LossByNumber, MetricValues, Options, PacketNumber,
+    Permission, RangeFault, Role, Space, Spans, Ticks, TimeUnit, TimerKind, Version,
 };
 use qa_format::Fault;
 use serde_json::Value;
@@ -62,8 +62,8 @@ fn header_fields(object: &Value) -> Result<HeaderFields, Fault>
     both(named, timed)
 }
 
-/// What stands at the keys of the options that versions 2 and 3 have: the limit and the refresh, and
-/// the slack of times and of bytes.
+/// What stands at the keys of the options that versions 2 and 3 have: the limit and the refresh,
+/// and the slack of times and of bytes.
 type OptionFields = ((Option<u64>, bool), (u64, u64));
 
 fn option_fields(object: &Value) -> Result<OptionFields, Fault>
@@ -118,7 +118,8 @@ fn second_options(object: &Value) -> Result<(Options, Option<LossByNumber>), Fau
 
 /// What stands at the keys of all options of version 3.
 fn third_fields(object: &Value) -> Result<(OptionFields, ChoiceFields), Fault>
-    ensures { result ≡ keys.both (tables.option_fields (view object.now)) (tables.choice_fields (view object.now)) }
+    ensures { result ≡ keys.both (tables.option_fields (view object.now))
+        (tables.choice_fields (view object.now)) }
 {
     both(option_fields(object), choice_fields(object))
 }
@@ -147,8 +148,8 @@ fn third_options(object: &Value) -> Result<(Options, Option<LossByNumber>), Faul
     Ok((options, losses))
 }
 
-/// The options of a header. A key that its version has not is looked at no more than any key that no
-/// table has.
+/// The options of a header. A key that its version has not is looked at no more than any key that
+/// no table has.
 fn options(object: &Value) -> Result<(Options, Option<LossByNumber>), Fault>
     ensures { result ≡ tables.options (view object.now) }
 {
@@ -201,7 +202,8 @@ fn with_losses(losses: Option<LossByNumber>, header: Header) -> Result<Header, F
 
 /// What stands at all keys of a header.
 fn header_values(object: &Value) -> Result<(HeaderFields, (Options, Option<LossByNumber>)), Fault>
-    ensures { result ≡ keys.both (tables.header_fields (view object.now)) (tables.options (view object.now)) }
+    ensures { result ≡ keys.both (tables.header_fields (view object.now))
+        (tables.options (view object.now)) }
 {
     both(header_fields(object), options(object))
 }
@@ -234,14 +236,17 @@ pub fn header_of(object: &Value) -> Result<Header, Fault>
 // ---- packets
 
 /// What stands at the keys of a sent line, in the order of their table.
-type SentFields = (Ticks, (Space, (PacketNumber, (u64, (bool, (bool, Leave))))));
+type SentFields = (
+    Ticks,
+    (Space, (PacketNumber, (u64, (bool, (bool, Permission))))),
+);
 
 fn sent_fields(object: &Value) -> Result<SentFields, Fault>
     ensures { result ≡ tables.sent_fields (view object.now) }
 {
     let rest = both(
         fields::required_boolean(Key::InFlight, object),
-        fields::leave(object),
+        fields::permission(object),
     );
     let rest = both(fields::required_boolean(Key::Eliciting, object), rest);
     let rest = both(fields::size(object), rest);
@@ -255,7 +260,9 @@ fn sent_fields(object: &Value) -> Result<SentFields, Fault>
 pub fn sent_of(object: &Value) -> Result<Event, LineFault>
     ensures { Gives (λ event. event) result (tables.sent_of (view object.now)) }
 {
-    let (time, (space, (number, (size, (eliciting, (in_flight, leave)))))) = sent_fields(object)?;
+    let (time, (space, (number, (size, (eliciting, (in_flight, permission)))))) = sent_fields(
+        object,
+    )?;
     if eliciting && !in_flight {
         return Err(LineFault::Fault(Fault::FlagsClash));
     }
@@ -266,7 +273,7 @@ pub fn sent_of(object: &Value) -> Result<Event, LineFault>
         size,
         eliciting,
         in_flight,
-        leave,
+        permission,
     })
 }
 

@@ -1,7 +1,8 @@
 //! The congestion window of NewReno (RFC 9002, section 7 and appendix B).
 ghost use Rattle.std.specs.Prelude.{◌≡◌, ◌≤◌, ◌^◌};
 ghost use Rattle.qa_base.specs.machine.Reno as steps;
-ghost use Rattle.qa_base.specs.values.Limits.{min_datagram_size, max_packet_size, max_initial_window};
+ghost use Rattle.qa_base.specs.values.Limits.{min_datagram_size, max_packet_size};
+ghost use Rattle.qa_base.specs.values.Limits.{max_initial_window};
 
 use qa_base::Ticks;
 use qa_base::constants::{LOSS_REDUCTION_DIVISOR, minimum_window};
@@ -26,9 +27,18 @@ impl Model for Reno {
 
     ghost Value = { Control };
 
-    ghost view = { λ r. record { window = r.window; ssthresh = r.ssthresh; recovery_start_time = r.recovery_start_time } };
+    ghost view = { λ r. record {
+      window = r.window;
+      ssthresh = r.ssthresh;
+      recovery_start_time = r.recovery_start_time;
+    } };
 
-    ghost inverse = { λ r. record { window = r.window; ssthresh = r.ssthresh; recovery_start_time = r.recovery_start_time } };
+    ghost inverse = { λ r.
+        record {
+          window = r.window;
+          ssthresh = r.ssthresh;
+          recovery_start_time = r.recovery_start_time;
+        } };
 }
 
 impl Reno {
@@ -63,11 +73,18 @@ impl Reno {
     /// Where that packet was sent after recovery began, or there is no recovery, this enters
     /// recovery and returns true: `ssthresh` is half the window, and the window is that, but at
     /// least two datagrams. Else nothing changes and it returns false.
-    pub fn hit(&mut self, last_sent: Ticks, now: Ticks, max_datagram_size: u64) -> bool
+    pub fn on_congestion_event(
+        &mut self,
+        last_sent: Ticks,
+        now: Ticks,
+        max_datagram_size: u64,
+    ) -> bool
         requires datagram_low { min_datagram_size ≤ max_datagram_size }
         requires datagram_high { max_datagram_size ≤ max_packet_size }
-        ensures entered { result ≡ steps.is_outside_recovery self.old.recovery_start_time last_sent }
-        ensures state { self.new ≡ steps.hit max_datagram_size last_sent now self.old }
+        ensures entered { result
+            ≡ steps.is_outside_recovery self.old.recovery_start_time last_sent }
+        ensures state { self.new
+            ≡ steps.on_congestion_event max_datagram_size last_sent now self.old }
     {
         if !self.is_outside_recovery(last_sent) {
             return false;
@@ -83,10 +100,10 @@ impl Reno {
 
     /// Persistent congestion: the window falls to two datagrams, and recovery ends (RFC 9002,
     /// section 7.6.2, B.8). `max_datagram_size` is 1200 to 65527 bytes.
-    pub fn collapse(&mut self, max_datagram_size: u64)
+    pub fn on_persistent_congestion(&mut self, max_datagram_size: u64)
         requires datagram_low { min_datagram_size ≤ max_datagram_size }
         requires datagram_high { max_datagram_size ≤ max_packet_size }
-        ensures { self.new ≡ steps.collapse max_datagram_size self.old }
+        ensures { self.new ≡ steps.on_persistent_congestion max_datagram_size self.old }
     {
         *self = Reno {
             window: minimum_window(max_datagram_size),
@@ -99,9 +116,9 @@ impl Reno {
     /// (RFC 9002, B.5). The window is at least 1 and at most 2^62 bytes, and `max_datagram_size` is
     /// 1200 to 65527.
     ///
-    /// A packet that was sent at recovery's beginning or before changes nothing. Below the threshold
-    /// the window grows by the packet's size (section 7.3.1), and else by its part of a datagram
-    /// for each window, rounded down (7.3.3).
+    /// A packet that was sent at recovery's beginning or before changes nothing. Below the
+    /// threshold the window grows by the packet's size (section 7.3.1), and else by its part of a
+    /// datagram for each window, rounded down (7.3.3).
     pub fn grow(&mut self, size: u64, sent: Ticks, max_datagram_size: u64)
         requires window_low { 1 ≤ self.old.window }
         requires window_high { self.old.window ≤ 2 ^ 62 }

@@ -1,6 +1,7 @@
 //! The estimate of the round-trip time (RFC 9002, section 5).
 ghost use Rattle.std.specs.Prelude.{◌≡◌, ◌≤◌, ◌-◌, ◌+◌, ◌*◌, ◌/◌};
-ghost use Rattle.qa_base.specs.values.Constants.{persistent_congestion_threshold, time_threshold_parts, time_threshold_divisor};
+ghost use Rattle.qa_base.specs.values.Constants.{persistent_congestion_threshold};
+ghost use Rattle.qa_base.specs.values.Constants.{time_threshold_parts, time_threshold_divisor};
 ghost use Rattle.qa_base.specs.values.Limits.{max_time};
 ghost use Rattle.qa_base.specs.machine.Rtt as estimates;
 
@@ -94,8 +95,8 @@ impl Rtt {
         };
     }
 
-    /// Sets `min_rtt` to the latest sample, as a sender should after persistent congestion (RFC 9002,
-    /// section 5.2).
+    /// Sets `min_rtt` to the latest sample, as a sender should after persistent congestion (RFC
+    /// 9002, section 5.2).
     pub fn refresh(&mut self)
         ensures { self.new ≡ estimates.refreshed self.old }
     {

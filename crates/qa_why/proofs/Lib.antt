@@ -1,1 +1,6 @@
-pub mod Pushed
+mod Among
+mod Judged
+pub mod Told
+mod Found
+pub mod suggest_lemmas
+pub mod json_rows_lemmas

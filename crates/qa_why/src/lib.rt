@@ -1,22 +1,31 @@
-//! The text that says why an event breaks a rule: what it is and did, the facts of the rule, and where
-//! the rule stands.
+//! What is written of a trace: why it is refused or cannot be read, or that it is accepted; and a
+//! row for each of its lines.
+//!
+//! `suggest` says which key a wrong one is probably meant to be, `json_rows` what the machine held
+//! behind a line.
 #![tactic(auto)]
 
-mod deadlines;
-mod facts;
-mod pieces;
-mod predicates;
-mod reports;
-mod runs;
-mod sending;
-mod sources;
-mod subjects;
+mod causes;
+mod faults;
+mod hints;
+mod json_rows;
+mod lines;
+mod meant;
+mod notes;
+mod objects;
+mod reasons;
+mod suggest;
+mod telling;
+mod texts;
+mod values;
 
-pub use deadlines::due_time;
-pub use facts::push_facts;
-pub use pieces::{push_name, push_number, push_wide, push_words};
-pub use predicates::push_predicate;
-pub use reports::{differs, is_of_controller};
-pub use runs::push_owed;
-pub use sources::source;
-pub use subjects::push_subject;
+pub use causes::{Why, whole, why_of};
+pub use json_rows::{JsonRow, object, row, rows};
+pub use lines::{extend, first_bytes, printed};
+pub use notes::{Both, NoNotes, Notes};
+pub use objects::{push_rule, refused_members};
+pub use reasons::Reasons;
+pub use suggest::{is_key, keys_of, near, stands_for};
+pub use telling::{find, unless_accepted};
+pub use texts::broken;
+pub use values::data_of;

@@ -10,7 +10,7 @@ use Rattle.std.proofs.lemmas.List.Recursion.{or_push}
 use Rattle.qa_check.specs.declared.auditing.Outcome.TheVariants.{Accepted, Refused, Unreadable}
 use Rattle.qa_commands.specs.Checking.{Then}
 use Rattle.qa_commands.specs.Ending.{greatest}
-use Rattle.qa_why_arguments.specs.Asked.{Wanted}
+use Rattle.qa_arguments.specs.why.Asked.{Wanted}
 use Rattle.qa_why_command.specs.Ending.{Ended, status_of, stops}
 use Rattle.qa_why_command.specs.Streams.{Streams}
 use Rattle.qa_why_command.specs.Tally.{count_of, counted, is_accepted, is_refused, is_unreadable, one_more, tally_of}

@@ -1,2 +1,3 @@
 mod Endings
 mod Noted
+pub mod warnings_lemmas

@@ -2,7 +2,7 @@
 use Rattle.std.proofs.Common.{◌≡◌, ℕ, true, false, List, Option, Some, Result, Ok, Err, IfOk, take, refl, subst}
 use Rattle.std.specs.Io.KnownBytes.{Appends}
 use Rattle.std.specs.Prelude.{OnOk, OnErr, IfErr, ◌&&◌, not}
-use Rattle.qa_all.specs.All.{past_conduct}
+use Rattle.qa_violations.specs.all.All.{past_sender_rules}
 use Rattle.qa_check.proofs.Writing.{begins_taken}
 use Rattle.qa_check.specs.Audit.{ReadsBy, ReadsEnoughBy, is_read_fault, is_write_fault, outcome_of}
 use Rattle.qa_check.specs.Failures.{failures_after}
@@ -13,17 +13,17 @@ use Rattle.qa_check.specs.declared.auditing.Outcome.{Outcome}
 use Rattle.qa_format.specs.format.Reading.{reading}
 use Rattle.qa_format.specs.verdicts.Explain.{told}
 use Rattle.qa_format.specs.verdicts.Verdict.{Judging, strict, verdict}
-use Rattle.qa_rows.specs.Rows.{row_of}
-use Rattle.qa_warnings.specs.Keeping.{Covers}
-use Rattle.qa_warnings.specs.declared.warnings.Warnings.{Warnings}
-use Rattle.qa_why_arguments.specs.Asked.{Wanted}
-use Rattle.qa_why_arguments.specs.declared.arguments.Told.{Told}
-use Rattle.qa_why_arguments.specs.declared.arguments.Told.TheVariants.{AllRows, Rows}
+use Rattle.qa_why.specs.json_rows.Rows.{row_of}
+use Rattle.qa_why_command.specs.warnings.Keeping.{Covers}
+use Rattle.qa_why_command.specs.declared.warnings.warnings.Warnings.{Warnings}
+use Rattle.qa_arguments.specs.why.Asked.{Wanted}
+use Rattle.qa_arguments.specs.declared.why.arguments.Told.{Told}
+use Rattle.qa_arguments.specs.declared.why.arguments.Told.TheVariants.{AllRows, Rows}
 use Rattle.qa_why_command.specs.Commands.{Refuses}
 use Rattle.qa_why_command.specs.Noted.{TellsNoted, WasWarned, unnoted}
 use Rattle.qa_why_command.specs.Streams.{Stream, WasTold, streams}
 use Rattle.qa_why_command.specs.Telling.{Counts, CountsFaults, StoppedRows, TellsRead, Warns, are_rows, judging_of, outcome_by, text_of}
-use Rattle.qa_why_trace.specs.Why.{good_lines}
+use Rattle.qa_why.specs.Why.{good_lines}
 
 -- by the contract of `write_whole`
 pub told_whole : (r : Result (Unit {0}) AuditFault) (a b : Option (List ℕ)) (n n' : ℕ) (bytes : List ℕ) → OnOk r (Appends a b bytes) → OnErr r ((k : ℕ) × Appends a b (take k bytes))
@@ -140,7 +140,7 @@ rows_read w name (Ok outcome) input input' output output' error error' told = to
 rows_read w name (Err fault) input input' output output' error error' told = told
 
 pub all_rows_read : (w : Wanted) (name : List ℕ) (result : Result Outcome AuditFault) (input input' output output' error error' : Stream)
-    → RowsTold past_conduct result input input' output output' error error' × CountsFaults result input input' output output'
+    → RowsTold past_sender_rules result input input' output output' error error' × CountsFaults result input input' output output'
     → TellsRead AllRows w name result (streams input output error) (streams input' output' error')
 all_rows_read w name (Ok outcome) input input' output output' error error' told = told
 all_rows_read w name (Err fault) input input' output output' error error' told = told

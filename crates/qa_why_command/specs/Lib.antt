@@ -5,3 +5,4 @@ pub mod Streams
 pub mod Tally
 pub mod Telling
 pub mod Traces
+pub mod warnings

@@ -2,7 +2,8 @@
 use Rattle.std.specs.Prelude.{ℕ, Bool, List, Option}
 use Rattle.qa_commands.specs.Writes.{Writes}
 
--- the bytes that a reader has left or that were written to a writer, where it tells them, and the count of its failures
+-- the bytes that a reader has left or that were written to a writer, where it tells them, and the
+-- count of its failures
 abbrev pub Stream : Type 0
 Stream = Option (List ℕ) × ℕ
 

@@ -1,10 +1,11 @@
 -- How many traces came to which verdict, and the exit status.
-use Rattle.std.specs.Prelude.{ℕ, ◌+◌, ◌-◌, ◌^◌, Bool, true, false, max, min, map, codes, List, ◌++◌, [], Ok, Err}
+use Rattle.std.specs.Prelude.{ℕ, ◌+◌, ◌-◌, ◌^◌, Bool, true, false, max, min, map, codes, List, ◌++◌}
+use Rattle.std.specs.Prelude.{[], Ok, Err}
 use Rattle.std.specs.List.{count_by}
 use Rattle.qa_check.specs.declared.auditing.Outcome.{Outcome}
 use Rattle.qa_check.specs.declared.auditing.Outcome.TheVariants.{Accepted, Refused, Unreadable}
 use Rattle.qa_commands.specs.Ending.{greatest}
-use Rattle.qa_why.specs.Pieces.{numbered}
+use Rattle.qa_explain.specs.text.Pieces.{numbered}
 use Rattle.qa_why_command.specs.Ending.{Ended, status_of}
 use Rattle.qa_why_command.specs.declared.tally.Tally.{Tally}
 
@@ -64,5 +65,6 @@ tally_of endings = record {
 
 unfoldable pub tally_line : Tally → List ℕ
 tally_line t =
-    numbered [] (t.accepted + t.refused + t.unreadable) ++ numbered (codes " traces: ") t.accepted ++ numbered (codes " accepted, ") t.refused
+    numbered [] (t.accepted + t.refused + t.unreadable) ++ numbered (codes " traces: ") t.accepted
+    ++ numbered (codes " accepted, ") t.refused
     ++ numbered (codes " refused, ") t.unreadable ++ codes " unreadable\n"

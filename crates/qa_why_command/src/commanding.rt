@@ -1,15 +1,15 @@
 //! The whole command: what its arguments ask for.
 ghost use Rattle.std.specs.Prelude.{◌≡◌, false, map, string_bytes};
-ghost use Rattle.qa_why_arguments.specs.Words.{asked};
+ghost use Rattle.qa_arguments.specs.why.Words.{asked};
 ghost use Rattle.qa_why_command.specs.Commands.{Commands, IsRefused, Shows, asks_for_input};
 ghost use Rattle.qa_why_command.specs.Streams.{streams};
 
 use crate::ending::Failure;
 use crate::traces::tell;
 use qa_arguments::ArgumentsFault;
+use qa_arguments::why::{Asked, parse};
 use qa_check::{AuditFault, Sink, Source, write_whole};
 use qa_commands::write_line;
-use qa_why_arguments::{Asked, parse};
 use std::alloc::Global;
 use std::rt::Files;
 
@@ -21,8 +21,9 @@ const FAILED: u8 = 3;
 
 /// Does what the arguments behind the program's name ask for, and returns the exit status.
 ///
-/// What is told goes to the output, and the lines of failures to the error stream, whose own failure
-/// changes nothing. Standard input is read where no file is named, and where one is named `-`.
+/// What is told goes to the output, and the lines of failures to the error stream, whose own
+/// failure changes nothing. Standard input is read where no file is named, and where one is named
+/// `-`.
 pub fn command<R: Files, I: Source, O: Sink, E: Sink>(
     rt: &R,
     alloc: Global,
@@ -32,8 +33,12 @@ pub fn command<R: Files, I: Source, O: Sink, E: Sink>(
     error: &mut E,
 ) -> u8
     ensures told { Commands (map string_bytes arguments.now) result
-        (streams (I.left input.old, I.read_failures input.old) (O.held output.old, O.write_failures output.old) (E.held error.old, E.write_failures error.old))
-        (streams (I.left input.new, I.read_failures input.new) (O.held output.new, O.write_failures output.new) (E.held error.new, E.write_failures error.new)) }
+        (streams (I.left input.old, I.read_failures input.old)
+        (O.held output.old, O.write_failures output.old)
+        (E.held error.old, E.write_failures error.old))
+        (streams (I.left input.new, I.read_failures input.new)
+        (O.held output.new, O.write_failures output.new)
+        (E.held error.new, E.write_failures error.new)) }
     ensures unread { asks_for_input (asked (map string_bytes arguments.now)) ≡ false
         → input.new ≡ input.old }
 {
@@ -51,9 +56,11 @@ pub fn command<R: Files, I: Source, O: Sink, E: Sink>(
     }
 }
 
-/// Ends where the arguments cannot be read: tells it on standard error, and returns the exit status.
+/// Ends where the arguments cannot be read: tells it on standard error, and returns the exit
+/// status.
 pub fn refuse<E: Sink>(fault: ArgumentsFault, error: &mut E) -> u8
-    ensures { IsRefused fault result (E.held error.old, E.write_failures error.old) (E.held error.new, E.write_failures error.new) }
+    ensures { IsRefused fault result (E.held error.old, E.write_failures error.old)
+        (E.held error.new, E.write_failures error.new) }
 {
     match fault {
         ArgumentsFault::Refused => {
@@ -70,8 +77,10 @@ pub fn refuse<E: Sink>(fault: ArgumentsFault, error: &mut E) -> u8
 /// Writes the help or the version.
 fn show<O: Sink, E: Sink>(text: &str, output: &mut O, error: &mut E) -> u8
     ensures { Shows text.now result
-        (O.held output.old, O.write_failures output.old) (O.held output.new, O.write_failures output.new)
-        (E.held error.old, E.write_failures error.old) (E.held error.new, E.write_failures error.new) }
+        (O.held output.old, O.write_failures output.old)
+        (O.held output.new, O.write_failures output.new)
+        (E.held error.old, E.write_failures error.old)
+        (E.held error.new, E.write_failures error.new) }
 {
     match write_whole(output, text.as_bytes()) {
         Ok(()) => 0,

@@ -1,5 +1,5 @@
-//! What the program `qaudit-why` does with its arguments: it tells of each trace why it is refused or
-//! cannot be read, each failure on standard error, and returns the exit status.
+//! What `qaudit-why` does with its arguments: it tells of each trace why it is refused or cannot be
+//! read, and what it is warned of, each failure on standard error, and returns the exit status.
 #![tactic(auto)]
 
 mod commanding;
@@ -7,7 +7,9 @@ mod ending;
 mod tally;
 mod telling;
 mod traces;
+mod warnings;
 
 pub use commanding::{command, refuse};
 pub use ending::Failure;
 pub use tally::Tally;
+pub use warnings::Warnings;

@@ -4,10 +4,11 @@ ghost use Rattle.qa_why_command.specs.Tally as defined;
 
 use crate::ending::Failure;
 use qa_check::Outcome;
-use qa_why::{push_number, push_wide, push_words};
+use qa_explain::text::{push_number, push_wide, push_words};
 use std::alloc::{AllocError, Global};
 
-/// How many traces came to which verdict, and the greatest exit status so far. Counts stay at 2^64 - 1.
+/// How many traces came to which verdict, and the greatest exit status so far. Counts stay at 2^64
+/// - 1.
 #[derive(Clone, Copy)]
 pub struct Tally {
     pub accepted: u64,

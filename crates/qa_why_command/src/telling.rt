@@ -1,23 +1,23 @@
-//! What is told of a trace, with warnings of what does nothing silently in it where they are wanted.
+//! What is told of a trace, with warnings of what does nothing silently in it where they are
+//! wanted.
 ghost use Rattle.std.specs.Prelude.{◌≡◌};
-ghost use Rattle.qa_why_arguments.specs.Asked.{wanted};
-ghost use Rattle.qa_why_arguments.specs.declared.arguments.Told.TheVariants.{All, Why};
+ghost use Rattle.qa_arguments.specs.why.Asked.{wanted};
+ghost use Rattle.qa_arguments.specs.declared.why.arguments.Told.TheVariants.{All, Why};
 ghost use Rattle.qa_why_command.specs.Noted.{WasWarned, unnoted};
 ghost use Rattle.qa_why_command.specs.Streams.{streams};
 ghost use Rattle.qa_why_command.specs.Telling.{TellsRead, manner as manner_of};
 
-use qa_all::{rows_all, why_all};
-use qa_around::{Manner, why_around};
+use crate::warnings::Warnings;
+use qa_arguments::why::{Inquiry, Told};
 use qa_check::{AuditFault, Outcome, Sink, Source, write_whole};
-use qa_rows::rows;
-use qa_running::Running;
-use qa_warnings::Warnings;
-use qa_why_arguments::{Inquiry, Told};
-use qa_why_trace::{Form, NoNotes};
+use qa_format::Form;
+use qa_sender::Running;
+use qa_violations::{Manner, rows_all, why_all, why_around};
+use qa_why::{NoNotes, rows};
 use std::alloc::Global;
 
-/// Tells of the trace of this name that is read, and of its warnings on the error stream, whose failure
-/// changes nothing.
+/// Tells of the trace of this name that is read, and of its warnings on the error stream, whose
+/// failure changes nothing.
 pub fn tell_read<R: Source, O: Sink, E: Sink>(
     alloc: Global,
     inquiry: &Inquiry<'_>,
@@ -27,8 +27,12 @@ pub fn tell_read<R: Source, O: Sink, E: Sink>(
     error: &mut E,
 ) -> Result<Outcome, AuditFault>
     ensures { TellsRead inquiry.now.told (wanted inquiry.now) name.now result
-        (streams (R.left reader.old, R.read_failures reader.old) (O.held output.old, O.write_failures output.old) (E.held error.old, E.write_failures error.old))
-        (streams (R.left reader.new, R.read_failures reader.new) (O.held output.new, O.write_failures output.new) (E.held error.new, E.write_failures error.new)) }
+        (streams (R.left reader.old, R.read_failures reader.old)
+        (O.held output.old, O.write_failures output.old)
+        (E.held error.old, E.write_failures error.old))
+        (streams (R.left reader.new, R.read_failures reader.new)
+        (O.held output.new, O.write_failures output.new)
+        (E.held error.new, E.write_failures error.new)) }
 {
     match inquiry.told {
         Told::Why(form) => tell_why(alloc, inquiry, form, name, reader, output, error),
@@ -60,8 +64,12 @@ fn tell_why<R: Source, O: Sink, E: Sink>(
     error: &mut E,
 ) -> Result<Outcome, AuditFault>
     ensures { TellsRead (Why form) (wanted inquiry.now) name.now result
-        (streams (R.left reader.old, R.read_failures reader.old) (O.held output.old, O.write_failures output.old) (E.held error.old, E.write_failures error.old))
-        (streams (R.left reader.new, R.read_failures reader.new) (O.held output.new, O.write_failures output.new) (E.held error.new, E.write_failures error.new)) }
+        (streams (R.left reader.old, R.read_failures reader.old)
+        (O.held output.old, O.write_failures output.old)
+        (E.held error.old, E.write_failures error.old))
+        (streams (R.left reader.new, R.read_failures reader.new)
+        (O.held output.new, O.write_failures output.new)
+        (E.held error.new, E.write_failures error.new)) }
 {
     let manner = manner(inquiry, form);
     if inquiry.warn {
@@ -75,7 +83,7 @@ fn tell_why<R: Source, O: Sink, E: Sink>(
     without_notes(told)
 }
 
-/// Tells of all departures of a trace, with the lines before where they are wanted.
+/// Tells of all violations of a trace, with the lines before where they are wanted.
 fn tell_all<R: Source, O: Sink, E: Sink>(
     alloc: Global,
     inquiry: &Inquiry<'_>,
@@ -86,8 +94,12 @@ fn tell_all<R: Source, O: Sink, E: Sink>(
     error: &mut E,
 ) -> Result<Outcome, AuditFault>
     ensures { TellsRead (All form) (wanted inquiry.now) name.now result
-        (streams (R.left reader.old, R.read_failures reader.old) (O.held output.old, O.write_failures output.old) (E.held error.old, E.write_failures error.old))
-        (streams (R.left reader.new, R.read_failures reader.new) (O.held output.new, O.write_failures output.new) (E.held error.new, E.write_failures error.new)) }
+        (streams (R.left reader.old, R.read_failures reader.old)
+        (O.held output.old, O.write_failures output.old)
+        (E.held error.old, E.write_failures error.old))
+        (streams (R.left reader.new, R.read_failures reader.new)
+        (O.held output.new, O.write_failures output.new)
+        (E.held error.new, E.write_failures error.new)) }
 {
     let manner = manner(inquiry, form);
     if inquiry.warn {
@@ -111,13 +123,15 @@ fn without_notes(noted: Result<(Outcome, NoNotes), AuditFault>) -> Result<Outcom
     }
 }
 
-/// Writes the warnings of a trace that has a verdict on the error stream, whose failure changes nothing.
+/// Writes the warnings of a trace that has a verdict on the error stream, whose failure changes
+/// nothing.
 fn warned<E: Sink>(
     noted: Result<(Outcome, Warnings), AuditFault>,
     error: &mut E,
 ) -> Result<Outcome, AuditFault>
     ensures outcome { result ≡ unnoted noted }
-    ensures told { WasWarned noted (E.held error.old, E.write_failures error.old) (E.held error.new, E.write_failures error.new) }
+    ensures told { WasWarned noted (E.held error.old, E.write_failures error.old)
+        (E.held error.new, E.write_failures error.new) }
 {
     match noted {
         Ok((outcome, warnings)) => {

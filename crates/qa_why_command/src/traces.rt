@@ -1,7 +1,7 @@
 //! What is told of each trace in its turn, and behind several of how many came to which verdict.
 ghost use Rattle.std.specs.Prelude.{◌≡◌, List, Result, false, map};
 ghost use Rattle.std.specs.List.{list_any};
-ghost use Rattle.qa_why_arguments.specs.Asked.{wanted};
+ghost use Rattle.qa_arguments.specs.why.Asked.{wanted};
 ghost use Rattle.qa_why_command.specs.Ending as endings;
 ghost use Rattle.qa_why_command.specs.Ending.{Ended};
 ghost use Rattle.qa_why_command.specs.Streams.{streams};
@@ -11,9 +11,9 @@ ghost use Rattle.qa_why_command.specs.Traces as defined;
 use crate::ending::{Failure, ended_by, stops};
 use crate::tally::Tally;
 use crate::telling::tell_read;
+use qa_arguments::why::{Inquiry, Told};
 use qa_check::{AuditFault, Metered, Outcome, Sink, Source, write_whole};
-use qa_why_arguments::{Inquiry, Told};
-use qa_why_trace::Form;
+use qa_format::Form;
 use std::alloc::Global;
 use std::fs;
 use std::rt::Files;
@@ -24,7 +24,8 @@ const STANDARD_INPUT: &str = "-";
 /// Tells of each trace, and behind several in text how many came to which verdict. Returns the exit
 /// status, the greatest of those of the traces.
 ///
-/// Each failure is told on standard error. All but a failed write leave the traces behind it to be told.
+/// Each failure is told on standard error. All but a failed write leave the traces behind it to be
+/// told.
 pub fn tell<R: Files, I: Source, O: Sink, E: Sink>(
     rt: &R,
     alloc: Global,
@@ -34,8 +35,12 @@ pub fn tell<R: Files, I: Source, O: Sink, E: Sink>(
     error: &mut E,
 ) -> u8
     ensures told { defined.TellsAll (wanted inquiry.now) result
-        (streams (I.left input.old, I.read_failures input.old) (O.held output.old, O.write_failures output.old) (E.held error.old, E.write_failures error.old))
-        (streams (I.left input.new, I.read_failures input.new) (O.held output.new, O.write_failures output.new) (E.held error.new, E.write_failures error.new)) }
+        (streams (I.left input.old, I.read_failures input.old)
+        (O.held output.old, O.write_failures output.old)
+        (E.held error.old, E.write_failures error.old))
+        (streams (I.left input.new, I.read_failures input.new)
+        (O.held output.new, O.write_failures output.new)
+        (E.held error.new, E.write_failures error.new)) }
     ensures unread { list_any defined.is_input (defined.names_of (wanted inquiry.now).files) ≡ false
         → input.new ≡ input.old }
 {
@@ -72,8 +77,12 @@ fn tell_traces<R: Files, I: Source, O: Sink, E: Sink>(
 ) -> (Tally, bool)
     ensures told { (ended : List Ended)
         × defined.TellsEach (wanted inquiry.now) (defined.names_of (wanted inquiry.now).files) ended
-        (streams (I.left input.old, I.read_failures input.old) (O.held output.old, O.write_failures output.old) (E.held error.old, E.write_failures error.old))
-        (streams (I.left input.new, I.read_failures input.new) (O.held output.new, O.write_failures output.new) (E.held error.new, E.write_failures error.new))
+        (streams (I.left input.old, I.read_failures input.old)
+        (O.held output.old, O.write_failures output.old)
+        (E.held error.old, E.write_failures error.old))
+        (streams (I.left input.new, I.read_failures input.new)
+        (O.held output.new, O.write_failures output.new)
+        (E.held error.new, E.write_failures error.new))
         × (result.0 ≡ tally_of ended) × (result.1 ≡ list_any endings.stops ended) }
     ensures unread { list_any defined.is_input (defined.names_of (wanted inquiry.now).files) ≡ false
         → input.new ≡ input.old }
@@ -96,8 +105,12 @@ fn tell_each<R: Files, I: Source, O: Sink, E: Sink>(
 ) -> (Tally, bool)
     ensures told { (ended : List Ended)
         × defined.TellsEach (wanted inquiry.now) (map (λ name. name.now) names.now) ended
-        (streams (I.left input.old, I.read_failures input.old) (O.held output.old, O.write_failures output.old) (E.held error.old, E.write_failures error.old))
-        (streams (I.left input.new, I.read_failures input.new) (O.held output.new, O.write_failures output.new) (E.held error.new, E.write_failures error.new))
+        (streams (I.left input.old, I.read_failures input.old)
+        (O.held output.old, O.write_failures output.old)
+        (E.held error.old, E.write_failures error.old))
+        (streams (I.left input.new, I.read_failures input.new)
+        (O.held output.new, O.write_failures output.new)
+        (E.held error.new, E.write_failures error.new))
         × (result.0 ≡ tally_of ended) × (result.1 ≡ list_any endings.stops ended) }
     ensures unread { list_any defined.is_input (map (λ name. name.now) names.now) ≡ false
         → input.new ≡ input.old }
@@ -124,8 +137,12 @@ fn tell_trace<R: Files, I: Source, O: Sink, E: Sink>(
     error: &mut E,
 ) -> Result<Outcome, Failure>
     ensures told { defined.TellsTrace (wanted inquiry.now) name.now result
-        (streams (I.left input.old, I.read_failures input.old) (O.held output.old, O.write_failures output.old) (E.held error.old, E.write_failures error.old))
-        (streams (I.left input.new, I.read_failures input.new) (O.held output.new, O.write_failures output.new) (E.held error.new, E.write_failures error.new)) }
+        (streams (I.left input.old, I.read_failures input.old)
+        (O.held output.old, O.write_failures output.old)
+        (E.held error.old, E.write_failures error.old))
+        (streams (I.left input.new, I.read_failures input.new)
+        (O.held output.new, O.write_failures output.new)
+        (E.held error.new, E.write_failures error.new)) }
     ensures unread { defined.is_input name.now ≡ false → input.new ≡ input.old }
 {
     match tell_of(rt, alloc, inquiry, name, input, output, error) {
@@ -148,8 +165,12 @@ fn tell_of<R: Files, I: Source, O: Sink, E: Sink>(
     error: &mut E,
 ) -> Result<Outcome, Failure>
     ensures told { defined.TellsBefore (wanted inquiry.now) name.now result
-        (streams (I.left input.old, I.read_failures input.old) (O.held output.old, O.write_failures output.old) (E.held error.old, E.write_failures error.old))
-        (streams (I.left input.new, I.read_failures input.new) (O.held output.new, O.write_failures output.new) (E.held error.new, E.write_failures error.new)) }
+        (streams (I.left input.old, I.read_failures input.old)
+        (O.held output.old, O.write_failures output.old)
+        (E.held error.old, E.write_failures error.old))
+        (streams (I.left input.new, I.read_failures input.new)
+        (O.held output.new, O.write_failures output.new)
+        (E.held error.new, E.write_failures error.new)) }
     ensures unread { defined.is_input name.now ≡ false → input.new ≡ input.old }
 {
     if name == STANDARD_INPUT {
@@ -165,8 +186,10 @@ fn tell_of<R: Files, I: Source, O: Sink, E: Sink>(
 /// Tells how many traces came to which verdict, and returns the exit status.
 fn tell_counts<O: Sink, E: Sink>(alloc: Global, tally: &Tally, output: &mut O, error: &mut E) -> u8
     ensures { defined.TellsCounts tally.now result
-        (O.held output.old, O.write_failures output.old) (O.held output.new, O.write_failures output.new)
-        (E.held error.old, E.write_failures error.old) (E.held error.new, E.write_failures error.new) }
+        (O.held output.old, O.write_failures output.old)
+        (O.held output.new, O.write_failures output.new)
+        (E.held error.old, E.write_failures error.old)
+        (E.held error.new, E.write_failures error.new) }
 {
     match write_tally(alloc, tally, output) {
         Ok(()) => tally.status,
@@ -179,7 +202,8 @@ fn tell_counts<O: Sink, E: Sink>(alloc: Global, tally: &Tally, output: &mut O, e
 
 /// Writes how many traces came to which verdict.
 fn write_tally<O: Sink>(alloc: Global, tally: &Tally, output: &mut O) -> Result<(), Failure>
-    ensures { defined.WritesCounts tally.now result (O.held output.old, O.write_failures output.old) (O.held output.new, O.write_failures output.new) }
+    ensures { defined.WritesCounts tally.now result (O.held output.old, O.write_failures output.old)
+        (O.held output.new, O.write_failures output.new) }
 {
     let Ok(line) = tally.line(alloc) else {
         return Err(Failure::Audit(AuditFault::OutOfMemory));

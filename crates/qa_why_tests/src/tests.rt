@@ -1,5 +1,5 @@
 //! The tests, by what they are about.
 mod all;
 mod around;
-mod departures;
+mod violations;
 mod warnings;

@@ -1,5 +1,5 @@
-//! The program `qaudit`: audits traces, and writes their reports, or what explains them, to standard
-//! output.
+//! The program `qaudit`: audits traces, and writes their reports, or what explains them, to
+//! standard output.
 #![tactic(auto)]
 
 use qa_arguments::read_arguments;

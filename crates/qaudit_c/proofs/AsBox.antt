@@ -6,8 +6,8 @@ use Rattle.std_alloc.proofs.BoxSteps.Form.{Bx}
 use Rattle.std_heap.specs.contracts.Global as Heap
 use Rattle.std_heap.specs.contracts.GlobalAllocator.TheImpl.{ghosts, dict}
 use Rattle.std_heap.proofs.Global.TheLaws as heap
-use Rattle.qa_session.specs.contracts.Session as Session
-use Rattle.qa_session.proofs.Session.TheLaws as session
+use Rattle.qa_embed.specs.contracts.Session as Session
+use Rattle.qa_embed.proofs.Session.TheLaws as session
 use Rattle.qaudit_c.specs.contracts.parts.Parts as Parts
 use Rattle.qaudit_c.specs.contracts.handle.Handle as Handle
 

@@ -1,13 +1,14 @@
 -- What each call of C leaves of what is kept, and returns.
-use Rattle.std.specs.Prelude.{◌≡◌, ◌≢◌, ◌⊎◌, ◌≤◌, ◌<◌, ◌++◌, ℕ, true, false, List, length, drop, Option, Some, None}
+use Rattle.std.specs.Prelude.{◌≡◌, ◌≢◌, ◌⊎◌, ◌≤◌, ◌<◌, ◌++◌, ℕ, true, false, List, length, drop}
+use Rattle.std.specs.Prelude.{Option, Some, None}
 use Rattle.qa_check.specs.Auditor.{is_between}
 use Rattle.qa_check.specs.Standing.{IsLineOf}
 use Rattle.qa_format.specs.declared.line.Line.{Line}
 use Rattle.qa_format.specs.declared.verdict.Verdict.{Verdict}
 use Rattle.qa_format.specs.format.Lines.{with_lf}
-use Rattle.qa_session.specs.Session.{Run, IsFed, phase_of, verdict_in}
-use Rattle.qa_session.specs.declared.Phase.{Phase}
-use Rattle.qa_session.specs.declared.Phase.TheVariants.{Open, Fixed, Finished, OutOfMemory}
+use Rattle.qa_embed.specs.Session.{Run, IsFed, phase_of, verdict_in}
+use Rattle.qa_embed.specs.declared.Phase.{Phase}
+use Rattle.qa_embed.specs.declared.Phase.TheVariants.{Open, Fixed, Finished, OutOfMemory}
 
 -- ---- statuses
 
@@ -35,11 +36,14 @@ HoldsFed (Some run) bytes = IsFed run bytes
 
 -- ---- bytes
 
--- a session stays as it is once it is finished, and is fed the piece before
+-- a session is fed the piece while it is open, and stays as it is from then on; it is not finished
+-- by this
 pub record FeedsRun (piece : List ℕ) (result : ℕ) (old new : Run) : Type 0 where
   pub status : result ≡ phase_number (phase_of new)
   pub fed : old.finished ≡ false → (bytes : List ℕ) → IsFed old bytes → IsFed new (bytes ++ piece)
   pub finished : old.finished ≡ true → new ≡ old
+  pub same : new.finished ≡ old.finished
+  pub kept : phase_of old ≢ Open → new ≡ old
 
 abbrev pub Feeds : List ℕ → ℕ → Option Run → Option Run → Type 0
 Feeds piece result None new = (result ≡ 4) × (new ≡ None)
@@ -47,11 +51,13 @@ Feeds piece result (Some old) new = (run : Run) × (new ≡ Some run) × FeedsRu
 
 -- ---- the end
 
+-- a session is finished, and keeps a verdict that was fixed before
 pub record FinishesRun (result : ℕ) (old new : Run) : Type 0 where
   pub status : result ≡ phase_number (phase_of new)
   pub over : new.finished ≡ true
   pub known : result ≢ 0
   pub fed : (bytes : List ℕ) → IsFed old bytes → IsFed new bytes
+  pub kept : phase_of old ≢ Open → new.audit ≡ old.audit
 
 abbrev pub Finishes : ℕ → Option Run → Option Run → Type 0
 Finishes result None new = (result ≡ 4) × (new ≡ None)
@@ -59,11 +65,13 @@ Finishes result (Some old) new = (run : Run) × (new ≡ Some run) × FinishesRu
 
 -- ---- a line by what it says
 
--- a value is outside its range (5), or the line was taken
+-- a value is outside its range (5), or the line was taken, which does not finish the session
 abbrev pub TookLine : Option Line → ℕ → Run → Run → Type 0
 TookLine None result old new = (result ≡ 5) × (new ≡ old)
 TookLine (Some x) result old new =
-    (result ≡ phase_number (phase_of new)) × ((bytes : List ℕ) (l : List ℕ) → IsLineOf x l → IsFed old bytes → IsFed new (bytes ++ with_lf l))
+    (result ≡ phase_number (phase_of new)) × (new.finished ≡ old.finished)
+    × ((bytes : List ℕ) (l : List ℕ) → IsLineOf x l → IsFed old bytes
+    → IsFed new (bytes ++ with_lf l))
 
 -- or there was no memory for what the event says (6)
 abbrev pub Took : Option Line → ℕ → Run → Run → Type 0
@@ -81,6 +89,8 @@ Hands x result (Some old) new = (run : Run) × (new ≡ Some run) × HandsRun x 
 
 -- ---- texts
 
--- the text has n bytes; where they fit they stand at the front, and all behind them is as it was; else all is
+-- the text has n bytes; where they fit they stand at the front, and all behind them is as it was;
+-- else all is
 abbrev pub Tells : ℕ → List ℕ → List ℕ → List ℕ → Type 0
-Tells n old new text = (n ≡ length text) × (n ≤ length old → new ≡ text ++ drop n old) × (length old < n → new ≡ old)
+Tells n old new text =
+    (n ≡ length text) × (n ≤ length old → new ≡ text ++ drop n old) × (length old < n → new ≡ old)

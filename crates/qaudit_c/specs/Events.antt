@@ -1,5 +1,6 @@
 -- What the events and the header of C say.
-use Rattle.std.specs.Prelude.{ℕ, ◌&&◌, Bool, nat_le, List, [], ◌∷◌, Option, Some, None, Result, Ok, Err, option_map, if◌then◌else◌}
+use Rattle.std.specs.Prelude.{ℕ, ◌&&◌, Bool, nat_le, List, [], ◌∷◌, Option, Some, None, Result, Ok}
+use Rattle.std.specs.Prelude.{Err, option_map, if◌then◌else◌}
 use Rattle.std.specs.Option.{option_and_then}
 use Rattle.qa_base.specs.declared.event.Event.{Event}
 use Rattle.qa_base.specs.declared.event.Event.TheVariants as events
@@ -21,7 +22,9 @@ use Rattle.qaudit_c.specs.declared.structs.Acknowledgment.{Acknowledgment}
 use Rattle.qaudit_c.specs.declared.structs.FiredTimer.{FiredTimer}
 use Rattle.qaudit_c.specs.declared.structs.Metrics.{Metrics}
 use Rattle.qaudit_c.specs.declared.structs.TraceHeader.{TraceHeader}
-use Rattle.qaudit_c.specs.Numbers.{space_numbered, leave_numbered, timer_numbered, role_numbered, unit_numbered, controller_numbered, loss_by_number_numbered}
+use Rattle.qaudit_c.specs.Numbers.{space_numbered, permission_numbered, timer_numbered}
+use Rattle.qaudit_c.specs.Numbers.{role_numbered, unit_numbered, controller_numbered}
+use Rattle.qaudit_c.specs.Numbers.{loss_by_number_numbered}
 
 -- the event, where a line can say it
 abbrev pub fitting : Event → Option Event
@@ -37,7 +40,9 @@ number_of number = in_range 0 max_packet_number number
 
 -- the range, where it is one
 abbrev pub range_said : PacketRange → Option (ℕ × ℕ)
-range_said r = if nat_le r.least r.greatest && nat_le r.greatest max_packet_number then Some (r.least, r.greatest) else None
+range_said r =
+    if nat_le r.least r.greatest
+    && nat_le r.greatest max_packet_number then Some (r.least, r.greatest) else None
 
 -- one more in front, where both are there
 abbrev pub cons_of : Option (ℕ × ℕ) → Option (List (ℕ × ℕ)) → Option (List (ℕ × ℕ))
@@ -57,8 +62,10 @@ sent_said p =
     option_and_then (λ time.
     option_and_then (λ space.
     option_and_then (λ number.
-    option_and_then (λ leave. fitting (events.Sent time space number p.size p.eliciting p.in_flight leave))
-    (leave_numbered p.leave)) (number_of p.number)) (space_numbered p.space)) (time_of p.time)
+    option_and_then (λ permission.
+    fitting (events.Sent time space number p.size p.eliciting p.in_flight permission))
+    (permission_numbered p.permission)) (number_of p.number)) (space_numbered p.space))
+    (time_of p.time)
 
 abbrev pub ack_said : Acknowledgment → List PacketRange → Option Event
 ack_said a rs =
@@ -69,14 +76,24 @@ ack_said a rs =
 
 abbrev pub lost_said : ℕ → ℕ → List PacketRange → Option Event
 lost_said t s rs =
-    option_and_then (λ time. option_and_then (λ space. option_and_then (λ ranges. fitting (events.Lost time space ranges)) (ranges_of rs)) (space_numbered s)) (time_of t)
+    option_and_then (λ time.
+    option_and_then
+    (λ space.
+    option_and_then (λ ranges. fitting (events.Lost time space ranges)) (ranges_of rs))
+    (space_numbered s)) (time_of t)
 
 abbrev pub timer_said : FiredTimer → Option Event
 timer_said t =
-    option_and_then (λ time. option_and_then (λ kind. option_and_then (λ space. fitting (events.Timer time kind space)) (space_numbered t.space)) (timer_numbered t.kind)) (time_of t.time)
+    option_and_then (λ time.
+    option_and_then
+    (λ kind.
+    option_and_then (λ space. fitting (events.Timer time kind space)) (space_numbered t.space))
+    (timer_numbered t.kind)) (time_of t.time)
 
 abbrev pub discard_said : ℕ → ℕ → Option Event
-discard_said t s = option_and_then (λ time. option_and_then (λ space. fitting (events.Discard time space)) (space_numbered s)) (time_of t)
+discard_said t s =
+    option_and_then (λ time.
+    option_and_then (λ space. fitting (events.Discard time space)) (space_numbered s)) (time_of t)
 
 abbrev pub confirmed_said : ℕ → Option Event
 confirmed_said t = option_and_then (λ time. fitting (events.Confirmed time)) (time_of t)
@@ -100,7 +117,8 @@ values_of m = record {
 }
 
 abbrev pub metrics_said : Metrics → Option Event
-metrics_said m = option_and_then (λ time. fitting (events.Metrics time (values_of m))) (time_of m.time)
+metrics_said m =
+    option_and_then (λ time. fitting (events.Metrics time (values_of m))) (time_of m.time)
 
 -- ---- the header, of version 3
 
@@ -117,14 +135,16 @@ options_of h controller loss = record {
   controller = controller;
   window_overshoot = h.window_overshoot;
   sample_eliciting_only = h.sample_eliciting_only;
-  packet_threshold = if h.has_packet_threshold then h.packet_threshold else default_packet_threshold;
+  packet_threshold =
+      if h.has_packet_threshold then h.packet_threshold else default_packet_threshold;
   timer_early_us = h.timer_early_us;
   loss_by_number = loss;
 }
 
 abbrev pub plain_said : TraceHeader → Role → TimeUnit → Option Settings
 plain_said h role unit =
-    ok_of (settings_in unit role h.max_datagram_size (given h.has_max_ack_delay h.max_ack_delay) (given h.has_initial_rtt h.initial_rtt)
+    ok_of (settings_in unit role h.max_datagram_size (given h.has_max_ack_delay h.max_ack_delay)
+    (given h.has_initial_rtt h.initial_rtt)
     (given h.has_initial_window h.initial_window))
 
 abbrev pub header_said : TraceHeader → Option Settings
@@ -134,7 +154,8 @@ header_said h =
     option_and_then (λ controller.
     option_and_then (λ loss.
     option_and_then (λ plain. ok_of (choosing_options plain (options_of h controller loss)))
-    (plain_said h role unit)) (loss_by_number_numbered h.loss_by_number)) (controller_numbered h.window)) (unit_numbered h.unit)) (role_numbered h.role)
+    (plain_said h role unit)) (loss_by_number_numbered h.loss_by_number))
+    (controller_numbered h.window)) (unit_numbered h.unit)) (role_numbered h.role)
 
 -- ---- lines
 

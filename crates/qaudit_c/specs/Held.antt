@@ -7,8 +7,8 @@ use Rattle.std.specs.Prelude.{Option, Some, None}
 use Rattle.std.specs.Box.Ownership.{box_owns}
 use Rattle.std.specs.Global.{Global}
 use Rattle.std_heap.specs.contracts.GlobalAllocator.TheImpl.{ghosts}
-use Rattle.qa_session.specs.Session.{Run}
-use Rattle.qa_session.specs.contracts.Session.{the_row}
+use Rattle.qa_embed.specs.Session.{Run}
+use Rattle.qa_embed.specs.contracts.Session.{the_row}
 
 -- the session in the block at the pointer, where it holds one, with the right to free the block
 abbrev pub held_owns : Global → Ptr → Option the_row.Denot → Fml

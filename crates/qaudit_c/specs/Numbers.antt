@@ -18,8 +18,8 @@ use Rattle.qa_base.specs.declared.space.LossByNumber.{LossByNumber}
 use Rattle.qa_base.specs.declared.space.LossByNumber.TheVariants.{Must, May}
 use Rattle.qa_base.specs.declared.space.TimerKind.{TimerKind}
 use Rattle.qa_base.specs.declared.space.TimerKind.TheVariants.{Loss, Pto}
-use Rattle.qa_base.specs.declared.space.Leave.{Leave}
-use Rattle.qa_base.specs.declared.space.Leave.TheVariants.{Window, Probe, Recovery}
+use Rattle.qa_base.specs.declared.space.Permission.{Permission}
+use Rattle.qa_base.specs.declared.space.Permission.TheVariants.{Window, Probe, Recovery}
 use Rattle.qa_base.specs.values.Names.{rule_name, key_name, field_of}
 use Rattle.qa_format.specs.declared.fault.Fault.{Fault}
 use Rattle.qa_format.specs.declared.fault.Fault.TheVariants as fault
@@ -28,10 +28,14 @@ use Rattle.qa_format.specs.format.Faults.{fault_name}
 -- ---- what an event and a header name
 
 abbrev pub space_numbered : ℕ → Option Space
-space_numbered n = if n == 0 then Some Initial else (if n == 1 then Some Handshake else (if n == 2 then Some App else None))
+space_numbered n =
+    if n == 0 then Some Initial
+    else (if n == 1 then Some Handshake else (if n == 2 then Some App else None))
 
-abbrev pub leave_numbered : ℕ → Option Leave
-leave_numbered n = if n == 0 then Some Window else (if n == 1 then Some Probe else (if n == 2 then Some Recovery else None))
+abbrev pub permission_numbered : ℕ → Option Permission
+permission_numbered n =
+    if n == 0 then Some Window
+    else (if n == 1 then Some Probe else (if n == 2 then Some Recovery else None))
 
 abbrev pub timer_numbered : ℕ → Option TimerKind
 timer_numbered n = if n == 0 then Some Loss else (if n == 1 then Some Pto else None)
@@ -51,10 +55,44 @@ loss_by_number_numbered n = if n == 0 then Some Must else (if n == 1 then Some M
 -- ---- rules, faults and keys
 
 abbrev pub rule_numbered : ℕ → Option Rule
-rule_numbered n = if n == 1 then Some rule.TimeBack else (if n == 2 then Some rule.LossOwed else (if n == 3 then Some rule.LossNotOwed else (if n == 4 then Some rule.LossSet else (if n == 5 then Some rule.SpaceGone else (if n == 6 then Some rule.NumberNotHigher else (if n == 7 then Some rule.PastWindow else (if n == 8 then Some rule.PastProbe else (if n == 9 then Some rule.PastRecovery else (if n == 10 then Some rule.AckUnsent else (if n == 11 then Some rule.TimerNotSet else (if n == 12 then Some rule.TimerOther else (if n == 13 then Some rule.TimerEarly else (if n == 14 then Some rule.ProbeOwed else (if n == 15 then Some rule.NotConfirmed else (if n == 16 then Some (rule.Metric field.Window) else (if n == 17 then Some rule.OwedAtEnd else (if n == 18 then Some rule.TimerLate else (if n == 19 then Some rule.CollapseMissing else None))))))))))))))))))
+rule_numbered n =
+    if n == 1 then Some rule.TimeBack
+    else (if n == 2 then Some rule.LossOwed
+    else (if n == 3 then Some rule.LossNotOwed
+    else (if n == 4 then Some rule.LossSet
+    else (if n == 5 then Some rule.SpaceGone
+    else (if n == 6 then Some rule.NumberNotHigher
+    else (if n == 7 then Some rule.PastWindow
+    else (if n == 8 then Some rule.PastProbe
+    else (if n == 9 then Some rule.PastRecovery
+    else (if n == 10 then Some rule.AckUnsent
+    else (if n == 11 then Some rule.TimerNotSet
+    else (if n == 12 then Some rule.TimerOther
+    else (if n == 13 then Some rule.TimerEarly
+    else (if n == 14 then Some rule.ProbeOwed
+    else (if n == 15 then Some rule.NotConfirmed
+    else (if n == 16 then Some
+    (rule.Metric field.Window)
+    else (if n == 17 then Some rule.OwedAtEnd
+    else (if n == 18 then Some rule.TimerLate
+    else (if n == 19 then Some rule.CollapseMissing else None))))))))))))))))))
 
 abbrev pub fault_numbered : ℕ → Option Fault
-fault_numbered n = if n == 1 then Some fault.NotJson else (if n == 2 then Some fault.NotObject else (if n == 3 then Some (fault.Missing key.Event) else (if n == 4 then Some (fault.WrongKind key.Event) else (if n == 5 then Some (fault.OutOfRange key.Event) else (if n == 6 then Some fault.UnknownEvent else (if n == 7 then Some fault.HeaderPlace else (if n == 8 then Some fault.LineTooLong else (if n == 9 then Some fault.FlagsClash else (if n == 10 then Some fault.Version else (if n == 11 then Some fault.TooManyLines else None))))))))))
+fault_numbered n =
+    if n == 1 then Some fault.NotJson
+    else (if n == 2 then Some fault.NotObject
+    else (if n == 3 then Some
+    (fault.Missing key.Event)
+    else (if n == 4 then Some
+    (fault.WrongKind key.Event)
+    else (if n == 5 then Some
+    (fault.OutOfRange key.Event)
+    else (if n == 6 then Some fault.UnknownEvent
+    else (if n == 7 then Some fault.HeaderPlace
+    else (if n == 8 then Some fault.LineTooLong
+    else (if n == 9 then Some fault.FlagsClash
+    else (if n == 10 then Some fault.Version
+    else (if n == 11 then Some fault.TooManyLines else None))))))))))
 
 abbrev pub field_number : Field → ℕ
 field_number field.Window = 30
@@ -98,7 +136,50 @@ key_number key.Kind = 29
 key_number (key.Metric f) = field_number f
 
 abbrev pub key_numbered : ℕ → Option Key
-key_numbered n = if n == 1 then Some key.Event else (if n == 2 then Some key.Version else (if n == 3 then Some key.Role else (if n == 4 then Some key.Unit else (if n == 5 then Some key.Window else (if n == 6 then Some key.MaxDatagramSize else (if n == 7 then Some key.MaxAckDelay else (if n == 8 then Some key.InitialRtt else (if n == 9 then Some key.InitialWindow else (if n == 10 then Some key.TimerLateUs else (if n == 11 then Some key.RefreshMinRtt else (if n == 12 then Some key.ReportSlackUs else (if n == 13 then Some key.ReportSlackBytes else (if n == 14 then Some key.WindowOvershoot else (if n == 15 then Some key.SampleElicitingOnly else (if n == 16 then Some key.PacketThreshold else (if n == 17 then Some key.TimerEarlyUs else (if n == 18 then Some key.LossByNumber else (if n == 19 then Some key.Time else (if n == 20 then Some key.Space else (if n == 21 then Some key.Number else (if n == 22 then Some key.Size else (if n == 23 then Some key.Eliciting else (if n == 24 then Some key.InFlight else (if n == 25 then Some key.Leave else (if n == 26 then Some key.Ranges else (if n == 27 then Some key.Delay else (if n == 28 then Some key.Limited else (if n == 29 then Some key.Kind else (if n == 30 then Some (key.Metric field.Window) else (if n == 31 then Some (key.Metric field.Ssthresh) else (if n == 32 then Some (key.Metric field.BytesInFlight) else (if n == 33 then Some (key.Metric field.LatestRtt) else (if n == 34 then Some (key.Metric field.MinRtt) else (if n == 35 then Some (key.Metric field.SmoothedRtt) else (if n == 36 then Some (key.Metric field.Rttvar) else None)))))))))))))))))))))))))))))))))))
+key_numbered n =
+    if n == 1 then Some key.Event
+    else (if n == 2 then Some key.Version
+    else (if n == 3 then Some key.Role
+    else (if n == 4 then Some key.Unit
+    else (if n == 5 then Some key.Window
+    else (if n == 6 then Some key.MaxDatagramSize
+    else (if n == 7 then Some key.MaxAckDelay
+    else (if n == 8 then Some key.InitialRtt
+    else (if n == 9 then Some key.InitialWindow
+    else (if n == 10 then Some key.TimerLateUs
+    else (if n == 11 then Some key.RefreshMinRtt
+    else (if n == 12 then Some key.ReportSlackUs
+    else (if n == 13 then Some key.ReportSlackBytes
+    else (if n == 14 then Some key.WindowOvershoot
+    else (if n == 15 then Some key.SampleElicitingOnly
+    else (if n == 16 then Some key.PacketThreshold
+    else (if n == 17 then Some key.TimerEarlyUs
+    else (if n == 18 then Some key.LossByNumber
+    else (if n == 19 then Some key.Time
+    else (if n == 20 then Some key.Space
+    else (if n == 21 then Some key.Number
+    else (if n == 22 then Some key.Size
+    else (if n == 23 then Some key.Eliciting
+    else (if n == 24 then Some key.InFlight
+    else (if n == 25 then Some key.Leave
+    else (if n == 26 then Some key.Ranges
+    else (if n == 27 then Some key.Delay
+    else (if n == 28 then Some key.Limited
+    else (if n == 29 then Some key.Kind
+    else (if n == 30 then Some
+    (key.Metric field.Window)
+    else (if n == 31 then Some
+    (key.Metric field.Ssthresh)
+    else (if n == 32 then Some
+    (key.Metric field.BytesInFlight)
+    else (if n == 33 then Some
+    (key.Metric field.LatestRtt)
+    else (if n == 34 then Some
+    (key.Metric field.MinRtt)
+    else (if n == 35 then Some
+    (key.Metric field.SmoothedRtt)
+    else (if n == 36 then Some
+    (key.Metric field.Rttvar) else None)))))))))))))))))))))))))))))))))))
 
 -- the key of the value that a rule is about
 abbrev pub rule_subject : Rule → Option Key

@@ -43,9 +43,26 @@ abbrev pub told_totals_if : Option Totals → ToldTotals
 told_totals_if None = no_totals
 told_totals_if (Some t) = told_totals t
 
--- the kind (1 accepted, 2 refused, 3 unreadable), the number of the rule or the fault, the line, the number of the key that it is about, and
--- the totals; 0 where there is none
+-- the kind (1 accepted, 2 refused, 3 unreadable), the number of the rule or the fault, the line,
+-- the number of the key that it is about, and the totals; 0 where there is none
 abbrev pub told : Verdict → Told
-told (Accepted t) = record { kind = 1; code = 0; line = 0; subject = 0; totals = told_totals t; has_totals = true }
-told (Refused n r t) = record { kind = 2; code = rule_number r; line = n; subject = subject_number (rule_subject r); totals = told_totals t; has_totals = true }
-told (Unreadable n f t) = record { kind = 3; code = fault_number f; line = n; subject = subject_number (key_of f); totals = told_totals_if t; has_totals = is_some t }
+told (Accepted t) =
+    record { kind = 1; code = 0; line = 0; subject = 0; totals = told_totals t; has_totals = true }
+told (Refused n r t) =
+    record {
+      kind = 2;
+      code = rule_number r;
+      line = n;
+      subject = subject_number (rule_subject r);
+      totals = told_totals t;
+      has_totals = true;
+    }
+told (Unreadable n f t) =
+    record {
+      kind = 3;
+      code = fault_number f;
+      line = n;
+      subject = subject_number (key_of f);
+      totals = told_totals_if t;
+      has_totals = is_some t;
+    }

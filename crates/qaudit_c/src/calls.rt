@@ -2,15 +2,15 @@
 ghost use Rattle.std.specs.Prelude.{◌≡◌, ◌≢◌, None, Some, true, false};
 ghost use Rattle.qa_check.specs.Auditor.{is_between};
 ghost use Rattle.qa_format.specs.format.Written.{line_fits};
-ghost use Rattle.qa_session.specs.Session.{phase_of};
-ghost use Rattle.qa_session.specs.declared.Phase.TheVariants as phases;
+ghost use Rattle.qa_embed.specs.Session.{phase_of};
+ghost use Rattle.qa_embed.specs.declared.Phase.TheVariants as phases;
 ghost use Rattle.qaudit_c.specs.Calls as calls;
 ghost use Rattle.qaudit_c.specs.Events as said;
 
 use crate::kept::{Qaudit, put, take};
 use qa_base::{Event, Header};
 use qa_check::Line;
-use qa_session::{Phase, Session};
+use qa_embed::{Phase, Session};
 use std::alloc::Global;
 
 /// Nothing is open.
@@ -78,7 +78,8 @@ pub fn hand_to(session: &mut Session, line: &Line) -> u32
 #[inline(always)]
 fn hand(alloc: Global, qaudit: &mut Qaudit, line: &Line) -> u32
     requires fitting { line_fits line.now ≡ true }
-    ensures handed { calls.Hands (Some line.now) result qaudit.old.handle.held qaudit.new.handle.held }
+    ensures handed { calls.Hands
+        (Some line.now) result qaudit.old.handle.held qaudit.new.handle.held }
     ensures memory { result ≢ 6 }
 {
     let Some(mut session) = take(alloc, qaudit) else {
@@ -94,7 +95,9 @@ fn hand(alloc: Global, qaudit: &mut Qaudit, line: &Line) -> u32
 /// The line is made here alone and goes on by reference: it has more than a hundred bytes.
 #[inline(always)]
 pub fn hand_event(alloc: Global, qaudit: &mut Qaudit, event: Event) -> u32
-    ensures handed { calls.Hands (said.line_of_event (said.fitting event)) result qaudit.old.handle.held qaudit.new.handle.held }
+    ensures handed { calls.Hands
+        (said.line_of_event (said.fitting event)) result qaudit.old.handle.held
+        qaudit.new.handle.held }
     ensures memory { result ≢ 6 }
 {
     if !event.fits() {
@@ -105,7 +108,8 @@ pub fn hand_event(alloc: Global, qaudit: &mut Qaudit, event: Event) -> u32
 
 /// Hands in the line that says the header.
 pub fn hand_header(alloc: Global, qaudit: &mut Qaudit, header: Option<Header>) -> u32
-    ensures handed { calls.Hands (said.line_of_header header) result qaudit.old.handle.held qaudit.new.handle.held }
+    ensures handed { calls.Hands
+        (said.line_of_header header) result qaudit.old.handle.held qaudit.new.handle.held }
     ensures memory { result ≢ 6 }
 {
     match header {

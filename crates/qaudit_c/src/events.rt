@@ -3,23 +3,27 @@ ghost use Rattle.std.specs.Prelude.{◌≡◌, ◌⊎◌, [], IfSome, IfOk, None
 ghost use Rattle.qaudit_c.specs.Events as said;
 ghost use Rattle.qaudit_c.specs.Numbers as numbers;
 
-use crate::numbers::{leave_of, space_of, timer_of};
+use crate::numbers::{permission_of, space_of, timer_of};
 use crate::structs::{FiredTimer, Metrics, PacketRange, SentPacket};
-use qa_base::{Event, Leave, MetricValues, PacketNumber, Space, Span, Spans, Ticks, TimerKind};
+use qa_base::{
+    Event, MetricValues, PacketNumber, Permission, Space, Span, Spans, Ticks, TimerKind,
+};
 use std::alloc::AllocError;
 
-/// The time, the space, the number and the leave of a packet that was sent, where each is in its range.
+/// The time, the space, the number and the leave of a packet that was sent, where each is in its
+/// range.
 #[inline(always)]
-pub fn sent_values(packet: &SentPacket) -> Option<(Ticks, Space, PacketNumber, Leave)>
+pub fn sent_values(packet: &SentPacket) -> Option<(Ticks, Space, PacketNumber, Permission)>
     ensures none { result ≡ None → said.sent_said packet.now ≡ None }
     ensures some { IfSome result (λ v. said.sent_said packet.now
-        ≡ said.fitting (Event.Sent v.0 v.1 v.2 packet.now.size packet.now.eliciting packet.now.in_flight v.3)) }
+        ≡ said.fitting (Event.Sent v.0 v.1 v.2 packet.now.size packet.now.eliciting
+        packet.now.in_flight v.3)) }
 {
     let time = Ticks::new(packet.time)?;
     let space = space_of(packet.space)?;
     let number = PacketNumber::new(packet.number)?;
-    let leave = leave_of(packet.leave)?;
-    Some((time, space, number, leave))
+    let permission = permission_of(packet.permission)?;
+    Some((time, space, number, permission))
 }
 
 /// The time, the kind and the space of a timer that fired, where each is in its range.
@@ -85,8 +89,8 @@ fn span_of(range: &PacketRange) -> Option<Span>
     Span::new(least, greatest)
 }
 
-/// The spans of the ranges, in their order, in an empty list that is lent; None where one is no range of
-/// packet numbers.
+/// The spans of the ranges, in their order, in an empty list that is lent; None where one is no
+/// range of packet numbers.
 #[inline(always)]
 pub fn spans_of(lent: Spans, ranges: &[PacketRange]) -> Result<Option<Spans>, AllocError>
     requires { lent ≡ [] }

@@ -1,10 +1,10 @@
 //! A handle that C keeps.
 ghost use Rattle.std.specs.Prelude.{◌≡◌, None, Some, Option};
-ghost use Rattle.qa_session.specs.Session.{Run};
+ghost use Rattle.qa_embed.specs.Session.{Run};
 ghost use Rattle.qaudit_c.specs.Held.{IsOpen, held_coded};
 
 use crate::parts::Parts;
-use qa_session::Session;
+use qa_embed::Session;
 use std::alloc::Global;
 use std::marker::Model;
 

@@ -57,7 +57,8 @@ fn options_of(header: &TraceHeader, controller: Controller, loss_by_number: Loss
 
 /// The packet threshold of the header.
 fn threshold_of(header: &TraceHeader) -> u64
-    ensures { result ≡ (said.options_of header.now Controller.NewReno LossByNumber.Must).packet_threshold }
+    ensures { result ≡ (said.options_of header.now Controller.NewReno
+        LossByNumber.Must).packet_threshold }
 {
     if header.has_packet_threshold {
         header.packet_threshold

@@ -1,12 +1,12 @@
 //! What C keeps of a session.
 ghost use Rattle.std.specs.Prelude.{◌≡◌, [], None, Some, option_map, IfSome, is_some, false};
 ghost use mathlib.Core.Bool.{Bool-set};
-ghost use Rattle.qa_session.specs.Session.{IsFed, phase_of};
-ghost use Rattle.qa_session.specs.declared.Phase.TheVariants as phases;
+ghost use Rattle.qa_embed.specs.Session.{IsFed, phase_of};
+ghost use Rattle.qa_embed.specs.declared.Phase.TheVariants as phases;
 
 use crate::handle::Handle;
 use crate::parts::Parts;
-use qa_session::Session;
+use qa_embed::Session;
 use std::alloc::Global;
 use std::mem::replace;
 

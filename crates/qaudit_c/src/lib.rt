@@ -7,7 +7,8 @@ ghost use Rattle.std.specs.Prelude.{◌≡◌, ◌≢◌, ◌⊎◌, [], List, �
 ghost use Rattle.qa_format.specs.format.Reading.{reading};
 ghost use Rattle.qa_format.specs.verdicts.Report as text;
 ghost use Rattle.qa_format.specs.verdicts.Verdict.{strict, verdict};
-ghost use Rattle.qaudit_c.specs.Calls.{Feeds, Finishes, Hands, HoldsFed, Tells, status, verdict_known};
+ghost use Rattle.qaudit_c.specs.Calls.{Feeds, Finishes, Hands, HoldsFed, Tells, status};
+ghost use Rattle.qaudit_c.specs.Calls.{verdict_known};
 ghost use Rattle.qaudit_c.specs.Events as said;
 ghost use Rattle.qaudit_c.specs.Numbers as numbers;
 ghost use Rattle.qaudit_c.specs.Telling as telling;
@@ -41,8 +42,8 @@ use with_ranges::{ack_to, lost_to};
 
 // ---- opening and closing
 
-/// Opens a session that was handed nothing; what was open before is closed. It is closed where it is
-/// out of memory.
+/// Opens a session that was handed nothing; what was open before is closed. It is closed where it
+/// is out of memory.
 #[unsafe(no_mangle)]
 pub extern "C" fn qaudit_open(alloc: Global, qaudit: &mut Qaudit) -> u32
     ensures status { result ≡ status qaudit.new.handle.held }
@@ -85,7 +86,9 @@ pub extern "C" fn qaudit_feed(alloc: Global, qaudit: &mut Qaudit, piece: &[u8]) 
 /// Takes a header by its fields.
 #[unsafe(no_mangle)]
 pub extern "C" fn qaudit_header(alloc: Global, qaudit: &mut Qaudit, header: &TraceHeader) -> u32
-    ensures handed { Hands (said.line_of_header (said.header_said header.now)) result qaudit.old.handle.held qaudit.new.handle.held }
+    ensures handed { Hands
+        (said.line_of_header (said.header_said header.now)) result qaudit.old.handle.held
+        qaudit.new.handle.held }
     ensures memory { result ≢ 6 }
 {
     hand_header(alloc, qaudit, header_of(header))
@@ -94,11 +97,13 @@ pub extern "C" fn qaudit_header(alloc: Global, qaudit: &mut Qaudit, header: &Tra
 /// Takes a packet that was sent.
 #[unsafe(no_mangle)]
 pub extern "C" fn qaudit_sent(alloc: Global, qaudit: &mut Qaudit, packet: &SentPacket) -> u32
-    ensures handed { Hands (said.line_of_event (said.sent_said packet.now)) result qaudit.old.handle.held qaudit.new.handle.held }
+    ensures handed { Hands
+        (said.line_of_event (said.sent_said packet.now)) result qaudit.old.handle.held
+        qaudit.new.handle.held }
     ensures memory { result ≢ 6 }
 {
     match sent_values(packet) {
-        Some((time, space, number, leave)) => {
+        Some((time, space, number, permission)) => {
             let event = Event::Sent {
                 time,
                 space,
@@ -106,7 +111,7 @@ pub extern "C" fn qaudit_sent(alloc: Global, qaudit: &mut Qaudit, packet: &SentP
                 size: packet.size,
                 eliciting: packet.eliciting,
                 in_flight: packet.in_flight,
-                leave,
+                permission,
             };
             hand_event(alloc, qaudit, event)
         }
@@ -122,7 +127,8 @@ pub extern "C" fn qaudit_ack(
     ack: &Acknowledgment,
     ranges: &[PacketRange],
 ) -> u32
-    ensures { Hands (said.line_of_event (said.ack_said ack.now ranges.now)) result qaudit.old.handle.held qaudit.new.handle.held }
+    ensures { Hands (said.line_of_event (said.ack_said ack.now ranges.now)) result
+        qaudit.old.handle.held qaudit.new.handle.held }
 {
     let Some(mut session) = take(alloc, qaudit) else {
         return CLOSED;
@@ -141,7 +147,8 @@ pub extern "C" fn qaudit_lost(
     space: u32,
     ranges: &[PacketRange],
 ) -> u32
-    ensures { Hands (said.line_of_event (said.lost_said time space ranges.now)) result qaudit.old.handle.held qaudit.new.handle.held }
+    ensures { Hands (said.line_of_event (said.lost_said time space ranges.now)) result
+        qaudit.old.handle.held qaudit.new.handle.held }
 {
     let Some(mut session) = take(alloc, qaudit) else {
         return CLOSED;
@@ -154,7 +161,9 @@ pub extern "C" fn qaudit_lost(
 /// Takes a timer that fired.
 #[unsafe(no_mangle)]
 pub extern "C" fn qaudit_timer(alloc: Global, qaudit: &mut Qaudit, timer: &FiredTimer) -> u32
-    ensures handed { Hands (said.line_of_event (said.timer_said timer.now)) result qaudit.old.handle.held qaudit.new.handle.held }
+    ensures handed { Hands
+        (said.line_of_event (said.timer_said timer.now)) result qaudit.old.handle.held
+        qaudit.new.handle.held }
     ensures memory { result ≢ 6 }
 {
     match timer_values(timer) {
@@ -166,7 +175,9 @@ pub extern "C" fn qaudit_timer(alloc: Global, qaudit: &mut Qaudit, timer: &Fired
 /// Takes keys that were discarded.
 #[unsafe(no_mangle)]
 pub extern "C" fn qaudit_discard(alloc: Global, qaudit: &mut Qaudit, time: u64, space: u32) -> u32
-    ensures handed { Hands (said.line_of_event (said.discard_said time space)) result qaudit.old.handle.held qaudit.new.handle.held }
+    ensures handed { Hands
+        (said.line_of_event (said.discard_said time space)) result qaudit.old.handle.held
+        qaudit.new.handle.held }
     ensures memory { result ≢ 6 }
 {
     match moment_of(time, space) {
@@ -178,7 +189,9 @@ pub extern "C" fn qaudit_discard(alloc: Global, qaudit: &mut Qaudit, time: u64, 
 /// Takes a handshake that was confirmed.
 #[unsafe(no_mangle)]
 pub extern "C" fn qaudit_confirmed(alloc: Global, qaudit: &mut Qaudit, time: u64) -> u32
-    ensures handed { Hands (said.line_of_event (said.confirmed_said time)) result qaudit.old.handle.held qaudit.new.handle.held }
+    ensures handed { Hands
+        (said.line_of_event (said.confirmed_said time)) result qaudit.old.handle.held
+        qaudit.new.handle.held }
     ensures memory { result ≢ 6 }
 {
     match Ticks::new(time) {
@@ -190,7 +203,9 @@ pub extern "C" fn qaudit_confirmed(alloc: Global, qaudit: &mut Qaudit, time: u64
 /// Takes Handshake keys that are there.
 #[unsafe(no_mangle)]
 pub extern "C" fn qaudit_keys(alloc: Global, qaudit: &mut Qaudit, time: u64) -> u32
-    ensures handed { Hands (said.line_of_event (said.keys_said time)) result qaudit.old.handle.held qaudit.new.handle.held }
+    ensures handed { Hands
+        (said.line_of_event (said.keys_said time)) result qaudit.old.handle.held
+        qaudit.new.handle.held }
     ensures memory { result ≢ 6 }
 {
     match Ticks::new(time) {
@@ -202,7 +217,9 @@ pub extern "C" fn qaudit_keys(alloc: Global, qaudit: &mut Qaudit, time: u64) -> 
 /// Takes what a sender reports of itself.
 #[unsafe(no_mangle)]
 pub extern "C" fn qaudit_metrics(alloc: Global, qaudit: &mut Qaudit, metrics: &Metrics) -> u32
-    ensures handed { Hands (said.line_of_event (said.metrics_said metrics.now)) result qaudit.old.handle.held qaudit.new.handle.held }
+    ensures handed { Hands
+        (said.line_of_event (said.metrics_said metrics.now)) result qaudit.old.handle.held
+        qaudit.new.handle.held }
     ensures memory { result ≢ 6 }
 {
     match Ticks::new(metrics.time) {
@@ -263,7 +280,8 @@ pub extern "C" fn qaudit_verdict(alloc: Global, qaudit: &mut Qaudit, out: &mut T
     ensures known { result ≡ is_some (verdict_known qaudit.old.handle.held) }
     ensures kept { qaudit.new.handle.held ≡ qaudit.old.handle.held }
     ensures told { IfSome (verdict_known qaudit.old.handle.held) (λ v. (out.new ≡ telling.told v)
-        × ((bytes : List ℕ) → HoldsFed qaudit.old.handle.held bytes → v ≡ verdict (strict reading) bytes)) }
+        × ((bytes : List ℕ) → HoldsFed qaudit.old.handle.held bytes
+        → v ≡ verdict (strict reading) bytes)) }
     ensures untold { verdict_known qaudit.old.handle.held ≡ None → out.new ≡ out.old }
 {
     match known(alloc, qaudit) {
@@ -308,8 +326,8 @@ pub extern "C" fn qaudit_first_line(alloc: Global, qaudit: &mut Qaudit, out: &mu
     }
 }
 
-/// Puts the name of the rule of this number, 1 for V1, at the front of `out`, where it fits, and returns
-/// how long it is; 0 where there is none.
+/// Puts the name of the rule of this number, 1 for V1, at the front of `out`, where it fits, and
+/// returns how long it is; 0 where there is none.
 #[unsafe(no_mangle)]
 pub extern "C" fn qaudit_rule_name(rule: u32, out: &mut [u8]) -> usize
     ensures length { length out.new ≡ length out.old }
@@ -322,7 +340,8 @@ pub extern "C" fn qaudit_rule_name(rule: u32, out: &mut [u8]) -> usize
 #[unsafe(no_mangle)]
 pub extern "C" fn qaudit_fault_name(fault: u32, out: &mut [u8]) -> usize
     ensures length { length out.new ≡ length out.old }
-    ensures told { Tells result out.old out.new (numbers.fault_named (numbers.fault_numbered fault)) }
+    ensures told { Tells result out.old out.new
+        (numbers.fault_named (numbers.fault_numbered fault)) }
 {
     put_fault_name(fault, out)
 }

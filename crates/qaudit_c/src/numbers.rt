@@ -5,7 +5,7 @@ ghost use Rattle.qa_format.specs.format.Faults as faults;
 ghost use Rattle.qaudit_c.specs.Numbers as numbers;
 
 use qa_base::{
-    Controller, Field, Key, Leave, LossByNumber, Role, Rule, Space, TimeUnit, TimerKind,
+    Controller, Field, Key, LossByNumber, Permission, Role, Rule, Space, TimeUnit, TimerKind,
 };
 use qa_format::Fault;
 
@@ -24,13 +24,13 @@ pub fn space_of(number: u32) -> Option<Space>
 
 /// The leave of this number.
 #[inline(always)]
-pub fn leave_of(number: u32) -> Option<Leave>
-    ensures { result ≡ numbers.leave_numbered number }
+pub fn permission_of(number: u32) -> Option<Permission>
+    ensures { result ≡ numbers.permission_numbered number }
 {
     match number {
-        0 => Some(Leave::Window),
-        1 => Some(Leave::Probe),
-        2 => Some(Leave::Recovery),
+        0 => Some(Permission::Window),
+        1 => Some(Permission::Probe),
+        2 => Some(Permission::Recovery),
         _ => None,
     }
 }

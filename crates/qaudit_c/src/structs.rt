@@ -8,7 +8,7 @@ pub struct SentPacket {
     pub number: u64,
     pub size: u64,
     pub space: u32,
-    pub leave: u32,
+    pub permission: u32,
     pub eliciting: bool,
     pub in_flight: bool,
 }

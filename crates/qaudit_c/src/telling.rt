@@ -23,8 +23,9 @@ pub struct ToldTotals {
     pub has_ssthresh: bool,
 }
 
-/// A verdict. `kind` is 1 for accepted, 2 for refused, 3 for unreadable; `code` the number of the rule or
-/// the fault, and `subject` that of the key or the reported value that it is about, 0 where there is none.
+/// A verdict. `kind` is 1 for accepted, 2 for refused, 3 for unreadable; `code` the number of the
+/// rule or the fault, and `subject` that of the key or the reported value that it is about, 0 where
+/// there is none.
 #[repr(C)]
 #[derive(Clone, Copy, Debug, PartialEq, Eq)]
 pub struct Told {

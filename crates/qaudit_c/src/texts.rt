@@ -57,7 +57,8 @@ pub fn put_rule_name(rule: u32, out: &mut [u8]) -> usize
 /// Puts the name of the fault of this number, 1 for F1; 0 where there is none.
 pub fn put_fault_name(fault: u32, out: &mut [u8]) -> usize
     ensures length { length out.new ≡ length out.old }
-    ensures told { Tells result out.old out.new (numbers.fault_named (numbers.fault_numbered fault)) }
+    ensures told { Tells result out.old out.new
+        (numbers.fault_named (numbers.fault_numbered fault)) }
 {
     match fault_of(fault) {
         Some(fault) => put_text(fault.name().as_bytes(), out),

@@ -1,5 +1,5 @@
-//! What the calls do that hand in ranges of packet numbers: the ranges lie in memory that the session
-//! keeps from one such call to the next.
+//! What the calls do that hand in ranges of packet numbers: the ranges lie in memory that the
+//! session keeps from one such call to the next.
 ghost use Rattle.std.specs.Prelude.{◌≡◌, ◌≢◌};
 ghost use Rattle.qaudit_c.specs.Calls as calls;
 ghost use Rattle.qaudit_c.specs.Events as said;
@@ -9,7 +9,7 @@ use crate::events::{moment_of, spans_of};
 use crate::structs::{Acknowledgment, PacketRange};
 use qa_base::Event;
 use qa_check::Line;
-use qa_session::Session;
+use qa_embed::Session;
 use std::alloc::Global;
 
 /// Hands in the line that says the event, where a line can, and keeps the memory of its ranges.
@@ -17,7 +17,8 @@ use std::alloc::Global;
 /// The line is made here alone and goes on by reference, as in `hand_event`.
 #[inline(always)]
 fn hand_and_keep(alloc: Global, session: &mut Session, event: Event) -> u32
-    ensures handed { calls.HandsRun (said.line_of_event (said.fitting event)) result session.old session.new }
+    ensures handed { calls.HandsRun
+        (said.line_of_event (said.fitting event)) result session.old session.new }
     ensures memory { result ≢ 6 }
 {
     if !event.fits() {
@@ -39,7 +40,8 @@ pub fn ack_to(
     ack: &Acknowledgment,
     ranges: &[PacketRange],
 ) -> u32
-    ensures { calls.HandsRun (said.line_of_event (said.ack_said ack.now ranges.now)) result session.old session.new }
+    ensures { calls.HandsRun
+        (said.line_of_event (said.ack_said ack.now ranges.now)) result session.old session.new }
 {
     let Some((time, space)) = moment_of(ack.time, ack.space) else {
         return refusal(session, OUT_OF_RANGE);
@@ -69,7 +71,8 @@ pub fn lost_to(
     space: u32,
     ranges: &[PacketRange],
 ) -> u32
-    ensures { calls.HandsRun (said.line_of_event (said.lost_said time space ranges.now)) result session.old session.new }
+    ensures { calls.HandsRun
+        (said.line_of_event (said.lost_said time space ranges.now)) result session.old session.new }
 {
     let Some((time, space)) = moment_of(time, space) else {
         return refusal(session, OUT_OF_RANGE);

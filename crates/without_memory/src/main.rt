@@ -1,18 +1,18 @@
-//! A test of calls that are out of memory: makes each over the trace on standard input, and writes what
-//! it answers, a line for each call.
+//! A test of calls that are out of memory: makes each over the trace on standard input, and writes
+//! what it answers, a line for each call.
 //!
-//! It is run with one of its allocations refused, each in turn, so that there is memory again behind
-//! it. A splitter, a checker and a ledger that were out of memory are then asked again. What is written
-//! takes no memory. It ignores its arguments. It ends with status 0, or with 3 where a stream fails or
-//! the input itself takes more memory than there is.
+//! It is run with one of its allocations refused, each in turn, so that there is memory again
+//! behind it. A splitter, a checker and a ledger that were out of memory are then asked again. What
+//! is written takes no memory. It ignores its arguments. It ends with status 0, or with 3 where a
+//! stream fails or the input itself takes more memory than there is.
 #![tactic(auto)]
 
 use qa_base::Totals;
 use qa_base::limits::MAX_LINES;
 use qa_check::{AuditFault, Checker, Metered, Outcome, Stop, Verdict, audit, explain};
 use qa_ledger::{Ledger, LedgerFault};
-use qa_plain::Whole;
-use qa_running::Running;
+use qa_reference::Whole;
+use qa_sender::Running;
 use qa_trace::{Event, Header, Line, LineFault, SplitFault, Splitter, read_line, write_line};
 use std::alloc::{AllocError, Global};
 use std::io::{Read, Write};

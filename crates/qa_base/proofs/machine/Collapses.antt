@@ -16,8 +16,8 @@ use Rattle.qa_base.proofs.machine.WindowBound.{IsSized, acknowledged_few, each_o
 
 -- ---- one more event
 
-more_by : (bytes first : List Event → ℕ) (m : List Event) (ms : List (List Event)) (collapse : Option (List Event))
-    → option_map (λ k. sum_by bytes (m ∷ ms) + first k) collapse ≡ option_map (λ n. bytes m + n) (option_map (λ k. sum_by bytes ms + first k) collapse)
+more_by : (bytes first : List Event → ℕ) (m : List Event) (ms : List (List Event)) (on_persistent_congestion : Option (List Event))
+    → option_map (λ k. sum_by bytes (m ∷ ms) + first k) on_persistent_congestion ≡ option_map (λ n. bytes m + n) (option_map (λ k. sum_by bytes ms + first k) on_persistent_congestion)
 more_by bytes first m ms None = refl
 more_by bytes first m ms (Some k) = let all : sum_by bytes (m ∷ ms) ≡ bytes m + sum_by bytes ms = sum_by-cons bytes m ms in ap Some (omega (arith, all))
 

@@ -1,4 +1,4 @@
--- The PTO count of a course is at most 40.
+-- The PTO count of a tolerated run is at most 40.
 use Rattle.std.proofs.Common.{◌≡◌, ◌+◌, ◌*◌, ◌^◌, ◌≤◌, ◌<◌, ℕ, min, List, [], ◌∷◌, Bool, true, false, Option, Some, None, option_map, is_none, refl, arith, inl, inr, ◌⊎◌}
 use Rattle.std.proofs.Math.Nat.{mul-le-mul_right}
 use Rattle.std.proofs.Math.Pow.{pow_mono}
@@ -19,7 +19,7 @@ use Rattle.qa_base.specs.machine.Handshake.{is_confirmed, is_validated}
 use Rattle.qa_base.specs.values.Limits.{max_time}
 use Rattle.qa_base.specs.machine.Estimates.{rtt}
 use Rattle.qa_base.specs.machine.Rtt.{Estimate, pto_base}
-use Rattle.qa_base.specs.machine.Departures.{IsCourse, first_unborne}
+use Rattle.qa_base.specs.machine.Violations.{IsToleratedRun, first_untolerated}
 use Rattle.qa_base.specs.values.Settings.{Settings, early, granularity, per_microsecond}
 use Rattle.qa_base.specs.machine.Timer.{Due, is_kind, earlier, loss_due, earliest_loss, pto_due, earliest_pto, anti_deadlock, deadline, pto_count, is_pto, resets_count, last_eliciting, last_set}
 use Rattle.qa_base.proofs.machine.RunLaws.{form_holds}
@@ -125,7 +125,7 @@ early_or_due n time space due some same few far in_time = elim (cases_Bool (is_b
   | inr late ↦ by_due n time space due some same late far in_time
 ]
 
-pto_in_time : (c : Settings) (e : Event) (h : List Event) → first_unborne c h e ≡ None → IsTimely e → is_pto (e ∷ h) ≡ true → pto_count c h < 40
+pto_in_time : (c : Settings) (e : Event) (h : List Event) → first_untolerated c h e ≡ None → IsTimely e → is_pto (e ∷ h) ≡ true → pto_count c h < 40
 pto_in_time c (Timer time Pto space) h allowed timely is =
     let holds = form_holds c h (Timer time Pto space) allowed in
     let soon = early_is_small c in
@@ -133,7 +133,7 @@ pto_in_time c (Timer time Pto space) h allowed timely is =
 pto_in_time c (Timer time Loss space) h allowed timely is = cc
 pto_in_time c _ h allowed timely is = cc
 
-pub small_pto_count : (c : Settings) (h : List Event) → IsCourse c h → AllByRecursion IsTimely h → pto_count c h ≤ 40
-small_pto_count c [] course timely = omega arith
-small_pto_count c (e ∷ h) course timely =
-    rw (pto_count_after c e h) (counted (resets_count c (e ∷ h)) (is_pto (e ∷ h)) (pto_count c h) (pto_in_time c e h course.1 timely.0) (small_pto_count c h course.0 timely.1))
+pub small_pto_count : (c : Settings) (h : List Event) → IsToleratedRun c h → AllByRecursion IsTimely h → pto_count c h ≤ 40
+small_pto_count c [] tolerated_run timely = omega arith
+small_pto_count c (e ∷ h) tolerated_run timely =
+    rw (pto_count_after c e h) (counted (resets_count c (e ∷ h)) (is_pto (e ∷ h)) (pto_count c h) (pto_in_time c e h tolerated_run.1 timely.0) (small_pto_count c h tolerated_run.0 timely.1))

@@ -8,7 +8,7 @@ use Rattle.std.specs.Prelude.{nat_lt, if◌then◌else◌}
 use Rattle.qa_base.specs.declared.event.Event.{Event}
 use Rattle.qa_base.specs.declared.event.Event.TheVariants.{Sent, Ack, Lost, Timer, Discard, Confirmed, Keys, Metrics}
 use Rattle.qa_base.specs.declared.space.Space.{Space}
-use Rattle.qa_base.specs.declared.space.Leave.{Leave}
+use Rattle.qa_base.specs.declared.space.Permission.{Permission}
 use Rattle.qa_base.specs.values.Events.{is_quiet}
 use Rattle.qa_base.specs.machine.Detection.{is_found, is_found_at, found_at, declared_by, is_persistent_by}
 use Rattle.qa_base.specs.machine.Estimates.{refreshed_by, rtt, sampled}
@@ -86,7 +86,7 @@ pub resets_count-quiet : (c : Settings) (e : Event) (h : List Event) → is_quie
 resets_count-quiet c (Ack time space ranges delay app_limited) h quiet = cc
 resets_count-quiet c (Timer time kind space) h quiet = cc
 resets_count-quiet c (Discard time space) h quiet = cc
-resets_count-quiet c (Sent time space number size eliciting in_flight leave) h quiet = rw none_passes refl
+resets_count-quiet c (Sent time space number size eliciting in_flight permission) h quiet = rw none_passes refl
 resets_count-quiet c (Lost time space ranges) h quiet = rw none_passes refl
 resets_count-quiet c (Confirmed time) h quiet = rw none_passes refl
 resets_count-quiet c (Keys time) h quiet = rw none_passes refl
@@ -159,15 +159,15 @@ still_open : (c : Settings) (h : List Event) (e : Event) (ps : List Packet) → 
 still_open c h e [] free same = tt
 still_open c h e (p ∷ ps) free same = (same p free.0, still_open c h e ps free.1 same)
 
-sent_leaves : (c : Settings) (h : List Event) (time : ℕ) (space : Space) (number size : ℕ) (eliciting in_flight : Bool) (leave : Leave) (p : Packet)
-    → is_owed c h p ≡ false → flight_size c (Sent time space number size eliciting in_flight leave ∷ h) p ≡ flight_size c h p
-sent_leaves c h time space number size eliciting in_flight leave p free = rw free refl
+sent_leaves : (c : Settings) (h : List Event) (time : ℕ) (space : Space) (number size : ℕ) (eliciting in_flight : Bool) (permission : Permission) (p : Packet)
+    → is_owed c h p ≡ false → flight_size c (Sent time space number size eliciting in_flight permission ∷ h) p ≡ flight_size c h p
+sent_leaves c h time space number size eliciting in_flight permission p free = rw free refl
 
 -- the packet that was just sent is open, unless its space was discarded
-just_sent : (c : Settings) (h : List Event) (time : ℕ) (space : Space) (number size : ℕ) (eliciting in_flight : Bool) (leave : Leave) (p : Packet)
+just_sent : (c : Settings) (h : List Event) (time : ℕ) (space : Space) (number size : ℕ) (eliciting in_flight : Bool) (permission : Permission) (p : Packet)
     → p.place ≡ length h → p.space ≡ space → p.size ≡ size → p.in_flight ≡ in_flight
-    → flight_size c (Sent time space number size eliciting in_flight leave ∷ h) p ≡ (if in_flight && not (is_discarded h space) then size else 0)
-just_sent c h time space number size eliciting in_flight leave p place in_space of_size flies =
+    → flight_size c (Sent time space number size eliciting in_flight permission ∷ h) p ≡ (if in_flight && not (is_discarded h space) then size else 0)
+just_sent c h time space number size eliciting in_flight permission p place in_space of_size flies =
     let not_covered : is_acknowledged h p ≡ false = not_followed _ h p (omega (arith, place)) in
     let not_lost : is_declared_lost h p ≡ false = not_followed _ h p (omega (arith, place)) in
     rw (not_covered, not_lost, flies)
@@ -175,10 +175,10 @@ just_sent c h time space number size eliciting in_flight leave p place in_space 
     ∙ ap (λ n. if in_flight && not (is_discarded h space) then n else 0) of_size)
 
 -- a packet that is sent while nothing is owed adds its size to the bytes in flight, or nothing
-pub bytes_in_flight-sent : (c : Settings) (h : List Event) (time : ℕ) (space : Space) (number size : ℕ) (eliciting in_flight : Bool) (leave : Leave) → owed c h ≡ []
-    → bytes_in_flight c (Sent time space number size eliciting in_flight leave ∷ h) ≡ bytes_in_flight c h + (if in_flight && not (is_discarded h space) then size else 0)
-bytes_in_flight-sent c h time space number size eliciting in_flight leave none =
-    let e = Sent time space number size eliciting in_flight leave in
+pub bytes_in_flight-sent : (c : Settings) (h : List Event) (time : ℕ) (space : Space) (number size : ℕ) (eliciting in_flight : Bool) (permission : Permission) → owed c h ≡ []
+    → bytes_in_flight c (Sent time space number size eliciting in_flight permission ∷ h) ≡ bytes_in_flight c h + (if in_flight && not (is_discarded h space) then size else 0)
+bytes_in_flight-sent c h time space number size eliciting in_flight permission none =
+    let e = Sent time space number size eliciting in_flight permission in
     let p : Packet = record {
       place = length h;
       time = time;
@@ -187,9 +187,9 @@ bytes_in_flight-sent c h time space number size eliciting in_flight leave none =
       size = size;
       eliciting = eliciting;
       in_flight = in_flight;
-      leave = leave;
+      permission = permission;
     } in
     let all = sum_by-cons (flight_size c (e ∷ h)) p (packets h) in
-    let rest = same_sum (flight_size c (e ∷ h)) (flight_size c h) (packets h) (still_open c h e (packets h) (not_owed c h none) (sent_leaves c h time space number size eliciting in_flight leave)) in
-    let new = just_sent c h time space number size eliciting in_flight leave p refl refl refl refl in
+    let rest = same_sum (flight_size c (e ∷ h)) (flight_size c h) (packets h) (still_open c h e (packets h) (not_owed c h none) (sent_leaves c h time space number size eliciting in_flight permission)) in
+    let new = just_sent c h time space number size eliciting in_flight permission p refl refl refl refl in
     all ∙ (ap (λ n. n + sum_by (flight_size c (e ∷ h)) (packets h)) new ∙ (ap (λ n. (if in_flight && not (is_discarded h space) then size else 0) + n) rest ∙ add_comm _ _))

@@ -1,4 +1,4 @@
--- Laws of every run, and of every course.
+-- Laws of every run, and of every tolerated run.
 use Rattle.std.proofs.Common.{ℕ, ◌-◌, ◌*◌, ◌/◌, max, ◌↔◌, ◌+◌, ◌≤◌, ◌<◌, arith, ◌≡◌, ◌∙◌, List, [], ◌∷◌, ◌++◌, length, Bool, true, false, ◌||◌, Option, Some, None, refl, sym}
 use Rattle.std.proofs.lemmas.Bool.{leb-false, leb-true, le-leb, ltb-true}
 use Rattle.std.specs.List.{filter, list_any, AllByRecursion}
@@ -6,7 +6,7 @@ use Rattle.std.specs.Prelude.{nat_le, nat_lt, map, not, ◌&&◌, if◌then◌el
 use Rattle.qa_base.specs.declared.event.Event.{Event}
 use Rattle.qa_base.specs.declared.event.Event.TheVariants.{Sent}
 use Rattle.qa_base.specs.declared.rule.Rule.{Rule}
-use Rattle.qa_base.specs.machine.Departures.{is_unborne, first_unborne, IsCourse}
+use Rattle.qa_base.specs.machine.Violations.{is_untolerated, first_untolerated, IsToleratedRun}
 use Rattle.qa_base.specs.machine.Order.{IsLower, NumbersFall}
 use Rattle.qa_base.specs.machine.Packets.{Packet, packets, is_of, newly_acknowledged, is_newly_acknowledged}
 use Rattle.qa_base.specs.machine.Rules.{broken, first_of, first_broken, IsRun}
@@ -21,10 +21,10 @@ pub prefix_of_run : (c : Settings) (more h : List Event) → IsRun c (more ++ h)
 prefix_of_run c [] h run = run
 prefix_of_run c (e ∷ more) h run = prefix_of_run c more h run.0
 
--- and of a course a course
-pub prefix_of_course : (c : Settings) (more h : List Event) → IsCourse c (more ++ h) → IsCourse c h
-prefix_of_course c [] h course = course
-prefix_of_course c (e ∷ more) h course = prefix_of_course c more h course.0
+-- and of a tolerated run a tolerated run
+pub prefix_of_tolerated_run : (c : Settings) (more h : List Event) → IsToleratedRun c (more ++ h) → IsToleratedRun c h
+prefix_of_tolerated_run c [] h tolerated_run = tolerated_run
+prefix_of_tolerated_run c (e ∷ more) h tolerated_run = prefix_of_tolerated_run c more h tolerated_run.0
 
 -- ---- the rules that hold
 
@@ -78,9 +78,9 @@ all_hold c h e allowed =
       not_confirmed = holds.1.1.1.1.1.1.1.1.1.1.1.1.1.1.0;
     }
 
--- ---- the rules that hold in a course
+-- ---- the rules that hold in a tolerated run
 
--- an event leaves a history well formed: each rule that is not of conduct holds, as its field says, and an early timer comes while its
+-- an event leaves a history well formed: each rule that is no sender rule holds, as its field says, and an early timer comes while its
 -- timeout may still be doubled
 pub record KeepsForm (c : Settings) (h : List Event) (e : Event) : Type 0 where
   pub time_back : is_time_back h e ≡ false
@@ -95,57 +95,57 @@ pub record KeepsForm (c : Settings) (h : List Event) (e : Event) : Type 0 where
   pub timer_early : is_timer_early c h e ≡ true → pto_count c h < 40
   pub not_confirmed : is_not_confirmed h e ≡ false
 
--- a test that is not borne, and fails
-unborne_fails : (b : Bool) → (b && true) ≡ false → b ≡ false
-unborne_fails true h = cc
-unborne_fails false h = refl
+-- a test that is not tolerated, and fails
+untolerated_fails : (b : Bool) → (b && true) ≡ false → b ≡ false
+untolerated_fails true h = cc
+untolerated_fails false h = refl
 
--- a test that is borne while there are few doublings
-borne_if_few : (b few : Bool) → (b && not few) ≡ false → b ≡ true → few ≡ true
-borne_if_few true true h is = refl
-borne_if_few true false h is = cc
-borne_if_few false few h is = cc
+-- a test that is tolerated while there are few doublings
+tolerated_if_few : (b few : Bool) → (b && not few) ≡ false → b ≡ true → few ≡ true
+tolerated_if_few true true h is = refl
+tolerated_if_few true false h is = cc
+tolerated_if_few false few h is = cc
 
 -- the rules of form hold of an event past which the machine goes on
-pub form_holds : (c : Settings) (h : List Event) (e : Event) → first_unborne c h e ≡ None → KeepsForm c h e
-unfolding first_unborne
+pub form_holds : (c : Settings) (h : List Event) (e : Event) → first_untolerated c h e ≡ None → KeepsForm c h e
+unfolding first_untolerated
 form_holds c h e allowed =
-    let holds = rules_hold (map (λ test. (is_unborne c h test, test.1)) (broken c h e)) allowed in
+    let holds = rules_hold (map (λ test. (is_untolerated c h test, test.1)) (broken c h e)) allowed in
     record {
-      time_back = unborne_fails (is_time_back h e) holds.0;
-      loss_owed = unborne_fails (is_loss_owed c h e) holds.1.0;
-      loss_not_owed = unborne_fails (is_loss_not_owed c h e) holds.1.1.0;
-      loss_set = unborne_fails (is_other_loss_set c h e) holds.1.1.1.0;
-      space_gone = unborne_fails (is_space_gone h e) holds.1.1.1.1.0;
-      number_not_higher = unborne_fails (is_number_not_higher h e) holds.1.1.1.1.1.0;
-      ack_unsent = unborne_fails (is_ack_unsent h e) holds.1.1.1.1.1.1.1.1.1.0;
-      timer_not_set = unborne_fails (is_timer_not_set c h e) holds.1.1.1.1.1.1.1.1.1.1.0;
-      timer_other = unborne_fails (is_timer_other c h e) holds.1.1.1.1.1.1.1.1.1.1.1.0;
-      timer_early = λ is. ltb-true (pto_count c h) 40 (borne_if_few (is_timer_early c h e) (nat_lt (pto_count c h) 40) holds.1.1.1.1.1.1.1.1.1.1.1.1.0 is);
-      not_confirmed = unborne_fails (is_not_confirmed h e) holds.1.1.1.1.1.1.1.1.1.1.1.1.1.1.0;
+      time_back = untolerated_fails (is_time_back h e) holds.0;
+      loss_owed = untolerated_fails (is_loss_owed c h e) holds.1.0;
+      loss_not_owed = untolerated_fails (is_loss_not_owed c h e) holds.1.1.0;
+      loss_set = untolerated_fails (is_other_loss_set c h e) holds.1.1.1.0;
+      space_gone = untolerated_fails (is_space_gone h e) holds.1.1.1.1.0;
+      number_not_higher = untolerated_fails (is_number_not_higher h e) holds.1.1.1.1.1.0;
+      ack_unsent = untolerated_fails (is_ack_unsent h e) holds.1.1.1.1.1.1.1.1.1.0;
+      timer_not_set = untolerated_fails (is_timer_not_set c h e) holds.1.1.1.1.1.1.1.1.1.1.0;
+      timer_other = untolerated_fails (is_timer_other c h e) holds.1.1.1.1.1.1.1.1.1.1.1.0;
+      timer_early = λ is. ltb-true (pto_count c h) 40 (tolerated_if_few (is_timer_early c h e) (nat_lt (pto_count c h) 40) holds.1.1.1.1.1.1.1.1.1.1.1.1.0 is);
+      not_confirmed = untolerated_fails (is_not_confirmed h e) holds.1.1.1.1.1.1.1.1.1.1.1.1.1.1.0;
     }
 
--- ---- a run is a course
+-- ---- a run is a tolerated run
 
-unborne_no_more : (here there : Bool) (r : Rule) (rest others : Option Rule) → (if here then Some r else rest) ≡ None → (rest ≡ None → others ≡ None)
+untolerated_no_more : (here there : Bool) (r : Rule) (rest others : Option Rule) → (if here then Some r else rest) ≡ None → (rest ≡ None → others ≡ None)
     → (if here && there then Some r else others) ≡ None
-unborne_no_more true there r rest others none more = cc
-unborne_no_more false there r rest others none more = more none
+untolerated_no_more true there r rest others none more = cc
+untolerated_no_more false there r rest others none more = more none
 
-none_unborne : (c : Settings) (h : List Event) (tests : List (Bool × Rule)) → first_of tests ≡ None → first_of (map (λ test. (is_unborne c h test, test.1)) tests) ≡ None
-none_unborne c h [] none = refl
-none_unborne c h (test ∷ tests) none =
-    unborne_no_more test.0 _ test.1 (first_of tests) (first_of (map (λ test. (is_unborne c h test, test.1)) tests)) none (none_unborne c h tests)
+none_untolerated : (c : Settings) (h : List Event) (tests : List (Bool × Rule)) → first_of tests ≡ None → first_of (map (λ test. (is_untolerated c h test, test.1)) tests) ≡ None
+none_untolerated c h [] none = refl
+none_untolerated c h (test ∷ tests) none =
+    untolerated_no_more test.0 _ test.1 (first_of tests) (first_of (map (λ test. (is_untolerated c h test, test.1)) tests)) none (none_untolerated c h tests)
 
 -- the machine goes on past an event that breaks no rule
-pub unbroken_is_borne : (c : Settings) (h : List Event) (e : Event) → first_broken c h e ≡ None → first_unborne c h e ≡ None
-unfolding first_broken first_unborne
-unbroken_is_borne c h e none = none_unborne c h (broken c h e) none
+pub unbroken_is_tolerated : (c : Settings) (h : List Event) (e : Event) → first_broken c h e ≡ None → first_untolerated c h e ≡ None
+unfolding first_broken first_untolerated
+unbroken_is_tolerated c h e none = none_untolerated c h (broken c h e) none
 
--- a run is a course
-pub course_of : (c : Settings) (h : List Event) → IsRun c h → IsCourse c h
-course_of c [] run = tt
-course_of c (e ∷ h) run = (course_of c h run.0, unbroken_is_borne c h e run.1)
+-- a run is a tolerated run
+pub tolerated_run_of : (c : Settings) (h : List Event) → IsRun c h → IsToleratedRun c h
+tolerated_run_of c [] run = tt
+tolerated_run_of c (e ∷ h) run = (tolerated_run_of c h run.0, unbroken_is_tolerated c h e run.1)
 
 -- ---- numbers rise as packets are sent
 
@@ -169,9 +169,9 @@ all_lower p [] none = tt
 all_lower p (q ∷ ps) none =
     let more = lower_more p q (filter (is_of p.space) ps) (is_of p.space q) refl none in (more.0, all_lower p ps more.1)
 
-event_falls : (c : Settings) (e : Event) (h : List Event) → first_unborne c h e ≡ None → NumbersFall (packets h) → NumbersFall (packets (e ∷ h))
-event_falls c (Sent time space number size eliciting in_flight leave) h allowed falls =
-    let holds = form_holds c h (Sent time space number size eliciting in_flight leave) allowed in
+event_falls : (c : Settings) (e : Event) (h : List Event) → first_untolerated c h e ≡ None → NumbersFall (packets h) → NumbersFall (packets (e ∷ h))
+event_falls c (Sent time space number size eliciting in_flight permission) h allowed falls =
+    let holds = form_holds c h (Sent time space number size eliciting in_flight permission) allowed in
     let p : Packet = record {
       place = length h;
       time = time;
@@ -180,15 +180,15 @@ event_falls c (Sent time space number size eliciting in_flight leave) h allowed 
       size = size;
       eliciting = eliciting;
       in_flight = in_flight;
-      leave = leave;
+      permission = permission;
     } in
     (all_lower p (packets h) holds.number_not_higher, falls)
 event_falls c _ h allowed falls = falls
 
--- in a course each packet has a higher number than those sent before it in its space
-pub numbers_fall : (c : Settings) (h : List Event) → IsCourse c h → NumbersFall (packets h)
-numbers_fall c [] course = tt
-numbers_fall c (e ∷ h) course = event_falls c e h course.1 (numbers_fall c h course.0)
+-- in a tolerated run each packet has a higher number than those sent before it in its space
+pub numbers_fall : (c : Settings) (h : List Event) → IsToleratedRun c h → NumbersFall (packets h)
+numbers_fall c [] tolerated_run = tt
+numbers_fall c (e ∷ h) tolerated_run = event_falls c e h tolerated_run.1 (numbers_fall c h tolerated_run.0)
 
 -- ---- and so do those of a part of them
 
@@ -210,8 +210,8 @@ falls_in_part kept [] falls = tt
 falls_in_part kept (p ∷ ps) falls = first_or_not kept p ps (kept p) falls (falls_in_part kept ps falls.1)
 
 -- the packets that an acknowledgment newly acknowledges have rising numbers in the order of sending
-pub newly_acknowledged_fall : (c : Settings) (e : Event) (h : List Event) → IsCourse c h → NumbersFall (newly_acknowledged (e ∷ h))
-newly_acknowledged_fall c e h course = falls_in_part (is_newly_acknowledged e h) (packets h) (numbers_fall c h course)
+pub newly_acknowledged_fall : (c : Settings) (e : Event) (h : List Event) → IsToleratedRun c h → NumbersFall (newly_acknowledged (e ∷ h))
+newly_acknowledged_fall c e h tolerated_run = falls_in_part (is_newly_acknowledged e h) (packets h) (numbers_fall c h tolerated_run)
 
 -- ---- when a packet is old
 

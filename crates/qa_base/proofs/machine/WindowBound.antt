@@ -13,7 +13,7 @@ use Rattle.qa_base.specs.machine.Packets.{Packet, packets, packet_of, is_acknowl
 use Rattle.qa_base.specs.values.Events.{acknowledges}
 use Rattle.qa_base.specs.machine.Loss.{declared, is_persistent, bytes_in_flight, flight_size, is_open}
 use Rattle.qa_base.specs.machine.Moments.{detection_of, last_time}
-use Rattle.qa_base.specs.machine.Reno.{Move, Hit, Collapse, Grow, Control, start, moved, moves, moves_of_last, reno, hits, collapses, grows, is_app_limited, is_slow_start, is_outside_recovery, growth}
+use Rattle.qa_base.specs.machine.Reno.{Move, CongestionEvent, PersistentCongestion, Grow, Control, start, moved, moves, moves_of_last, reno, congestion_events, persistent_congestions, grows, is_app_limited, is_slow_start, is_outside_recovery, growth}
 use Rattle.qa_base.specs.values.Settings.{Settings, AreInRange}
 use Rattle.qa_base.specs.machine.Widths.{Fits, acknowledged_count}
 use Rattle.qa_base.proofs.machine.Histories.{length-history_of}
@@ -32,8 +32,8 @@ grow_at_least d size r true = omega arith
 grow_at_least d size r false = omega arith
 
 moved_at_least : (d : ℕ) (r : Control) (m : Move) → 2 * d ≤ r.window → 2 * d ≤ (moved d r m).window
-moved_at_least d r (Hit last_sent now) least = hit_at_least d last_sent now r (is_outside_recovery r.recovery_start_time last_sent) least
-moved_at_least d r Collapse least = omega arith
+moved_at_least d r (CongestionEvent last_sent now) least = hit_at_least d last_sent now r (is_outside_recovery r.recovery_start_time last_sent) least
+moved_at_least d r PersistentCongestion least = omega arith
 moved_at_least d r (Grow size sent) least =
     let more = grow_at_least d size r (is_outside_recovery r.recovery_start_time sent) in omega (arith, least, more)
 
@@ -74,11 +74,11 @@ growth_if d size window true low some = omega arith
 growth_if d size window false low some = part_small d size window low some
 
 one_move : (d most : ℕ) (r : Control) (m : Move) → 0 < d → 2 * d ≤ most → IsSmall m → IsBetween d most r → IsBetween d (most + weight m) (moved d r m)
-one_move d most r (Hit last_sent now) some room small is =
+one_move d most r (CongestionEvent last_sent now) some room small is =
     let low = is.low in let high = is.high in
     between_if d (most + 0) (is_outside_recovery r.recovery_start_time last_sent) (record { window = max (r.window / 2) (2 * d); ssthresh = Some (r.window / 2); recovery_start_time = Some now }) r
     (record { low = omega arith; high = omega arith }) (record { low = low; high = omega arith })
-one_move d most r Collapse some room small is = record { low = omega arith; high = omega arith }
+one_move d most r PersistentCongestion some room small is = record { low = omega arith; high = omega arith }
 one_move d most r (Grow size sent) some room small is =
     let low = is.low in let high = is.high in
     let grew : growth d size r ≤ size = growth_if d size r.window (is_slow_start r) (omega arith) (omega arith) in
@@ -142,11 +142,11 @@ weight_turned (p ∷ ps) =
 pub length_part : (kept : Packet → Bool) (ps : List Packet) → length (filter kept ps) ≤ length ps
 length_part kept ps = omega (arith, length-filter kept ps, count_by-le-length kept ps)
 
-small_hits : (now : ℕ) (ps : List Packet) → AllByRecursion IsSmall (hits now ps) × (sum_by weight (hits now ps) ≡ 0)
+small_hits : (now : ℕ) (ps : List Packet) → AllByRecursion IsSmall (congestion_events now ps) × (sum_by weight (congestion_events now ps) ≡ 0)
 small_hits now [] = (tt, refl)
 small_hits now (p ∷ ps) = ((tt, tt), refl)
 
-small_collapses : (b : Bool) → AllByRecursion IsSmall (collapses b) × (sum_by weight (collapses b) ≡ 0)
+small_collapses : (b : Bool) → AllByRecursion IsSmall (persistent_congestions b) × (sum_by weight (persistent_congestions b) ≡ 0)
 small_collapses true = ((tt, tt), refl)
 small_collapses false = (tt, refl)
 
@@ -162,8 +162,8 @@ small_grows false ps all =
 small_moves : (c : Settings) (e : Event) (h : List Event) → AllByRecursion IsSized (packets h)
     → AllByRecursion IsSmall (moves_of_last c (e ∷ h)) × (sum_by weight (moves_of_last c (e ∷ h)) ≤ 65527 * length (newly_acknowledged (e ∷ h)))
 small_moves c e h sized =
-    let xs = hits (last_time (detection_of (e ∷ h))) (declared c (e ∷ h)) in
-    let ys = collapses (is_persistent c (e ∷ h)) in
+    let xs = congestion_events (last_time (detection_of (e ∷ h))) (declared c (e ∷ h)) in
+    let ys = persistent_congestions (is_persistent c (e ∷ h)) in
     let new = newly_acknowledged (e ∷ h) in
     let zs : List Move = if is_app_limited e then [] else grows new in
     let a = small_hits (last_time (detection_of (e ∷ h))) (declared c (e ∷ h)) in
@@ -204,7 +204,7 @@ behind_more n [] all = tt
 behind_more n (p ∷ ps) all = (omega (arith, all.0), behind_more n ps all.1)
 
 placed_one : (e : Event) (n : ℕ) → AllByRecursion (λ (p : Packet). p.place < suc n) (packet_of n e)
-placed_one (Sent time space number size eliciting in_flight leave) n = ((omega arith), tt)
+placed_one (Sent time space number size eliciting in_flight permission) n = ((omega arith), tt)
 placed_one _ n = tt
 
 pub placed : (h : List Event) → AllByRecursion (λ (p : Packet). p.place < length h) (packets h)
@@ -218,7 +218,7 @@ behind_tests n (p ∷ ps) all = ((grind (arith, all.0)), behind_tests n ps all.1
 -- ---- the window of a history
 
 sized_one : (e : Event) (n : ℕ) → Fits e → AllByRecursion IsSized (packet_of n e)
-sized_one (Sent time space number size eliciting in_flight leave) n fit =
+sized_one (Sent time space number size eliciting in_flight permission) n fit =
     let parts = and_parts (nat_le 1 size && nat_le size 65527) (not eliciting || in_flight) fit in
     let both = and_parts (nat_le 1 size) (nat_le size 65527) parts.0 in
     ((leb-true size 65527 both.1), tt)
@@ -259,7 +259,7 @@ window_high c h range fit = (between c h range fit).high
 
 pub packets_few : (h : List Event) → length (packets h) ≤ length h
 packets_few [] = omega arith
-packets_few (Sent time space number size eliciting in_flight leave ∷ h) = omega (arith, packets_few h)
+packets_few (Sent time space number size eliciting in_flight permission ∷ h) = omega (arith, packets_few h)
 packets_few (_ ∷ h) = omega (arith, packets_few h)
 
 -- no more are acknowledged than there are events

@@ -1,18 +1,19 @@
 -- What each rule forbids: whether an event breaks it after a history.
 --
 -- `c` are the settings of the header, `h` is the history.
-use Rattle.std.specs.Prelude.{ℕ, ◌+◌, ◌*◌, ◌&&◌, not, nat_lt, nat_le, max, Bool, true, false, List, [], ◌∷◌, map, Option, Some, None, is_none}
+use Rattle.std.specs.Prelude.{ℕ, ◌+◌, ◌*◌, ◌&&◌, not, nat_lt, nat_le, max, Bool, true, false, List}
+use Rattle.std.specs.Prelude.{[], ◌∷◌, map, Option, Some, None, is_none}
 use Rattle.std.specs.List.{list_any}
 use Rattle.qa_base.specs.declared.event.Event.{Event}
 use Rattle.qa_base.specs.declared.event.Event.TheVariants.{Sent, Ack, Lost, Timer, Discard}
 use Rattle.qa_base.specs.declared.space.TimerKind.{TimerKind}
 use Rattle.qa_base.specs.declared.space.TimerKind.TheVariants.{Pto}
-use Rattle.qa_base.specs.declared.space.Leave.TheVariants.{Window, Probe, Recovery}
+use Rattle.qa_base.specs.declared.space.Permission.TheVariants.{Window, Probe, Recovery}
 use Rattle.qa_base.specs.declared.space.Space.{Space}
 use Rattle.qa_base.specs.declared.space.Space.TheVariants.{Handshake}
 use Rattle.qa_base.specs.values.Events.{time_of, is_space}
 use Rattle.qa_base.specs.machine.Handshake.{is_confirmed}
-use Rattle.qa_base.specs.machine.Leave.{probe_spent, recovery_spent, is_probe_due}
+use Rattle.qa_base.specs.machine.Permission.{probe_spent, recovery_spent, is_probe_due}
 use Rattle.qa_base.specs.machine.Loss.{owed, nameable, bytes_in_flight}
 use Rattle.qa_base.specs.machine.Numbers.{has_all, names_between}
 use Rattle.qa_base.specs.machine.Packets.{Packet, packets_of, is_of, is_discarded, is_some_packet}
@@ -45,13 +46,14 @@ numbers ps = map (λ p. p.number) ps
 
 -- V4: it does not name all packets that are owed, or one that is neither owed nor free
 abbrev pub is_other_loss_set : Settings → List Event → Event → Bool
-is_other_loss_set c h (Lost time space ranges) = not (names_between ranges (numbers (owed c h)) (numbers (nameable c h)))
+is_other_loss_set c h (Lost time space ranges) =
+    not (names_between ranges (numbers (owed c h)) (numbers (nameable c h)))
 is_other_loss_set c h _ = false
 
 -- ---- a space
 
 abbrev pub space_of : Event → Option Space
-space_of (Sent time space number size eliciting in_flight leave) = Some space
+space_of (Sent time space number size eliciting in_flight permission) = Some space
 space_of (Ack time space ranges delay app_limited) = Some space
 space_of (Discard time space) = Some space
 space_of _ = None
@@ -72,17 +74,20 @@ has_at_or_above space number h = list_any (λ p. nat_le number p.number) (packet
 
 -- V6: a packet was sent in its space with its number or a higher one (RFC 9002, section 4.2)
 abbrev pub is_number_not_higher : List Event → Event → Bool
-is_number_not_higher h (Sent time space number size eliciting in_flight leave) = has_at_or_above space number h
+is_number_not_higher h (Sent time space number size eliciting in_flight permission) =
+    has_at_or_above space number h
 is_number_not_higher h _ = false
 
--- so many bytes more are past the window; where the sender may overshoot it, where the bytes fill it without them
+-- so many bytes more are past the window; where the sender may overshoot it, where the bytes fill
+-- it without them
 abbrev pub is_past : Bool → ℕ → ℕ → ℕ → Bool
 is_past true window bytes size = nat_le window bytes
 is_past false window bytes size = nat_lt window (bytes + size)
 
 -- V7: it takes the bytes in flight past the congestion window (RFC 9002, section 7)
 abbrev pub is_past_window : Settings → List Event → Event → Bool
-is_past_window c h (Sent time space number size eliciting in_flight Window) = in_flight && is_past c.options.window_overshoot (window c h) (bytes_in_flight c h) size
+is_past_window c h (Sent time space number size eliciting in_flight Window) =
+    in_flight && is_past c.options.window_overshoot (window c h) (bytes_in_flight c h) size
 is_past_window c h _ = false
 
 -- more than an allowance with what was spent of it, or there is none
@@ -90,21 +95,26 @@ abbrev pub is_over : ℕ → ℕ → Option ℕ → Bool
 is_over allowance more None = true
 is_over allowance more (Some spent) = nat_lt allowance (spent + more)
 
--- V8: a probe before any probe timeout, or past the datagrams that one allows (RFC 9002, section 6.2.4)
+-- V8: a probe before any probe timeout, or past the datagrams that one allows (RFC 9002, section
+-- 6.2.4)
 abbrev pub is_past_probe : Settings → List Event → Event → Bool
-is_past_probe c h (Sent time space number size eliciting in_flight Probe) = in_flight && is_over (probe_datagrams * c.max_datagram_size) size (probe_spent h)
+is_past_probe c h (Sent time space number size eliciting in_flight Probe) =
+    in_flight && is_over (probe_datagrams * c.max_datagram_size) size (probe_spent h)
 is_past_probe c h _ = false
 
--- V9: the packet of an entry into recovery, which was not or had its packet (RFC 9002, section 7.3.2)
+-- V9: the packet of an entry into recovery, which was not or had its packet (RFC 9002, section
+-- 7.3.2)
 abbrev pub is_past_recovery : Settings → List Event → Event → Bool
-is_past_recovery c h (Sent time space number size eliciting in_flight Recovery) = in_flight && is_over 1 1 (recovery_spent c h)
+is_past_recovery c h (Sent time space number size eliciting in_flight Recovery) =
+    in_flight && is_over 1 1 (recovery_spent c h)
 is_past_recovery c h _ = false
 
 -- ---- an acknowledgment
 
 -- V10: it covers a number that was never sent in its space
 abbrev pub is_ack_unsent : List Event → Event → Bool
-is_ack_unsent h (Ack time space ranges delay app_limited) = not (has_all (numbers (packets_of h space)) ranges)
+is_ack_unsent h (Ack time space ranges delay app_limited) =
+    not (has_all (numbers (packets_of h space)) ranges)
 is_ack_unsent h _ = false
 
 -- ---- the timer
@@ -146,14 +156,16 @@ is_not_confirmed h _ = false
 
 -- ---- any event
 
--- past a deadline by more than the limit, counted from the time since which it was set where that is later
+-- past a deadline by more than the limit, counted from the time since which it was set where that
+-- is later
 abbrev pub is_past_due : ℕ → ℕ → ℕ → Option Due → Bool
 is_past_due limit since time None = false
 is_past_due limit since time (Some due) = nat_lt (max due.time since + limit) time
 
 abbrev pub is_late_by : Settings → List Event → ℕ → Option ℕ → Bool
 is_late_by c h time None = false
-is_late_by c h time (Some limit) = is_past_due (in_unit c.unit limit) (set_since c h) time (packet_deadline c h)
+is_late_by c h time (Some limit) =
+    is_past_due (in_unit c.unit limit) (set_since c h) time (packet_deadline c h)
 
 -- V18: a timer that is set for packets should have fired before it, by the header's limit
 abbrev pub is_timer_late : Settings → List Event → Event → Bool
@@ -164,9 +176,11 @@ abbrev pub is_above_collapse : ℕ → Option ℕ → Option ℕ → Bool
 is_above_collapse least (Some reported) (Some acknowledged) = nat_lt (least + acknowledged) reported
 is_above_collapse least _ _ = false
 
--- V19: persistent congestion was established, and the first other window that is reported since is above two datagrams with what was
--- acknowledged since, by more than the slack (RFC 9002, section 7.6.2)
+-- V19: persistent congestion was established, and the first other window that is reported since is
+-- above two datagrams with what was acknowledged since, by more than the slack (RFC 9002, section
+-- 7.6.2)
 abbrev pub is_collapse_missing : Settings → List Event → Event → Bool
 is_collapse_missing c h e =
     is_reported c.options.controller
-    && is_above_collapse (minimum_window c.max_datagram_size + c.options.report_slack_bytes) (other_window c h e) (acknowledged_since_collapse c h)
+    && is_above_collapse (minimum_window c.max_datagram_size + c.options.report_slack_bytes)
+    (other_window c h e) (acknowledged_since_collapse c h)

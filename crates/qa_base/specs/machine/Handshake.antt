@@ -27,14 +27,15 @@ abbrev pub is_server : Role → Bool
 is_server Server = true
 is_server Client = false
 
--- the peer has validated the sender's address: a server's always has, and a client's once it acknowledged a Handshake
--- packet or the handshake is confirmed (RFC 9002, A.8, PeerCompletedAddressValidation)
+-- the peer has validated the sender's address: a server's always has, and a client's once it
+-- acknowledged a Handshake packet or the handshake is confirmed (RFC 9002, A.8,
+-- PeerCompletedAddressValidation)
 abbrev pub is_validated : Settings → List Event → Bool
 is_validated c h = is_server c.role || list_any acknowledges_handshake h || is_confirmed h
 
 abbrev pub shows_keys : Event → Bool
 shows_keys (Keys time) = true
-shows_keys (Sent time space number size eliciting in_flight leave) = is_space Handshake space
+shows_keys (Sent time space number size eliciting in_flight permission) = is_space Handshake space
 shows_keys (Discard time space) = is_space Initial space
 shows_keys _ = false
 

@@ -1,7 +1,9 @@
--- How much of a history is still of use: the packets since the oldest that is open or owed, and the runs of numbers.
+-- How much of a history is still of use: the packets since the oldest that is open or owed, and the
+-- runs of numbers.
 --
 -- `c` are the settings of the header, `h` is the history.
-use Rattle.std.specs.Prelude.{ℕ, ◌+◌, ◌||◌, not, nat_le, count_by, filter, map, Bool, List, Option, Some, None}
+use Rattle.std.specs.Prelude.{ℕ, ◌+◌, ◌||◌, not, nat_le, count_by, filter, map, Bool, List, Option}
+use Rattle.std.specs.Prelude.{Some, None}
 use Rattle.qa_base.specs.declared.event.Event.{Event}
 use Rattle.qa_base.specs.declared.space.Space.{Space}
 use Rattle.qa_base.specs.declared.space.Space.TheVariants.{Initial, Handshake, App}
@@ -29,7 +31,8 @@ kept_count c h = count_from (oldest_kept c h) (packets h)
 abbrev pub numbers_of : List Event → Space → List ℕ
 numbers_of h s = map (λ p. p.number) (packets_of h s)
 
--- how many runs of consecutive numbers were sent in the space: the numbers behind which the next was not sent
+-- how many runs of consecutive numbers were sent in the space: the numbers behind which the next
+-- was not sent
 abbrev pub runs_of : List Event → Space → ℕ
 runs_of h s = count_by (λ n. not (is_in (numbers_of h s) (n + 1))) (numbers_of h s)
 

@@ -1,10 +1,12 @@
--- Which packets are owed as lost, which may be declared lost, which are open, the bytes in flight, and persistent congestion.
+-- Which packets are owed as lost, which may be declared lost, which are open, the bytes in flight,
+-- and persistent congestion.
 --
 -- `c` are the settings of the header, `h` is the history.
 use Rattle.std.specs.Prelude.{ℕ, ◌&&◌, ◌||◌, not, Bool, List, filter, Option, sum_by, if◌then◌else◌}
 use Rattle.qa_base.specs.declared.event.Event.{Event}
 use Rattle.qa_base.specs.declared.space.Space.{Space}
-use Rattle.qa_base.specs.machine.Detection.{detection_by, owed_by, is_owed_by, free_by, is_free_by, declared_by, is_unsettled, is_persistent_by}
+use Rattle.qa_base.specs.machine.Detection.{detection_by, owed_by, is_owed_by, free_by, is_free_by}
+use Rattle.qa_base.specs.machine.Detection.{declared_by, is_unsettled, is_persistent_by}
 use Rattle.qa_base.specs.machine.Estimates.{sampled}
 use Rattle.qa_base.specs.machine.Packets.{Packet, packets, is_discarded}
 use Rattle.qa_base.specs.values.Settings.{Settings}
@@ -36,7 +38,8 @@ is_nameable c h p = is_owed c h p || is_free c h p
 abbrev pub nameable : Settings → List Event → List Packet
 nameable c h = filter (is_nameable c h) (packets h)
 
--- the packets that are lost by the last event: by a detection, and by a Lost line with those of the detection that it completes
+-- the packets that are lost by the last event: by a detection, and by a Lost line with those of the
+-- detection that it completes
 abbrev pub declared : Settings → List Event → List Packet
 declared c h = declared_by c (sampled c h) h
 

@@ -14,7 +14,8 @@ abbrev pub since : (List Event → Bool) → List Event → List (List Event)
 since test [] = []
 since test (e ∷ before) = if test (e ∷ before) then [] else (e ∷ before) ∷ since test before
 
--- the moment of the detection of what is lost by the last event: a Lost line completes the one in front of it
+-- the moment of the detection of what is lost by the last event: a Lost line completes the one in
+-- front of it
 abbrev pub detection_of : List Event → List Event
 detection_of (Lost time space ranges ∷ before) = before
 detection_of h = h

@@ -1,5 +1,6 @@
 -- Which packet numbers ranges name, by tests that compute.
-use Rattle.std.specs.Prelude.{◌≡◌, ℕ, ◌+◌, ◌≤◌, ◌==◌, ◌&&◌, ◌||◌, not, nat_le, nat_lt, Bool, true, List}
+use Rattle.std.specs.Prelude.{◌≡◌, ℕ, ◌+◌, ◌≤◌, ◌==◌, ◌&&◌, ◌||◌, not, nat_le, nat_lt, Bool, true}
+use Rattle.std.specs.Prelude.{List}
 use Rattle.std.specs.List.{list_all, list_any, AllByRecursion}
 use Rattle.qa_base.specs.values.Events.{is_named}
 
@@ -12,7 +13,8 @@ has_next numbers lo hi m = not (nat_le lo m && nat_lt m hi) || is_in numbers (m 
 
 -- the range has no gap: its least number is there, and each goes on to the next
 abbrev pub has_range : List ℕ → ℕ × ℕ → Bool
-has_range numbers range = is_in numbers range.0 && list_all (has_next numbers range.0 range.1) numbers
+has_range numbers range =
+    is_in numbers range.0 && list_all (has_next numbers range.0 range.1) numbers
 
 -- each number of the ranges is one of these
 abbrev pub has_all : List ℕ → List (ℕ × ℕ) → Bool

@@ -1,13 +1,15 @@
 -- Histories, the packets that were sent in them, and what became of each.
 --
--- A history lists its latest event first: one more event is `e ∷ h`, and what stood before an event is the rest of the
--- list behind it.
-use Rattle.std.specs.Prelude.{ℕ, ◌&&◌, ◌||◌, not, nat_lt, min, max, Bool, true, false, unwrap_or, flat_map, List, [], ◌∷◌, ◌++◌, fold, length, filter, Option, Some, None, if◌then◌else◌}
+-- A history lists its latest event first: one more event is `e ∷ h`, and what stood before an event
+-- is the rest of the list behind it.
+use Rattle.std.specs.Prelude.{ℕ, ◌&&◌, ◌||◌, not, nat_lt, min, max, Bool, true, false, unwrap_or}
+use Rattle.std.specs.Prelude.{flat_map, List, [], ◌∷◌, ◌++◌, fold, length, filter, Option, Some}
+use Rattle.std.specs.Prelude.{None, if◌then◌else◌}
 use Rattle.std.specs.List.{list_any}
 use Rattle.qa_base.specs.declared.event.Event.{Event}
 use Rattle.qa_base.specs.declared.event.Event.TheVariants.{Sent, Ack}
 use Rattle.qa_base.specs.declared.space.Space.{Space}
-use Rattle.qa_base.specs.declared.space.Leave.{Leave}
+use Rattle.qa_base.specs.declared.space.Permission.{Permission}
 use Rattle.qa_base.specs.values.Events.{is_space, acknowledges, declares_lost, discards}
 
 -- the history of events that stand in order
@@ -16,7 +18,8 @@ history_of events = fold (λ h e. e ∷ h) [] events
 
 -- ---- packets
 
--- a packet, as the event tells it that sent it (RFC 9002, A.1), and how many events stand before that one
+-- a packet, as the event tells it that sent it (RFC 9002, A.1), and how many events stand before
+-- that one
 pub record Packet : Type 0 where
   pub place : ℕ
   pub time : ℕ
@@ -25,11 +28,11 @@ pub record Packet : Type 0 where
   pub size : ℕ
   pub eliciting : Bool
   pub in_flight : Bool
-  pub leave : Leave
+  pub permission : Permission
 
 -- the packet that an event sent, which stands after so many others
 abbrev pub packet_of : ℕ → Event → List Packet
-packet_of place (Sent time space number size eliciting in_flight leave) = record {
+packet_of place (Sent time space number size eliciting in_flight permission) = record {
   place = place;
   time = time;
   space = space;
@@ -37,7 +40,7 @@ packet_of place (Sent time space number size eliciting in_flight leave) = record
   size = size;
   eliciting = eliciting;
   in_flight = in_flight;
-  leave = leave;
+  permission = permission;
 } ∷ []
 packet_of place _ = []
 
@@ -58,7 +61,8 @@ packets_of h s = filter (is_of s) (packets h)
 -- some event after the one that sent the packet passes the test
 abbrev pub is_followed_by : (Event → Bool) → List Event → Packet → Bool
 is_followed_by test [] p = false
-is_followed_by test (e ∷ before) p = (test e && nat_lt p.place (length before)) || is_followed_by test before p
+is_followed_by test (e ∷ before) p =
+    (test e && nat_lt p.place (length before)) || is_followed_by test before p
 
 -- an acknowledgment of its space covers its number, also where it was lost before
 abbrev pub is_acknowledged : List Event → Packet → Bool
@@ -76,7 +80,9 @@ is_discarded h s = list_any (discards s) h
 
 -- the event acknowledges the packet, which was neither acknowledged nor declared lost before
 abbrev pub is_newly_acknowledged : Event → List Event → Packet → Bool
-is_newly_acknowledged e before p = acknowledges p.space p.number e && not (is_acknowledged before p) && not (is_declared_lost before p)
+is_newly_acknowledged e before p =
+    acknowledges p.space p.number e && not (is_acknowledged before p)
+    && not (is_declared_lost before p)
 
 -- the packets that the last event newly acknowledges, the latest first
 abbrev pub newly_acknowledged : List Event → List Packet
@@ -98,7 +104,8 @@ greatest (range ∷ ranges) = max range.1 (greatest ranges)
 
 -- the greatest number that the event acknowledges in the space
 abbrev pub greatest_in : Space → Event → List ℕ
-greatest_in s (Ack time space ranges delay app_limited) = if is_space s space then greatest ranges ∷ [] else []
+greatest_in s (Ack time space ranges delay app_limited) =
+    if is_space s space then greatest ranges ∷ [] else []
 greatest_in s _ = []
 
 -- the greatest of some numbers

@@ -2,7 +2,7 @@
 use Rattle.std.specs.Prelude.{if◌then◌else◌, List, Option, Some, None}
 use Rattle.qa_base.specs.declared.event.Event.{Event}
 use Rattle.qa_base.specs.declared.space.Space.{Space}
-use Rattle.qa_base.specs.machine.Leave.{answers_pto, is_probe_due, last_pto_space}
+use Rattle.qa_base.specs.machine.Permission.{answers_pto, is_probe_due, last_pto_space}
 
 -- where the probe of the last probe timeout is due, its space
 abbrev pub probe_due : List Event → Option Space

@@ -1,7 +1,8 @@
 -- The congestion window, by the moves that a history makes (RFC 9002, section 7, appendix B).
 --
 -- `c` are the settings of the header, `h` is the history.
-use Rattle.std.specs.Prelude.{ℕ, ◌+◌, ◌*◌, ◌/◌, nat_lt, max, Bool, true, false, List, [], ◌∷◌, ◌++◌, filter, fold, map, reverse, Option, Some, None, if◌then◌else◌}
+use Rattle.std.specs.Prelude.{ℕ, ◌+◌, ◌*◌, ◌/◌, nat_lt, max, Bool, true, false, List, [], ◌∷◌, ◌++◌}
+use Rattle.std.specs.Prelude.{filter, fold, map, reverse, Option, Some, None, if◌then◌else◌}
 use Rattle.qa_base.specs.declared.event.Event.{Event}
 use Rattle.qa_base.specs.declared.event.Event.TheVariants.{Ack}
 use Rattle.qa_base.specs.machine.Loss.{declared, is_persistent}
@@ -26,17 +27,27 @@ abbrev pub is_outside_recovery : Option ℕ → ℕ → Bool
 is_outside_recovery None sent = true
 is_outside_recovery (Some began) sent = nat_lt began sent
 
--- a loss, of packets the last of which was sent at a time (section 7.3.2, B.6): it enters recovery once a round trip
-abbrev pub hit : ℕ → ℕ → ℕ → Control → Control
-hit max_datagram_size last_sent now r =
+-- a loss, of packets the last of which was sent at a time (section 7.3.2, B.6): it enters recovery
+-- once a round trip
+abbrev pub on_congestion_event : ℕ → ℕ → ℕ → Control → Control
+on_congestion_event max_datagram_size last_sent now r =
     let ssthresh = r.window / loss_reduction_divisor in
     if is_outside_recovery r.recovery_start_time last_sent
-    then record { window = max ssthresh (minimum_window max_datagram_size); ssthresh = Some ssthresh; recovery_start_time = Some now }
+    then record {
+      window = max ssthresh (minimum_window max_datagram_size);
+      ssthresh = Some ssthresh;
+      recovery_start_time = Some now;
+    }
     else r
 
 -- persistent congestion (section 7.6.2, B.8)
-abbrev pub collapse : ℕ → Control → Control
-collapse max_datagram_size r = record { window = minimum_window max_datagram_size; ssthresh = r.ssthresh; recovery_start_time = None }
+abbrev pub on_persistent_congestion : ℕ → Control → Control
+on_persistent_congestion max_datagram_size r =
+    record {
+      window = minimum_window max_datagram_size;
+      ssthresh = r.ssthresh;
+      recovery_start_time = None;
+    }
 
 abbrev pub is_below_ssthresh : ℕ → Option ℕ → Bool
 is_below_ssthresh window None = true
@@ -45,22 +56,28 @@ is_below_ssthresh window (Some ssthresh) = nat_lt window ssthresh
 abbrev pub is_slow_start : Control → Bool
 is_slow_start r = is_below_ssthresh r.window r.ssthresh
 
--- what an acknowledged packet adds: its size in slow start (section 7.3.1), its part of a datagram for each window else (7.3.3)
+-- what an acknowledged packet adds: its size in slow start (section 7.3.1), its part of a datagram
+-- for each window else (7.3.3)
 abbrev pub growth : ℕ → ℕ → Control → ℕ
-growth max_datagram_size size r = if is_slow_start r then size else max_datagram_size * size / r.window
+growth max_datagram_size size r =
+    if is_slow_start r then size else max_datagram_size * size / r.window
 
 -- a packet was acknowledged that was sent at a time (B.5)
 abbrev pub grow : ℕ → ℕ → ℕ → Control → Control
 grow max_datagram_size size sent r =
     if is_outside_recovery r.recovery_start_time sent
-    then record { window = r.window + growth max_datagram_size size r; ssthresh = r.ssthresh; recovery_start_time = r.recovery_start_time }
+    then record {
+      window = r.window + growth max_datagram_size size r;
+      ssthresh = r.ssthresh;
+      recovery_start_time = r.recovery_start_time;
+    }
     else r
 
 -- ---- the moves of a history
 
 pub data Move : Type 0 where
-  Hit : (last_sent now : ℕ) → Move
-  Collapse : Move
+  CongestionEvent : (last_sent now : ℕ) → Move
+  PersistentCongestion : Move
   Grow : (size sent : ℕ) → Move
 
 abbrev pub latest_sent : List Packet → ℕ
@@ -68,13 +85,13 @@ latest_sent [] = 0
 latest_sent (p ∷ ps) = max p.time (latest_sent ps)
 
 -- packets lost by a detection at a time
-abbrev pub hits : ℕ → List Packet → List Move
-hits now [] = []
-hits now (p ∷ ps) = Hit (latest_sent (p ∷ ps)) now ∷ []
+abbrev pub congestion_events : ℕ → List Packet → List Move
+congestion_events now [] = []
+congestion_events now (p ∷ ps) = CongestionEvent (latest_sent (p ∷ ps)) now ∷ []
 
-abbrev pub collapses : Bool → List Move
-collapses true = Collapse ∷ []
-collapses false = []
+abbrev pub persistent_congestions : Bool → List Move
+persistent_congestions true = PersistentCongestion ∷ []
+persistent_congestions false = []
 
 -- a move for each in-flight packet that is newly acknowledged, in the order of sending
 abbrev pub grows : List Packet → List Move
@@ -89,8 +106,8 @@ is_app_limited _ = false
 abbrev pub moves_of_last : Settings → List Event → List Move
 moves_of_last c [] = []
 moves_of_last c (e ∷ before) =
-    hits (last_time (detection_of (e ∷ before))) (declared c (e ∷ before))
-    ++ collapses (is_persistent c (e ∷ before))
+    congestion_events (last_time (detection_of (e ∷ before))) (declared c (e ∷ before))
+    ++ persistent_congestions (is_persistent c (e ∷ before))
     ++ (if is_app_limited e then [] else grows (newly_acknowledged (e ∷ before)))
 
 abbrev pub moves : Settings → List Event → List Move
@@ -98,8 +115,9 @@ moves c [] = []
 moves c (e ∷ before) = moves c before ++ moves_of_last c (e ∷ before)
 
 abbrev pub moved : ℕ → Control → Move → Control
-moved max_datagram_size r (Hit last_sent now) = hit max_datagram_size last_sent now r
-moved max_datagram_size r Collapse = collapse max_datagram_size r
+moved max_datagram_size r (CongestionEvent last_sent now) =
+    on_congestion_event max_datagram_size last_sent now r
+moved max_datagram_size r PersistentCongestion = on_persistent_congestion max_datagram_size r
 moved max_datagram_size r (Grow size sent) = grow max_datagram_size size sent r
 
 -- the window, ssthresh and recovery after a history
@@ -109,9 +127,10 @@ reno c h = fold (moved c.max_datagram_size) (start c.initial_window) (moves c h)
 -- ---- entries into recovery
 
 abbrev pub enters : Option ℕ → List Move → Bool
-enters recovery (Hit last_sent now ∷ ms) = is_outside_recovery recovery last_sent
+enters recovery (CongestionEvent last_sent now ∷ ms) = is_outside_recovery recovery last_sent
 enters recovery _ = false
 
 -- the last event enters recovery: by when recovery began before the detection of what is lost by it
 abbrev pub is_entry : Settings → List Event → Bool
-is_entry c h = enters (reno c (before_last (detection_of h))).recovery_start_time (moves_of_last c h)
+is_entry c h =
+    enters (reno c (before_last (detection_of h))).recovery_start_time (moves_of_last c h)

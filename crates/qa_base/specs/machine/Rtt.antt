@@ -1,37 +1,42 @@
 -- Samples of the round-trip time, and the estimate that they make (RFC 9002, section 5).
 --
 -- `c` are the settings of the header, `h` is the history.
-use Rattle.std.specs.Prelude.{ℕ, ◌+◌, ◌-◌, ◌*◌, ◌/◌, ◌==◌, ◌&&◌, ◌||◌, not, nat_le, min, max, Bool, List, ◌∷◌, find, Option, Some, None, if◌then◌else◌}
+use Rattle.std.specs.Prelude.{ℕ, ◌+◌, ◌-◌, ◌*◌, ◌/◌, ◌==◌, ◌&&◌, ◌||◌, not, nat_le, min, max, Bool}
+use Rattle.std.specs.Prelude.{List, ◌∷◌, find, Option, Some, None, if◌then◌else◌}
 use Rattle.std.specs.List.{list_any}
 use Rattle.qa_base.specs.declared.event.Event.{Event}
 use Rattle.qa_base.specs.declared.event.Event.TheVariants.{Ack}
 use Rattle.qa_base.specs.machine.Packets.{Packet, newly_acknowledged, greatest}
 use Rattle.qa_base.specs.machine.Handshake.{is_confirmed}
-use Rattle.qa_base.specs.values.Constants.{persistent_congestion_threshold, time_threshold_parts, time_threshold_divisor}
+use Rattle.qa_base.specs.values.Constants.{persistent_congestion_threshold, time_threshold_parts}
+use Rattle.qa_base.specs.values.Constants.{time_threshold_divisor}
 use Rattle.qa_base.specs.values.Settings.{Settings}
 
 -- ---- samples (RFC 9002, section 5.1)
 
--- how long the packet with the largest acknowledged number took, the peer's delay, and when the acknowledgment came
+-- how long the packet with the largest acknowledged number took, the peer's delay, and when the
+-- acknowledgment came
 pub record Sample : Type 0 where
   pub latest_rtt : ℕ
   pub ack_delay : ℕ
   pub time : ℕ
 
--- the peer's delay counts up to its max_ack_delay once the handshake is confirmed (RFC 9002, section 5.3)
+-- the peer's delay counts up to its max_ack_delay once the handshake is confirmed (RFC 9002,
+-- section 5.3)
 abbrev pub limited_delay : Settings → List Event → ℕ → ℕ
 limited_delay c before delay = if is_confirmed before then min delay c.max_ack_delay else delay
 
 abbrev pub sample_by : ℕ → ℕ → Option Packet → Option Sample
 sample_by time delay None = None
-sample_by time delay (Some p) = Some (record { latest_rtt = time - p.time; ack_delay = delay; time = time })
+sample_by time delay (Some p) =
+    Some (record { latest_rtt = time - p.time; ack_delay = delay; time = time })
 
 -- an ack-eliciting packet; where the sender samples no others, the one with the largest number
 abbrev pub gives_sample : Bool → ℕ → Packet → Bool
 gives_sample only largest p = p.eliciting && (not only || p.number == largest)
 
--- the sample of the last event: it acknowledges, and newly both the packet with its largest number and an ack-eliciting one,
--- which is the same where the sender samples no others
+-- the sample of the last event: it acknowledges, and newly both the packet with its largest number
+-- and an ack-eliciting one, which is the same where the sender samples no others
 abbrev pub sample_of : Settings → List Event → Option Sample
 sample_of c (Ack time space ranges delay app_limited ∷ before) =
     let new = newly_acknowledged (Ack time space ranges delay app_limited ∷ before) in
@@ -51,7 +56,14 @@ pub record Estimate : Type 0 where
 
 -- before the first sample
 abbrev pub start : ℕ → Estimate
-start initial_rtt = record { latest_rtt = 0; min_rtt = 0; smoothed_rtt = initial_rtt; rttvar = initial_rtt / 2; first_rtt_sample = None }
+start initial_rtt =
+    record {
+      latest_rtt = 0;
+      min_rtt = 0;
+      smoothed_rtt = initial_rtt;
+      rttvar = initial_rtt / 2;
+      first_rtt_sample = None;
+    }
 
 -- the first sample, at a time
 abbrev pub first_sample : ℕ → ℕ → Estimate
@@ -68,7 +80,8 @@ distance a b = (a - b) + (b - a)
 
 -- the peer's delay is taken off, unless that leaves less than min_rtt
 abbrev pub adjusted : ℕ → ℕ → ℕ → ℕ
-adjusted min_rtt latest_rtt ack_delay = if nat_le (min_rtt + ack_delay) latest_rtt then latest_rtt - ack_delay else latest_rtt
+adjusted min_rtt latest_rtt ack_delay =
+    if nat_le (min_rtt + ack_delay) latest_rtt then latest_rtt - ack_delay else latest_rtt
 
 -- a later sample: rttvar by the smoothed RTT before it
 abbrev pub next_sample : Estimate → ℕ → ℕ → Estimate
@@ -89,7 +102,8 @@ with_sample_by (Some first) r latest_rtt ack_delay now = next_sample r latest_rt
 
 -- one sample more, the first or a later one
 abbrev pub with_sample : Estimate → ℕ → ℕ → ℕ → Estimate
-with_sample r latest_rtt ack_delay now = with_sample_by r.first_rtt_sample r latest_rtt ack_delay now
+with_sample r latest_rtt ack_delay now =
+    with_sample_by r.first_rtt_sample r latest_rtt ack_delay now
 
 abbrev pub updated : Estimate → Option Sample → Estimate
 updated r None = r
@@ -111,10 +125,12 @@ refreshed r = record {
 abbrev pub divided_up : ℕ → ℕ → ℕ
 divided_up n d = (n + (d - 1)) / d
 
--- how long after it was sent a packet is old: the time threshold of the RTT, rounded up, and the granularity at least
--- (RFC 9002, section 6.1.2)
+-- how long after it was sent a packet is old: the time threshold of the RTT, rounded up, and the
+-- granularity at least (RFC 9002, section 6.1.2)
 abbrev pub loss_delay : ℕ → Estimate → ℕ
-loss_delay granularity r = max (divided_up (time_threshold_parts * max r.latest_rtt r.smoothed_rtt) time_threshold_divisor) granularity
+loss_delay granularity r =
+    max (divided_up (time_threshold_parts * max r.latest_rtt r.smoothed_rtt) time_threshold_divisor)
+    granularity
 
 -- the probe timeout before the peer's delay and the backoff (RFC 9002, section 6.2.1)
 abbrev pub pto_base : ℕ → Estimate → ℕ
@@ -122,4 +138,5 @@ pto_base granularity r = r.smoothed_rtt + max (4 * r.rttvar) granularity
 
 -- the duration of persistent congestion (RFC 9002, section 7.6.1)
 abbrev pub persistent_after : ℕ → Estimate → ℕ → ℕ
-persistent_after granularity r max_ack_delay = persistent_congestion_threshold * (pto_base granularity r + max_ack_delay)
+persistent_after granularity r max_ack_delay =
+    persistent_congestion_threshold * (pto_base granularity r + max_ack_delay)

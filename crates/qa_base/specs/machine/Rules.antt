@@ -5,7 +5,12 @@ use Rattle.std.specs.Prelude.{◌≡◌, Bool, List, [], ◌∷◌, ◌++◌, Op
 use Rattle.qa_base.specs.declared.event.Event.{Event}
 use Rattle.qa_base.specs.declared.rule.Rule.{Rule}
 use Rattle.qa_base.specs.declared.rule.Rule.TheVariants as rule
-use Rattle.qa_base.specs.machine.Breaches.{is_time_back, is_loss_owed, is_loss_not_owed, is_other_loss_set, is_space_gone, is_number_not_higher, is_past_window, is_past_probe, is_past_recovery, is_ack_unsent, is_timer_not_set, is_timer_other, is_timer_early, is_probe_owed, is_not_confirmed, is_timer_late, is_collapse_missing}
+use Rattle.qa_base.specs.machine.Breaches.{is_time_back, is_loss_owed, is_loss_not_owed}
+use Rattle.qa_base.specs.machine.Breaches.{is_other_loss_set, is_space_gone, is_number_not_higher}
+use Rattle.qa_base.specs.machine.Breaches.{is_past_window, is_past_probe, is_past_recovery}
+use Rattle.qa_base.specs.machine.Breaches.{is_ack_unsent, is_timer_not_set, is_timer_other}
+use Rattle.qa_base.specs.machine.Breaches.{is_timer_early, is_probe_owed, is_not_confirmed}
+use Rattle.qa_base.specs.machine.Breaches.{is_timer_late, is_collapse_missing}
 use Rattle.qa_base.specs.machine.Loss.{owed}
 use Rattle.qa_base.specs.machine.Metrics.{metric_tests}
 use Rattle.qa_base.specs.values.Settings.{Settings}

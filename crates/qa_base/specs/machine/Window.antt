@@ -1,8 +1,10 @@
--- The congestion window by which packets are judged: NewReno's, or the one that the sender last reported. And what a reported window
--- may be behind persistent congestion.
+-- The congestion window by which packets are judged: NewReno's, or the one that the sender last
+-- reported. And what a reported window may be behind persistent congestion.
 --
 -- `c` are the settings of the header, `h` is the history.
-use Rattle.std.specs.Prelude.{ℕ, ◌+◌, ◌==◌, ◌||◌, Bool, false, find, List, [], ◌∷◌, sum_by, Option, Some, None, is_some, option_map, option_and_then, unwrap_or, if◌then◌else◌}
+use Rattle.std.specs.Prelude.{ℕ, ◌+◌, ◌==◌, ◌||◌, Bool, false, find, List, [], ◌∷◌, sum_by, Option}
+use Rattle.std.specs.Prelude.{Some, None, is_some, option_map, option_and_then, unwrap_or}
+use Rattle.std.specs.Prelude.{if◌then◌else◌}
 use Rattle.qa_base.specs.declared.event.Event.{Event}
 use Rattle.qa_base.specs.declared.event.Event.TheVariants.{Metrics}
 use Rattle.qa_base.specs.declared.space.Controller.{Controller}
@@ -70,11 +72,14 @@ is_collapse_or_change c h = is_persistent c h || changes_window c h
 abbrev pub if_persistent : Settings → List Event → Option (List Event)
 if_persistent c h = if is_persistent c h then Some h else None
 
--- the moment at which persistent congestion was last established, where no other window was reported since
+-- the moment at which persistent congestion was last established, where no other window was
+-- reported since
 abbrev pub last_collapse : Settings → List Event → Option (List Event)
 last_collapse c h = option_and_then (if_persistent c) (find (is_collapse_or_change c) (moments h))
 
--- the bytes in flight that were newly acknowledged since then, those of the detection that established it included
+-- the bytes in flight that were newly acknowledged since then, those of the detection that
+-- established it included
 abbrev pub acknowledged_since_collapse : Settings → List Event → Option ℕ
 acknowledged_since_collapse c h =
-    option_map (λ m. sum_by acknowledged_bytes (since (is_collapse_or_change c) h) + acknowledged_bytes (detection_of m)) (last_collapse c h)
+    option_map (λ m. sum_by acknowledged_bytes (since (is_collapse_or_change c) h)
+    + acknowledged_bytes (detection_of m)) (last_collapse c h)

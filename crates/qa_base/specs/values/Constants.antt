@@ -1,13 +1,16 @@
--- The constants of RFC 9002 (A.2 and B.1), each with the RFC's name for it. Times are in microseconds.
+-- The constants of RFC 9002 (A.2 and B.1), each with the RFC's name for it. Times are in
+-- microseconds.
 use Rattle.std.specs.Prelude.{ℕ, ◌*◌}
 
 -- ---- loss detection (A.2)
 
--- kPacketThreshold where a header names none: a packet this many numbers below an acknowledged one is lost (section 6.1.1)
+-- kPacketThreshold where a header names none: a packet this many numbers below an acknowledged one
+-- is lost (section 6.1.1)
 abbrev pub default_packet_threshold : ℕ
 default_packet_threshold = 3
 
--- kTimeThreshold is 9/8 of the RTT (section 6.1.2): so many parts, and into how many the RTT is divided
+-- kTimeThreshold is 9/8 of the RTT (section 6.1.2): so many parts, and into how many the RTT is
+-- divided
 abbrev pub time_threshold_parts : ℕ
 time_threshold_parts = 9
 
@@ -24,7 +27,8 @@ default_initial_rtt = 333000
 
 -- ---- congestion control (B.1)
 
--- kInitialWindow is so many datagrams, but no more than these bytes, or two datagrams where they are more (section 7.2)
+-- kInitialWindow is so many datagrams, but no more than these bytes, or two datagrams where they
+-- are more (section 7.2)
 abbrev pub initial_window_datagrams : ℕ
 initial_window_datagrams = 10
 
@@ -39,7 +43,8 @@ minimum_window max_datagram_size = 2 * max_datagram_size
 abbrev pub loss_reduction_divisor : ℕ
 loss_reduction_divisor = 2
 
--- kPersistentCongestionThreshold: of how many probe timeouts persistent congestion is made (section 7.6.1)
+-- kPersistentCongestionThreshold: of how many probe timeouts persistent congestion is made (section
+-- 7.6.1)
 abbrev pub persistent_congestion_threshold : ℕ
 persistent_congestion_threshold = 3
 

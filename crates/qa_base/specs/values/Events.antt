@@ -2,7 +2,8 @@
 use Rattle.std.specs.Prelude.{ℕ, ◌&&◌, ◌||◌, not, nat_le, Bool, true, false, List, [], ◌∷◌}
 use Rattle.std.specs.List.{list_any}
 use Rattle.qa_base.specs.declared.event.Event.{Event}
-use Rattle.qa_base.specs.declared.event.Event.TheVariants.{Sent, Ack, Lost, Timer, Discard, Confirmed, Keys, Metrics}
+use Rattle.qa_base.specs.declared.event.Event.TheVariants.{Sent, Ack, Lost, Timer, Discard}
+use Rattle.qa_base.specs.declared.event.Event.TheVariants.{Confirmed, Keys, Metrics}
 use Rattle.qa_base.specs.declared.space.Space.{Space}
 use Rattle.qa_base.specs.declared.space.Space.TheVariants.{Initial, Handshake, App}
 use Rattle.qa_base.specs.values.Limits.{max_packet_size}
@@ -14,7 +15,7 @@ is_space App App = true
 is_space _ _ = false
 
 abbrev pub time_of : Event → ℕ
-time_of (Sent time space number size eliciting in_flight leave) = time
+time_of (Sent time space number size eliciting in_flight permission) = time
 time_of (Ack time space ranges delay app_limited) = time
 time_of (Lost time space ranges) = time
 time_of (Timer time kind space) = time
@@ -25,7 +26,7 @@ time_of (Metrics time values) = time
 
 -- a packet was sent
 abbrev pub is_sent : Event → Bool
-is_sent (Sent time space number size eliciting in_flight leave) = true
+is_sent (Sent time space number size eliciting in_flight permission) = true
 is_sent _ = false
 
 -- ---- ranges of packet numbers, each a pair of its least and its greatest number
@@ -58,7 +59,8 @@ discards s _ = false
 -- the event is one that a line can say: a packet has bytes and is in flight if it is ack-eliciting,
 -- ranges are not empty, and a discarded space is not the application's
 abbrev pub fits : Event → Bool
-fits (Sent time space number size eliciting in_flight leave) = nat_le 1 size && nat_le size max_packet_size && (not eliciting || in_flight)
+fits (Sent time space number size eliciting in_flight permission) =
+    nat_le 1 size && nat_le size max_packet_size && (not eliciting || in_flight)
 fits (Ack time space ranges delay app_limited) = has_ranges ranges
 fits (Lost time space ranges) = has_ranges ranges
 fits (Discard time space) = not (is_space App space)
@@ -66,8 +68,8 @@ fits _ = true
 
 -- ---- events that change little
 
--- the event can change neither the RTT, the window nor the PTO count, unless it is a Lost line that completes a detection: no
--- acknowledgment, timer or discard
+-- the event can change neither the RTT, the window nor the PTO count, unless it is a Lost line that
+-- completes a detection: no acknowledgment, timer or discard
 abbrev pub is_quiet : Event → Bool
 is_quiet (Ack time space ranges delay app_limited) = false
 is_quiet (Timer time kind space) = false

@@ -1,11 +1,12 @@
 -- The kind of a line that says an event, by what stands at its key `event`.
 use Rattle.qa_base.specs.declared.event.Event.{Event}
-use Rattle.qa_base.specs.declared.event.Event.TheVariants.{Sent, Ack, Lost, Timer, Discard, Confirmed, Keys, Metrics}
+use Rattle.qa_base.specs.declared.event.Event.TheVariants.{Sent, Ack, Lost, Timer, Discard}
+use Rattle.qa_base.specs.declared.event.Event.TheVariants.{Confirmed, Keys, Metrics}
 use Rattle.qa_base.specs.declared.line_kind.LineKind.{LineKind}
 use Rattle.qa_base.specs.declared.line_kind.LineKind.TheVariants as kinds
 
 abbrev pub event_kind : Event → LineKind
-event_kind (Sent time space number size eliciting in_flight leave) = kinds.Sent
+event_kind (Sent time space number size eliciting in_flight permission) = kinds.Sent
 event_kind (Ack time space ranges delay app_limited) = kinds.Ack
 event_kind (Lost time space ranges) = kinds.Lost
 event_kind (Timer time kind space) = kinds.Timer

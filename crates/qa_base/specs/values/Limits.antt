@@ -1,7 +1,8 @@
 -- The ranges of the format's numbers.
 use Rattle.std.specs.Prelude.{ℕ, ◌&&◌, nat_le, Option, Some, None, if◌then◌else◌}
 
--- the greatest time, 10^15 in either unit: 31 years of microseconds, or 11 days and 13 hours of nanoseconds
+-- the greatest time, 10^15 in either unit: 31 years of microseconds, or 11 days and 13 hours of
+-- nanoseconds
 abbrev pub max_time : ℕ
 max_time = 1000000000000000
 
@@ -17,7 +18,8 @@ max_packet_size = 65527
 abbrev pub min_datagram_size : ℕ
 min_datagram_size = 1200
 
--- the greatest max_ack_delay, 2^14 - 1 milliseconds, in microseconds and in nanoseconds (RFC 9000, section 18.2)
+-- the greatest max_ack_delay, 2^14 - 1 milliseconds, in microseconds and in nanoseconds (RFC 9000,
+-- section 18.2)
 abbrev pub max_max_ack_delay : ℕ
 max_max_ack_delay = 16383000
 

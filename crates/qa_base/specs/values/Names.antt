@@ -1,5 +1,6 @@
 -- The names and numbers of keys, fields, choices and rules, and what a string names.
-use Rattle.std.specs.Prelude.{ℕ, List, [], ◌∷◌, ◌++◌, codes, decimal, bytes_eq, Option, Some, None, if◌then◌else◌}
+use Rattle.std.specs.Prelude.{ℕ, List, [], ◌∷◌, ◌++◌, codes, decimal, bytes_eq, Option, Some, None}
+use Rattle.std.specs.Prelude.{if◌then◌else◌}
 use Rattle.qa_base.specs.declared.key.Key.{Key}
 use Rattle.qa_base.specs.declared.key.Key.TheVariants as key
 use Rattle.qa_base.specs.declared.header.Version.{Version}
@@ -22,8 +23,8 @@ use Rattle.qa_base.specs.declared.space.LossByNumber.{LossByNumber}
 use Rattle.qa_base.specs.declared.space.LossByNumber.TheVariants.{Must, May}
 use Rattle.qa_base.specs.declared.space.TimerKind.{TimerKind}
 use Rattle.qa_base.specs.declared.space.TimerKind.TheVariants.{Loss, Pto}
-use Rattle.qa_base.specs.declared.space.Leave.{Leave}
-use Rattle.qa_base.specs.declared.space.Leave.TheVariants.{Window, Probe, Recovery}
+use Rattle.qa_base.specs.declared.space.Permission.{Permission}
+use Rattle.qa_base.specs.declared.space.Permission.TheVariants.{Window, Probe, Recovery}
 
 -- ---- keys and fields
 
@@ -109,10 +110,10 @@ space_name Initial = codes "initial"
 space_name Handshake = codes "handshake"
 space_name App = codes "app"
 
-abbrev pub leave_name : Leave → List ℕ
-leave_name Window = codes "window"
-leave_name Probe = codes "probe"
-leave_name Recovery = codes "recovery"
+abbrev pub permission_name : Permission → List ℕ
+permission_name Window = codes "window"
+permission_name Probe = codes "probe"
+permission_name Recovery = codes "recovery"
 
 abbrev pub kind_name : TimerKind → List ℕ
 kind_name Loss = codes "loss"
@@ -133,7 +134,8 @@ with_names name (x ∷ xs) = (name x, x) ∷ with_names name xs
 abbrev pub line_kind_named : List ℕ → Option LineKind
 line_kind_named =
     named (with_names line_kind_name (
-    kinds.Header ∷ kinds.Sent ∷ kinds.Ack ∷ kinds.Lost ∷ kinds.Timer ∷ kinds.Discard ∷ kinds.Confirmed ∷ kinds.Keys ∷ kinds.Metrics ∷ []))
+    kinds.Header ∷ kinds.Sent ∷ kinds.Ack ∷ kinds.Lost ∷ kinds.Timer ∷ kinds.Discard
+    ∷ kinds.Confirmed ∷ kinds.Keys ∷ kinds.Metrics ∷ []))
 
 abbrev pub role_named : List ℕ → Option Role
 role_named = named (with_names role_name (Client ∷ Server ∷ []))
@@ -154,8 +156,8 @@ space_named = named (with_names space_name (Initial ∷ Handshake ∷ App ∷ []
 abbrev pub discarded_named : List ℕ → Option Space
 discarded_named = named (with_names space_name (Initial ∷ Handshake ∷ []))
 
-abbrev pub leave_named : List ℕ → Option Leave
-leave_named = named (with_names leave_name (Window ∷ Probe ∷ Recovery ∷ []))
+abbrev pub permission_named : List ℕ → Option Permission
+permission_named = named (with_names permission_name (Window ∷ Probe ∷ Recovery ∷ []))
 
 abbrev pub kind_named : List ℕ → Option TimerKind
 kind_named = named (with_names kind_name (Loss ∷ Pto ∷ []))
@@ -216,4 +218,5 @@ field_text (Some f) = codes " " ++ field_name f
 
 -- the rule as a report has it
 unfoldable pub rule_text : Rule → List ℕ
-rule_text r = codes "V" ++ decimal (rule_number r) ++ codes " " ++ rule_name r ++ field_text (field_of r)
+rule_text r =
+    codes "V" ++ decimal (rule_number r) ++ codes " " ++ rule_name r ++ field_text (field_of r)

@@ -1,5 +1,6 @@
 -- What a header says.
-use Rattle.std.specs.Prelude.{◌≡◌, ℕ, ◌≤◌, ◌*◌, ◌==◌, ◌&&◌, ◌||◌, not, min, max, nat_lt, Bool, true, false, Option, None, unwrap_or, Result, Ok, Err, if◌then◌else◌}
+use Rattle.std.specs.Prelude.{◌≡◌, ℕ, ◌≤◌, ◌*◌, ◌==◌, ◌&&◌, ◌||◌, not, min, max, nat_lt, Bool, true}
+use Rattle.std.specs.Prelude.{false, Option, None, unwrap_or, Result, Ok, Err, if◌then◌else◌}
 use Rattle.std.specs.Option.{ForSome}
 use Rattle.qa_base.specs.declared.key.Key.TheVariants as key
 use Rattle.qa_base.specs.declared.key.RangeFault.{RangeFault}
@@ -13,8 +14,15 @@ use Rattle.qa_base.specs.declared.space.LossByNumber.TheVariants.{Must, May}
 use Rattle.qa_base.specs.declared.space.Role.{Role}
 use Rattle.qa_base.specs.declared.space.TimeUnit.{TimeUnit}
 use Rattle.qa_base.specs.declared.space.TimeUnit.TheVariants.{Microseconds, Nanoseconds}
-use Rattle.qa_base.specs.values.Constants.{granularity_us, default_initial_rtt, default_max_ack_delay, default_packet_threshold, initial_window_datagrams, initial_window_bytes, minimum_window}
-use Rattle.qa_base.specs.values.Limits.{max_packet_size, min_datagram_size, max_max_ack_delay, max_initial_rtt, max_initial_window, max_timer_late, max_report_slack_us, max_report_slack_bytes, min_packet_threshold, max_packet_threshold, max_timer_early_us}
+use Rattle.qa_base.specs.values.Constants.{granularity_us, default_initial_rtt}
+use Rattle.qa_base.specs.values.Constants.{default_max_ack_delay, default_packet_threshold}
+use Rattle.qa_base.specs.values.Constants.{initial_window_datagrams, initial_window_bytes}
+use Rattle.qa_base.specs.values.Constants.{minimum_window}
+use Rattle.qa_base.specs.values.Limits.{max_packet_size, min_datagram_size, max_max_ack_delay}
+use Rattle.qa_base.specs.values.Limits.{max_initial_rtt, max_initial_window, max_timer_late}
+use Rattle.qa_base.specs.values.Limits.{max_report_slack_us, max_report_slack_bytes}
+use Rattle.qa_base.specs.values.Limits.{min_packet_threshold, max_packet_threshold}
+use Rattle.qa_base.specs.values.Limits.{max_timer_early_us}
 
 -- ---- the unit of times
 
@@ -39,7 +47,8 @@ abbrev pub is_may : LossByNumber → Bool
 is_may Must = false
 is_may May = true
 
--- what a header of version 1 asks: no limit, no refresh and no slack, and a sender as RFC 9002 has it
+-- what a header of version 1 asks: no limit, no refresh and no slack, and a sender as RFC 9002 has
+-- it
 abbrev pub no_options : Options
 no_options = record {
   timer_late = None;
@@ -56,7 +65,10 @@ no_options = record {
 
 -- version 2 can say these options
 abbrev pub are_second : Options → Bool
-are_second o = not (is_reported o.controller) && not o.window_overshoot && not o.sample_eliciting_only && o.packet_threshold == default_packet_threshold && o.timer_early_us == 0 && not (is_may o.loss_by_number)
+are_second o =
+    not (is_reported o.controller) && not o.window_overshoot && not o.sample_eliciting_only
+    && o.packet_threshold == default_packet_threshold && o.timer_early_us == 0
+    && not (is_may o.loss_by_number)
 
 -- packets may be spared, and the window is not one that the sender reports
 abbrev pub spares_unreported : Options → Bool
@@ -70,8 +82,8 @@ IsSaidIn Three unit o = Unit {0}
 
 -- ---- a header
 
--- a sender's role, the unit of its log and the parameters of its connection, and what is asked of it: sizes and the window in
--- bytes, times in the unit
+-- a sender's role, the unit of its log and the parameters of its connection, and what is asked of
+-- it: sizes and the window in bytes, times in the unit
 pub record Settings : Type 0 where
   pub role : Role
   pub unit : TimeUnit
@@ -111,7 +123,9 @@ pub record AreInRange (s : Settings) : Type 0 where
 
 -- the window that a sender begins with (RFC 9002, section 7.2)
 abbrev pub default_window : ℕ → ℕ
-default_window max_datagram_size = min (initial_window_datagrams * max_datagram_size) (max (2 * max_datagram_size) initial_window_bytes)
+default_window max_datagram_size =
+    min (initial_window_datagrams * max_datagram_size)
+    (max (2 * max_datagram_size) initial_window_bytes)
 
 -- n is not from lo to hi
 abbrev pub is_outside : ℕ → ℕ → ℕ → Bool
@@ -120,10 +134,14 @@ is_outside lo hi n = nat_lt n lo || nat_lt hi n
 -- these values, or the key of the first that is out of its range
 abbrev pub checked : Settings → Result Settings RangeFault
 checked s =
-    if is_outside min_datagram_size max_packet_size s.max_datagram_size then Err (record { 0 = key.MaxDatagramSize }) else
-    (if is_outside 0 (in_unit s.unit max_max_ack_delay) s.max_ack_delay then Err (record { 0 = key.MaxAckDelay }) else
-    (if is_outside 1 (in_unit s.unit max_initial_rtt) s.initial_rtt then Err (record { 0 = key.InitialRtt }) else
-    (if is_outside (minimum_window s.max_datagram_size) max_initial_window s.initial_window then Err (record { 0 = key.InitialWindow }) else
+    if is_outside min_datagram_size max_packet_size s.max_datagram_size then Err
+    (record { 0 = key.MaxDatagramSize }) else
+    (if is_outside 0 (in_unit s.unit max_max_ack_delay) s.max_ack_delay then Err
+    (record { 0 = key.MaxAckDelay }) else
+    (if is_outside 1 (in_unit s.unit max_initial_rtt) s.initial_rtt then Err
+    (record { 0 = key.InitialRtt }) else
+    (if is_outside (minimum_window s.max_datagram_size) max_initial_window s.initial_window then Err
+    (record { 0 = key.InitialWindow }) else
     Ok s)))
 
 -- the first version that says this unit
@@ -132,7 +150,8 @@ version_in Microseconds = One
 version_in Nanoseconds = Three
 
 -- these values in this unit, with the default for each that is absent
-abbrev pub settings_in : TimeUnit → Role → ℕ → Option ℕ → Option ℕ → Option ℕ → Result Settings RangeFault
+abbrev pub settings_in : TimeUnit → Role → ℕ → Option ℕ → Option ℕ → Option ℕ
+    → Result Settings RangeFault
 settings_in unit role max_datagram_size max_ack_delay initial_rtt initial_window = checked (record {
   role = role;
   unit = unit;
@@ -148,20 +167,27 @@ settings_in unit role max_datagram_size max_ack_delay initial_rtt initial_window
 abbrev pub settings_of : Role → ℕ → Option ℕ → Option ℕ → Option ℕ → Result Settings RangeFault
 settings_of = settings_in Microseconds
 
--- the version of a header that gets these options: at least 2, and 3 where version 2 cannot say them
+-- the version of a header that gets these options: at least 2, and 3 where version 2 cannot say
+-- them
 abbrev pub version_with : Version → Options → Version
 version_with One o = if are_second o then Two else Three
 version_with Two o = if are_second o then Two else Three
 version_with Three o = Three
 
--- a header's values in this version with these options, or the key of the first option that is out of its range
+-- a header's values in this version with these options, or the key of the first option that is out
+-- of its range
 abbrev pub in_version : Version → Settings → Options → Result Settings RangeFault
 in_version version s options =
-    if is_outside 0 max_timer_late (unwrap_or options.timer_late 0) then Err (record { 0 = key.TimerLateUs }) else
-    (if is_outside 0 max_report_slack_us options.report_slack_us then Err (record { 0 = key.ReportSlackUs }) else
-    (if is_outside 0 max_report_slack_bytes options.report_slack_bytes then Err (record { 0 = key.ReportSlackBytes }) else
-    (if is_outside min_packet_threshold max_packet_threshold options.packet_threshold then Err (record { 0 = key.PacketThreshold }) else
-    (if is_outside 0 max_timer_early_us options.timer_early_us then Err (record { 0 = key.TimerEarlyUs }) else
+    if is_outside 0 max_timer_late (unwrap_or options.timer_late 0) then Err
+    (record { 0 = key.TimerLateUs }) else
+    (if is_outside 0 max_report_slack_us options.report_slack_us then Err
+    (record { 0 = key.ReportSlackUs }) else
+    (if is_outside 0 max_report_slack_bytes options.report_slack_bytes then Err
+    (record { 0 = key.ReportSlackBytes }) else
+    (if is_outside min_packet_threshold max_packet_threshold options.packet_threshold then Err
+    (record { 0 = key.PacketThreshold }) else
+    (if is_outside 0 max_timer_early_us options.timer_early_us then Err
+    (record { 0 = key.TimerEarlyUs }) else
     (if spares_unreported options then Err (record { 0 = key.LossByNumber }) else
     Ok (record {
       role = s.role;
@@ -174,7 +200,8 @@ in_version version s options =
       options = options;
     }))))))
 
--- a header's values with these options: in version 2, or in version 3 where the header is of it or version 2 cannot say them
+-- a header's values with these options: in version 2, or in version 3 where the header is of it or
+-- version 2 cannot say them
 abbrev pub with_options : Settings → Options → Result Settings RangeFault
 with_options s options = in_version (version_with s.version options) s options
 

@@ -16,8 +16,8 @@ use Rattle.qa_base.specs.declared.header.Options.{Options}
 use Rattle.qa_format.specs.declared.line.Line.TheVariants as line
 use Rattle.qa_base.specs.declared.rule.Field.TheVariants as field
 use Rattle.qa_base.specs.declared.space.TimerKind.{TimerKind}
-use Rattle.qa_base.specs.declared.space.Leave.{Leave}
-use Rattle.qa_base.specs.declared.space.Leave.TheVariants as leaves
+use Rattle.qa_base.specs.declared.space.Permission.{Permission}
+use Rattle.qa_base.specs.declared.space.Permission.TheVariants as leaves
 use Rattle.qa_base.specs.declared.space.Role.{Role}
 use Rattle.qa_base.specs.declared.space.Space.{Space}
 use Rattle.qa_base.specs.declared.space.Space.TheVariants.{Initial, Handshake, App}
@@ -29,14 +29,14 @@ use Rattle.qa_base.specs.declared.space.TimeUnit.{TimeUnit}
 use Rattle.qa_base.specs.declared.space.TimeUnit.TheVariants.{Microseconds}
 use Rattle.qa_base.specs.values.Events.{is_space}
 use Rattle.qa_base.specs.values.Limits.{max_time, max_packet_number, max_packet_size}
-use Rattle.qa_base.specs.values.Names.{key_name, role_name, role_named, unit_name, controller_name, loss_by_number_name, unit_named, controller_named, loss_by_number_named, space_name, space_named, discarded_named, leave_name, leave_named, kind_name, kind_named}
+use Rattle.qa_base.specs.values.Names.{key_name, role_name, role_named, unit_name, controller_name, loss_by_number_name, unit_named, controller_named, loss_by_number_named, space_name, space_named, discarded_named, permission_name, permission_named, kind_name, kind_named}
 use Rattle.qa_format.specs.format.Proper.{IsProperEvent}
 use Rattle.qa_base.specs.values.Settings.{Settings, no_options}
 use Rattle.qa_format.specs.format.Keys.{◌>>=◌, both, Kind, read_or, integer, integer_from, string, string_among, string_naming, boolean, ranges, required, optional}
 use Rattle.qa_format.specs.format.Reading.{reader_named, object_says}
 use Rattle.qa_format.specs.format.Tables.{time, space, version, unit_and_window_for, unit_and_window, header_fields, option_fields, choice_fields, second_options, third_options, options_for, options, settings, of_version, with_losses, header_of, sent_fields, sent_of, ack_fields, ack_of, lost_fields, lost_of, timer_fields, timer_of, discard_fields, discard_of, confirmed_of, keys_of, metric_values, metrics_of}
 use Rattle.qa_format.specs.format.Written as written
-use Rattle.qa_format.proofs.format.KeysWritten.{required_reads, optional_reads, both_reads, integer_from_reads, role_reads, unit_reads, controller_reads, losses_read, space_reads, leave_reads, kind_reads, ranges_read, present_integer_reads}
+use Rattle.qa_format.proofs.format.KeysWritten.{required_reads, optional_reads, both_reads, integer_from_reads, role_reads, unit_reads, controller_reads, losses_read, space_reads, permission_reads, kind_reads, ranges_read, present_integer_reads}
 
 -- ---- several keys
 
@@ -214,7 +214,7 @@ flags_pass true true e h = refl
 flags_pass true false e h = cc
 flags_pass false in_flight e h = refl
 
-pub sent_found : (ms : Members) (t : ℕ) (s : Space) (number size : ℕ) (eliciting in_flight : Bool) (leave : Option Leave)
+pub sent_found : (ms : Members) (t : ℕ) (s : Space) (number size : ℕ) (eliciting in_flight : Bool) (permission : Option Permission)
     → get_member (codes "event") ms ≡ Some (written.string (codes "sent"))
     → get_member (codes "time") ms ≡ Some (written.integer t)
     → get_member (codes "space") ms ≡ Some (written.string (space_name s))
@@ -222,18 +222,18 @@ pub sent_found : (ms : Members) (t : ℕ) (s : Space) (number size : ℕ) (elici
     → get_member (codes "size") ms ≡ Some (written.integer size)
     → get_member (codes "eliciting") ms ≡ Some (written.boolean eliciting)
     → get_member (codes "in_flight") ms ≡ Some (written.boolean in_flight)
-    → get_member (codes "leave") ms ≡ option_map (λ l. written.string (leave_name l)) leave
-    → IsProperEvent (Sent t s number size eliciting in_flight (unwrap_or leave leaves.Window))
-    → object_says reader_named (object ms) ≡ Ok (line.Event (Sent t s number size eliciting in_flight (unwrap_or leave leaves.Window)))
+    → get_member (codes "leave") ms ≡ option_map (λ l. written.string (permission_name l)) permission
+    → IsProperEvent (Sent t s number size eliciting in_flight (unwrap_or permission leaves.Window))
+    → object_says reader_named (object ms) ≡ Ok (line.Event (Sent t s number size eliciting in_flight (unwrap_or permission leaves.Window)))
 unfolding object_says sent_of
-sent_found ms t s number size eliciting in_flight leave named at_time at_space at_number at_size at_eliciting at_in_flight at_leave proper =
+sent_found ms t s number size eliciting in_flight permission named at_time at_space at_number at_size at_eliciting at_in_flight at_permission proper =
     let d = object ms in
-    let e = Sent t s number size eliciting in_flight (unwrap_or leave leaves.Window) in
+    let e = Sent t s number size eliciting in_flight (unwrap_or permission leaves.Window) in
     let parts = and_parts (nat_le 1 size && nat_le size max_packet_size) (not eliciting || in_flight) proper.fitting in
     let bounds = and_parts (nat_le 1 size) (nat_le size max_packet_size) parts.0 in
-    let leaves_read = optional_found (string_among leave_named) leaves.Window key.Leave d (λ l. written.string (leave_name l)) leave at_leave (λ l. refl) (leave_reads key.Leave) in
+    let leaves_read = optional_found (string_among permission_named) leaves.Window key.Leave d (λ l. written.string (permission_name l)) permission at_permission (λ l. refl) (permission_reads key.Leave) in
     let flags_read = both_reads _ _ eliciting _ (required_reads boolean key.Eliciting d (written.boolean eliciting) eliciting at_eliciting refl refl)
-    (both_reads _ _ in_flight (unwrap_or leave leaves.Window) (required_reads boolean key.InFlight d (written.boolean in_flight) in_flight at_in_flight refl refl) leaves_read) in
+    (both_reads _ _ in_flight (unwrap_or permission leaves.Window) (required_reads boolean key.InFlight d (written.boolean in_flight) in_flight at_in_flight refl refl) leaves_read) in
     let size_read = required_reads (integer_from 1 max_packet_size) key.Size d (written.integer size) size at_size refl
     (integer_from_reads 1 max_packet_size key.Size size (leb-true 1 size bounds.0) (leb-true size max_packet_size bounds.1)) in
     let number_read = required_reads (integer_from 0 max_packet_number) key.Number d (written.integer number) number at_number refl
@@ -242,7 +242,7 @@ sent_found ms t s number size eliciting in_flight leave named at_time at_space a
     (both_reads _ _ s _ (space_stands d s at_space)
     (both_reads _ _ number _ number_read
     (both_reads _ _ size _ size_read flags_read))) in
-    let says : sent_of d ≡ Ok e = then_reads (sent_fields d) _ (t, (s, (number, (size, (eliciting, (in_flight, unwrap_or leave leaves.Window)))))) _ fields
+    let says : sent_of d ≡ Ok e = then_reads (sent_fields d) _ (t, (s, (number, (size, (eliciting, (in_flight, unwrap_or permission leaves.Window)))))) _ fields
     (flags_pass eliciting in_flight e parts.1) in
     then_reads (required string key.Event d) _ (codes "sent") (line.Event e) (named_found d (codes "sent") named) (event_of e _ says)
 

@@ -15,8 +15,8 @@ use Rattle.qa_base.specs.declared.key.Key.TheVariants as key
 use Rattle.qa_base.specs.declared.rule.Field.{Field}
 use Rattle.qa_base.specs.declared.space.TimerKind.{TimerKind}
 use Rattle.qa_base.specs.declared.space.TimerKind.TheVariants.{Loss, Pto}
-use Rattle.qa_base.specs.declared.space.Leave.{Leave}
-use Rattle.qa_base.specs.declared.space.Leave.TheVariants.{Window, Probe, Recovery}
+use Rattle.qa_base.specs.declared.space.Permission.{Permission}
+use Rattle.qa_base.specs.declared.space.Permission.TheVariants.{Window, Probe, Recovery}
 use Rattle.qa_base.specs.declared.space.Role.{Role}
 use Rattle.qa_base.specs.declared.space.Role.TheVariants.{Client, Server}
 use Rattle.qa_base.specs.declared.space.Space.{Space}
@@ -30,7 +30,7 @@ use Rattle.qa_base.specs.declared.space.TimeUnit.TheVariants.{Microseconds, Nano
 use Rattle.qa_base.specs.values.Events.{has_ranges}
 use Rattle.qa_format.specs.format.Keys.{◌>>=◌, both, Kind, ranged, integer, integer_from, string_among, string_naming, pairs_of, is_range, ranges, present, required, read_or, optional, if_present}
 use Rattle.qa_base.specs.values.Limits.{max_packet_number}
-use Rattle.qa_base.specs.values.Names.{key_name, field_name, role_name, role_named, unit_name, controller_name, loss_by_number_name, unit_named, controller_named, loss_by_number_named, space_name, space_named, leave_name, leave_named, kind_name, kind_named}
+use Rattle.qa_base.specs.values.Names.{key_name, field_name, role_name, role_named, unit_name, controller_name, loss_by_number_name, unit_named, controller_named, loss_by_number_named, space_name, space_named, permission_name, permission_named, kind_name, kind_named}
 use Rattle.qa_format.specs.format.Proper.{IsRange, IsWord}
 pub use Rattle.qa_format.specs.format.Simple.{IsKept}
 use Rattle.qa_format.specs.format.Simple.{is_ascii, AreSimple, HaveSimple, IsBefore}
@@ -78,10 +78,10 @@ space_reads k Initial = refl
 space_reads k Handshake = refl
 space_reads k App = refl
 
-pub leave_reads : (k : Key) (l : Leave) → string_among leave_named k (written.string (leave_name l)) ≡ Ok l
-leave_reads k Window = refl
-leave_reads k Probe = refl
-leave_reads k Recovery = refl
+pub permission_reads : (k : Key) (l : Permission) → string_among permission_named k (written.string (permission_name l)) ≡ Ok l
+permission_reads k Window = refl
+permission_reads k Probe = refl
+permission_reads k Recovery = refl
 
 pub kind_reads : (k : Key) (t : TimerKind) → string_among kind_named k (written.string (kind_name t)) ≡ Ok t
 kind_reads k Loss = refl
@@ -171,10 +171,10 @@ space_is_kept Initial = string_is_kept _ refl
 space_is_kept Handshake = string_is_kept _ refl
 space_is_kept App = string_is_kept _ refl
 
-pub leave_is_kept : (l : Leave) → IsKept (written.string (leave_name l))
-leave_is_kept Window = string_is_kept _ refl
-leave_is_kept Probe = string_is_kept _ refl
-leave_is_kept Recovery = string_is_kept _ refl
+pub permission_is_kept : (l : Permission) → IsKept (written.string (permission_name l))
+permission_is_kept Window = string_is_kept _ refl
+permission_is_kept Probe = string_is_kept _ refl
+permission_is_kept Recovery = string_is_kept _ refl
 
 pub kind_is_kept : (t : TimerKind) → IsKept (written.string (kind_name t))
 kind_is_kept Loss = string_is_kept _ refl

@@ -21,7 +21,7 @@ use Rattle.qa_format.specs.declared.line.Line.TheVariants as line
 use Rattle.qa_base.specs.declared.line_kind.LineKind.TheVariants as kinds
 use Rattle.qa_base.specs.declared.rule.Field.TheVariants.{Window, Ssthresh, BytesInFlight, LatestRtt, MinRtt, SmoothedRtt, Rttvar}
 use Rattle.qa_base.specs.declared.space.TimerKind.{TimerKind}
-use Rattle.qa_base.specs.declared.space.Leave.{Leave}
+use Rattle.qa_base.specs.declared.space.Permission.{Permission}
 use Rattle.qa_base.specs.declared.space.Space.{Space}
 use Rattle.qa_base.specs.declared.space.LossByNumber.{LossByNumber}
 use Rattle.qa_base.specs.declared.space.LossByNumber.TheVariants.{Must, May}
@@ -43,7 +43,7 @@ use Rattle.qa_format.specs.format.Written.{Pairs, reported, header_pairs, event_
 use Rattle.qa_format.proofs.format.Compact.{IsSimple, read-compact_text, is_utf8-compact_text}
 use Rattle.qa_format.proofs.format.OneLine.{has_lf-compact_text}
 use Rattle.qa_format.proofs.format.KeysFound.{header_found, first_unit_found, second_unit_found, third_unit_found, first_options_found, second_options_found, third_options_found, sent_found, ack_found, lost_found, timer_found, discard_found, confirmed_found, keys_found, metrics_found}
-use Rattle.qa_format.proofs.format.KeysWritten.{past_reported, reported_stands, past_last, last_stands, IsKept, integer_is_kept, string_is_kept, boolean_is_kept, role_is_kept, unit_is_kept, controller_is_kept, losses_are_kept, space_is_kept, leave_is_kept, kind_is_kept, ranges_are_kept, Follow, none_follow, follow, follow_reported, follow_last}
+use Rattle.qa_format.proofs.format.KeysWritten.{past_reported, reported_stands, past_last, last_stands, IsKept, integer_is_kept, string_is_kept, boolean_is_kept, role_is_kept, unit_is_kept, controller_is_kept, losses_are_kept, space_is_kept, permission_is_kept, kind_is_kept, ranges_are_kept, Follow, none_follow, follow, follow_reported, follow_last}
 
 -- ---- a report of the sender's state
 
@@ -354,15 +354,15 @@ space_follows : (j : List ℕ) (s : Space) (t : ℕ) → slice_cmp nat_cmp j (co
     → Follow j ((key.Space, written.string (space_name s)) ∷ (key.Time, written.integer t) ∷ [])
 space_follows j s t less high = follow j key.Space (written.string (space_name s)) _ less refl (space_is_kept s) (time_follows (codes "space") t refl high)
 
-sent_follows : (t : ℕ) (s : Space) (number size : ℕ) (eliciting in_flight : Bool) (leave : Leave)
-    → IsProperEvent (Sent t s number size eliciting in_flight leave) → Follow [] (event_pairs (Sent t s number size eliciting in_flight leave))
-sent_follows t s number size eliciting in_flight leave proper =
+sent_follows : (t : ℕ) (s : Space) (number size : ℕ) (eliciting in_flight : Bool) (permission : Permission)
+    → IsProperEvent (Sent t s number size eliciting in_flight permission) → Follow [] (event_pairs (Sent t s number size eliciting in_flight permission))
+sent_follows t s number size eliciting in_flight permission proper =
     let parts = and_parts (nat_le 1 size && nat_le size max_packet_size) (not eliciting || in_flight) proper.fitting in
     let high = leb-true size max_packet_size (and_parts (nat_le 1 size) (nat_le size max_packet_size) parts.0).1 in
     follow _ key.Eliciting _ _ refl refl (boolean_is_kept eliciting)
     (follow _ key.Event _ _ refl refl (string_is_kept _ refl)
     (follow _ key.InFlight _ _ refl refl (boolean_is_kept in_flight)
-    (follow _ key.Leave _ _ refl refl (leave_is_kept leave)
+    (follow _ key.Leave _ _ refl refl (permission_is_kept permission)
     (follow _ key.Number _ _ refl refl (integer_is_kept number (omega (arith, proper.numbers)))
     (follow _ key.Size _ _ refl refl (integer_is_kept size (omega (arith, high)))
     (space_follows _ s t refl proper.in_time))))))
@@ -524,7 +524,7 @@ object_reads ps x kept says = ap (λ r. r >>= object_says reader_named) (json_re
 
 -- the keys of an event rise
 pub event_follows : (e : Event) → IsProperEvent e → Follow [] (event_pairs e)
-event_follows (Sent t s number size eliciting in_flight leave) proper = sent_follows t s number size eliciting in_flight leave proper
+event_follows (Sent t s number size eliciting in_flight permission) proper = sent_follows t s number size eliciting in_flight permission proper
 event_follows (Ack t s rs delay app_limited) proper = ack_follows t s rs delay app_limited proper
 event_follows (Lost t s rs) proper = lost_follows t s rs proper
 event_follows (Timer t k s) proper = timer_follows t k s proper
@@ -541,7 +541,7 @@ metrics_are_said t v proper =
 
 -- the object of an event says the event
 event_is_said : (e : Event) → IsProperEvent e → object_says reader_named (object_of (event_pairs e)) ≡ Ok (line.Event e)
-event_is_said (Sent t s number size eliciting in_flight leave) proper = sent_found _ t s number size eliciting in_flight (Some leave) refl refl refl refl refl refl refl refl proper
+event_is_said (Sent t s number size eliciting in_flight permission) proper = sent_found _ t s number size eliciting in_flight (Some permission) refl refl refl refl refl refl refl refl proper
 event_is_said (Ack t s rs delay app_limited) proper = ack_found _ t s rs (Some delay) (Some app_limited) refl refl refl refl refl refl proper
 event_is_said (Lost t s rs) proper = lost_found _ t s rs refl refl refl refl proper
 event_is_said (Timer t k s) proper = timer_found _ t k s refl refl refl refl proper

@@ -16,10 +16,10 @@ use Rattle.qa_base.specs.declared.key.Key.TheVariants as key
 use Rattle.qa_base.specs.declared.header.Options.{Options}
 use Rattle.qa_format.specs.declared.line.Line.{Line}
 use Rattle.qa_format.specs.declared.line.Line.TheVariants as line
-use Rattle.qa_base.specs.declared.space.Leave.{Leave}
-use Rattle.qa_base.specs.declared.space.Leave.TheVariants.{Window}
+use Rattle.qa_base.specs.declared.space.Permission.{Permission}
+use Rattle.qa_base.specs.declared.space.Permission.TheVariants.{Window}
 use Rattle.qa_base.specs.values.Constants.{default_initial_rtt, default_max_ack_delay}
-use Rattle.qa_base.specs.values.Names.{key_name, role_name, unit_name, controller_name, loss_by_number_name, unit_named, controller_named, loss_by_number_named, leave_name, leave_named}
+use Rattle.qa_base.specs.values.Names.{key_name, role_name, unit_name, controller_name, loss_by_number_name, unit_named, controller_named, loss_by_number_named, permission_name, permission_named}
 use Rattle.qa_format.specs.format.Proper.{IsProperEvent}
 use Rattle.qa_base.specs.declared.space.LossByNumber.{LossByNumber}
 use Rattle.qa_base.specs.declared.space.LossByNumber.TheVariants.{Must}
@@ -37,7 +37,7 @@ use Rattle.qa_format.specs.format.Written as written
 use Rattle.qa_format.specs.format.Written.{Pairs, header_pairs, event_pairs, members}
 use Rattle.qa_format.proofs.format.AnyOrder.{json_of-members, get_put, get_put_other}
 use Rattle.qa_format.proofs.format.KeysFound.{header_found, first_unit_found, second_unit_found, third_unit_found, first_options_found, second_options_found, third_options_found, sent_found, ack_found, lost_found, timer_found, discard_found, confirmed_found, keys_found, metrics_found}
-use Rattle.qa_format.proofs.format.KeysWritten.{unit_reads, controller_reads, losses_read, leave_reads, Follow}
+use Rattle.qa_format.proofs.format.KeysWritten.{unit_reads, controller_reads, losses_read, permission_reads, Follow}
 use Rattle.qa_format.proofs.format.LinesWritten.{started, first, second, third, of_each, settings_read, options_pass, third_options_pass, limit_at, version_at, third_limit_at, third_unit_at, third_window_at, third_version_at, third_overshoot_at, first_follows, second_follows, third_follows, event_follows, metrics_pairs_are, event_found, time_found, window_found, ssthresh_found, bytes_in_flight_found, latest_rtt_found, min_rtt_found, smoothed_rtt_found, rttvar_found}
 use Rattle.qa_format.proofs.format.PlainTexts.{key_is_ascii}
 
@@ -216,12 +216,12 @@ same_integer n m e = cc
 same_boolean : (b c : Bool) → written.boolean b ≡ written.boolean c → b ≡ c
 same_boolean b c e = cc
 
-abbrev leave_data : Leave → Data
-leave_data l = written.string (leave_name l)
+abbrev permission_data : Permission → Data
+permission_data l = written.string (permission_name l)
 
-same_leave : (l m : Leave) → leave_data l ≡ leave_data m → l ≡ m
-same_leave l m e =
-    let both : Ok l ≡ Ok m = sym (leave_reads key.Leave l) ∙ ap (string_among leave_named key.Leave) e ∙ leave_reads key.Leave m in cc
+same_permission : (l m : Permission) → permission_data l ≡ permission_data m → l ≡ m
+same_permission l m e =
+    let both : Ok l ≡ Ok m = sym (permission_reads key.Leave l) ∙ ap (string_among permission_named key.Leave) e ∙ permission_reads key.Leave m in cc
 
 abbrev unit_data : TimeUnit → Data
 unit_data u = written.string (unit_name u)
@@ -414,10 +414,10 @@ module _ (e : Event) (ps : Pairs) (proper : IsProperEvent e) (are : AreOf e ps) 
 
 -- an event is read from its keys and values in any order, and with or without its defaults
 pub order_reads : (e : Event) (ps : Pairs) → IsProperEvent e → AreOf e ps → reading (text_of ps) ≡ Ok (line.Event e)
-order_reads (Sent t s number size eliciting in_flight leave) ps proper are =
-    let e = Sent t s number size eliciting in_flight leave in
+order_reads (Sent t s number size eliciting in_flight permission) ps proper are =
+    let e = Sent t s number size eliciting in_flight permission in
     let at = event_at e ps proper are in
-    let left = event_optional e ps proper are leave_data Window (codes "leave") leave same_leave refl refl in
+    let left = event_optional e ps proper are permission_data Window (codes "leave") permission same_permission refl refl in
     event_reads e ps proper are (Sent t s number size eliciting in_flight (unwrap_or left.0 Window)) (ap (Sent t s number size eliciting in_flight) left.2)
     (sent_found _ t s number size eliciting in_flight left.0
     (at (codes "event") _ refl refl)

@@ -8,11 +8,11 @@ use Rattle.qa_base.specs.declared.key.Key.TheVariants as key
 use Rattle.qa_base.specs.declared.rule.Field.TheVariants as field
 use Rattle.qa_base.specs.declared.space.TimerKind.{TimerKind}
 use Rattle.qa_base.specs.declared.space.TimerKind.TheVariants.{Loss, Pto}
-use Rattle.qa_base.specs.declared.space.Leave.{Leave}
-use Rattle.qa_base.specs.declared.space.Leave.TheVariants.{Window, Probe, Recovery}
+use Rattle.qa_base.specs.declared.space.Permission.{Permission}
+use Rattle.qa_base.specs.declared.space.Permission.TheVariants.{Window, Probe, Recovery}
 use Rattle.qa_base.specs.declared.space.Space.{Space}
 use Rattle.qa_base.specs.declared.space.Space.TheVariants.{Initial, Handshake, App}
-use Rattle.qa_base.specs.values.Names.{key_name, space_name, leave_name, kind_name}
+use Rattle.qa_base.specs.values.Names.{key_name, space_name, permission_name, kind_name}
 use Rattle.qa_format.specs.format.Simple.{is_ascii}
 use Rattle.qa_format.specs.format.Written.{string}
 
@@ -103,11 +103,11 @@ space_is_plain Initial = refl
 space_is_plain Handshake = refl
 space_is_plain App = refl
 
-pub leave_is_plain : (x : Leave) → IsPlain (leave_name x)
+pub permission_is_plain : (x : Permission) → IsPlain (permission_name x)
 unfolding escape_byte
-leave_is_plain Window = refl
-leave_is_plain Probe = refl
-leave_is_plain Recovery = refl
+permission_is_plain Window = refl
+permission_is_plain Probe = refl
+permission_is_plain Recovery = refl
 
 pub kind_is_plain : (x : TimerKind) → IsPlain (kind_name x)
 unfolding escape_byte

@@ -7,21 +7,23 @@ use Rattle.serde_json.specs.Written.{compact_text}
 use Rattle.qa_base.specs.declared.event.Event.{Event}
 use Rattle.qa_base.specs.declared.key.Key.{Key}
 use Rattle.qa_base.specs.declared.key.Key.TheVariants as key
-use Rattle.qa_base.specs.declared.space.Leave.TheVariants.{Window}
+use Rattle.qa_base.specs.declared.space.Permission.TheVariants.{Window}
 use Rattle.qa_base.specs.declared.space.TimeUnit.{TimeUnit}
 use Rattle.qa_base.specs.declared.space.TimeUnit.TheVariants.{Microseconds}
 use Rattle.qa_base.specs.values.Constants.{default_initial_rtt, default_max_ack_delay}
-use Rattle.qa_base.specs.values.Names.{leave_name, unit_name, controller_name, loss_by_number_name}
+use Rattle.qa_base.specs.values.Names.{permission_name, unit_name, controller_name}
+use Rattle.qa_base.specs.values.Names.{loss_by_number_name}
 use Rattle.qa_base.specs.values.Settings.{Settings, in_unit, default_window, no_options}
-use Rattle.qa_format.specs.format.Written.{Pairs, integer, string, boolean, header_pairs, event_pairs, object_of}
+use Rattle.qa_format.specs.format.Written.{Pairs, integer, string, boolean, header_pairs}
+use Rattle.qa_format.specs.format.Written.{event_pairs, object_of}
 
 -- the pair is one of these
 abbrev pub IsAmong : Key × Data → Pairs → Type 0
 IsAmong pair [] = ⊥
 IsAmong pair (other ∷ others) = (pair ≡ other) ⊎ IsAmong pair others
 
--- The pairs are a line's keys and values, in any order: each is one of the line's, and each of the line's is there or is a
--- default. (So a key may stand there twice, with one value.)
+-- The pairs are a line's keys and values, in any order: each is one of the line's, and each of the
+-- line's is there or is a default. (So a key may stand there twice, with one value.)
 pub record AreOfLine (line defaults pairs : Pairs) : Type 0 where
   pub each : AllByRecursion (λ pair. IsAmong pair line) pairs
   pub complete : AllByRecursion (λ pair. IsAmong pair pairs ⊎ IsAmong pair defaults) line
@@ -30,7 +32,9 @@ pub record AreOfLine (line defaults pairs : Pairs) : Type 0 where
 
 -- the keys of events that may be absent, each with the value that it stands for then
 abbrev pub event_defaults : Pairs
-event_defaults = (key.Delay, integer 0) ∷ (key.Leave, string (leave_name Window)) ∷ (key.Limited, boolean false) ∷ []
+event_defaults =
+    (key.Delay, integer 0) ∷ (key.Leave, string (permission_name Window))
+    ∷ (key.Limited, boolean false) ∷ []
 
 -- the pairs are the keys and values of the event
 abbrev pub AreOf : Event → Pairs → Type 0
@@ -38,8 +42,8 @@ AreOf e = AreOfLine (event_pairs e) event_defaults
 
 -- ---- headers
 
--- the same of a header with times in this unit and with this datagram size, by which the initial window is computed; some are keys
--- of later versions alone
+-- the same of a header with times in this unit and with this datagram size, by which the initial
+-- window is computed; some are keys of later versions alone
 abbrev pub header_defaults : TimeUnit → ℕ → Pairs
 header_defaults unit max_datagram_size =
     (key.InitialRtt, integer (in_unit unit default_initial_rtt))

@@ -1,5 +1,8 @@
--- How the keys of a line are read: the kinds of values, keys that may be absent, and which fault counts of several.
-use Rattle.std.specs.Prelude.{ℕ, ◌&&◌, nat_le, nat_lt, List, [], ◌∷◌, Bool, Option, Some, None, is_some, ok_or, option_and_then, option_map, Result, Ok, Err, if◌then◌else◌}
+-- How the keys of a line are read: the kinds of values, keys that may be absent, and which fault
+-- counts of several.
+use Rattle.std.specs.Prelude.{ℕ, ◌&&◌, nat_le, nat_lt, List, [], ◌∷◌, Bool, Option, Some, None}
+use Rattle.std.specs.Prelude.{is_some, ok_or, option_and_then, option_map, Result, Ok, Err}
+use Rattle.std.specs.Prelude.{if◌then◌else◌}
 use Rattle.std.specs.List.{list_all}
 use Rattle.serde_json.specs.Data.{Data, Items, item, no_items}
 use Rattle.serde_json.specs.Find.{get, as_null, as_bool, as_number, as_str, as_array, as_u64}
@@ -17,7 +20,8 @@ abbrev pub ◌>>=◌ : {A B : Type 0} → Result A Fault → (A → Result B Fau
 (Ok x) >>= f = f x
 (Err e) >>= f = Err e
 
--- how early a fault counts: first what is absent, then what is of another kind, then what is out of range
+-- how early a fault counts: first what is absent, then what is of another kind, then what is out of
+-- range
 abbrev pub stage : Fault → ℕ
 stage (Missing k) = 0
 stage (WrongKind k) = 1
@@ -73,7 +77,8 @@ boolean k v = ok_or (as_bool v) (WrongKind k)
 
 -- two integers, where the items are two
 abbrev pub two_of : Items → Option (ℕ × ℕ)
-two_of (item lo (item hi no_items)) = option_and_then (λ l. option_map (λ h. (l, h)) (integer_of hi)) (integer_of lo)
+two_of (item lo (item hi no_items)) =
+    option_and_then (λ l. option_map (λ h. (l, h)) (integer_of hi)) (integer_of lo)
 two_of _ = None
 
 abbrev pub pair_of : Data → Option (ℕ × ℕ)
@@ -104,7 +109,8 @@ ranges k v = pairs k v >>= λ ps. ranged k (ranges_in ps)
 
 -- the value of a key, where it is there and not null
 abbrev pub present : Key → Data → Option Data
-present k d = option_and_then (λ v. if is_some (as_null v) then None else Some v) (get (key_name k) d)
+present k d =
+    option_and_then (λ v. if is_some (as_null v) then None else Some v) (get (key_name k) d)
 
 -- the value of a key that has to be there
 abbrev pub required_value : Key → Data → Result Data Fault

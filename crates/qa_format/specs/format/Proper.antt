@@ -22,12 +22,15 @@ IsWord value = ForSome value (λ n. n < 2 ^ 64)
 abbrev pub AreWords : MetricValues → Type 0
 AreWords values =
     IsWord values.window × IsWord values.ssthresh × IsWord values.bytes_in_flight
-    × IsWord values.latest_rtt × IsWord values.min_rtt × IsWord values.smoothed_rtt × IsWord values.rttvar
+    × IsWord values.latest_rtt × IsWord values.min_rtt × IsWord values.smoothed_rtt
+    × IsWord values.rttvar
 
 -- the numbers of an event are in their ranges
 abbrev pub HasProperNumbers : Event → Type 0
-HasProperNumbers (Sent time space number size eliciting in_flight leave) = number ≤ max_packet_number
-HasProperNumbers (Ack time space ranges delay app_limited) = AllByRecursion IsRange ranges × (delay < 2 ^ 64)
+HasProperNumbers (Sent time space number size eliciting in_flight permission) =
+    number ≤ max_packet_number
+HasProperNumbers (Ack time space ranges delay app_limited) =
+    AllByRecursion IsRange ranges × (delay < 2 ^ 64)
 HasProperNumbers (Lost time space ranges) = AllByRecursion IsRange ranges
 HasProperNumbers (Metrics time values) = AreWords values
 HasProperNumbers _ = Unit {0}

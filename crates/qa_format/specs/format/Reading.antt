@@ -1,5 +1,6 @@
 -- What a line says: a header, an event, nothing, or the first of the line's faults.
-use Rattle.std.specs.Prelude.{ℕ, ◌==◌, ◌||◌, not, List, Bool, Option, is_some, ok_or, option_map, Result, Ok, Err, if◌then◌else◌}
+use Rattle.std.specs.Prelude.{ℕ, ◌==◌, ◌||◌, not, List, Bool, Option, is_some, ok_or, option_map}
+use Rattle.std.specs.Prelude.{Result, Ok, Err, if◌then◌else◌}
 use Rattle.std.specs.List.{list_all}
 use Rattle.std.specs.Str.{is_utf8}
 use Rattle.serde_json.specs.Data.{Data}
@@ -15,7 +16,8 @@ use Rattle.qa_base.specs.declared.line_kind.LineKind.{LineKind}
 use Rattle.qa_base.specs.declared.line_kind.LineKind.TheVariants as kinds
 use Rattle.qa_format.specs.format.Keys.{◌>>=◌, string, required}
 use Rattle.qa_base.specs.values.Names.{line_kind_named}
-use Rattle.qa_format.specs.format.Tables.{header_of, sent_of, ack_of, lost_of, timer_of, discard_of, confirmed_of, keys_of, metrics_of}
+use Rattle.qa_format.specs.format.Tables.{header_of, sent_of, ack_of, lost_of, timer_of, discard_of}
+use Rattle.qa_format.specs.format.Tables.{confirmed_of, keys_of, metrics_of}
 
 -- ---- by the key `event`
 
@@ -63,7 +65,8 @@ is_blank b = b == 32 || b == 9 || b == 13
 
 -- what a line says, or its first fault
 unfoldable pub reading_by : (List ℕ → Option Reader) → List ℕ → Result Line Fault
-reading_by readers bytes = if list_all is_blank bytes then Ok line.Blank else (json_of bytes >>= object_says readers)
+reading_by readers bytes =
+    if list_all is_blank bytes then Ok line.Blank else (json_of bytes >>= object_says readers)
 
 -- what a line of a trace says, or its first fault
 abbrev pub reading : List ℕ → Result Line Fault

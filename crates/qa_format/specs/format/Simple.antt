@@ -1,9 +1,12 @@
--- Values whose text without white space is read as the value, and the members of an object in any order.
+-- Values whose text without white space is read as the value, and the members of an object in any
+-- order.
 use Rattle.std.specs.Prelude.{◌≡◌, ℕ, ◌^◌, ◌<◌, ◌≤◌, nat_lt, ◌&&◌, List, [], ◌∷◌, Bool, true, ⊤}
 use Rattle.std.specs.Cmp.Lexicographic.{slice_cmp}
 use Rattle.std.specs.Ordering.{nat_cmp}
 use Rattle.std.specs.declared.cmp.Ordering.TheVariants.{Less}
-use Rattle.serde_json.specs.Data.{Num, unsigned, negative, float, Data, null, boolean, number, string, array, object, Items, no_items, item, Members, no_members, member, put, depth}
+use Rattle.serde_json.specs.Data.{Num, unsigned, negative, float, Data, null, boolean, number}
+use Rattle.serde_json.specs.Data.{string, array, object, Items, no_items, item, Members, no_members}
+use Rattle.serde_json.specs.Data.{member, put, depth}
 
 -- ---- simple values
 
@@ -55,7 +58,8 @@ abbrev pub AreKept : Members → Type 0
 AreKept no_members = ⊤
 AreKept (member k d ms) = (is_ascii k ≡ true) × IsKept d × AreKept ms
 
--- the first members, with the second put among them one after another: of two values of a key the later one stays
+-- the first members, with the second put among them one after another: of two values of a key the
+-- later one stays
 abbrev pub put_all : Members → Members → Members
 put_all found no_members = found
 put_all found (member k d ms) = put_all (put k d found) ms

@@ -1,5 +1,7 @@
--- The keys of each kind of line, in the order in which their faults are looked for, and what the line then says.
-use Rattle.std.specs.Prelude.{ℕ, ◌==◌, ◌&&◌, not, List, Bool, false, Option, Some, None, Result, Ok, Err, if◌then◌else◌}
+-- The keys of each kind of line, in the order in which their faults are looked for, and what the
+-- line then says.
+use Rattle.std.specs.Prelude.{ℕ, ◌==◌, ◌&&◌, not, List, Bool, false, Option, Some, None, Result, Ok}
+use Rattle.std.specs.Prelude.{Err, if◌then◌else◌}
 use Rattle.std.specs.Result.{result_map_both}
 use Rattle.serde_json.specs.Data.{Data}
 use Rattle.qa_format.specs.declared.fault.Fault.{Fault}
@@ -8,28 +10,35 @@ use Rattle.qa_format.specs.declared.fault.Fault.TheVariants.{OutOfRange, FlagsCl
 use Rattle.qa_base.specs.declared.key.RangeFault.{RangeFault}
 use Rattle.qa_base.specs.declared.key.Key.TheVariants as key
 use Rattle.qa_base.specs.declared.event.Event.{Event}
-use Rattle.qa_base.specs.declared.event.Event.TheVariants.{Sent, Ack, Lost, Timer, Discard, Confirmed, Keys, Metrics}
+use Rattle.qa_base.specs.declared.event.Event.TheVariants.{Sent, Ack, Lost, Timer, Discard}
+use Rattle.qa_base.specs.declared.event.Event.TheVariants.{Confirmed, Keys, Metrics}
 use Rattle.qa_base.specs.declared.event.MetricValues.{MetricValues}
 use Rattle.qa_base.specs.declared.header.Options.{Options}
 use Rattle.qa_base.specs.declared.header.Version.TheVariants.{One, Two, Three}
 use Rattle.qa_base.specs.declared.rule.Field.{Field}
-use Rattle.qa_base.specs.declared.rule.Field.TheVariants.{Window, Ssthresh, BytesInFlight, LatestRtt, MinRtt, SmoothedRtt, Rttvar}
+use Rattle.qa_base.specs.declared.rule.Field.TheVariants.{Window, Ssthresh, BytesInFlight}
+use Rattle.qa_base.specs.declared.rule.Field.TheVariants.{LatestRtt, MinRtt, SmoothedRtt, Rttvar}
 use Rattle.qa_base.specs.declared.space.Controller.{Controller}
 use Rattle.qa_base.specs.declared.space.Controller.TheVariants.{NewReno}
 use Rattle.qa_base.specs.declared.space.LossByNumber.{LossByNumber}
 use Rattle.qa_base.specs.declared.space.LossByNumber.TheVariants.{Must, May}
 use Rattle.qa_base.specs.declared.space.TimerKind.{TimerKind}
-use Rattle.qa_base.specs.declared.space.Leave.{Leave}
-use Rattle.qa_base.specs.declared.space.Leave.TheVariants as leaves
+use Rattle.qa_base.specs.declared.space.Permission.{Permission}
+use Rattle.qa_base.specs.declared.space.Permission.TheVariants as leaves
 use Rattle.qa_base.specs.declared.space.Space.{Space}
 use Rattle.qa_base.specs.declared.space.Role.{Role}
 use Rattle.qa_base.specs.declared.space.TimeUnit.{TimeUnit}
 use Rattle.qa_base.specs.declared.space.TimeUnit.TheVariants.{Microseconds}
-use Rattle.qa_format.specs.format.Keys.{◌>>=◌, both, integer, integer_from, string_among, string_naming, boolean, ranges, required, optional, if_present}
+use Rattle.qa_format.specs.format.Keys.{◌>>=◌, both, integer, integer_from, string_among}
+use Rattle.qa_format.specs.format.Keys.{string_naming, boolean, ranges, required, optional}
+use Rattle.qa_format.specs.format.Keys.{if_present}
 use Rattle.qa_base.specs.values.Constants.{default_packet_threshold}
 use Rattle.qa_base.specs.values.Limits.{max_time, max_packet_number, max_packet_size}
-use Rattle.qa_base.specs.values.Names.{version_number, role_named, unit_named, controller_named, loss_by_number_named, space_named, discarded_named, leave_named, kind_named}
-use Rattle.qa_base.specs.values.Settings.{Settings, no_options, settings_in, with_options, choosing_options}
+use Rattle.qa_base.specs.values.Names.{version_number, role_named, unit_named, controller_named}
+use Rattle.qa_base.specs.values.Names.{loss_by_number_named, space_named, discarded_named}
+use Rattle.qa_base.specs.values.Names.{permission_named, kind_named}
+use Rattle.qa_base.specs.values.Settings.{Settings, no_options, settings_in, with_options}
+use Rattle.qa_base.specs.values.Settings.{choosing_options}
 
 -- the keys that several kinds of line have
 abbrev pub time : Data → Result ℕ Fault
@@ -50,41 +59,49 @@ out_of_range r = result_map_both (λ s. s) (λ e. OutOfRange e.0) r
 abbrev pub unit_and_window_for : Result ℕ Fault → Data → Result (TimeUnit × Controller) Fault
 unit_and_window_for (Ok n) d =
     if n == version_number Three
-    then both (optional (string_among unit_named) Microseconds key.Unit d) (optional (string_among controller_named) NewReno key.Window d)
+    then both (optional (string_among unit_named) Microseconds key.Unit d)
+    (optional (string_among controller_named) NewReno key.Window d)
     else Ok (Microseconds, NewReno)
 unit_and_window_for (Err e) d = Ok (Microseconds, NewReno)
 
--- the unit of times, and by whose window packets are judged, which only version 3 has keys for: they are looked at where the version is 3
+-- the unit of times, and by whose window packets are judged, which only version 3 has keys for:
+-- they are looked at where the version is 3
 abbrev pub unit_and_window : Data → Result (TimeUnit × Controller) Fault
 unit_and_window d = unit_and_window_for (version d) d
 
--- version and role, unit and window, max_datagram_size and max_ack_delay, initial_rtt and initial_window, whose numbers are not compared with
--- their ranges yet
-abbrev pub header_fields : Data → Result ((ℕ × Role) × ((TimeUnit × Controller) × ((ℕ × Option ℕ) × (Option ℕ × Option ℕ)))) Fault
+-- version and role, unit and window, max_datagram_size and max_ack_delay, initial_rtt and
+-- initial_window, whose numbers are not compared with their ranges yet
+abbrev pub header_fields : Data
+    → Result
+    ((ℕ × Role) × ((TimeUnit × Controller) × ((ℕ × Option ℕ) × (Option ℕ × Option ℕ)))) Fault
 header_fields d =
     both (both (version d) (required (string_among role_named) key.Role d))
     (both (unit_and_window d)
     (both (both (required integer key.MaxDatagramSize d) (if_present integer key.MaxAckDelay d))
     (both (if_present integer key.InitialRtt d) (if_present integer key.InitialWindow d))))
 
--- timer_late_us and refresh_min_rtt, report_slack_us and report_slack_bytes, whose numbers are not compared with their ranges yet
+-- timer_late_us and refresh_min_rtt, report_slack_us and report_slack_bytes, whose numbers are not
+-- compared with their ranges yet
 abbrev pub option_fields : Data → Result ((Option ℕ × Bool) × (ℕ × ℕ)) Fault
 option_fields d =
     both (both (if_present integer key.TimerLateUs d) (optional boolean false key.RefreshMinRtt d))
     (both (optional integer 0 key.ReportSlackUs d) (optional integer 0 key.ReportSlackBytes d))
 
--- window_overshoot and sample_eliciting_only, packet_threshold and timer_early_us, likewise; and loss_by_number, whose word is judged
--- behind all numbers: what it names, if anything
+-- window_overshoot and sample_eliciting_only, packet_threshold and timer_early_us, likewise; and
+-- loss_by_number, whose word is judged behind all numbers: what it names, if anything
 abbrev pub choice_fields : Data → Result ((Bool × Bool) × ((ℕ × ℕ) × Option LossByNumber)) Fault
 choice_fields d =
-    both (both (optional boolean false key.WindowOvershoot d) (optional boolean false key.SampleElicitingOnly d))
-    (both (both (optional integer default_packet_threshold key.PacketThreshold d) (optional integer 0 key.TimerEarlyUs d))
+    both (both (optional boolean false key.WindowOvershoot d)
+    (optional boolean false key.SampleElicitingOnly d))
+    (both (both (optional integer default_packet_threshold key.PacketThreshold d)
+    (optional integer 0 key.TimerEarlyUs d))
     (optional (string_naming loss_by_number_named) (Some Must) key.LossByNumber d))
 
 -- the options of version 2, under which losses by number must be declared
 abbrev pub second_options : Data → Result (Options × Option LossByNumber) Fault
 second_options d =
-    option_fields d >>= λ ((timer_late, refresh_min_rtt), (report_slack_us, report_slack_bytes)). Ok (
+    option_fields d >>= λ ((timer_late, refresh_min_rtt), (report_slack_us, report_slack_bytes)).
+    Ok (
       record no_options {
         timer_late = timer_late;
         refresh_min_rtt = refresh_min_rtt;
@@ -98,7 +115,13 @@ second_options d =
 abbrev pub third_options : Data → Result (Options × Option LossByNumber) Fault
 third_options d =
     both (option_fields d) (choice_fields d)
-    >>= λ (((timer_late, refresh_min_rtt), (report_slack_us, report_slack_bytes)), ((window_overshoot, sample_eliciting_only), ((packet_threshold, timer_early_us), by_number))).
+    >>= λ (
+      ((timer_late, refresh_min_rtt), (report_slack_us, report_slack_bytes)),
+      (
+        (window_overshoot, sample_eliciting_only),
+        ((packet_threshold, timer_early_us), by_number),
+      ),
+    ).
     Ok (
       record no_options {
         timer_late = timer_late;
@@ -133,19 +156,27 @@ abbrev pub of_version : ℕ → Options → Settings → Result Settings Fault
 of_version n options s =
     if n == version_number One then Ok s else
     (if n == version_number Two then out_of_range (with_options s options) else
-    (if n == version_number Three then out_of_range (choosing_options s options) else Err fault.Version))
+    (if n == version_number Three then out_of_range
+    (choosing_options s options) else Err fault.Version))
 
 -- the settings with the losses by number that the word names, which are judged after all numbers
 abbrev pub with_losses : Option LossByNumber → Settings → Result Settings Fault
 with_losses None s = Err (OutOfRange key.LossByNumber)
 with_losses (Some Must) s = Ok s
-with_losses (Some May) s = out_of_range (choosing_options s (record s.options { loss_by_number = May }))
+with_losses (Some May) s =
+    out_of_range (choosing_options s (record s.options { loss_by_number = May }))
 
 -- the version is judged after all other keys
 unfoldable pub header_of : Data → Result Settings Fault
 header_of d =
     both (header_fields d) (options d)
-    >>= λ (((version, role), ((unit, controller), ((max_datagram_size, max_ack_delay), (initial_rtt, initial_window)))), (options, by_number)).
+    >>= λ (
+      (
+        (version, role),
+        ((unit, controller), ((max_datagram_size, max_ack_delay), (initial_rtt, initial_window))),
+      ),
+      (options, by_number),
+    ).
     settings unit role max_datagram_size max_ack_delay initial_rtt initial_window
     >>= of_version version (record options { controller = controller })
     >>= with_losses by_number
@@ -153,7 +184,8 @@ header_of d =
 -- ---- packets
 
 -- time, space, number, size, eliciting, in_flight and leave
-abbrev pub sent_fields : Data → Result (ℕ × (Space × (ℕ × (ℕ × (Bool × (Bool × Leave)))))) Fault
+abbrev pub sent_fields : Data
+    → Result (ℕ × (Space × (ℕ × (ℕ × (Bool × (Bool × Permission)))))) Fault
 sent_fields d =
     both (time d)
     (both (space d)
@@ -161,12 +193,14 @@ sent_fields d =
     (both (required (integer_from 1 max_packet_size) key.Size d)
     (both (required boolean key.Eliciting d)
     (both (required boolean key.InFlight d)
-    (optional (string_among leave_named) leaves.Window key.Leave d))))))
+    (optional (string_among permission_named) leaves.Window key.Leave d))))))
 
 -- an ack-eliciting packet is in flight (RFC 9002, section 2)
 unfoldable pub sent_of : Data → Result Event Fault
-sent_of d = sent_fields d >>= λ (time, (space, (number, (size, (eliciting, (in_flight, leave)))))).
-    if eliciting && not in_flight then Err FlagsClash else Ok (Sent time space number size eliciting in_flight leave)
+sent_of d =
+    sent_fields d >>= λ (time, (space, (number, (size, (eliciting, (in_flight, permission)))))).
+    if eliciting && not in_flight then Err FlagsClash else Ok
+    (Sent time space number size eliciting in_flight permission)
 
 -- time, space, ranges, delay and limited
 abbrev pub ack_fields : Data → Result (ℕ × (Space × (List (ℕ × ℕ) × (ℕ × Bool)))) Fault
@@ -178,7 +212,9 @@ ack_fields d =
     (optional boolean false key.Limited d))))
 
 unfoldable pub ack_of : Data → Result Event Fault
-ack_of d = ack_fields d >>= λ (time, (space, (ranges, (delay, app_limited)))). Ok (Ack time space ranges delay app_limited)
+ack_of d =
+    ack_fields d >>= λ (time, (space, (ranges, (delay, app_limited)))). Ok
+    (Ack time space ranges delay app_limited)
 
 -- time, space and ranges
 abbrev pub lost_fields : Data → Result (ℕ × (Space × List (ℕ × ℕ))) Fault
@@ -214,12 +250,15 @@ keys_of d = time d >>= λ t. Ok (Keys t)
 abbrev pub metric : Field → Data → Result (Option ℕ) Fault
 metric f = if_present integer (key.Metric f)
 
--- each value where it is reported: window, ssthresh and bytes_in_flight, latest_rtt and min_rtt, smoothed_rtt and rttvar
+-- each value where it is reported: window, ssthresh and bytes_in_flight, latest_rtt and min_rtt,
+-- smoothed_rtt and rttvar
 abbrev pub metric_values : Data → Result MetricValues Fault
 metric_values d =
     both (both (metric Window d) (both (metric Ssthresh d) (metric BytesInFlight d)))
-    (both (both (metric LatestRtt d) (metric MinRtt d)) (both (metric SmoothedRtt d) (metric Rttvar d)))
-    >>= λ ((window, (ssthresh, bytes_in_flight)), ((latest_rtt, min_rtt), (smoothed_rtt, rttvar))). Ok (record {
+    (both (both (metric LatestRtt d) (metric MinRtt d))
+    (both (metric SmoothedRtt d) (metric Rttvar d)))
+    >>= λ ((window, (ssthresh, bytes_in_flight)), ((latest_rtt, min_rtt), (smoothed_rtt, rttvar))).
+    Ok (record {
       window = window;
       ssthresh = ssthresh;
       bytes_in_flight = bytes_in_flight;

@@ -4,7 +4,8 @@ use Rattle.serde_json.specs.Data as json
 use Rattle.serde_json.specs.Data.{Data, Items, no_items, item, Members, no_members, member}
 use Rattle.serde_json.specs.Written.{compact_text}
 use Rattle.qa_base.specs.declared.event.Event.{Event}
-use Rattle.qa_base.specs.declared.event.Event.TheVariants.{Sent, Ack, Lost, Timer, Discard, Confirmed, Keys, Metrics}
+use Rattle.qa_base.specs.declared.event.Event.TheVariants.{Sent, Ack, Lost, Timer, Discard}
+use Rattle.qa_base.specs.declared.event.Event.TheVariants.{Confirmed, Keys, Metrics}
 use Rattle.qa_base.specs.declared.key.Key.{Key}
 use Rattle.qa_base.specs.declared.key.Key.TheVariants as key
 use Rattle.qa_base.specs.declared.header.Options.{Options}
@@ -14,9 +15,12 @@ use Rattle.qa_format.specs.declared.line.Line.{Line}
 use Rattle.qa_format.specs.declared.line.Line.TheVariants as line
 use Rattle.qa_base.specs.declared.line_kind.LineKind.TheVariants as kinds
 use Rattle.qa_base.specs.declared.rule.Field.{Field}
-use Rattle.qa_base.specs.declared.rule.Field.TheVariants.{Window, Ssthresh, BytesInFlight, LatestRtt, MinRtt, SmoothedRtt, Rttvar}
+use Rattle.qa_base.specs.declared.rule.Field.TheVariants.{Window, Ssthresh, BytesInFlight}
+use Rattle.qa_base.specs.declared.rule.Field.TheVariants.{LatestRtt, MinRtt, SmoothedRtt, Rttvar}
 use Rattle.qa_base.specs.values.Events.{fits}
-use Rattle.qa_base.specs.values.Names.{key_name, line_kind_name, version_number, role_name, unit_name, controller_name, loss_by_number_name, space_name, leave_name, kind_name}
+use Rattle.qa_base.specs.values.Names.{key_name, line_kind_name, version_number, role_name}
+use Rattle.qa_base.specs.values.Names.{unit_name, controller_name, loss_by_number_name, space_name}
+use Rattle.qa_base.specs.values.Names.{permission_name, kind_name}
 use Rattle.qa_base.specs.values.Settings.{Settings}
 
 -- ---- values
@@ -73,17 +77,20 @@ header_pairs s =
     (key.Event, string (line_kind_name kinds.Header))
     ∷ (key.InitialRtt, integer s.initial_rtt)
     ∷ (key.InitialWindow, integer s.initial_window)
-    ∷ in_third s.version ((key.LossByNumber, string (loss_by_number_name s.options.loss_by_number)) ∷ [])
+    ∷ in_third s.version ((key.LossByNumber, string (loss_by_number_name s.options.loss_by_number))
+    ∷ [])
     ++ (key.MaxAckDelay, integer s.max_ack_delay)
     ∷ (key.MaxDatagramSize, integer s.max_datagram_size)
     ∷ in_third s.version ((key.PacketThreshold, integer s.options.packet_threshold) ∷ [])
     ++ option_pairs s.version s.options
     ++ (key.Role, string (role_name s.role))
-    ∷ in_third s.version ((key.SampleElicitingOnly, boolean s.options.sample_eliciting_only) ∷ (key.TimerEarlyUs, integer s.options.timer_early_us) ∷ [])
+    ∷ in_third s.version ((key.SampleElicitingOnly, boolean s.options.sample_eliciting_only)
+    ∷ (key.TimerEarlyUs, integer s.options.timer_early_us) ∷ [])
     ++ limit_pairs s.options.timer_late
     ++ in_third s.version ((key.Unit, string (unit_name s.unit)) ∷ [])
     ++ (key.Version, integer (version_number s.version))
-    ∷ in_third s.version ((key.Window, string (controller_name s.options.controller)) ∷ (key.WindowOvershoot, boolean s.options.window_overshoot) ∷ [])
+    ∷ in_third s.version ((key.Window, string (controller_name s.options.controller))
+    ∷ (key.WindowOvershoot, boolean s.options.window_overshoot) ∷ [])
 
 -- a value that is reported; one that is not is left out
 abbrev pub reported : Field → Option ℕ → Pairs
@@ -91,11 +98,11 @@ reported f None = []
 reported f (Some n) = (key.Metric f, integer n) ∷ []
 
 abbrev pub event_pairs : Event → Pairs
-event_pairs (Sent time space number size eliciting in_flight leave) =
+event_pairs (Sent time space number size eliciting in_flight permission) =
     (key.Eliciting, boolean eliciting)
     ∷ (key.Event, string (line_kind_name kinds.Sent))
     ∷ (key.InFlight, boolean in_flight)
-    ∷ (key.Leave, string (leave_name leave))
+    ∷ (key.Leave, string (permission_name permission))
     ∷ (key.Number, integer number)
     ∷ (key.Size, integer size)
     ∷ (key.Space, string (space_name space))
@@ -110,12 +117,19 @@ event_pairs (Ack time space ranges delay app_limited) =
     ∷ (key.Time, integer time)
     ∷ []
 event_pairs (Lost time space ranges) =
-    (key.Event, string (line_kind_name kinds.Lost)) ∷ (key.Ranges, json.array (integer_pairs ranges)) ∷ (key.Space, string (space_name space)) ∷ (key.Time, integer time) ∷ []
+    (key.Event, string (line_kind_name kinds.Lost))
+    ∷ (key.Ranges, json.array (integer_pairs ranges)) ∷ (key.Space, string (space_name space))
+    ∷ (key.Time, integer time) ∷ []
 event_pairs (Timer time kind space) =
-    (key.Event, string (line_kind_name kinds.Timer)) ∷ (key.Kind, string (kind_name kind)) ∷ (key.Space, string (space_name space)) ∷ (key.Time, integer time) ∷ []
-event_pairs (Discard time space) = (key.Event, string (line_kind_name kinds.Discard)) ∷ (key.Space, string (space_name space)) ∷ (key.Time, integer time) ∷ []
-event_pairs (Confirmed time) = (key.Event, string (line_kind_name kinds.Confirmed)) ∷ (key.Time, integer time) ∷ []
-event_pairs (Keys time) = (key.Event, string (line_kind_name kinds.Keys)) ∷ (key.Time, integer time) ∷ []
+    (key.Event, string (line_kind_name kinds.Timer)) ∷ (key.Kind, string (kind_name kind))
+    ∷ (key.Space, string (space_name space)) ∷ (key.Time, integer time) ∷ []
+event_pairs (Discard time space) =
+    (key.Event, string (line_kind_name kinds.Discard)) ∷ (key.Space, string (space_name space))
+    ∷ (key.Time, integer time) ∷ []
+event_pairs (Confirmed time) =
+    (key.Event, string (line_kind_name kinds.Confirmed)) ∷ (key.Time, integer time) ∷ []
+event_pairs (Keys time) =
+    (key.Event, string (line_kind_name kinds.Keys)) ∷ (key.Time, integer time) ∷ []
 event_pairs (Metrics time values) =
     reported BytesInFlight values.bytes_in_flight
     ++ (key.Event, string (line_kind_name kinds.Metrics))

@@ -1,5 +1,6 @@
 -- The text that explains a trace: a row for each line that the machine admits, and then the report.
-use Rattle.std.specs.Prelude.{ℕ, ◌+◌, List, [], ◌∷◌, ◌++◌, codes, decimal, length, is_some, Option, Some, None, Result, Ok, if◌then◌else◌}
+use Rattle.std.specs.Prelude.{ℕ, ◌+◌, List, [], ◌∷◌, ◌++◌, codes, decimal, length, is_some, Option}
+use Rattle.std.specs.Prelude.{Some, None, Result, Ok, if◌then◌else◌}
 use Rattle.qa_base.specs.declared.event.Event.{Event}
 use Rattle.qa_format.specs.declared.fault.Fault.{Fault}
 use Rattle.qa_format.specs.declared.line.Line.{Line}
@@ -31,11 +32,13 @@ state_text t =
 
 -- the row of line n, which is of this kind, with the state of the machine after it
 unfoldable pub row : ℕ → LineKind → Totals → List ℕ
-row n kind t = codes "line " ++ decimal n ++ codes " " ++ line_kind_name kind ++ state_text t ++ codes "\n"
+row n kind t =
+    codes "line " ++ decimal n ++ codes " " ++ line_kind_name kind ++ state_text t ++ codes "\n"
 
 -- ---- what is told of lines
 
--- how a line is told that is not blank: by its number, what it says, and the header and the history that are there with it
+-- how a line is told that is not blank: by its number, what it says, and the header and the history
+-- that are there with it
 abbrev pub Telling : Type 0
 Telling = ℕ → Line → Settings → List Event → List ℕ
 
@@ -47,13 +50,15 @@ told_said tell n _ _ h = []
 -- a good line with these before it
 abbrev pub told_line : Telling → Judging → List (List ℕ) → List ℕ → List ℕ
 told_line tell judging before l =
-    told_said tell (length before + 1) (judging.says l) (header_in judging.says (before ++ l ∷ [])) (history_of (events_in judging.says (before ++ l ∷ [])))
+    told_said tell (length before + 1) (judging.says l) (header_in judging.says (before ++ l ∷ []))
+    (history_of (events_in judging.says (before ++ l ∷ [])))
 
 -- the lines before the first that is not good, where those before them are
 abbrev pub told_after : Telling → Judging → List (List ℕ) → List (List ℕ) → List ℕ
 told_after tell judging before [] = []
 told_after tell judging before (l ∷ ls) =
-    if is_some (stop_after judging before l) then [] else told_line tell judging before l ++ told_after tell judging (before ++ l ∷ []) ls
+    if is_some (stop_after judging before l) then [] else told_line tell judging before l
+    ++ told_after tell judging (before ++ l ∷ []) ls
 
 unfoldable pub told_of : Telling → Judging → List (List ℕ) → List ℕ
 told_of tell judging ls = told_after tell judging [] ls
@@ -68,7 +73,8 @@ told_nothing n l c h = []
 
 -- ---- the rows of lines
 
--- the row of line n, which is of this kind, and after which the trace has this header and this history; a blank line has none
+-- the row of line n, which is of this kind, and after which the trace has this header and this
+-- history; a blank line has none
 abbrev pub row_of : ℕ → Option LineKind → Settings → List Event → List ℕ
 row_of n (Some kind) c h = row n kind (totals c h)
 row_of n None c h = []

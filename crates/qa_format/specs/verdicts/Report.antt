@@ -16,7 +16,8 @@ key_text None = []
 key_text (Some k) = codes " " ++ key_name k
 
 unfoldable pub fault_text : Fault → List ℕ
-fault_text f = codes "F" ++ decimal (fault_number f) ++ codes " " ++ fault_name f ++ key_text (key_of f)
+fault_text f =
+    codes "F" ++ decimal (fault_number f) ++ codes " " ++ fault_name f ++ key_text (key_of f)
 
 -- a word, and the line that it is about
 unfoldable pub place_text : List ℕ → ℕ → List ℕ

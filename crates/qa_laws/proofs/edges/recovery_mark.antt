@@ -3,7 +3,7 @@ use Rattle.std.specs.Prelude.{◌≡◌, true, false, List, [], ◌∷◌, Some,
 use Rattle.qa_base.specs.declared.event.Event.{Event}
 use Rattle.qa_base.specs.declared.event.Event.TheVariants.{Sent}
 use Rattle.qa_base.specs.declared.rule.Rule.TheVariants as rule
-use Rattle.qa_base.specs.declared.space.Leave.TheVariants.{Recovery}
+use Rattle.qa_base.specs.declared.space.Permission.TheVariants.{Recovery}
 use Rattle.qa_base.specs.declared.space.Space.TheVariants.{Handshake, App}
 use Rattle.qa_base.specs.machine.Reno.{reno}
 use Rattle.qa_base.specs.machine.Rules.{first_broken, IsRun}

@@ -9,19 +9,19 @@ use Rattle.qa_base.specs.declared.event.Event.{Event}
 use Rattle.qa_base.specs.declared.event.Event.TheVariants.{Sent, Lost, Timer}
 use Rattle.qa_base.specs.declared.header.Version.{Version}
 use Rattle.qa_base.specs.declared.space.TimerKind.TheVariants.{Loss, Pto}
-use Rattle.qa_base.specs.declared.space.Leave.TheVariants.{Recovery}
+use Rattle.qa_base.specs.declared.space.Permission.TheVariants.{Recovery}
 use Rattle.qa_base.specs.declared.space.Space.{Space}
 use Rattle.qa_base.specs.declared.space.Space.TheVariants.{Initial, Handshake, App}
 use Rattle.qa_base.specs.machine.Breaches.{is_loss_owed, is_loss_not_owed, numbers, is_other_loss_set, is_over, is_past_recovery, is_timer_not_set, is_other, is_timer_other}
 use Rattle.qa_base.specs.machine.Detection.{are_ends, detection_by, is_found_at, is_free_by, is_left_at, is_old, is_owed_by, is_past_threshold, is_unsettled, may_be_spared, looks_at, old_at}
 use Rattle.qa_base.specs.machine.Estimates.{refreshed_by, rtt, sampled}
 use Rattle.qa_base.specs.machine.Handshake.{is_confirmed, is_validated, has_keys}
-use Rattle.qa_base.specs.machine.Leave.{is_recovery_packet, recovery_spent}
+use Rattle.qa_base.specs.machine.Permission.{is_recovery_packet, recovery_spent}
 use Rattle.qa_base.specs.machine.Loss.{bytes_in_flight, declared, is_free, is_open, is_owed, is_persistent, nameable, owed, flight_size, is_nameable}
 use Rattle.qa_base.specs.machine.Moments.{before_last, detection_of, last_time, moments, since}
 use Rattle.qa_base.specs.machine.Numbers.{names_between}
 use Rattle.qa_base.specs.machine.Packets.{Packet, packets, packets_of, is_of, is_discarded, is_some_packet, newly_acknowledged, largest_acknowledged, least_of, is_below_largest}
-use Rattle.qa_base.specs.machine.Reno.{Control, hits, collapses, grows, is_app_limited, moves_of_last, moves, moved, start, reno, enters, is_entry}
+use Rattle.qa_base.specs.machine.Reno.{Control, congestion_events, persistent_congestions, grows, is_app_limited, moves_of_last, moves, moved, start, reno, enters, is_entry}
 use Rattle.qa_base.specs.machine.Rtt.{Estimate, sample_of, updated, refreshed, pto_base, loss_delay}
 use Rattle.qa_base.specs.machine.State.{totals}
 use Rattle.qa_base.specs.machine.Timer.{pto_count, earlier, awaits_loss, loss_due, earliest_loss, awaits_acknowledgment, last_eliciting, pto_due, earliest_pto, last_set, anti_deadlock, deadline, packet_deadline, is_same_due, set_since}
@@ -31,7 +31,7 @@ use Rattle.qa_base.specs.values.Settings.{Settings, early, granularity, is_may, 
 use Rattle.qa_base.proofs.machine.Collapses.{since_collapse_after}
 use Rattle.qa_base.proofs.machine.Declared.{declared_is, owed_is}
 use Rattle.qa_laws.specs.machine.Alike.{AreAlike}
-use Rattle.qa_history.proofs.machine.Pairs.{of_each, part_is, same_part}
+use Rattle.qa_base.proofs.history.Pairs.{of_each, part_is, same_part}
 
 -- ---- alike headers
 
@@ -275,7 +275,7 @@ same_bytes c t h agree =
 same_moves_of_last : (c : Settings) (t : Tolerances) (h : List Event) → Agree c t h → moves_of_last (like c t) h ≡ moves_of_last c h
 same_moves_of_last c t [] agree = refl
 same_moves_of_last c t (e ∷ h) agree =
-    ap₂ (λ ps persistent. hits (last_time (detection_of (e ∷ h))) ps ++ collapses persistent ++ (if is_app_limited e then [] else grows (newly_acknowledged (e ∷ h))))
+    ap₂ (λ ps persistent. congestion_events (last_time (detection_of (e ∷ h))) ps ++ persistent_congestions persistent ++ (if is_app_limited e then [] else grows (newly_acknowledged (e ∷ h))))
     (same_declared c t (e ∷ h) agree) (same_persistent c t (e ∷ h) agree)
 
 same_moves : (c : Settings) (t : Tolerances) (h : List Event) → Agree c t h → moves (like c t) h ≡ moves c h

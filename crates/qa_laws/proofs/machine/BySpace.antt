@@ -14,15 +14,15 @@ use Rattle.qa_base.specs.machine.Detection.{found_at, is_found, is_found_at, is_
 use Rattle.qa_base.specs.machine.Loss.{is_open, bytes_in_flight, owed, detection}
 use Rattle.qa_base.specs.machine.Packets.{Packet, packets, packets_of, is_of, is_discarded, is_acknowledged, is_declared_lost, is_newly_acknowledged, newly_acknowledged, largest_acknowledged}
 use Rattle.qa_base.specs.values.Settings.{Settings}
-use Rattle.qa_history.specs.machine.Sums.{counted, open_sum, bytes, bytes_of, asks_of}
+use Rattle.qa_base.specs.history.Sums.{counted, open_sum, bytes, bytes_of, asks_of}
 use Rattle.qa_base.specs.machine.Timer.{awaits_acknowledgment}
-use Rattle.qa_history.proofs.machine.Closing.{bytes_in_flight_is}
-use Rattle.qa_history.proofs.machine.Courses.{is_space_is, is_space_same}
-use Rattle.qa_history.proofs.machine.Pairs.{of_each, each_weaker, part_is}
+use Rattle.qa_base.proofs.history.Closing.{bytes_in_flight_is}
+use Rattle.qa_base.proofs.history.ToleratedRuns.{is_space_is, is_space_same}
+use Rattle.qa_base.proofs.history.Pairs.{of_each, each_weaker, part_is}
 use Rattle.qa_base.proofs.machine.Quiet.{same_sum}
-use Rattle.qa_history.proofs.machine.Settled.{opens_is, owed_is}
-use Rattle.qa_history.specs.machine.Parts.{AreOf}
-use Rattle.qa_history.specs.machine.Sums.{within_space}
+use Rattle.qa_base.proofs.history.Settled.{opens_is, owed_is}
+use Rattle.qa_base.specs.history.Parts.{AreOf}
+use Rattle.qa_base.specs.history.Sums.{within_space}
 
 -- ---- is there a probe timeout
 

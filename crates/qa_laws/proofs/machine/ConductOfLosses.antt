@@ -18,14 +18,14 @@ use Rattle.qa_format.specs.format.Proper.{IsRange, IsProperEvent}
 use Rattle.qa_base.specs.machine.Rules.{IsRun}
 use Rattle.qa_base.specs.values.Settings.{Settings, granularity, is_may}
 use Rattle.qa_base.specs.machine.Rtt.{loss_delay}
-use Rattle.qa_history.proofs.machine.Changes.{free_is_left, one_of_numbers}
-use Rattle.qa_history.proofs.machine.Courses.{in_order, is_space_same, is_space_is}
+use Rattle.qa_base.proofs.history.Changes.{free_is_left, one_of_numbers}
+use Rattle.qa_base.proofs.history.ToleratedRuns.{in_order, is_space_same, is_space_is}
 use Rattle.qa_base.proofs.machine.WindowBound.{placed}
-use Rattle.qa_history.proofs.machine.Pairs.{at_one, has_later, part_is, two_of}
+use Rattle.qa_base.proofs.history.Pairs.{at_one, has_later, part_is, two_of}
 use Rattle.qa_base.proofs.machine.Ranges.{has_all_names}
-use Rattle.qa_base.proofs.machine.RunLaws.{all_hold, old_is_after_loss_delay, course_of}
-use Rattle.qa_history.proofs.machine.Settled.{raised, largest_after, covered_stays, nameable_is, nameable_space, names_all}
-use Rattle.qa_history.specs.machine.Sequence.{WasSentBefore}
+use Rattle.qa_base.proofs.machine.RunLaws.{all_hold, old_is_after_loss_delay, tolerated_run_of}
+use Rattle.qa_base.proofs.history.Settled.{raised, largest_after, covered_stays, nameable_is, nameable_space, names_all}
+use Rattle.qa_base.specs.history.Sequence.{WasSentBefore}
 
 -- ---- the largest acknowledged number is that of an acknowledged packet
 
@@ -125,7 +125,7 @@ largest_is_acknowledged c (e ∷ h) run proper s m is =
 -- ---- what is found lost
 
 place_of : (c : Settings) (h : List Event) → IsRun c h → (p q : Packet) → Contains (packets h) p → Contains (packets h) q → p.space ≡ q.space → p.number < q.number → p.place < q.place
-place_of c h run p q has_p has_q same lower = elim (two_of WasSentBefore (packets h) p q (in_order c h (course_of c h run)) has_p has_q) [
+place_of c h run p q has_p has_q same lower = elim (two_of WasSentBefore (packets h) p q (in_order c h (tolerated_run_of c h run)) has_p has_q) [
   | inl one ↦ absurd (omega (arith, lower, ap (λ (x : Packet). x.number) one))
   | inr (inl before) ↦ (let less = before.number (rw same (is_space_same q.space)) in absurd (omega (arith, less, lower)))
   | inr (inr behind) ↦ behind.place
@@ -211,10 +211,10 @@ nameable_rightly c h run proper p has is = elim (or_cases (is_owed c h p) (is_fr
 pub lost_rightly : (c : Settings) (h : List Event) (time : ℕ) (space : Space) (ranges : List (ℕ × ℕ)) → IsRun c (Lost time space ranges ∷ h) → AllByRecursion IsProperEvent h
     → (n : ℕ) → is_named ranges n ≡ true → IsLostRightly c h space n
 lost_rightly c h time space ranges run proper n named =
-    let between = names_all c h time space ranges (course_of c (Lost time space ranges ∷ h) run) in
+    let between = names_all c h time space ranges (tolerated_run_of c (Lost time space ranges ∷ h) run) in
     let all = (and_parts (has_all (numbers (nameable c h)) ranges) (list_all (is_named ranges) (numbers (owed c h))) between).0 in
     let one = one_of_numbers (nameable c h) n (has_all_names (numbers (nameable c h)) ranges all n named) in
     let p = one.0 in
     let is = nameable_is c h p one.1 in
     subst (λ (k : ℕ). IsLostRightly c h space k) one.2
-    (subst (λ (s : Space). IsLostRightly c h s p.number) (nameable_space c h time space ranges (course_of c (Lost time space ranges ∷ h) run) p is.1) (nameable_rightly c h run.0 proper p is.0 is.1))
+    (subst (λ (s : Space). IsLostRightly c h s p.number) (nameable_space c h time space ranges (tolerated_run_of c (Lost time space ranges ∷ h) run) p is.1) (nameable_rightly c h run.0 proper p is.0 is.1))

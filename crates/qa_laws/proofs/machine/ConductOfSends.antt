@@ -7,12 +7,12 @@ use Rattle.std.specs.Prelude.{if◌then◌else◌}
 use Rattle.qa_base.specs.declared.event.Event.{Event}
 use Rattle.qa_base.specs.declared.event.Event.TheVariants.{Sent, Timer}
 use Rattle.qa_base.specs.declared.space.TimerKind.TheVariants.{Loss, Pto}
-use Rattle.qa_base.specs.declared.space.Leave.{Leave}
-use Rattle.qa_base.specs.declared.space.Leave.TheVariants.{Window, Probe, Recovery}
+use Rattle.qa_base.specs.declared.space.Permission.{Permission}
+use Rattle.qa_base.specs.declared.space.Permission.TheVariants.{Window, Probe, Recovery}
 use Rattle.qa_base.specs.declared.space.Space.{Space}
 use Rattle.qa_base.specs.machine.Breaches.{is_over, is_past}
-use Rattle.qa_laws.specs.machine.Conduct.{is_pto_event, is_probe, probe_bytes, is_recovery, HasMoment, IsAmong, HasLeave, HasOvershoot}
-use Rattle.qa_base.specs.machine.Leave.{probe_size, is_recovery_packet}
+use Rattle.qa_laws.specs.machine.Conduct.{is_pto_event, is_probe, probe_bytes, is_recovery, HasMoment, IsAmong, HasPermission, HasOvershoot}
+use Rattle.qa_base.specs.machine.Permission.{probe_size, is_recovery_packet}
 use Rattle.qa_base.specs.machine.Loss.{owed, bytes_in_flight}
 use Rattle.qa_base.specs.machine.Moments.{moments, since}
 use Rattle.qa_base.specs.machine.Packets.{is_discarded}
@@ -47,10 +47,10 @@ below_window c h time space number size eliciting allowed run =
     not_full (window c h) (bytes_in_flight c h) size c.options.window_overshoot allowed (all_hold c h (Sent time space number size eliciting true Window) run.1).past_window
 
 -- the leave of a packet that the window has no room for
-window_leave : (c : Settings) (h : List Event) (size : ℕ) (overshoot : Bool) → c.options.window_overshoot ≡ overshoot → is_past overshoot (window c h) (bytes_in_flight c h) size ≡ false
+window_permission : (c : Settings) (h : List Event) (size : ℕ) (overshoot : Bool) → c.options.window_overshoot ≡ overshoot → is_past overshoot (window c h) (bytes_in_flight c h) size ≡ false
     → window c h < bytes_in_flight c h + size → HasOvershoot c h
-window_leave c h size true is kept past = record { allowed = is; room = leb-false (window c h) (bytes_in_flight c h) kept }
-window_leave c h size false is kept past = let le = ltb-false (window c h) (bytes_in_flight c h + size) kept in absurd (omega (arith, le, past))
+window_permission c h size true is kept past = record { allowed = is; room = leb-false (window c h) (bytes_in_flight c h) kept }
+window_permission c h size false is kept past = let le = ltb-false (window c h) (bytes_in_flight c h + size) kept in absurd (omega (arith, le, past))
 
 -- in a run, after an in-flight packet that is sent by leave of the window, the bytes in flight are within the window, unless it may be overshot
 pub within_window : (c : Settings) (h : List Event) (time : ℕ) (space : Space) (number size : ℕ) (eliciting : Bool) → c.options.window_overshoot ≡ false → IsRun c (Sent time space number size eliciting true Window ∷ h)
@@ -121,8 +121,8 @@ no_pto [] h none = refl
 no_pto (e ∷ events) h none = rw (sym (pto_is e (events ++ h)) ∙ none.0) (no_pto events h none.1)
 
 -- the leave of a probe
-probe_leave : (c : Settings) (h : List Event) (time : ℕ) (space : Space) (number size : ℕ) (eliciting : Bool) → IsRun c (Sent time space number size eliciting true Probe ∷ h) → HasLeave c h size Probe
-probe_leave c h time space number size eliciting run =
+probe_permission : (c : Settings) (h : List Event) (time : ℕ) (space : Space) (number size : ℕ) (eliciting : Bool) → IsRun c (Sent time space number size eliciting true Probe ∷ h) → HasPermission c h size Probe
+probe_permission c h time space number size eliciting run =
     let holds = all_hold c h (Sent time space number size eliciting true Probe) run.1 in
     let spent = over_not (2 * c.max_datagram_size) size (list_any is_pto (moments h)) (sum_by probe_size (since is_pto h)) holds.past_probe in
     let found = since_last is_pto probe_size probe_bytes probe_is h spent.0 in
@@ -156,8 +156,8 @@ none_counted (e ∷ events) none = none_if e events (is_recovery e) refl (sym (s
     none_if e events true is none rest = let some : 1 + sum_by (λ e. cond (is_recovery e) 1 0) events ≡ 0 = rw is at none in absurd (omega (arith, some))
     none_if e events false is none rest = let more : 0 + sum_by (λ e. cond (is_recovery e) 1 0) events ≡ 0 = rw is at none in rw is (rest (omega (arith, more)))
 
-recovery_leave : (c : Settings) (h : List Event) (time : ℕ) (space : Space) (number size : ℕ) (eliciting : Bool) → IsRun c (Sent time space number size eliciting true Recovery ∷ h) → HasLeave c h size Recovery
-recovery_leave c h time space number size eliciting run =
+recovery_permission : (c : Settings) (h : List Event) (time : ℕ) (space : Space) (number size : ℕ) (eliciting : Bool) → IsRun c (Sent time space number size eliciting true Recovery ∷ h) → HasPermission c h size Recovery
+recovery_permission c h time space number size eliciting run =
     let holds = all_hold c h (Sent time space number size eliciting true Recovery) run.1 in
     let spent = over_not 1 1 (list_any (is_entry c) (moments h)) (count_by is_recovery_packet (since (is_entry c) h)) holds.past_recovery in
     let found = since_last (is_entry c) (λ m. cond (is_recovery_packet m) 1 0) (λ e. cond (is_recovery e) 1 0) counted_is h spent.0 in
@@ -171,12 +171,12 @@ recovery_leave c h time space number size eliciting run =
     }
 
 -- in a run an in-flight packet that takes the bytes in flight past the window has its leave
-pub past_window_by_leave : (c : Settings) (h : List Event) (time : ℕ) (space : Space) (number size : ℕ) (eliciting : Bool) (leave : Leave)
-    → IsRun c (Sent time space number size eliciting true leave ∷ h) → window c h < bytes_in_flight c h + size → HasLeave c h size leave
-past_window_by_leave c h time space number size eliciting Window run past =
-    window_leave c h size c.options.window_overshoot refl (all_hold c h (Sent time space number size eliciting true Window) run.1).past_window past
-past_window_by_leave c h time space number size eliciting Probe run past = probe_leave c h time space number size eliciting run
-past_window_by_leave c h time space number size eliciting Recovery run past = recovery_leave c h time space number size eliciting run
+pub past_window_by_permission : (c : Settings) (h : List Event) (time : ℕ) (space : Space) (number size : ℕ) (eliciting : Bool) (permission : Permission)
+    → IsRun c (Sent time space number size eliciting true permission ∷ h) → window c h < bytes_in_flight c h + size → HasPermission c h size permission
+past_window_by_permission c h time space number size eliciting Window run past =
+    window_permission c h size c.options.window_overshoot refl (all_hold c h (Sent time space number size eliciting true Window) run.1).past_window past
+past_window_by_permission c h time space number size eliciting Probe run past = probe_permission c h time space number size eliciting run
+past_window_by_permission c h time space number size eliciting Recovery run past = recovery_permission c h time space number size eliciting run
 
 -- ---- between two probe timeouts, and before the first
 

@@ -13,19 +13,19 @@ use Rattle.qa_base.specs.machine.Estimates.{rtt, sampled}
 use Rattle.qa_base.specs.machine.Rtt.{Estimate, loss_delay}
 use Rattle.qa_base.specs.machine.Detection.{is_found, is_past_threshold, is_old, is_unsettled, looks_at, old_at}
 use Rattle.qa_base.specs.machine.Loss.{owed, is_open}
-use Rattle.qa_history.specs.machine.Oldest.{is_flying, due_of}
+use Rattle.qa_base.specs.history.Oldest.{is_flying, due_of}
 use Rattle.qa_base.specs.machine.Packets.{Packet, packets_of, largest_acknowledged, is_below_largest}
 use Rattle.qa_base.specs.machine.Rules.{IsRun}
 use Rattle.qa_base.specs.values.Settings.{Settings, early, granularity, is_may}
 use Rattle.qa_base.specs.machine.Timer.{Due, deadline, earlier, earliest_loss, earliest_pto, anti_deadlock, loss_due}
-use Rattle.qa_history.proofs.machine.Awaiting.{earliest_of_space, old_at_is}
-use Rattle.qa_history.proofs.machine.Courses.{is_space_is}
-use Rattle.qa_history.proofs.machine.Deadline.{first_passes, loss_due_is}
-use Rattle.qa_history.proofs.machine.Detection.{probes, loss_of, earlier_is, timer_is}
-use Rattle.qa_history.proofs.machine.Pairs.{part_has}
-use Rattle.qa_base.proofs.machine.RunLaws.{all_hold, old_is_after_loss_delay, course_of}
-use Rattle.qa_history.proofs.machine.Settled.{opens_is}
-use Rattle.qa_history.proofs.machine.Deadline.{oldest_flying}
+use Rattle.qa_base.proofs.history.Awaiting.{earliest_of_space, old_at_is}
+use Rattle.qa_base.proofs.history.ToleratedRuns.{is_space_is}
+use Rattle.qa_base.proofs.history.Deadline.{first_passes, loss_due_is}
+use Rattle.qa_base.proofs.history.Detection.{probes, loss_of, earlier_is, timer_is}
+use Rattle.qa_base.proofs.history.Pairs.{part_has}
+use Rattle.qa_base.proofs.machine.RunLaws.{all_hold, old_is_after_loss_delay, tolerated_run_of}
+use Rattle.qa_base.proofs.history.Settled.{opens_is}
+use Rattle.qa_base.proofs.history.Deadline.{oldest_flying}
 
 -- a packet of the space is open and in flight, below the largest acknowledged number, and old when the loss timer goes off
 pub record Awaits (c : Settings) (h : List Event) (due : Due) : Type 0 where
@@ -50,7 +50,7 @@ due_awaits c h s (Some p) due oldest is =
     due_if c h s p due (is_below_largest p.number (largest_acknowledged h s)) refl found.0 found.1 is
 
 loss_awaits : (c : Settings) (h : List Event) → IsRun c h → (s : Space) (due : Due) → loss_due c h s ≡ Some due → Awaits c h due
-loss_awaits c h run s due is = due_awaits c h s (oldest_flying c h s) due refl (sym (loss_due_is c h (course_of c h run) s) ∙ is)
+loss_awaits c h run s due is = due_awaits c h s (oldest_flying c h s) due refl (sym (loss_due_is c h (tolerated_run_of c h run) s) ∙ is)
 
 earliest_awaits : (c : Settings) (h : List Event) → IsRun c h → (due : Due) → earliest_loss c h ≡ Some due → Awaits c h due
 earliest_awaits c h run due is = elim (earlier_is (loss_due c h Initial) (earlier (loss_due c h Handshake) (loss_due c h App)) due is) [
@@ -93,7 +93,7 @@ set_for c h time space run =
       set = set.1;
       loss = loss;
       of_space = of_space;
-      old = sym (old_at_is c h time space (course_of c (Timer time Loss space ∷ h) run)) ∙ ap (option_map (λ (d : Due). d.time)) here;
+      old = sym (old_at_is c h time space (tolerated_run_of c (Timer time Loss space ∷ h) run)) ∙ ap (option_map (λ (d : Due). d.time)) here;
       soon = ltb-false (time + early c) due.time soon;
     }
 

@@ -9,10 +9,10 @@ use Rattle.qa_base.specs.machine.Loss.{declared, owed, is_persistent}
 use Rattle.qa_base.specs.machine.Estimates.{sampled}
 use Rattle.qa_base.specs.machine.Moments.{before_last, detection_of, last_time}
 use Rattle.qa_base.specs.machine.Packets.{Packet, newly_acknowledged}
-use Rattle.qa_base.specs.machine.Reno.{Control, is_outside_recovery, hit, collapse, growth, Move, Grow, latest_sent, hits, collapses, grows, is_app_limited, moves_of_last, moved, reno, enters, is_entry}
+use Rattle.qa_base.specs.machine.Reno.{Control, is_outside_recovery, on_congestion_event, on_persistent_congestion, growth, Move, Grow, latest_sent, congestion_events, persistent_congestions, grows, is_app_limited, moves_of_last, moved, reno, enters, is_entry}
 use Rattle.qa_base.specs.machine.Rules.{IsRun}
 use Rattle.qa_base.specs.values.Settings.{Settings, is_may}
-use Rattle.qa_history.proofs.machine.Pairs.{has_first, has_later}
+use Rattle.qa_base.proofs.history.Pairs.{has_first, has_later}
 use Rattle.qa_base.proofs.machine.Declared.{must_declared_by}
 use Rattle.qa_base.proofs.machine.Quiet.{not_persistent}
 use Rattle.qa_base.proofs.machine.RunLaws.{all_hold, prefix_of_run}
@@ -41,7 +41,7 @@ grown_if d r true new = omega arith
 grown_if d r false new = grown d r (reverse (filter (λ p. p.in_flight) new))
 
 unless_lost : (d now : ℕ) (r : Control) (ps : List Packet) (persistent app_limited : Bool) (new : List Packet) → ps ≡ [] → persistent ≡ false
-    → r.window ≤ (fold (moved d) r (hits now ps ++ collapses persistent ++ (if app_limited then [] else grows new))).window
+    → r.window ≤ (fold (moved d) r (congestion_events now ps ++ persistent_congestions persistent ++ (if app_limited then [] else grows new))).window
 unless_lost d now r [] false app_limited new none calm = grown_if d r app_limited new
 unless_lost d now r [] true app_limited new none calm = cc
 unless_lost d now r (p ∷ ps) persistent app_limited new none calm = cc
@@ -70,7 +70,7 @@ growths_if d r true new = refl
 growths_if d r false new = growths_keep d r (reverse (filter (λ p. p.in_flight) new))
 
 hit_by : (d last_sent now : ℕ) (r : Control) (here : Bool) → is_outside_recovery r.recovery_start_time last_sent ≡ here
-    → (hit d last_sent now r).recovery_start_time ≡ (if here then Some now else r.recovery_start_time)
+    → (on_congestion_event d last_sent now r).recovery_start_time ≡ (if here then Some now else r.recovery_start_time)
 hit_by d last_sent now r true is = rw is refl
 hit_by d last_sent now r false is = rw is refl
 
@@ -80,12 +80,12 @@ begun recovery now [] = recovery
 begun recovery now (p ∷ ps) = if is_outside_recovery recovery (latest_sent (p ∷ ps)) then Some now else recovery
 
 recovery_by : (d now : ℕ) (r : Control) (ps : List Packet) (persistent app_limited : Bool) (new : List Packet)
-    → (fold (moved d) r (hits now ps ++ collapses persistent ++ (if app_limited then [] else grows new))).recovery_start_time ≡ (if persistent then None else begun r.recovery_start_time now ps)
-recovery_by d now r [] true app_limited new = growths_if d (collapse d r) app_limited new
-recovery_by d now r (p ∷ ps) true app_limited new = growths_if d (collapse d (hit d (latest_sent (p ∷ ps)) now r)) app_limited new
+    → (fold (moved d) r (congestion_events now ps ++ persistent_congestions persistent ++ (if app_limited then [] else grows new))).recovery_start_time ≡ (if persistent then None else begun r.recovery_start_time now ps)
+recovery_by d now r [] true app_limited new = growths_if d (on_persistent_congestion d r) app_limited new
+recovery_by d now r (p ∷ ps) true app_limited new = growths_if d (on_persistent_congestion d (on_congestion_event d (latest_sent (p ∷ ps)) now r)) app_limited new
 recovery_by d now r [] false app_limited new = growths_if d r app_limited new
 recovery_by d now r (p ∷ ps) false app_limited new =
-    growths_if d (hit d (latest_sent (p ∷ ps)) now r) app_limited new ∙ hit_by d (latest_sent (p ∷ ps)) now r (is_outside_recovery r.recovery_start_time (latest_sent (p ∷ ps))) refl
+    growths_if d (on_congestion_event d (latest_sent (p ∷ ps)) now r) app_limited new ∙ hit_by d (latest_sent (p ∷ ps)) now r (is_outside_recovery r.recovery_start_time (latest_sent (p ∷ ps))) refl
 
 recovery_is : (c : Settings) (e : Event) (h : List Event)
     → (reno c (e ∷ h)).recovery_start_time ≡ (if is_persistent c (e ∷ h) then None else begun (reno c h).recovery_start_time (last_time (detection_of (e ∷ h))) (declared c (e ∷ h)))
@@ -113,7 +113,7 @@ abbrev Enters : Option ℕ → List Packet → Type 0
 Enters recovery ps = (p : Packet) × (rest : List Packet) × (ps ≡ p ∷ rest) × (is_outside_recovery recovery (latest_sent ps) ≡ true)
 
 enters_by : (recovery : Option ℕ) (now : ℕ) (ps : List Packet) (persistent app_limited : Bool) (new : List Packet) → (ps ≡ [] → persistent ≡ false)
-    → enters recovery (hits now ps ++ collapses persistent ++ (if app_limited then [] else grows new)) ≡ true → Enters recovery ps
+    → enters recovery (congestion_events now ps ++ persistent_congestions persistent ++ (if app_limited then [] else grows new)) ≡ true → Enters recovery ps
 enters_by recovery now [] false app_limited new calm is = absurd (both_ways (enters recovery (if app_limited then [] else grows new)) (never_by_growths recovery app_limited new) is)
 enters_by recovery now [] true app_limited new calm is = let never = calm refl in cc
 enters_by recovery now (p ∷ ps) persistent app_limited new calm is = (p, ps, refl, is)
@@ -247,14 +247,14 @@ halved_once c e f between h run first second other calm =
 -- ---- an event enters recovery by what is lost by it
 
 no_entry : (recovery : Option ℕ) (is_collapse is_app_limited : Bool) (ps : List Packet)
-    → enters recovery ([] ++ collapses is_collapse ++ (if is_app_limited then [] else growths ps)) ≡ false
+    → enters recovery ([] ++ persistent_congestions is_collapse ++ (if is_app_limited then [] else growths ps)) ≡ false
 no_entry recovery true is_app_limited ps = refl
 no_entry recovery false true ps = refl
 no_entry recovery false false [] = refl
 no_entry recovery false false (p ∷ ps) = refl
 
 entered_by : (recovery : Option ℕ) (now : ℕ) (lost : List Packet) (is_collapse is_app_limited : Bool) (ps : List Packet)
-    → enters recovery (hits now lost ++ collapses is_collapse ++ (if is_app_limited then [] else growths ps)) ≡ is_entered_by recovery lost
+    → enters recovery (congestion_events now lost ++ persistent_congestions is_collapse ++ (if is_app_limited then [] else growths ps)) ≡ is_entered_by recovery lost
 entered_by recovery now [] is_collapse is_app_limited ps = no_entry recovery is_collapse is_app_limited ps
 entered_by recovery now (p ∷ lost) is_collapse is_app_limited ps = refl
 

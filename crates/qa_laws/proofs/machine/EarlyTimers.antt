@@ -18,15 +18,15 @@ use Rattle.qa_base.specs.machine.Rtt.{Estimate, loss_delay}
 use Rattle.qa_base.specs.machine.Rules.{IsRun}
 use Rattle.qa_base.specs.machine.Timer.{Due, deadline}
 use Rattle.qa_base.specs.values.Settings.{Settings, early, granularity, in_unit, is_may}
-use Rattle.qa_base.proofs.machine.RunLaws.{old_is_after_loss_delay, course_of}
+use Rattle.qa_base.proofs.machine.RunLaws.{old_is_after_loss_delay, tolerated_run_of}
 use Rattle.qa_format.specs.format.Proper.{IsProperEvent}
 use Rattle.qa_laws.proofs.machine.ConductOfTimers.{set_for}
-use Rattle.qa_history.proofs.machine.Courses.{is_space_is}
-use Rattle.qa_history.proofs.machine.Detection.{asked_was_flying}
+use Rattle.qa_base.proofs.history.ToleratedRuns.{is_space_is}
+use Rattle.qa_base.proofs.history.Detection.{asked_was_flying}
 use Rattle.qa_laws.proofs.machine.Near.{flying_is_near, is_far}
-use Rattle.qa_history.proofs.machine.Pairs.{first_or_rest, part_has}
-use Rattle.qa_history.proofs.machine.Persistence.{apart_of}
-use Rattle.qa_history.proofs.machine.Settled.{owed_has, owed_is, unsettled_before}
+use Rattle.qa_base.proofs.history.Pairs.{first_or_rest, part_has}
+use Rattle.qa_base.proofs.history.Persistence.{apart_of}
+use Rattle.qa_base.proofs.history.Settled.{owed_has, owed_is, unsettled_before}
 
 -- ---- the first that awaits the timer
 
@@ -125,7 +125,7 @@ early_finds c h time space run proper soon =
             let parts = and_parts (p.in_flight && is_unsettled (e ∷ h) p) (is_past_threshold c r now (largest_acknowledged h space) p) both.1 in
             let flies = and_parts p.in_flight (is_unsettled (e ∷ h) p) parts.0 in
             let of_space : space ≡ p.space = is_space_is space p.space both.0 in
-            let flying = asked_was_flying c e h (course_of c (e ∷ h) run) space now refl p found.0 (and_from (is_of space p) (p.in_flight && is_unsettled (e ∷ h) p) both.0 parts.0) in
+            let flying = asked_was_flying c e h (tolerated_run_of c (e ∷ h) run) space now refl p found.0 (and_from (is_of space p) (p.in_flight && is_unsettled (e ∷ h) p) both.0 parts.0) in
             let near : is_may c.options.loss_by_number ≡ false → is_far c p (largest_acknowledged h space) ≡ false =
             λ must. subst (λ (s : Space). is_far c p (largest_acknowledged h s) ≡ false) (sym of_space) (flying_is_near c h must run.0 proper p found.0 flying) in
             let old = old_unless_far c r now (largest_acknowledged h space) p parts.1 near in

@@ -5,18 +5,18 @@ use Rattle.std.proofs.lemmas.Bool.{and_parts, and_from, both_ways, false_from_ne
 use Rattle.qa_base.specs.declared.event.Event.{Event}
 use Rattle.qa_base.specs.declared.space.Space.{Space}
 use Rattle.qa_base.specs.values.Events.{acknowledges, declares_lost}
-use Rattle.qa_history.specs.machine.Declared.{is_named_free}
+use Rattle.qa_base.specs.history.Declared.{is_named_free}
 use Rattle.qa_laws.specs.machine.Fates.{fate, fate_by, fate_next, is_unacknowledged}
 use Rattle.qa_base.specs.machine.Loss.{is_owed, is_free, is_open, detection}
-use Rattle.qa_history.specs.machine.Oldest.{is_flying, NoneFlies}
+use Rattle.qa_base.specs.history.Oldest.{is_flying, NoneFlies}
 use Rattle.qa_base.specs.machine.Packets.{Packet, packets, is_of, is_acknowledged, is_declared_lost, is_discarded}
 use Rattle.qa_base.specs.machine.Rules.{IsRun}
 use Rattle.qa_base.specs.values.Settings.{Settings}
-use Rattle.qa_base.proofs.machine.RunLaws.{course_of}
-use Rattle.qa_history.proofs.machine.Changes.{covered_after, free_is_left, lost_is_taken, found_unsettled}
-use Rattle.qa_history.proofs.machine.Settled.{open_before}
-use Rattle.qa_history.proofs.machine.Walks.{turned_has}
-use Rattle.qa_history.proofs.machine.Pairs.{at_one, of_each}
+use Rattle.qa_base.proofs.machine.RunLaws.{tolerated_run_of}
+use Rattle.qa_base.proofs.history.Changes.{covered_after, free_is_left, lost_is_taken, found_unsettled}
+use Rattle.qa_base.proofs.history.Settled.{open_before}
+use Rattle.qa_base.proofs.history.Walks.{turned_has}
+use Rattle.qa_base.proofs.history.Pairs.{at_one, of_each}
 
 next_by : (names named was_covered was_lost was_owed covered_now lost_now owed_now : Bool) → covered_now ≡ (names || was_covered) → lost_now ≡ (was_owed || named || was_lost) → (owed_now ≡ true → (not covered_now && not lost_now) ≡ true)
     → (named ≡ true → was_covered ≡ false)
@@ -50,7 +50,7 @@ pub fate_after : (c : Settings) (e : Event) (h : List Event) → IsRun c (e ∷ 
     → fate c (e ∷ h) p ≡ fate_next (acknowledges p.space p.number e) (is_owed c (e ∷ h) p) (is_named_free c e h p) (fate c h p)
 fate_after c e h run p has =
     next_by (acknowledges p.space p.number e) (is_named_free c e h p) (is_acknowledged h p) (is_declared_lost h p) (is_owed c h p) (is_acknowledged (e ∷ h) p) (is_declared_lost (e ∷ h) p) (is_owed c (e ∷ h) p)
-    (covered_after e h p has) (lost_is_taken c e h (course_of c (e ∷ h) run) p has) (λ found. found_unsettled c (e ∷ h) p (detection c (e ∷ h)) found) (free_not_covered c e h p)
+    (covered_after e h p has) (lost_is_taken c e h (tolerated_run_of c (e ∷ h) run) p has) (λ found. found_unsettled c (e ∷ h) p (detection c (e ∷ h)) found) (free_not_covered c e h p)
 
 open_by : (covered lost is_due gone : Bool) → (not covered && not lost && not is_due && not gone) ≡ (is_unacknowledged (fate_by covered lost is_due) && not gone)
 open_by true lost is_due gone = refl
@@ -67,7 +67,7 @@ open_is_uncovered c h p = open_by (is_acknowledged h p) (is_declared_lost h p) (
 flying_before : (c : Settings) (e : Event) (h : List Event) → IsRun c (e ∷ h) → (p : Packet) → Contains (packets h) p → is_flying c (e ∷ h) p ≡ true → is_flying c h p ≡ true
 flying_before c e h run p has is =
     let parts = and_parts p.in_flight (is_open c (e ∷ h) p) is in
-    and_from p.in_flight (is_open c h p) parts.0 (open_before c e h (course_of c (e ∷ h) run) p has parts.1)
+    and_from p.in_flight (is_open c h p) parts.0 (open_before c e h (tolerated_run_of c (e ∷ h) run) p has parts.1)
 
 none_flies_still : (c : Settings) (e : Event) (h : List Event) → IsRun c (e ∷ h) → (s : Space) (p : Packet) → Contains (packets h) p
     → (is_of s p && is_flying c h p) ≡ false → (is_of s p && is_flying c (e ∷ h) p) ≡ false

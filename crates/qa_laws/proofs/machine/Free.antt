@@ -15,15 +15,15 @@ use Rattle.qa_base.specs.values.Events.{declares_lost, is_quiet}
 use Rattle.qa_base.specs.values.Settings.{Settings, is_may}
 use Rattle.qa_base.proofs.machine.Declared.{free_is, must_declared_by, declared_is}
 use Rattle.qa_base.proofs.machine.Quiet.{owed-quiet, same_sum}
-use Rattle.qa_base.proofs.machine.RunLaws.{course_of}
-use Rattle.qa_history.specs.machine.Declared.{IsFarBelow, is_named_free, named_free}
-use Rattle.qa_history.specs.machine.Oldest.{is_flying}
-use Rattle.qa_history.specs.machine.Sums.{bytes}
+use Rattle.qa_base.proofs.machine.RunLaws.{tolerated_run_of}
+use Rattle.qa_base.specs.history.Declared.{IsFarBelow, is_named_free, named_free}
+use Rattle.qa_base.specs.history.Oldest.{is_flying}
+use Rattle.qa_base.specs.history.Sums.{bytes}
 use Rattle.qa_laws.proofs.machine.Bytes.{bytes-quiet}
-use Rattle.qa_history.proofs.machine.Changes.{free_is_flying, free_is_left, free_not_owed}
-use Rattle.qa_history.proofs.machine.Courses.{is_space_same}
-use Rattle.qa_history.proofs.machine.Pairs.{of_each, part_is, part_has, some_one}
-use Rattle.qa_history.proofs.machine.Settled.{opens_is}
+use Rattle.qa_base.proofs.history.Changes.{free_is_flying, free_is_left, free_not_owed}
+use Rattle.qa_base.proofs.history.ToleratedRuns.{is_space_same}
+use Rattle.qa_base.proofs.history.Pairs.{of_each, part_is, part_has, some_one}
+use Rattle.qa_base.proofs.history.Settled.{opens_is}
 
 free_here : (c : Settings) (h : List Event) (p : Packet) → Contains (free c h) p → is_free c h p ≡ true
 free_here c h p has = (part_is (is_free c h) (packets h) p (subst (λ (ps : List Packet). Contains ps p) (free_is c h) has)).1
@@ -67,7 +67,7 @@ free_is_apart c h p has = free_not_owed c h p (free_here c h p has)
 
 -- in a run it is open and in flight
 pub free_flies : (c : Settings) (h : List Event) (p : Packet) → IsRun c h → Contains (free c h) p → is_flying c h p ≡ true
-free_flies c h p run has = free_is_flying c h (course_of c h run) p (free_here c h p has)
+free_flies c h p run has = free_is_flying c h (tolerated_run_of c h run) p (free_here c h p has)
 
 -- and there is none but behind a detection
 pub none_is_free : (c : Settings) (h : List Event) → detection c h ≡ None → free c h ≡ []

@@ -9,7 +9,7 @@ use Rattle.qa_base.specs.declared.event.Event.TheVariants.{Sent, Timer, Metrics}
 use Rattle.qa_base.specs.declared.rule.Rule.{Rule}
 use Rattle.qa_base.specs.declared.rule.Rule.TheVariants.{CollapseMissing, TimerLate}
 use Rattle.qa_base.specs.declared.space.TimerKind.TheVariants.{Loss, Pto}
-use Rattle.qa_base.specs.declared.space.Leave.TheVariants.{Window}
+use Rattle.qa_base.specs.declared.space.Permission.TheVariants.{Window}
 use Rattle.qa_base.specs.machine.Breaches.{is_above_collapse, is_before, is_collapse_missing, is_late_by, is_past, is_past_due, is_past_window, is_timer_early, is_timer_late}
 use Rattle.qa_base.specs.machine.Detection.{detection_by, looks_at, old_at}
 use Rattle.qa_base.specs.machine.Estimates.{rtt, sampled}

@@ -17,9 +17,9 @@ use Rattle.qa_base.specs.machine.Rules.{IsRun}
 use Rattle.qa_base.specs.values.Events.{declares_lost, is_named}
 use Rattle.qa_base.specs.values.Settings.{Settings, is_may}
 use Rattle.qa_base.proofs.machine.Ranges.{has_all_names}
-use Rattle.qa_base.proofs.machine.RunLaws.{course_of}
+use Rattle.qa_base.proofs.machine.RunLaws.{tolerated_run_of}
 use Rattle.qa_laws.proofs.machine.Alike.{Agree, Detects, OwesAlike, Tolerances, detects_at, like, owes_alike, same_owed, same_sampled}
-use Rattle.qa_history.proofs.machine.Changes.{named_is_nameable, spared_is_young}
+use Rattle.qa_base.proofs.history.Changes.{named_is_nameable, spared_is_young}
 
 -- ---- what is free
 
@@ -97,7 +97,7 @@ names_alike : (c : Settings) (t : Tolerances) → NoStricter c t → (e : Event)
     → (is_free_by (like c t) (sampled c h) h p && declares_lost p.space p.number e) ≡ (is_free_by c (sampled c h) h p && declares_lost p.space p.number e)
 names_alike c t no_stricter (Lost time space ranges) h run detects p has =
     names_by (is_owed c h p) (is_free c h p) (is_free_by (like c t) (sampled c h) h p) (declares_lost p.space p.number (Lost time space ranges))
-    (named_is_nameable c h time space ranges (course_of c (Lost time space ranges ∷ h) run) p has) (frees_more c t no_stricter h detects p) (owed_not_free c t no_stricter h detects p)
+    (named_is_nameable c h time space ranges (tolerated_run_of c (Lost time space ranges ∷ h) run) p has) (frees_more c t no_stricter h detects p) (owed_not_free c t no_stricter h detects p)
 names_alike c t no_stricter _ h run detects p has = and_none (is_free_by (like c t) (sampled c h) h p) ∙ sym (and_none (is_free c h p))
 
 -- so both agree at each event of a run

@@ -17,15 +17,15 @@ use Rattle.qa_base.specs.machine.Rules.{IsRun}
 use Rattle.qa_base.specs.values.Events.{acknowledges, declares_lost, is_named, is_space}
 use Rattle.qa_base.specs.values.Settings.{Settings, is_may}
 use Rattle.qa_base.proofs.machine.Quiet.{not_followed}
-use Rattle.qa_base.proofs.machine.RunLaws.{numbers_fall, course_of}
+use Rattle.qa_base.proofs.machine.RunLaws.{numbers_fall, tolerated_run_of}
 use Rattle.qa_format.specs.format.Proper.{IsProperEvent}
-use Rattle.qa_history.specs.machine.Declared.{is_named_free}
-use Rattle.qa_history.specs.machine.Oldest.{is_flying}
-use Rattle.qa_history.proofs.machine.Changes.{covered_after, free_is_left, lost_is_taken}
+use Rattle.qa_base.specs.history.Declared.{is_named_free}
+use Rattle.qa_base.specs.history.Oldest.{is_flying}
+use Rattle.qa_base.proofs.history.Changes.{covered_after, free_is_left, lost_is_taken}
 use Rattle.qa_laws.proofs.machine.ConductOfLosses.{Acknowledged, largest_is_acknowledged}
-use Rattle.qa_history.proofs.machine.Courses.{is_space_is, is_space_same}
-use Rattle.qa_history.proofs.machine.Pairs.{at_one, first_or_rest, part_has}
-use Rattle.qa_history.proofs.machine.Settled.{has_some, largest_after, open_before, opens_is, raised, settled_parts}
+use Rattle.qa_base.proofs.history.ToleratedRuns.{is_space_is, is_space_same}
+use Rattle.qa_base.proofs.history.Pairs.{at_one, first_or_rest, part_has}
+use Rattle.qa_base.proofs.history.Settled.{has_some, largest_after, open_before, opens_is, raised, settled_parts}
 
 -- ---- the packets of a history and the one that its last event sent
 
@@ -35,7 +35,7 @@ pub record IsSentBy (e : Event) (h : List Event) (p : Packet) : Type 0 where
   pub place : length h ≤ p.place
 
 sent_or_before : (e : Event) (h : List Event) (p : Packet) → Contains (packets (e ∷ h)) p → IsSentBy e h p ⊎ Contains (packets h) p
-sent_or_before (Sent time space number size eliciting in_flight leave) h p has =
+sent_or_before (Sent time space number size eliciting in_flight permission) h p has =
     let q : Packet = record {
       place = length h;
       time = time;
@@ -44,7 +44,7 @@ sent_or_before (Sent time space number size eliciting in_flight leave) h p has =
       size = size;
       eliciting = eliciting;
       in_flight = in_flight;
-      leave = leave;
+      permission = permission;
     } in
     elim (first_or_rest q p (packets h) has) [
       | inl same ↦ inl (record { all = ap (λ k. k ∷ packets h) same; place = (let at = ap (λ (k : Packet). k.place) same in omega (arith, at)) })
@@ -138,7 +138,7 @@ settled_if c e h run q has true was settled before =
       | inl covered ↦ acknowledged_at_most e h q
           (or_other (acknowledges q.space q.number e) (is_acknowledged h q) (sym (covered_after e h q has) ∙ covered) (not-true (is_acknowledged h q) neither.0))
       | inr lost ↦ at_most_stays e h q.space q.number (taken_at_most c e h q
-          (or_other (is_owed c h q || is_named_free c e h q) (is_declared_lost h q) (sym (lost_is_taken c e h (course_of c (e ∷ h) run) q has) ∙ lost) (not-true (is_declared_lost h q) neither.1)))
+          (or_other (is_owed c h q || is_named_free c e h q) (is_declared_lost h q) (sym (lost_is_taken c e h (tolerated_run_of c (e ∷ h) run) q has) ∙ lost) (not-true (is_declared_lost h q) neither.1)))
     ]
 
 new_unsettled : (e : Event) (h : List Event) (q : Packet) → length h ≤ q.place → is_unsettled (e ∷ h) q ≡ true
@@ -213,7 +213,7 @@ far_before c e h p q m must run flying far_now far has same number covered true 
 new_is_near : (c : Settings) (e : Event) (h : List Event) (p q : Packet) (m : ℕ) → IsRun c (e ∷ h) → packets (e ∷ h) ≡ p ∷ packets h → Contains (packets h) q → q.space ≡ p.space → q.number ≡ m
     → is_far c p (Some m) ≡ true → ⊥
 new_is_near c e h p q m run all has same number far =
-    let falls = subst (λ (ps : List Packet). NumbersFall ps) all (numbers_fall c (e ∷ h) (course_of c (e ∷ h) run)) in
+    let falls = subst (λ (ps : List Packet). NumbersFall ps) all (numbers_fall c (e ∷ h) (tolerated_run_of c (e ∷ h) run)) in
     let lower : q.number < p.number = at_one (IsLower p) (packets h) q falls.0 has (rw same (is_space_same p.space)) in
     let above = ltb-true p.number m (and_parts (nat_lt p.number m) (nat_le c.options.packet_threshold (m - p.number)) far).0 in
     omega (arith, lower, above, number)
@@ -239,7 +239,7 @@ never_far c e h must run p has flying before (Some m) largest covers true far =
 flying_before : (c : Settings) (e : Event) (h : List Event) → IsRun c (e ∷ h) → (p : Packet) → Contains (packets h) p → is_flying c (e ∷ h) p ≡ true → is_flying c h p ≡ true
 flying_before c e h run p has flying =
     let both = and_parts p.in_flight (is_open c (e ∷ h) p) flying in
-    and_from p.in_flight (is_open c h p) both.0 (open_before c e h (course_of c (e ∷ h) run) p has both.1)
+    and_from p.in_flight (is_open c h p) both.0 (open_before c e h (tolerated_run_of c (e ∷ h) run) p has both.1)
 
 -- in a run, where lines can say its events
 pub flying_is_near : (c : Settings) (h : List Event) → is_may c.options.loss_by_number ≡ false → IsRun c h → AllByRecursion IsProperEvent h → (p : Packet) → Contains (packets h) p → is_flying c h p ≡ true

@@ -17,7 +17,7 @@ use Rattle.qa_base.specs.values.Settings.{Settings, is_may}
 use Rattle.qa_base.proofs.machine.Declared.{free_is, must_nameable, none_free_by, owed_is}
 use Rattle.qa_laws.specs.machine.Alike.{NothingFree, where_they_must}
 use Rattle.qa_laws.proofs.machine.Alike.{Agree, detects_at, detects_if_equally_early, like, same_owed, same_totals}
-use Rattle.qa_history.proofs.machine.Pairs.{of_each, part_has, same_part}
+use Rattle.qa_base.proofs.history.Pairs.{of_each, part_has, same_part}
 use Rattle.qa_laws.proofs.machine.SameVersion.{same_broken_by, varied}
 
 has_none : (ps : List Packet) (p : Packet) → Contains ps p → ps ≡ [] → ⊥

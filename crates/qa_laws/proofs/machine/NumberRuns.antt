@@ -6,7 +6,7 @@ use Rattle.std.specs.List.{AllByRecursion, list_any}
 use Rattle.std.specs.Prelude.{◌==◌, if◌then◌else◌}
 use Rattle.qa_base.specs.declared.event.Event.{Event}
 use Rattle.qa_base.specs.declared.event.Event.TheVariants.{Sent}
-use Rattle.qa_base.specs.declared.space.Leave.{Leave}
+use Rattle.qa_base.specs.declared.space.Permission.{Permission}
 use Rattle.qa_base.specs.declared.space.Space.{Space}
 use Rattle.qa_base.specs.declared.space.Space.TheVariants.{Initial, Handshake, App}
 use Rattle.qa_base.specs.machine.Breaches.{numbers}
@@ -15,11 +15,11 @@ use Rattle.qa_base.specs.machine.Numbers.{is_in}
 use Rattle.qa_base.specs.machine.Packets.{Packet, packets, packet_of, packets_of, is_of}
 use Rattle.qa_base.specs.machine.Rules.{IsRun}
 use Rattle.qa_base.specs.values.Settings.{Settings}
-use Rattle.qa_base.proofs.machine.RunLaws.{course_of}
-use Rattle.qa_history.specs.machine.Sequence.{EachTwo}
+use Rattle.qa_base.proofs.machine.RunLaws.{tolerated_run_of}
+use Rattle.qa_base.specs.history.Sequence.{EachTwo}
 use Rattle.qa_laws.specs.machine.Useful.{runs_begun}
-use Rattle.qa_history.proofs.machine.Courses.{IsEarlier, in_order_of}
-use Rattle.qa_history.proofs.machine.Pairs.{each_weaker}
+use Rattle.qa_base.proofs.history.ToleratedRuns.{IsEarlier, in_order_of}
+use Rattle.qa_base.proofs.history.Pairs.{each_weaker}
 
 -- ---- counts
 
@@ -98,8 +98,8 @@ begun p ps earlier two =
 
 -- ---- one more event
 
-abbrev sent_last : ℕ → ℕ → Space → ℕ → ℕ → Bool → Bool → Leave → Packet
-sent_last place time space number size eliciting in_flight leave = record {
+abbrev sent_last : ℕ → ℕ → Space → ℕ → ℕ → Bool → Bool → Permission → Packet
+sent_last place time space number size eliciting in_flight permission = record {
   place = place;
   time = time;
   space = space;
@@ -107,23 +107,23 @@ sent_last place time space number size eliciting in_flight leave = record {
   size = size;
   eliciting = eliciting;
   in_flight = in_flight;
-  leave = leave;
+  permission = permission;
 }
 
 -- in a run a packet that is sent begins a run of numbers, unless the number before its own was sent in its space
-pub runs_sent : (c : Settings) (h : List Event) (time : ℕ) (space : Space) (number size : ℕ) (eliciting in_flight : Bool) (leave : Leave) → IsRun c (Sent time space number size eliciting in_flight leave ∷ h)
-    → runs (Sent time space number size eliciting in_flight leave ∷ h) ≡ runs h + runs_begun (numbers_of h space) number
-runs_sent c h time Initial number size eliciting in_flight leave run =
-    let two = in_order_of c (Sent time Initial number size eliciting in_flight leave ∷ h) Initial (course_of c (Sent time Initial number size eliciting in_flight leave ∷ h) run) in
-    let more = begun (sent_last (length h) time Initial number size eliciting in_flight leave) (packets_of h Initial) two.0 two.1 in
+pub runs_sent : (c : Settings) (h : List Event) (time : ℕ) (space : Space) (number size : ℕ) (eliciting in_flight : Bool) (permission : Permission) → IsRun c (Sent time space number size eliciting in_flight permission ∷ h)
+    → runs (Sent time space number size eliciting in_flight permission ∷ h) ≡ runs h + runs_begun (numbers_of h space) number
+runs_sent c h time Initial number size eliciting in_flight permission run =
+    let two = in_order_of c (Sent time Initial number size eliciting in_flight permission ∷ h) Initial (tolerated_run_of c (Sent time Initial number size eliciting in_flight permission ∷ h) run) in
+    let more = begun (sent_last (length h) time Initial number size eliciting in_flight permission) (packets_of h Initial) two.0 two.1 in
     omega (arith, more)
-runs_sent c h time Handshake number size eliciting in_flight leave run =
-    let two = in_order_of c (Sent time Handshake number size eliciting in_flight leave ∷ h) Handshake (course_of c (Sent time Handshake number size eliciting in_flight leave ∷ h) run) in
-    let more = begun (sent_last (length h) time Handshake number size eliciting in_flight leave) (packets_of h Handshake) two.0 two.1 in
+runs_sent c h time Handshake number size eliciting in_flight permission run =
+    let two = in_order_of c (Sent time Handshake number size eliciting in_flight permission ∷ h) Handshake (tolerated_run_of c (Sent time Handshake number size eliciting in_flight permission ∷ h) run) in
+    let more = begun (sent_last (length h) time Handshake number size eliciting in_flight permission) (packets_of h Handshake) two.0 two.1 in
     omega (arith, more)
-runs_sent c h time App number size eliciting in_flight leave run =
-    let two = in_order_of c (Sent time App number size eliciting in_flight leave ∷ h) App (course_of c (Sent time App number size eliciting in_flight leave ∷ h) run) in
-    let more = begun (sent_last (length h) time App number size eliciting in_flight leave) (packets_of h App) two.0 two.1 in
+runs_sent c h time App number size eliciting in_flight permission run =
+    let two = in_order_of c (Sent time App number size eliciting in_flight permission ∷ h) App (tolerated_run_of c (Sent time App number size eliciting in_flight permission ∷ h) run) in
+    let more = begun (sent_last (length h) time App number size eliciting in_flight permission) (packets_of h App) two.0 two.1 in
     omega (arith, more)
 
 abbrev runs_in : List Packet → Space → ℕ

@@ -9,7 +9,7 @@ use Rattle.qa_base.specs.declared.event.MetricValues.{MetricValues}
 use Rattle.qa_base.specs.machine.Breaches.{is_above_collapse, is_collapse_missing}
 use Rattle.qa_base.specs.machine.Loss.{declared, is_persistent}
 use Rattle.qa_base.specs.machine.Packets.{Packet, newly_acknowledged}
-use Rattle.qa_base.specs.machine.Reno.{Control, Grow, Move, collapse, collapses, grows, hit, hits, is_app_limited, is_outside_recovery, latest_sent, moved, reno}
+use Rattle.qa_base.specs.machine.Reno.{Control, Grow, Move, on_persistent_congestion, persistent_congestions, grows, on_congestion_event, congestion_events, is_app_limited, is_outside_recovery, latest_sent, moved, reno}
 use Rattle.qa_base.specs.machine.Window.{acknowledged_bytes, acknowledged_since_collapse, changes_window, other_window, reported_window, unless_same}
 use Rattle.qa_base.specs.machine.Moments.{detection_of, last_time}
 use Rattle.qa_base.proofs.machine.Quiet.{newly-quiet}
@@ -18,7 +18,7 @@ use Rattle.qa_base.specs.values.Settings.{AreInRange, Settings, is_reported}
 use Rattle.qa_base.proofs.machine.Collapses.{since_collapse_after}
 use Rattle.qa_base.proofs.machine.Steps.{reno_after}
 use Rattle.qa_base.proofs.machine.WindowBound.{grow_at_least, grown_little, window_low}
-use Rattle.qa_history.proofs.machine.Sending.{sum_turned}
+use Rattle.qa_base.proofs.history.Sending.{sum_turned}
 
 -- ---- growth is by the bytes in flight that are acknowledged
 
@@ -62,17 +62,17 @@ grown_new d r false new some low =
 -- ---- one event
 
 hit_if : (d last_sent now : ℕ) (r : Control) (outside : Bool) → is_outside_recovery r.recovery_start_time last_sent ≡ outside → 2 * d ≤ r.window
-    → (2 * d ≤ (hit d last_sent now r).window) × ((hit d last_sent now r).window ≤ r.window)
+    → (2 * d ≤ (on_congestion_event d last_sent now r).window) × ((on_congestion_event d last_sent now r).window ≤ r.window)
 hit_if d last_sent now r true is low = rw is ((omega arith), (omega (arith, low)))
 hit_if d last_sent now r false is low = rw is (low, (omega arith))
 
 moved_by : (d now : ℕ) (r : Control) (lost : List Packet) (persistent app_limited : Bool) (new : List Packet) → 0 < d → 2 * d ≤ r.window
-    → (fold (moved d) r (hits now lost ++ collapses persistent ++ (if app_limited then [] else grows new))).window ≤ (if persistent then 2 * d else r.window) + sum_by in_flight_size new
+    → (fold (moved d) r (congestion_events now lost ++ persistent_congestions persistent ++ (if app_limited then [] else grows new))).window ≤ (if persistent then 2 * d else r.window) + sum_by in_flight_size new
 moved_by d now r [] false app_limited new some low = grown_new d r app_limited new some low
-moved_by d now r [] true app_limited new some low = grown_new d (collapse d r) app_limited new some (omega arith)
-moved_by d now r (p ∷ lost) true app_limited new some low = grown_new d (collapse d (hit d (latest_sent (p ∷ lost)) now r)) app_limited new some (omega arith)
+moved_by d now r [] true app_limited new some low = grown_new d (on_persistent_congestion d r) app_limited new some (omega arith)
+moved_by d now r (p ∷ lost) true app_limited new some low = grown_new d (on_persistent_congestion d (on_congestion_event d (latest_sent (p ∷ lost)) now r)) app_limited new some (omega arith)
 moved_by d now r (p ∷ lost) false app_limited new some low =
-    let s = hit d (latest_sent (p ∷ lost)) now r in
+    let s = on_congestion_event d (latest_sent (p ∷ lost)) now r in
     let at = hit_if d (latest_sent (p ∷ lost)) now r (is_outside_recovery r.recovery_start_time (latest_sent (p ∷ lost))) refl low in
     let most = grown_new d s app_limited new some at.0 in
     let lower = at.1 in

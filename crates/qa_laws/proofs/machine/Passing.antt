@@ -9,19 +9,19 @@ use Rattle.qa_base.specs.declared.space.Space.{Space}
 use Rattle.qa_base.specs.machine.Estimates.{sampled}
 use Rattle.qa_base.specs.machine.Detection.{is_past_threshold}
 use Rattle.qa_base.specs.machine.Loss.{owed, is_owed, is_open, detection}
-use Rattle.qa_history.specs.machine.Declared.{is_named_free}
-use Rattle.qa_history.specs.machine.Oldest.{is_flying, is_asked, is_passed, NoneFlies}
+use Rattle.qa_base.specs.history.Declared.{is_named_free}
+use Rattle.qa_base.specs.history.Oldest.{is_flying, is_asked, is_passed, NoneFlies}
 use Rattle.qa_base.specs.machine.Packets.{Packet, packets, is_of, is_newly_acknowledged, largest_acknowledged}
 use Rattle.qa_base.specs.machine.Rules.{IsRun}
 use Rattle.qa_base.specs.values.Settings.{Settings}
-use Rattle.qa_history.specs.machine.Sums.{is_discarded_by}
-use Rattle.qa_history.proofs.machine.Closing.{closes_is}
+use Rattle.qa_base.specs.history.Sums.{is_discarded_by}
+use Rattle.qa_base.proofs.history.Closing.{closes_is}
 use Rattle.qa_laws.proofs.machine.FateLaws.{none_flies_stays}
-use Rattle.qa_history.proofs.machine.Pairs.{at_one, of_each}
-use Rattle.qa_history.proofs.machine.Settled.{open_before}
-use Rattle.qa_history.proofs.machine.Walks.{owed_of_rest, flies_after}
+use Rattle.qa_base.proofs.history.Pairs.{at_one, of_each}
+use Rattle.qa_base.proofs.history.Settled.{open_before}
+use Rattle.qa_base.proofs.history.Walks.{owed_of_rest, flies_after}
 use Rattle.qa_base.proofs.machine.WindowBound.{each_append}
-use Rattle.qa_base.proofs.machine.RunLaws.{course_of}
+use Rattle.qa_base.proofs.machine.RunLaws.{tolerated_run_of}
 
 -- ---- one walk in the place of two
 
@@ -43,7 +43,7 @@ pub owed_is_passed : (c : Settings) (e : Event) (h : List Event) → IsRun c (e 
     → (front rest : List Packet) → reverse (packets h) ≡ front ++ rest → NoneFlies c h s front
     → reverse (owed c (e ∷ h)) ≡ filter (is_asked (e ∷ h) s) (take_while (is_passed (e ∷ h) s (is_past_threshold c (sampled c (e ∷ h)) now (largest_acknowledged (e ∷ h) s))) rest)
 owed_is_passed c e h run s now at front rest parts none =
-    owed_of_rest c e h (course_of c (e ∷ h) run) s now at front rest parts none
+    owed_of_rest c e h (tolerated_run_of c (e ∷ h) run) s now at front rest parts none
     ∙ passed_is (is_asked (e ∷ h) s) (is_past_threshold c (sampled c (e ∷ h)) now (largest_acknowledged (e ∷ h) s)) rest
 
 -- ---- the new front
@@ -66,7 +66,7 @@ passed_by false late is = refl
 flies_not : (c : Settings) (e : Event) (h : List Event) → IsRun c (e ∷ h) → (s : Space) (now : ℕ) → detection c (e ∷ h) ≡ Some (s, now) → (p : Packet) (of_space : Bool) → is_of s p ≡ of_space
     → is_passed (e ∷ h) s (is_past_threshold c (sampled c (e ∷ h)) now (largest_acknowledged (e ∷ h) s)) p ≡ true → (of_space && is_flying c (e ∷ h) p) ≡ false
 flies_not c e h run s now at p true of_s passed =
-    flies_after c e h (course_of c (e ∷ h) run) s now at p of_s ∙ passed_by (is_asked (e ∷ h) s p) (is_past_threshold c (sampled c (e ∷ h)) now (largest_acknowledged (e ∷ h) s) p) passed
+    flies_after c e h (tolerated_run_of c (e ∷ h) run) s now at p of_s ∙ passed_by (is_asked (e ∷ h) s p) (is_past_threshold c (sampled c (e ∷ h)) now (largest_acknowledged (e ∷ h) s) p) passed
 flies_not c e h run s now at p false of_s passed = refl
 
 -- in a run none of the packets up to where the walk stops is open and in flight after the event
@@ -93,7 +93,7 @@ pub stays_open : (c : Settings) (e : Event) (h : List Event) → IsRun c (e ∷ 
     → is_newly_acknowledged e h p ≡ false → is_owed c (e ∷ h) p ≡ false → is_discarded_by c e h p ≡ false → is_named_free c e h p ≡ false
     → is_open c (e ∷ h) p ≡ is_open c h p
 stays_open c e h run p has not_newly not_owed there unnamed =
-    open_if (is_open c h p) (is_open c (e ∷ h) p) (is_newly_acknowledged e h p || is_owed c (e ∷ h) p || is_discarded_by c e h p || is_named_free c e h p) (closes_is c e h (course_of c (e ∷ h) run) p has)
+    open_if (is_open c h p) (is_open c (e ∷ h) p) (is_newly_acknowledged e h p || is_owed c (e ∷ h) p || is_discarded_by c e h p || is_named_free c e h p) (closes_is c e h (tolerated_run_of c (e ∷ h) run) p has)
     (or_from (is_newly_acknowledged e h p || is_owed c (e ∷ h) p || is_discarded_by c e h p) (is_named_free c e h p)
     (or_from (is_newly_acknowledged e h p || is_owed c (e ∷ h) p) (is_discarded_by c e h p) (or_from (is_newly_acknowledged e h p) (is_owed c (e ∷ h) p) not_newly not_owed) there) unnamed)
-    (open_before c e h (course_of c (e ∷ h) run) p has)
+    (open_before c e h (tolerated_run_of c (e ∷ h) run) p has)

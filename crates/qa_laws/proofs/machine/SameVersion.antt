@@ -10,7 +10,7 @@ use Rattle.qa_base.specs.declared.key.Key.TheVariants as key
 use Rattle.qa_base.specs.declared.key.RangeFault.{RangeFault}
 use Rattle.qa_base.specs.declared.rule.Rule.{Rule}
 use Rattle.qa_base.specs.declared.rule.Rule.TheVariants as rule
-use Rattle.qa_base.specs.declared.space.Leave.TheVariants.{Window}
+use Rattle.qa_base.specs.declared.space.Permission.TheVariants.{Window}
 use Rattle.qa_base.specs.machine.Breaches.{is_above_collapse, is_ack_unsent, is_before, is_collapse_missing, is_not_confirmed, is_number_not_higher, is_past, is_past_probe, is_past_window, is_probe_owed, is_space_gone, is_time_back, is_timer_early, is_timer_late}
 use Rattle.qa_base.specs.machine.Loss.{nameable}
 use Rattle.qa_base.specs.machine.Metrics.{metric_tests, tests}

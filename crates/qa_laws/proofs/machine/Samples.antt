@@ -12,19 +12,19 @@ use Rattle.qa_base.specs.values.Events.{is_space, is_named, acknowledges}
 use Rattle.qa_base.specs.machine.Estimates.{sampled}
 use Rattle.qa_base.specs.machine.Detection.{found_at, is_found}
 use Rattle.qa_base.specs.machine.Loss.{owed, detection}
-use Rattle.qa_history.specs.machine.Sequence.{EachTwo, WasSentBefore}
+use Rattle.qa_base.specs.history.Sequence.{EachTwo, WasSentBefore}
 use Rattle.qa_base.specs.machine.Packets.{Packet, packets, packets_of, is_of, is_acknowledged, is_declared_lost, is_newly_acknowledged, newly_acknowledged, greatest}
 use Rattle.qa_base.specs.machine.Reno.{latest_sent}
 use Rattle.qa_base.specs.machine.Rules.{IsRun}
 use Rattle.qa_base.specs.values.Settings.{Settings}
-use Rattle.qa_base.proofs.machine.RunLaws.{course_of}
+use Rattle.qa_base.proofs.machine.RunLaws.{tolerated_run_of}
 use Rattle.qa_laws.proofs.machine.BySpace.{newly_are_of}
-use Rattle.qa_history.proofs.machine.Courses.{IsEarlier, each_earlier, in_order, in_order_of}
-use Rattle.qa_history.proofs.machine.Deadline.{find_none}
-use Rattle.qa_history.proofs.machine.Forgotten.{none_of}
-use Rattle.qa_history.proofs.machine.Pairs.{of_each, each_weaker, part_is, part_turned, two_of_part, two_turned, two_weaker}
-use Rattle.qa_history.proofs.machine.Pairs.{two_of_rest}
-use Rattle.qa_history.specs.machine.Latest.{first_if_numbered, is_first_at_or_above, time_of_first}
+use Rattle.qa_base.proofs.history.ToleratedRuns.{IsEarlier, each_earlier, in_order, in_order_of}
+use Rattle.qa_base.proofs.history.Deadline.{find_none}
+use Rattle.qa_base.proofs.history.Forgotten.{none_of}
+use Rattle.qa_base.proofs.history.Pairs.{of_each, each_weaker, part_is, part_turned, two_of_part, two_turned, two_weaker}
+use Rattle.qa_base.proofs.history.Pairs.{two_of_rest}
+use Rattle.qa_base.specs.history.Latest.{first_if_numbered, is_first_at_or_above, time_of_first}
 
 -- ---- a named number is at most the greatest
 
@@ -54,7 +54,7 @@ sampled_is_first c h run time space ranges delay app_limited =
     let e = Ack time space ranges delay app_limited in
     let new = newly_acknowledged (e ∷ h) in
     highest_first (greatest ranges) new
-    (each_earlier space new (newly_are_of h time space ranges delay app_limited) (two_of_part WasSentBefore (is_newly_acknowledged e h) (packets h) (in_order c h (course_of c h run))))
+    (each_earlier space new (newly_are_of h time space ranges delay app_limited) (two_of_part WasSentBefore (is_newly_acknowledged e h) (packets h) (in_order c h (tolerated_run_of c h run))))
     (of_each (λ p. p.number ≤ greatest ranges) new (λ p has.
     let is = (part_is (is_newly_acknowledged e h) (packets h) p has).1 in
     let parts = and_parts (acknowledges p.space p.number e && not (is_acknowledged h p)) (not (is_declared_lost h p)) is in
@@ -76,7 +76,7 @@ above_first n (p ∷ ps) two = above_step n p ps (nat_le n p.number) refl two.0
 
 -- in a run a number is at most that of some packet of the space where it is at most that of the latest
 pub above_is_latest : (c : Settings) (h : List Event) → IsRun c h → (s : Space) (n : ℕ) → has_at_or_above s n h ≡ is_first_at_or_above n (packets_of h s)
-above_is_latest c h run s n = above_first n (packets_of h s) (in_order_of c h s (course_of c h run))
+above_is_latest c h run s n = above_first n (packets_of h s) (in_order_of c h s (tolerated_run_of c h run))
 
 -- ---- the last that was sent of some
 
@@ -92,7 +92,7 @@ latest_first (p ∷ ps) two =
 
 found_in_order : (c : Settings) (h : List Event) → IsRun c h → (d : Option (Space × ℕ)) → EachTwo IsEarlier (found_at c (sampled c h) h d)
 found_in_order c h run None = tt
-found_in_order c h run (Some (s, now)) = two_of_part IsEarlier (is_found c (sampled c h) h now s) (packets_of h s) (in_order_of c h s (course_of c h run))
+found_in_order c h run (Some (s, now)) = two_of_part IsEarlier (is_found c (sampled c h) h now s) (packets_of h s) (in_order_of c h s (tolerated_run_of c h run))
 
 -- in a run a loss is as late as its latest packet, the first of them
 pub latest_owed : (c : Settings) (h : List Event) → IsRun c h → latest_sent (owed c h) ≡ time_of_first (owed c h)
@@ -104,7 +104,7 @@ latest_owed c h run = latest_first (owed c h) (found_in_order c h run (detection
 pub kept_rise : (c : Settings) (h : List Event) → IsRun c h → (s : Space) (gone kept : List Packet) → reverse (packets h) ≡ gone ++ kept → EachTwo (λ p q. p.number < q.number) (filter (is_of s) kept)
 kept_rise c h run s gone kept parts =
     let Later : Packet → Packet → Type 0 = λ p q. IsEarlier q p in
-    let all : EachTwo Later (reverse (packets_of h s)) = two_turned IsEarlier (packets_of h s) (in_order_of c h s (course_of c h run)) in
+    let all : EachTwo Later (reverse (packets_of h s)) = two_turned IsEarlier (packets_of h s) (in_order_of c h s (tolerated_run_of c h run)) in
     let same : reverse (packets_of h s) ≡ filter (is_of s) gone ++ filter (is_of s) kept =
     sym (part_turned (is_of s) (packets h)) ∙ (ap (filter (is_of s)) parts ∙ filter-append (is_of s) gone kept) in
     two_weaker Later (λ p q. p.number < q.number) (λ p q before. before.number) (filter (is_of s) kept)

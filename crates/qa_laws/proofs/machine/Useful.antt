@@ -1,6 +1,6 @@
 -- How many packets are still of use after one more event.
 use Rattle.qa_laws.proofs.machine.Bytes.{names_nothing}
-use Rattle.qa_history.specs.machine.Declared.{is_named_free, named_free}
+use Rattle.qa_base.specs.history.Declared.{is_named_free, named_free}
 use Rattle.std.proofs.Common.{◌≡◌, ◌∙◌, ◌≤◌, ◌+◌, ℕ, List, [], ◌∷◌, ◌++◌, length, Bool, true, false, ◌||◌, refl, sym, ap, arith, subst, reverse, Contains, append_assoc}
 use Rattle.std.proofs.lemmas.Bool.{and_parts, or_left, or_from, or_parts, both_ways, false_from_ne_true}
 use Rattle.std.proofs.lemmas.List.{length-append}
@@ -9,7 +9,7 @@ use Rattle.std.specs.List.{AllByRecursion}
 use Rattle.std.specs.Prelude.{if◌then◌else◌}
 use Rattle.qa_base.specs.declared.event.Event.{Event}
 use Rattle.qa_base.specs.declared.event.Event.TheVariants.{Sent, Ack, Timer, Discard}
-use Rattle.qa_base.specs.declared.space.Leave.{Leave}
+use Rattle.qa_base.specs.declared.space.Permission.{Permission}
 use Rattle.qa_base.specs.declared.space.Space.{Space}
 use Rattle.qa_base.specs.machine.Kept.{is_kept, kept_count}
 use Rattle.qa_base.specs.machine.Loss.{is_open, is_owed, owed}
@@ -17,18 +17,18 @@ use Rattle.qa_base.specs.machine.Packets.{Packet, packets, packet_of, is_some_pa
 use Rattle.qa_base.specs.machine.Rules.{IsRun}
 use Rattle.qa_base.specs.values.Events.{is_quiet}
 use Rattle.qa_base.specs.values.Settings.{Settings}
-use Rattle.qa_base.proofs.machine.RunLaws.{all_hold, course_of}
+use Rattle.qa_base.proofs.machine.RunLaws.{all_hold, tolerated_run_of}
 use Rattle.qa_base.proofs.machine.WindowBound.{each_append}
-use Rattle.qa_history.specs.machine.Parts.{AreDropped, BeginsKept}
-use Rattle.qa_history.specs.machine.Sums.{is_discarded_by}
+use Rattle.qa_base.specs.history.Parts.{AreDropped, BeginsKept}
+use Rattle.qa_base.specs.history.Sums.{is_discarded_by}
 use Rattle.qa_laws.specs.machine.Useful.{from_first}
-use Rattle.qa_history.proofs.machine.Changes.{not_owed_now, owed_was_flying}
-use Rattle.qa_history.proofs.machine.Closing.{sent_is_open}
-use Rattle.qa_history.proofs.machine.KeptCount.{kept_count_is}
-use Rattle.qa_history.proofs.machine.Pairs.{at_one, of_each, turned, has_first, part_has}
+use Rattle.qa_base.proofs.history.Changes.{not_owed_now, owed_was_flying}
+use Rattle.qa_base.proofs.history.Closing.{sent_is_open}
+use Rattle.qa_base.proofs.history.KeptCount.{kept_count_is}
+use Rattle.qa_base.proofs.history.Pairs.{at_one, of_each, turned, has_first, part_has}
 use Rattle.qa_laws.proofs.machine.Passing.{stays_open}
-use Rattle.qa_history.proofs.machine.Settled.{closed_stays, has_some}
-use Rattle.qa_history.proofs.machine.Walks.{turned_has}
+use Rattle.qa_base.proofs.history.Settled.{closed_stays, has_some}
+use Rattle.qa_base.proofs.history.Walks.{turned_has}
 
 -- ---- the walk
 
@@ -80,8 +80,8 @@ kept_is c h = kept_behind c h [] (reverse (packets h)) refl tt
 pub dropped_stays : (c : Settings) (e : Event) (h : List Event) → IsRun c (e ∷ h) → (p : Packet) → Contains (packets h) p → is_kept c h p ≡ false → is_kept c (e ∷ h) p ≡ false
 dropped_stays c e h run p has is =
     let parts = or_parts (is_open c h p) (is_owed c h p) is in
-    or_from (is_open c (e ∷ h) p) (is_owed c (e ∷ h) p) (closed_stays c e h (course_of c (e ∷ h) run) p has parts.0)
-    (false_from_ne_true (is_owed c (e ∷ h) p) (λ found. both_ways (is_open c h p) parts.0 (and_parts p.in_flight (is_open c h p) (owed_was_flying c e h (course_of c (e ∷ h) run) p has found)).1))
+    or_from (is_open c (e ∷ h) p) (is_owed c (e ∷ h) p) (closed_stays c e h (tolerated_run_of c (e ∷ h) run) p has parts.0)
+    (false_from_ne_true (is_owed c (e ∷ h) p) (λ found. both_ways (is_open c h p) parts.0 (and_parts p.in_flight (is_open c h p) (owed_was_flying c e h (tolerated_run_of c (e ∷ h) run) p has found)).1))
 
 front_has : (h : List Event) (gone kept : List Packet) → reverse (packets h) ≡ gone ++ kept → (p : Packet) → Contains gone p → Contains (packets h) p
 front_has h gone kept parts p has = turned_has (packets h) p (subst (λ (ps : List Packet). Contains ps p) (sym parts) (Contains-append_left gone kept p has))
@@ -161,10 +161,10 @@ begins_sent c g h p [] is same begins = is
 begins_sent c g h p (q ∷ qs) is same begins = same q (has_first q qs) ∙ begins
 
 -- in a run a packet that is sent is of use, and no other is more or less so
-pub kept_sent : (c : Settings) (h : List Event) (time : ℕ) (space : Space) (number size : ℕ) (eliciting in_flight : Bool) (leave : Leave) → IsRun c (Sent time space number size eliciting in_flight leave ∷ h)
-    → kept_count c (Sent time space number size eliciting in_flight leave ∷ h) ≡ kept_count c h + 1
-kept_sent c h time space number size eliciting in_flight leave run =
-    let e = Sent time space number size eliciting in_flight leave in
+pub kept_sent : (c : Settings) (h : List Event) (time : ℕ) (space : Space) (number size : ℕ) (eliciting in_flight : Bool) (permission : Permission) → IsRun c (Sent time space number size eliciting in_flight permission ∷ h)
+    → kept_count c (Sent time space number size eliciting in_flight permission ∷ h) ≡ kept_count c h + 1
+kept_sent c h time space number size eliciting in_flight permission run =
+    let e = Sent time space number size eliciting in_flight permission in
     let p : Packet = record {
       place = length h;
       time = time;
@@ -173,13 +173,13 @@ kept_sent c h time space number size eliciting in_flight leave run =
       size = size;
       eliciting = eliciting;
       in_flight = in_flight;
-      leave = leave;
+      permission = permission;
     } in
     let all = behind (is_kept c h) (reverse (packets h)) in
     let kept = from_first (is_kept c h) (reverse (packets h)) in
     let split : reverse (packets (e ∷ h)) ≡ all.0 ++ (kept ++ p ∷ []) =
     turned p (packets h) ∙ (ap (λ (ps : List Packet). ps ++ p ∷ []) all.1 ∙ append_assoc all.0 kept (p ∷ [])) in
-    let opens = sent_is_open c h time space number size eliciting in_flight leave p refl refl (all_hold c h e run.1).space_gone in
+    let opens = sent_is_open c h time space number size eliciting in_flight permission p refl refl (all_hold c h e run.1).space_gone in
     let is : is_kept c (e ∷ h) p ≡ true = or_left (is_open c (e ∷ h) p) (is_owed c (e ∷ h) p) opens in
     kept_count_is c (e ∷ h) all.0 (kept ++ p ∷ []) split (front_stays c e h run all.0 kept all.1 all.2)
     (begins_sent c (e ∷ h) h p kept is (λ q has. quiet_use c e h run refl (all_hold c h e run.1).loss_owed (ap is_some_packet (names_nothing c e h (λ p. refl))) q (rest_has h all.0 kept all.1 q has)) (begins c h (reverse (packets h))))

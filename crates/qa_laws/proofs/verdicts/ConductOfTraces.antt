@@ -8,7 +8,7 @@ use Rattle.qa_format.specs.declared.fault.Fault.{Fault}
 use Rattle.qa_format.specs.declared.line.Line.{Line}
 use Rattle.qa_base.specs.declared.totals.Totals.{Totals}
 use Rattle.qa_format.specs.declared.verdict.Verdict.TheVariants.{Accepted}
-use Rattle.qa_laws.specs.machine.Conduct.{IsConduct}
+use Rattle.qa_laws.specs.machine.Conduct.{IsSenderRule}
 use Rattle.qa_format.specs.format.Lines.{lines}
 use Rattle.qa_base.specs.machine.Packets.{history_of}
 use Rattle.qa_format.specs.format.Proper.{IsProperEvent, IsProperLine}
@@ -17,7 +17,7 @@ use Rattle.qa_base.specs.values.Settings.{Settings}
 use Rattle.qa_format.specs.verdicts.Verdict.{strict, Reading, verdict, is_saying, sayings, event_line, trace_of}
 use Rattle.qa_format.proofs.verdicts.Accepted.{accepted_is_run}
 use Rattle.qa_laws.proofs.machine.ConductOfLosses.{lost_rightly}
-use Rattle.qa_laws.proofs.machine.ConductOfSends.{past_window_by_leave}
+use Rattle.qa_laws.proofs.machine.ConductOfSends.{past_window_by_permission}
 use Rattle.qa_laws.proofs.machine.ConductOfWindows.{halved_once}
 use Rattle.qa_base.proofs.machine.RunLaws.{prefix_of_run}
 
@@ -55,15 +55,15 @@ proper_events (e ∷ events) all = (all.0, proper_events events all.1)
 
 -- ---- the conduct of a run
 
-pub conduct_of_run : (c : Settings) (h : List Event) → IsRun c h → AllByRecursion IsProperEvent h → IsConduct c h
+pub conduct_of_run : (c : Settings) (h : List Event) → IsRun c h → AllByRecursion IsProperEvent h → IsSenderRule c h
 conduct_of_run c h run proper = record {
   lost = λ after before time space ranges is n named.
       lost_rightly c before time space ranges
       (prefix_of_run c after (Lost time space ranges ∷ before) (subst (λ (k : List Event). IsRun c k) is run))
       (proper_behind after (Lost time space ranges ∷ before) (subst (λ (k : List Event). AllByRecursion IsProperEvent k) is proper)).1 n named;
-  sent = λ after before time space number size eliciting leave is past.
-      past_window_by_leave c before time space number size eliciting leave
-      (prefix_of_run c after (Sent time space number size eliciting true leave ∷ before) (subst (λ (k : List Event). IsRun c k) is run)) past;
+  sent = λ after before time space number size eliciting permission is past.
+      past_window_by_permission c before time space number size eliciting permission
+      (prefix_of_run c after (Sent time space number size eliciting true permission ∷ before) (subst (λ (k : List Event). IsRun c k) is run)) past;
   halved = λ after between before second first is enters_first enters_second other calm.
       halved_once c second first between before
       (prefix_of_run c after (second ∷ between ++ first ∷ before) (subst (λ (k : List Event). IsRun c k) is run)) enters_first enters_second other calm;
@@ -73,7 +73,7 @@ conduct_of_run c h run proper = record {
 
 pub accepted_conduct : (reading : Reading) (bytes : List ℕ) (t : Totals) → ((l : List ℕ) (x : Line) → reading l ≡ Ok x → IsProperLine x)
     → verdict (strict reading) bytes ≡ Accepted t
-    → (c : Settings) × (events : List Event) × (sayings reading (lines bytes) ≡ trace_of c events) × IsConduct c (history_of events)
+    → (c : Settings) × (events : List Event) × (sayings reading (lines bytes) ≡ trace_of c events) × IsSenderRule c (history_of events)
 accepted_conduct reading bytes t proper is =
     let trace = accepted_is_run reading bytes t is in
     let c = trace.2 in

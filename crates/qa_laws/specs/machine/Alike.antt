@@ -1,4 +1,5 @@
--- Headers of which the same machine is asked: they differ by their version and by what they tolerate alone.
+-- Headers of which the same machine is asked: they differ by their version and by what they
+-- tolerate alone.
 use Rattle.qa_base.specs.machine.Loss.{free}
 use Rattle.qa_base.specs.declared.event.Event.{Event}
 use Rattle.qa_base.specs.declared.space.LossByNumber.TheVariants.{Must}
@@ -6,8 +7,8 @@ use Rattle.std.specs.Prelude.{◌≡◌, ◌⊎◌, ℕ, ◌≤◌, true, Option
 use Rattle.qa_base.specs.declared.header.Version.{Version}
 use Rattle.qa_base.specs.values.Settings.{Settings, is_may}
 
--- the two headers say the same but for their version, the late and early timers, the window that may be overshot, the packet threshold
--- and the slacks
+-- the two headers say the same but for their version, the late and early timers, the window that
+-- may be overshot, the packet threshold and the slacks
 pub record AreAlike (c d : Settings) : Type 0 where
   pub role : d.role ≡ c.role
   pub unit : d.unit ≡ c.unit
@@ -26,11 +27,13 @@ IsNoLess limit None = Unit {0}
 IsNoLess None (Some other) = ⊥
 IsNoLess (Some limit) (Some other) = limit ≤ other
 
--- the packet threshold is the same; or packets that lie so far behind may be spared, and fewer need lie that far
+-- the packet threshold is the same; or packets that lie so far behind may be spared, and fewer need
+-- lie that far
 abbrev pub IsNoStricter : Settings → Settings → Type 0
 IsNoStricter c d =
     (d.options.packet_threshold ≡ c.options.packet_threshold)
-    ⊎ ((is_may c.options.loss_by_number ≡ true) × (d.options.packet_threshold ≤ c.options.packet_threshold))
+    ⊎ ((is_may c.options.loss_by_number ≡ true)
+    × (d.options.packet_threshold ≤ c.options.packet_threshold))
 
 -- and the second tolerates no less than the first
 pub record IsLooser (c d : Settings) : Type 0 where

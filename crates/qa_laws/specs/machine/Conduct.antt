@@ -1,11 +1,12 @@
 -- What a sender does in a run, in the words of the RFC.
-use Rattle.std.specs.Prelude.{◌≡◌, ◌≢◌, ℕ, ◌+◌, ◌-◌, ◌*◌, ◌⊎◌, ◌<◌, ◌≤◌, Bool, true, false, List, [], ◌∷◌, ◌++◌, Option, Some, sum_by, Contains, if◌then◌else◌}
+use Rattle.std.specs.Prelude.{◌≡◌, ◌≢◌, ℕ, ◌+◌, ◌-◌, ◌*◌, ◌⊎◌, ◌<◌, ◌≤◌, Bool, true, false, List}
+use Rattle.std.specs.Prelude.{[], ◌∷◌, ◌++◌, Option, Some, sum_by, Contains, if◌then◌else◌}
 use Rattle.std.specs.List.{list_any}
 use Rattle.qa_base.specs.declared.event.Event.{Event}
 use Rattle.qa_base.specs.declared.event.Event.TheVariants.{Sent, Lost, Timer}
 use Rattle.qa_base.specs.declared.space.TimerKind.TheVariants.{Pto}
-use Rattle.qa_base.specs.declared.space.Leave.{Leave}
-use Rattle.qa_base.specs.declared.space.Leave.TheVariants.{Window, Probe, Recovery}
+use Rattle.qa_base.specs.declared.space.Permission.{Permission}
+use Rattle.qa_base.specs.declared.space.Permission.TheVariants.{Window, Probe, Recovery}
 use Rattle.qa_base.specs.declared.space.Space.{Space}
 use Rattle.qa_base.specs.values.Constants.{probe_datagrams}
 use Rattle.qa_base.specs.values.Events.{is_named}
@@ -20,9 +21,9 @@ use Rattle.qa_base.specs.machine.Window.{window}
 
 -- ---- losses (RFC 9002, section 6.1)
 
--- an in-flight packet of the space has this number, and a packet of the space that was sent later is acknowledged: its number
--- is higher by the packet threshold at least (section 6.1.1), or the loss delay had passed since the first was sent when it was
--- looked for (section 6.1.2)
+-- an in-flight packet of the space has this number, and a packet of the space that was sent later
+-- is acknowledged: its number is higher by the packet threshold at least (section 6.1.1), or the
+-- loss delay had passed since the first was sent when it was looked for (section 6.1.2)
 pub record IsLostRightly (c : Settings) (h : List Event) (s : Space) (n : ℕ) : Type 0 where
   pub packet : Packet
   pub sent : Contains (packets h) packet
@@ -37,7 +38,8 @@ pub record IsLostRightly (c : Settings) (h : List Event) (s : Space) (n : ℕ) :
   pub lower : packet.number < other.number
   pub now : ℕ
   pub detected : detection c h ≡ Some (s, now)
-  pub late : (packet.number + c.options.packet_threshold ≤ other.number) ⊎ (loss_delay (granularity c) (sampled c h) ≤ now - packet.time)
+  pub late : (packet.number + c.options.packet_threshold ≤ other.number)
+      ⊎ (loss_delay (granularity c) (sampled c h) ≤ now - packet.time)
 
 -- ---- probes (RFC 9002, section 6.2.4)
 
@@ -63,7 +65,8 @@ abbrev pub is_recovery : Event → Bool
 is_recovery (Sent time space number size eliciting in_flight Recovery) = in_flight
 is_recovery _ = false
 
--- packets that are lost enter recovery: the last of them was sent after recovery began, or there is no recovery
+-- packets that are lost enter recovery: the last of them was sent after recovery began, or there is
+-- no recovery
 abbrev pub is_entered_by : Option ℕ → List Packet → Bool
 is_entered_by recovery [] = false
 is_entered_by recovery (p ∷ ps) = is_outside_recovery recovery (latest_sent (p ∷ ps))
@@ -84,10 +87,12 @@ pub record IsAmong (test : List Event → Bool) (events h : List Event) : Type 0
   pub stands : events ≡ later ++ event ∷ earlier
   pub passes : test (event ∷ earlier ++ h) ≡ true
 
--- neither the last event of the history nor any of these, which come after it, establishes persistent congestion
--- (section 7.6.2)
+-- neither the last event of the history nor any of these, which come after it, establishes
+-- persistent congestion (section 7.6.2)
 abbrev pub NoCollapse : Settings → List Event → List Event → Type 0
-NoCollapse c events h = (later earlier : List Event) → events ≡ later ++ earlier → is_persistent c (earlier ++ h) ≡ false
+NoCollapse c events h =
+    (later earlier : List Event) → events ≡ later ++ earlier
+    → is_persistent c (earlier ++ h) ≡ false
 
 -- a packet that is lost was sent after this time
 pub record IsSentAfter (time : ℕ) (lost : List Packet) : Type 0 where
@@ -97,7 +102,8 @@ pub record IsSentAfter (time : ℕ) (lost : List Packet) : Type 0 where
 
 -- ---- leave (RFC 9002, sections 6.2.4 and 7.3.2)
 
--- there was a probe timeout, and with so many bytes more the probes since the last have the bytes of two datagrams at most
+-- there was a probe timeout, and with so many bytes more the probes since the last have the bytes
+-- of two datagrams at most
 pub record HasProbeLeft (c : Settings) (h : List Event) (size : ℕ) : Type 0 where
   pub since : List Event
   pub timeout : Event
@@ -122,22 +128,28 @@ pub record HasOvershoot (c : Settings) (h : List Event) : Type 0 where
   pub room : bytes_in_flight c h < window c h
 
 -- the leave of an in-flight packet of so many bytes that the window has no room for
-abbrev pub HasLeave : Settings → List Event → ℕ → Leave → Type 0
-HasLeave c h size Window = HasOvershoot c h
-HasLeave c h size Probe = HasProbeLeft c h size
-HasLeave c h size Recovery = HasEntryLeft c h
+abbrev pub HasPermission : Settings → List Event → ℕ → Permission → Type 0
+HasPermission c h size Window = HasOvershoot c h
+HasPermission c h size Probe = HasProbeLeft c h size
+HasPermission c h size Recovery = HasEntryLeft c h
 
 -- ---- the conduct of a run
 
--- what is declared lost was lost; what is sent past the window has its leave; and of two entries into recovery by different
--- detections, with no collapse of the window between, the second has a loss that was sent after the detection of the first
-pub record IsConduct (c : Settings) (h : List Event) : Type 0 where
-  pub lost : (after before : List Event) (time : ℕ) (space : Space) (ranges : List (ℕ × ℕ)) → h ≡ after ++ Lost time space ranges ∷ before
+-- what is declared lost was lost; what is sent past the window has its leave; and of two entries
+-- into recovery by different detections, with no collapse of the window between, the second has a
+-- loss that was sent after the detection of the first
+pub record IsSenderRule (c : Settings) (h : List Event) : Type 0 where
+  pub lost : (after before : List Event) (time : ℕ) (space : Space) (ranges : List (ℕ × ℕ))
+      → h ≡ after ++ Lost time space ranges ∷ before
       → (n : ℕ) → is_named ranges n ≡ true → IsLostRightly c before space n
-  pub sent : (after before : List Event) (time : ℕ) (space : Space) (number size : ℕ) (eliciting : Bool) (leave : Leave)
-      → h ≡ after ++ Sent time space number size eliciting true leave ∷ before
-      → window c before < bytes_in_flight c before + size → HasLeave c before size leave
-  pub halved : (after between before : List Event) (second first : Event) → h ≡ after ++ (second ∷ between ++ first ∷ before)
+  pub sent : (after before : List Event) (time : ℕ) (space : Space) (number size : ℕ)
+      (eliciting : Bool) (permission : Permission)
+      → h ≡ after ++ Sent time space number size eliciting true permission ∷ before
+      → window c before < bytes_in_flight c before + size → HasPermission c before size permission
+  pub halved : (after between before : List Event) (second first : Event)
+      → h ≡ after ++ (second ∷ between ++ first ∷ before)
       → is_entry c (first ∷ before) ≡ true → is_entry c (second ∷ between ++ first ∷ before) ≡ true
-      → detection_of (second ∷ between ++ first ∷ before) ≢ first ∷ before → NoCollapse c between (first ∷ before)
-      → IsSentAfter (last_time (detection_of (first ∷ before))) (declared c (second ∷ between ++ first ∷ before))
+      → detection_of (second ∷ between ++ first ∷ before) ≢ first ∷ before
+      → NoCollapse c between (first ∷ before)
+      → IsSentAfter (last_time (detection_of (first ∷ before)))
+      (declared c (second ∷ between ++ first ∷ before))

@@ -5,7 +5,8 @@ use Rattle.qa_base.specs.machine.Loss.{is_owed}
 use Rattle.qa_base.specs.machine.Packets.{Packet, is_acknowledged, is_declared_lost}
 use Rattle.qa_base.specs.values.Settings.{Settings}
 
--- neither acknowledged nor found lost; found lost by the last event; declared lost; acknowledged, also where it was lost before
+-- neither acknowledged nor found lost; found lost by the last event; declared lost; acknowledged,
+-- also where it was lost before
 pub data Fate : Type 0 where
   Unacknowledged : Fate
   Owed : Fate
@@ -28,7 +29,8 @@ abbrev pub declared : Fate → Fate
 declared Owed = DeclaredLost
 declared f = f
 
--- what one more event makes of it that acknowledges the packet, or finds it lost, or names it where it was free
+-- what one more event makes of it that acknowledges the packet, or finds it lost, or names it where
+-- it was free
 abbrev pub fate_next : (acknowledged found named : Bool) → Fate → Fate
 fate_next true found named f = Acknowledged
 fate_next false true named f = Owed

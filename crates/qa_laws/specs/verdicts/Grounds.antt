@@ -1,5 +1,6 @@
 -- On what ground a verdict stands, in terms of what the lines say.
-use Rattle.std.specs.Prelude.{◌≡◌, ◌≢◌, ℕ, ◌+◌, ◌⊎◌, ◌<◌, ◌≤◌, List, [], ◌∷◌, ◌++◌, length, Option, Some, None, option_map, Result, Ok, Err}
+use Rattle.std.specs.Prelude.{◌≡◌, ◌≢◌, ℕ, ◌+◌, ◌⊎◌, ◌<◌, ◌≤◌, List, [], ◌∷◌, ◌++◌, length, Option}
+use Rattle.std.specs.Prelude.{Some, None, option_map, Result, Ok, Err}
 use Rattle.std.specs.List.{AllByRecursion}
 use Rattle.qa_base.specs.declared.event.Event.{Event}
 use Rattle.qa_format.specs.declared.fault.Fault.{Fault}
@@ -18,12 +19,15 @@ use Rattle.qa_base.specs.machine.Packets.{history_of}
 use Rattle.qa_base.specs.machine.Rules.{first_broken}
 use Rattle.qa_base.specs.values.Settings.{Settings}
 use Rattle.qa_base.specs.machine.State.{totals}
-use Rattle.qa_format.specs.verdicts.Verdict.{Reading, IsWithinLimit, IsTraceOfRun, IsRunBy, events_in, event_line, opening, sayings}
+use Rattle.qa_format.specs.verdicts.Verdict.{Reading, IsWithinLimit, IsTraceOfRun, IsRunBy}
+use Rattle.qa_format.specs.verdicts.Verdict.{events_in, event_line, opening, sayings}
 
 -- ---- good lines
 
--- the lines are good: within the limits of a trace, they say this header and these events alone, which form a run
-pub record AreGoodLines (reading : Reading) (ls : List (List ℕ)) (header : Option Settings) (events : List Event) : Type 0 where
+-- the lines are good: within the limits of a trace, they say this header and these events alone,
+-- which form a run
+pub record AreGoodLines (reading : Reading) (ls : List (List ℕ)) (header : Option Settings)
+    (events : List Event) : Type 0 where
   pub few : length ls ≤ max_lines
   pub short : AllByRecursion IsWithinLimit ls
   pub says : sayings reading ls ≡ opening header events
@@ -31,8 +35,10 @@ pub record AreGoodLines (reading : Reading) (ls : List (List ℕ)) (header : Opt
 
 -- ---- refused at an event
 
--- behind good lines, line n says an event that breaks this rule first, and these are the totals after those before it
-pub record BreaksAt (reading : Reading) (ls : List (List ℕ)) (n : ℕ) (r : Rule) (t : Totals) : Type 0 where
+-- behind good lines, line n says an event that breaks this rule first, and these are the totals
+-- after those before it
+pub record BreaksAt (reading : Reading) (ls : List (List ℕ)) (n : ℕ) (r : Rule)
+    (t : Totals) : Type 0 where
   pub before : List (List ℕ)
   pub here : List ℕ
   pub behind : List (List ℕ)
@@ -54,8 +60,8 @@ abbrev pub IsOutOfPlace : Option Settings → Result Line Fault → Type 0
 IsOutOfPlace None s = (e : Event) × (s ≡ event_line e)
 IsOutOfPlace (Some d) s = (c : Settings) × (s ≡ Ok (line.Header c))
 
--- what is the matter with line n, which comes behind lines with this header: it is one too many, it has too many bytes,
--- it is read as this fault, or it is out of place
+-- what is the matter with line n, which comes behind lines with this header: it is one too many, it
+-- has too many bytes, it is read as this fault, or it is out of place
 abbrev pub HasFault : Reading → ℕ → Option Settings → List ℕ → Fault → Type 0
 HasFault reading n header l f =
     ((max_lines < n) × (f ≡ TooManyLines))
@@ -63,8 +69,10 @@ HasFault reading n header l f =
     ⊎ (((n ≤ max_lines) × IsWithinLimit l × (reading l ≡ Err f))
     ⊎ ((n ≤ max_lines) × IsWithinLimit l × IsOutOfPlace header (reading l) × (f ≡ HeaderPlace))))
 
--- behind good lines, line n has this fault, and these are the totals after those before it, where they have a header
-pub record FailsAt (reading : Reading) (ls : List (List ℕ)) (n : ℕ) (f : Fault) (t : Option Totals) : Type 0 where
+-- behind good lines, line n has this fault, and these are the totals after those before it, where
+-- they have a header
+pub record FailsAt (reading : Reading) (ls : List (List ℕ)) (n : ℕ) (f : Fault)
+    (t : Option Totals) : Type 0 where
   pub before : List (List ℕ)
   pub here : List ℕ
   pub behind : List (List ℕ)
@@ -79,7 +87,8 @@ pub record FailsAt (reading : Reading) (ls : List (List ℕ)) (n : ℕ) (f : Fau
 -- ---- the end
 
 -- all lines are good and something is owed, and line n says the last event
-pub record OwesAtEnd (reading : Reading) (ls : List (List ℕ)) (n : ℕ) (r : Rule) (t : Totals) : Type 0 where
+pub record OwesAtEnd (reading : Reading) (ls : List (List ℕ)) (n : ℕ) (r : Rule)
+    (t : Totals) : Type 0 where
   pub before : List (List ℕ)
   pub here : List ℕ
   pub behind : List (List ℕ)
@@ -96,7 +105,8 @@ pub record OwesAtEnd (reading : Reading) (ls : List (List ℕ)) (n : ℕ) (r : R
   pub held : t ≡ totals header (history_of events)
 
 -- no line says anything: a header is missing, one line behind them
-pub record SaysNothing (reading : Reading) (ls : List (List ℕ)) (n : ℕ) (f : Fault) (t : Option Totals) : Type 0 where
+pub record SaysNothing (reading : Reading) (ls : List (List ℕ)) (n : ℕ) (f : Fault)
+    (t : Option Totals) : Type 0 where
   pub good : AreGoodLines reading ls None []
   pub number : n ≡ length ls + 1
   pub fault : f ≡ HeaderPlace

@@ -17,7 +17,7 @@ fn a_sender(rt: HostRuntime) {
     let delay = rtt.loss_delay(granularity);
     // The first is three numbers behind, so it is lost: the window is halved, once a round trip.
     let mut reno = Reno::start(12_000);
-    assert!(rt; reno.hit(Ticks::of(0), Ticks::of(100_000), 1200));
+    assert!(rt; reno.on_congestion_event(Ticks::of(0), Ticks::of(100_000), 1200));
     // The acknowledged packet was sent before recovery began, so that it does not grow the window.
     reno.grow(1200, Ticks::of(0), 1200);
     assert_eq!(rt; [timeout, delay, reno.window], [999_000, 112_500, 6000]);
@@ -129,7 +129,7 @@ fn lost_at(reno: Reno, sent: u64) -> Reno
     requires time { sent ≤ max_time }
 {
     let mut reno = reno;
-    reno.hit(Ticks::of(sent), Ticks::of(900), 1200);
+    reno.on_congestion_event(Ticks::of(sent), Ticks::of(900), 1200);
     reno
 }
 

@@ -1,8 +1,8 @@
 //! An audit of bytes that are handed in, piece by piece.
 use qa_base::{Header, PacketNumber, Role, Span, Totals};
 use qa_check::{AuditFault, Auditor, Fault, Line, Progress, Verdict, verdict_line};
-use qa_running::Running;
-use qa_session::{Phase, Session};
+use qa_embed::{Phase, Session};
+use qa_sender::Running;
 use std::alloc::Global;
 use std::test::Fail;
 
@@ -28,8 +28,8 @@ fn audit_in_pieces(
     ([front, rest, auditor.feed(REST.as_bytes())], ended)
 }
 
-/// A trace comes in two pieces, cut inside a line. Nothing is fixed before its end, and nothing is taken
-/// behind it.
+/// A trace comes in two pieces, cut inside a line. Nothing is fixed before its end, and nothing is
+/// taken behind it.
 #[test]
 fn a_trace_comes_in_two_pieces(rt: HostRuntime) {
     let verdict = Verdict::Accepted(Totals {
@@ -51,8 +51,8 @@ fn a_trace_comes_in_two_pieces(rt: HostRuntime) {
     );
 }
 
-/// Hands in a header and the beginning of a line: what is answered to each, how far the auditor is then,
-/// and whether it is inside a line.
+/// Hands in a header and the beginning of a line: what is answered to each, how far the auditor is
+/// then, and whether it is inside a line.
 fn begin_by_a_header(
     auditor: &mut Auditor<Running>,
     header: Header,
@@ -123,8 +123,8 @@ fn a_session_is_finished_once(rt: HostRuntime) {
     assert_eq!(rt; found, (phases, [None, Some(none)], true));
 }
 
-/// How many ranges stand in a list that the session lends, once one was put in, and in the next that it
-/// lends once that list was taken back.
+/// How many ranges stand in a list that the session lends, once one was put in, and in the next
+/// that it lends once that list was taken back.
 fn lend_twice(session: &mut Session, alloc: Global) -> Option<(usize, usize)> {
     let span = Span::new(PacketNumber::new(7)?, PacketNumber::new(9)?)?;
     let mut ranges = session.lend_ranges(alloc);

@@ -22,8 +22,8 @@ fn arguments_of(alloc: Global, words: &[&str]) -> Result<Vec<String>, AllocError
     Ok(arguments)
 }
 
-/// Runs the command with these arguments and the trace on standard input, and tells whether it returns
-/// this status and writes these reports and lines.
+/// Runs the command with these arguments and the trace on standard input, and tells whether it
+/// returns this status and writes these reports and lines.
 fn ends_so(rt: &HostRuntime, arguments: &[String], status: u8, reports: &str, lines: &str) -> bool {
     let mut input = Metered::new(TRACE.as_bytes());
     let mut output = Metered::new(Vec::new(rt.alloc()));

@@ -1,9 +1,9 @@
-//! How much the ledger that passes once over events keeps, worked out by hand, over histories too that
-//! are too long for a trace.
+//! How much the ledger that passes once over events keeps, worked out by hand, over histories too
+//! that are too long for a trace.
 use qa_base::limits::MAX_LINES;
-use qa_base::{Event, Header, Leave, PacketNumber, Role, Space, Span, Spans, Ticks};
+use qa_base::{Event, Header, PacketNumber, Permission, Role, Space, Span, Spans, Ticks};
 use qa_ledger::Ledger;
-use qa_running::Running;
+use qa_sender::Running;
 use std::alloc::Global;
 use std::marker::Model;
 
@@ -93,7 +93,7 @@ fn packet(time: u64, number: u64, eliciting: bool, in_flight: bool) -> Option<Ev
         size: 1200,
         eliciting,
         in_flight,
-        leave: Leave::Window,
+        permission: Permission::Window,
     })
 }
 

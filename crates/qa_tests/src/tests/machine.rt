@@ -2,15 +2,14 @@
 ghost use Rattle.std.specs.Prelude.{◌<◌, ◌≤◌, ◌+◌};
 ghost use Rattle.qa_base.specs.values.Limits.{max_lines};
 
-use qa_base::{Event, Header, Leave, PacketNumber, Role, Rule, Space, Span, Spans, Ticks};
-use qa_causes::{Cause, Explains, Owed};
-use qa_ledger::{Bears, Ledger, LedgerFault};
-use qa_running::Running;
+use qa_base::{Event, Header, PacketNumber, Permission, Role, Rule, Space, Span, Spans, Ticks};
+use qa_ledger::{Cause, Explains, Ledger, LedgerFault, Owed, Tolerates};
+use qa_sender::Running;
 use std::alloc::Global;
 use std::test::Fail;
 
 /// An ack-eliciting packet of 1,200 bytes at time 0.
-fn packet(number: u64, leave: Leave) -> Option<Event> {
+fn packet(number: u64, permission: Permission) -> Option<Event> {
     Some(Event::Sent {
         time: Ticks::of(0),
         space: Space::App,
@@ -18,18 +17,18 @@ fn packet(number: u64, leave: Leave) -> Option<Event> {
         size: 1200,
         eliciting: true,
         in_flight: true,
-        leave,
+        permission,
     })
 }
 
 /// A packet by leave of the window.
 fn sent(number: u64) -> Option<Event> {
-    packet(number, Leave::Window)
+    packet(number, Permission::Window)
 }
 
 /// A probe.
 fn probe(number: u64) -> Option<Event> {
-    packet(number, Leave::Probe)
+    packet(number, Permission::Probe)
 }
 
 /// The range of one number.
@@ -153,7 +152,7 @@ fn a_cause(rt: HostRuntime) {
 }
 
 /// Has the ledger bear an event; None where there is none, or it does not fit.
-fn borne(ledger: &mut Running, event: Option<Event>) -> Option<Result<(), LedgerFault>>
+fn tolerated(ledger: &mut Running, event: Option<Event>) -> Option<Result<(), LedgerFault>>
     requires few { ledger.old.connection.events < max_lines }
     ensures { ledger.new.connection.events ≤ ledger.old.connection.events + 1 }
 {
@@ -161,41 +160,45 @@ fn borne(ledger: &mut Running, event: Option<Event>) -> Option<Result<(), Ledger
     if !event.fits() {
         return None;
     }
-    Some(ledger.bear(&event))
+    Some(ledger.tolerate(&event))
 }
 
 /// The first rule that a probe breaks.
-fn first_departure(ledger: &Running, alloc: Global) -> Option<Rule> {
-    let found = ledger.departures(alloc, &probe(0)?).ok()?;
+fn first_violation(ledger: &Running, alloc: Global) -> Option<Rule> {
+    let found = ledger.violations(alloc, &probe(0)?).ok()?;
     found.first().copied()
 }
 
 /// The first rule that a probe before any packet breaks.
-fn first_departure_at_the_start(alloc: Global) -> Option<Rule> {
+fn first_violation_at_the_start(alloc: Global) -> Option<Rule> {
     let header = server()?;
-    first_departure(&Running::start(alloc, header), alloc)
+    first_violation(&Running::start(alloc, header), alloc)
 }
 
 /// A probe before any probe timeout breaks V8, past-probe.
 #[test]
-fn a_probe_without_a_timeout_departs(rt: HostRuntime) {
-    let departure = first_departure_at_the_start(rt.alloc());
-    assert_eq!(rt; departure, Some(Rule::PastProbe));
+fn a_probe_without_a_timeout_violates(rt: HostRuntime) {
+    let violation = first_violation_at_the_start(rt.alloc());
+    assert_eq!(rt; violation, Some(Rule::PastProbe));
 }
 
-/// What a ledger answers to a probe and to another of the same number, and the bytes in flight then.
-fn borne_twice(alloc: Global) -> Option<([Option<Result<(), LedgerFault>>; 2], u64)> {
+/// What a ledger answers to a probe and to another of the same number, and the bytes in flight
+/// then.
+fn tolerated_twice(alloc: Global) -> Option<([Option<Result<(), LedgerFault>>; 2], u64)> {
     let header = server()?;
     let mut ledger = Running::start(alloc, header);
-    let answers = [borne(&mut ledger, probe(0)), borne(&mut ledger, probe(0))];
+    let answers = [
+        tolerated(&mut ledger, probe(0)),
+        tolerated(&mut ledger, probe(0)),
+    ];
     Some((answers, ledger.totals().bytes_in_flight))
 }
 
 /// The ledger goes on with a probe before any probe timeout; a second packet of the same number it
 /// does not bear.
 #[test]
-fn a_probe_without_a_timeout_is_borne(rt: HostRuntime) {
+fn a_probe_without_a_timeout_is_tolerated(rt: HostRuntime) {
     let refused = Err(LedgerFault::Broken(Rule::NumberNotHigher));
     let answers = [Some(Ok(())), Some(refused)];
-    assert_eq!(rt; borne_twice(rt.alloc()), Some((answers, 1200)));
+    assert_eq!(rt; tolerated_twice(rt.alloc()), Some((answers, 1200)));
 }

@@ -1,6 +1,6 @@
 //! Sets of packet numbers, kept as runs.
 use qa_base::{PacketNumber, Span};
-use qa_ranges::Ranges;
+use qa_packet_numbers::Ranges;
 use std::alloc::Global;
 
 /// The packet numbers from `lo` to `hi`.
@@ -34,8 +34,8 @@ fn add_apart(set: &mut Ranges) -> Option<()> {
     add(set, 5, 5)
 }
 
-/// Adds two runs, and then what lies between them: the runs before and after, and whether the set has
-/// all numbers to 5 before, and to 5 and to 6 after.
+/// Adds two runs, and then what lies between them: the runs before and after, and whether the set
+/// has all numbers to 5 before, and to 5 and to 6 after.
 fn join(set: &mut Ranges) -> Option<([(u64, Option<u64>); 2], [Option<bool>; 3])> {
     add_apart(set)?;
     let (apart, is_apart) = (extent(set), covers(set, 5));

@@ -4,7 +4,7 @@ ghost use Rattle.std.specs.Prelude.{◌≤◌, IfOk};
 use qa_base::{Event, Header, Totals};
 use qa_check::{AuditFault, Metered, Outcome, audit, explain};
 use qa_ledger::{Ledger, LedgerFault};
-use qa_plain::Whole;
+use qa_reference::Whole;
 use std::alloc::Global;
 use std::io;
 use std::io::{ErrorKind, Read, Write};
@@ -17,8 +17,8 @@ const TRACE: &str =
 const ROW: &str =
     "line 1 header window 12000 bytes_in_flight 0 smoothed_rtt 333000 rttvar 166500 pto_count 0 owed 0\n";
 
-/// A reader or a writer over memory: it moves at most so many bytes a call, fails once at the call of that
-/// number, counted from 0, and goes on afterwards.
+/// A reader or a writer over memory: it moves at most so many bytes a call, fails once at the call
+/// of that number, counted from 0, and goes on afterwards.
 #[derive(Drop)]
 struct Faulty<T> {
     inner: T,
@@ -37,8 +37,8 @@ impl<T> Faulty<T> {
         })
     }
 
-    /// Counts a call, and returns how many of these bytes it may move. It fails by the error that readers
-    /// and writers are most often asked again after.
+    /// Counts a call, and returns how many of these bytes it may move. It fails by the error that
+    /// readers and writers are most often asked again after.
     fn turn(&mut self, len: usize) -> io::Result<usize>
         ensures { IfOk result (λ n. n ≤ len) }
     {
@@ -74,8 +74,8 @@ fn has_written(writer: &Vec<u8>, text: &str) -> bool {
     writer.as_slice() == text.as_bytes()
 }
 
-/// How an explanation ends whose second read fails, how often it has read, and whether it has written
-/// the header's row.
+/// How an explanation ends whose second read fails, how often it has read, and whether it has
+/// written the header's row.
 fn explain_to_a_failed_read(alloc: Global) -> (Result<Outcome, AuditFault>, u64, bool) {
     let mut reader = Faulty::metered(TRACE.as_bytes(), 80, 1);
     let mut writer = Metered::new(Vec::new(alloc));
@@ -116,7 +116,7 @@ struct Deaf {
 
 impl Ledger for Deaf {
     ghost use Rattle.std.specs.Prelude.{length};
-    ghost use Rattle.qa_plain.specs.Holding.{StandsFor};
+    ghost use Rattle.qa_reference.specs.Holding.{StandsFor};
 
     ghost stands = { λ l. StandsFor l.whole };
 

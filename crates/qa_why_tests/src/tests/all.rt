@@ -1,15 +1,15 @@
-//! All departures of a trace, and its rows behind them, as conformance/ has them.
-use qa_all::{rows_all, why_all};
-use qa_around::Manner;
+//! All violations of a trace, and its rows behind them, as conformance/ has them.
 use qa_check::{Metered, Outcome};
-use qa_running::Running;
-use qa_why_trace::{Form, NoNotes};
+use qa_format::Form;
+use qa_sender::Running;
+use qa_violations::{Manner, rows_all, why_all};
+use qa_why::NoNotes;
 
 /// A probe before any probe timeout, which breaks V8.
 const TRACE: &str =
     "{\"event\":\"header\",\"version\":1,\"role\":\"server\",\"max_datagram_size\":1200}\n{\"event\":\"sent\",\"time\":0,\"space\":\"app\",\"number\":0,\"size\":1200,\"eliciting\":true,\"in_flight\":true,\"leave\":\"probe\"}\n";
 
-/// The departure, and the table.
+/// The violation, and the table.
 const TEXT: &str =
     "a:2: departure V8 past-probe: packet 0 of app goes past what a probe timeout allows\n  2 | {\"event\":\"sent\",\"time\":0,\"space\":\"app\",\"number\":0,\"size\":1200,\"eliciting\":true,\"in_flight\":true,\"leave\":\"probe\"}\n  no probe timeout yet\n  RFC 9002, 6.2.4, 7.5: a probe timeout allows two datagrams.\na: departs once in 1 events\n  V8 past-probe: once, line 2\n";
 
@@ -17,7 +17,7 @@ const TEXT: &str =
 const OBJECT: &str =
     "{\"file\":\"a\",\"verdict\":\"refused\",\"line\":2,\"rule\":\"V8\",\"name\":\"past-probe\",\"event\":\"sent\",\"time_us\":0,\"space\":\"app\",\"number\":0,\"size_bytes\":1200,\"allowance_bytes\":2400,\"spent_bytes\":null,\"events\":1,\"departures\":[{\"rule\":\"V8\",\"name\":\"past-probe\",\"count\":1,\"first\":2,\"last\":2,\"lines\":[2]}],\"end\":{\"verdict\":\"accepted\",\"events\":1}}\n";
 
-/// The departure with the row before it, and the table.
+/// The violation with the row before it, and the table.
 const TEXT_AROUND: &str =
     "a:2: departure V8 past-probe: packet 0 of app goes past what a probe timeout allows\n  2 | {\"event\":\"sent\",\"time\":0,\"space\":\"app\",\"number\":0,\"size\":1200,\"eliciting\":true,\"in_flight\":true,\"leave\":\"probe\"}\n  no probe timeout yet\n  RFC 9002, 6.2.4, 7.5: a probe timeout allows two datagrams.\n  before it:\n  line 1 header: window 12000 bytes_in_flight 0 ssthresh none latest_rtt 0 min_rtt 0 smoothed_rtt 333000 rttvar 166500 pto_count 0 owed 0 no timer\na: departs once in 1 events\n  V8 past-probe: once, line 2\n";
 
@@ -29,9 +29,9 @@ const OBJECT_AROUND: &str =
 const ROWS: &str =
     "{\"line\":1,\"event\":{\"event\":\"header\",\"initial_rtt\":333000,\"initial_window\":12000,\"max_ack_delay\":25000,\"max_datagram_size\":1200,\"role\":\"server\",\"version\":1},\"state\":{\"events\":0,\"window_bytes\":12000,\"ssthresh_bytes\":null,\"in_flight_bytes\":0,\"latest_rtt_us\":0,\"min_rtt_us\":0,\"smoothed_rtt_us\":333000,\"rttvar_us\":166500,\"pto_count\":0,\"owed_space\":null,\"owed\":[],\"set_kind\":null,\"set_space\":null,\"deadline_us\":null}}\n{\"line\":2,\"event\":{\"eliciting\":true,\"event\":\"sent\",\"in_flight\":true,\"leave\":\"probe\",\"number\":0,\"size\":1200,\"space\":\"app\",\"time\":0},\"state\":{\"events\":1,\"window_bytes\":12000,\"ssthresh_bytes\":null,\"in_flight_bytes\":1200,\"latest_rtt_us\":0,\"min_rtt_us\":0,\"smoothed_rtt_us\":333000,\"rttvar_us\":166500,\"pto_count\":0,\"owed_space\":null,\"owed\":[],\"set_kind\":null,\"set_space\":null,\"deadline_us\":null}}\n";
 
-/// A trace that departs is told of with its table, and is refused.
+/// A trace that violates a rule is told of with its table, and is refused.
 #[test]
-fn a_trace_departs(rt: HostRuntime) {
+fn a_trace_violates(rt: HostRuntime) {
     let mut reader = Metered::new(TRACE.as_bytes());
     let mut writer = Metered::new(Vec::new(rt.alloc()));
     let ended = why_all::<Running, _, _, _>(
@@ -52,7 +52,7 @@ fn a_trace_departs(rt: HostRuntime) {
 
 /// The same as an object.
 #[test]
-fn a_trace_departs_as_an_object(rt: HostRuntime) {
+fn a_trace_violates_as_an_object(rt: HostRuntime) {
     let mut reader = Metered::new(TRACE.as_bytes());
     let mut writer = Metered::new(Vec::new(rt.alloc()));
     let ended = why_all::<Running, _, _, _>(
@@ -73,7 +73,7 @@ fn a_trace_departs_as_an_object(rt: HostRuntime) {
 
 /// The header alone is accepted, and nothing is written of it where it is to be quiet.
 #[test]
-fn a_trace_departs_from_nothing(rt: HostRuntime) {
+fn a_trace_violates_from_nothing(rt: HostRuntime) {
     let header = &TRACE.as_bytes()[..72];
     let mut reader = Metered::new(header);
     let mut writer = Metered::new(Vec::new(rt.alloc()));
@@ -93,9 +93,9 @@ fn a_trace_departs_from_nothing(rt: HostRuntime) {
     assert!(rt; writer.into_inner().is_empty());
 }
 
-/// Both lines have a row, the second behind a departure.
+/// Both lines have a row, the second behind a violation.
 #[test]
-fn a_row_stands_behind_a_departure(rt: HostRuntime) {
+fn a_row_stands_behind_a_violation(rt: HostRuntime) {
     let mut reader = Metered::new(TRACE.as_bytes());
     let mut writer = Metered::new(Vec::new(rt.alloc()));
     let ended = rows_all::<Running, _, _>(rt.alloc(), &mut reader, &mut writer);
@@ -103,9 +103,9 @@ fn a_row_stands_behind_a_departure(rt: HostRuntime) {
     assert_eq!(rt; writer.into_inner().as_slice(), ROWS.as_bytes());
 }
 
-/// Behind a departure stand the rows before it.
+/// Behind a violation stand the rows before it.
 #[test]
-fn a_row_stands_before_a_departure(rt: HostRuntime) {
+fn a_row_stands_before_a_violation(rt: HostRuntime) {
     let mut reader = Metered::new(TRACE.as_bytes());
     let mut writer = Metered::new(Vec::new(rt.alloc()));
     let ended = why_all::<Running, _, _, _>(
@@ -124,9 +124,9 @@ fn a_row_stands_before_a_departure(rt: HostRuntime) {
     assert_eq!(rt; writer.into_inner().as_slice(), TEXT_AROUND.as_bytes());
 }
 
-/// In an object the rows before the first departure are a member.
+/// In an object the rows before the first violation are a member.
 #[test]
-fn an_object_stands_before_a_departure(rt: HostRuntime) {
+fn an_object_stands_before_a_violation(rt: HostRuntime) {
     let mut reader = Metered::new(TRACE.as_bytes());
     let mut writer = Metered::new(Vec::new(rt.alloc()));
     let ended = why_all::<Running, _, _, _>(

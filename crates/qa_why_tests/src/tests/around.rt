@@ -1,8 +1,9 @@
 //! The rows of the last good lines before a trace is refused, as conformance/ has them.
-use qa_around::{Manner, why_around};
 use qa_check::{Metered, Outcome};
-use qa_running::Running;
-use qa_why_trace::{Form, NoNotes};
+use qa_format::Form;
+use qa_sender::Running;
+use qa_violations::{Manner, why_around};
+use qa_why::NoNotes;
 use std::test::Fail;
 
 /// A packet number that is sent twice, which breaks V6, behind a blank line.

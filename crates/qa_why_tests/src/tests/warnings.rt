@@ -1,8 +1,9 @@
 //! What a trace is warned of.
 use qa_check::{Metered, Outcome};
-use qa_running::Running;
-use qa_warnings::Warnings;
-use qa_why_trace::{Form, why};
+use qa_format::Form;
+use qa_sender::Running;
+use qa_violations::{Manner, why_around};
+use qa_why_command::Warnings;
 use std::test::Fail;
 
 /// A key of another name in the header, and a packet of a byte more than its datagrams have.
@@ -18,11 +19,15 @@ fn a_trace_is_warned_of(rt: HostRuntime) -> Result<(), Fail> {
     let mut reader = Metered::new(TRACE.as_bytes());
     let mut writer = Metered::new(Vec::new(rt.alloc()));
     let notes = Warnings::new(rt.alloc());
-    let told = why::<Running, _, _, _>(
+    let manner = Manner {
+        form: Form::Text,
+        quiet: true,
+        around: 0,
+    };
+    let told = why_around::<Running, _, _, _>(
         rt.alloc(),
-        Form::Text,
+        manner,
         "a",
-        true,
         notes,
         &mut reader,
         &mut writer,

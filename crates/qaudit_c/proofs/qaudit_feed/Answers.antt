@@ -11,5 +11,7 @@ returns c = rw (c.take.ensures.taken, c.in-Some.is) (
     status = c.number.ensures.number ∙ ap phase_number c.feed-phase.ensures.phase;
     fed = rw c.deref_mut.ensures.value at c.feed-phase.ensures.fed;
     finished = rw c.deref_mut.ensures.value at c.feed-phase.ensures.finished;
+    same = rw c.deref_mut.ensures.value at c.feed-phase.ensures.same;
+    kept = rw c.deref_mut.ensures.value at c.feed-phase.ensures.kept;
   },
 )

@@ -1,7 +1,7 @@
 use Rattle.std.proofs.Common.{rules}
 use Rattle.std.proofs.lemmas.Iterator.{YieldsList-from_chars}
 use Rattle.std.proofs.lemmas.Iterator.Search.{any_from_yields_List}
-use Rattle.qa_names.specs.Names.{is_hidden}
+use Rattle.qa_check.specs.names.Names.{is_hidden}
 use Rattle.qa_commands.proofs.Names.{name_stays}
 use Rattle.qa_commands.proofs.naming.is_shown_as_it_is.Goals as goal
 

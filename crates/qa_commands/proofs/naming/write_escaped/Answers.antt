@@ -1,6 +1,6 @@
 use Rattle.std.proofs.Common.{false}
 use Rattle.qa_commands.proofs.Writes.{part_less, part_more}
-use Rattle.qa_names.specs.Names.{escaped}
+use Rattle.qa_check.specs.names.Names.{escaped}
 use Rattle.qa_commands.proofs.naming.write_escaped.Goals as goal
 
 pub loop-byte-preserved : goal.loop-byte-preserved

@@ -1,6 +1,6 @@
 use Rattle.std.proofs.Common.{false, take}
 use Rattle.std.specs.Prelude.{flat_map}
-use Rattle.qa_names.specs.Names.{escaped}
+use Rattle.qa_check.specs.names.Names.{escaped}
 use Rattle.qa_commands.specs.Writes.{Writes}
 use Rattle.qa_commands.proofs.naming.write_escaped.Given as goal
 

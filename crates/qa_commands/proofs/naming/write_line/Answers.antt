@@ -1,7 +1,7 @@
 use Rattle.std.proofs.Common.{◌++◌, true, codes, refl}
 use Rattle.std.specs.Prelude.{is_err}
 use Rattle.qa_commands.proofs.Writes.{wrote_less, wrote_more}
-use Rattle.qa_names.specs.Names.{shown_name}
+use Rattle.qa_check.specs.names.Names.{shown_name}
 use Rattle.qa_commands.proofs.naming.write_line.Goals as goal
 
 pub returns-in_err-write_bytes : goal.returns-in_err-write_bytes

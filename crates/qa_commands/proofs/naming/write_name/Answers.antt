@@ -3,7 +3,7 @@ use Rattle.std.proofs.lemmas.Iterator.{YieldsList-from_chars}
 use Rattle.std.proofs.lemmas.Iterator.Consumers.{YieldsList-end, YieldsList-turn}
 use Rattle.std.specs.Str.{chars}
 use Rattle.qa_commands.proofs.Writes.{item_less, item_more, items_all}
-use Rattle.qa_names.specs.Names.{shown_character}
+use Rattle.qa_check.specs.names.Names.{shown_character}
 use Rattle.qa_commands.proofs.naming.write_name.Goals as goal
 
 pub loop-character-preserved : goal.loop-character-preserved

@@ -1,7 +1,7 @@
 use Rattle.std.proofs.Common.{false, length, take}
 use Rattle.std.specs.Prelude.{flat_map}
 use Rattle.std.specs.Str.{chars}
-use Rattle.qa_names.specs.Names.{shown_character}
+use Rattle.qa_check.specs.names.Names.{shown_character}
 use Rattle.qa_commands.specs.Writes.{Writes}
 use Rattle.qa_commands.proofs.naming.write_name.Given as goal
 

@@ -1,4 +1,4 @@
-use Rattle.qa_history.proofs.machine.Awaiting as lemmas
+use Rattle.qa_base.proofs.history.Awaiting as lemmas
 use Rattle.qa_laws.proofs.definitions.no_tolerance_changes_nothing.Goals as goal
 
 pub returns : goal.returns

@@ -1,4 +1,4 @@
-use Rattle.qa_history.proofs.machine.KeptCount as lemmas
+use Rattle.qa_base.proofs.history.KeptCount as lemmas
 use Rattle.qa_laws.proofs.running.kept_are_counted.Goals as goal
 
 pub returns : goal.returns

@@ -1,9 +1,9 @@
 use Rattle.std.proofs.Common.{refl}
 use Rattle.qa_format.specs.format.Reading.{reading}
 use Rattle.qa_format.specs.verdicts.Verdict.{strict}
-use Rattle.qa_warnings.specs.Keeping.{Covers}
-use Rattle.qa_why_arguments.specs.Asked.{wanted}
-use Rattle.qa_why_arguments.specs.declared.arguments.Told.TheVariants.{Why}
+use Rattle.qa_why_command.specs.warnings.Keeping.{Covers}
+use Rattle.qa_arguments.specs.why.Asked.{wanted}
+use Rattle.qa_arguments.specs.declared.why.arguments.Told.TheVariants.{Why}
 use Rattle.qa_why_command.proofs.Noted.{noted_by, read_unwarned, read_warned}
 use Rattle.qa_why_command.specs.Telling.{outcome_by, text_of}
 use Rattle.qa_why_command.proofs.telling.tell_why.Goals as goal

@@ -1,6 +1,6 @@
 use Rattle.std.proofs.Common.{◌≡◌, false, List, drop, map}
 use Rattle.std.specs.List.{list_any}
-use Rattle.qa_why_arguments.specs.Asked.{wanted}
+use Rattle.qa_arguments.specs.why.Asked.{wanted}
 use Rattle.qa_why_command.proofs.Endings.{Led}
 use Rattle.qa_why_command.specs.Ending.{Ended}
 use Rattle.qa_why_command.specs.Streams.{streams}

@@ -10,8 +10,8 @@ use Rattle.std.specs.Global.{Global}
 use Rattle.std.specs.Prelude.{Option, Some, None}
 use Rattle.std_alloc.proofs.SendSync.{quiet, lies}
 use Rattle.std_heap.proofs.Global.TheSendSync as handle
-use Rattle.qa_session.specs.contracts.Session as Session
-use Rattle.qa_session.proofs.Session.TheSendSync.{the_send as session}
+use Rattle.qa_embed.specs.contracts.Session as Session
+use Rattle.qa_embed.proofs.Session.TheSendSync.{the_send as session}
 use Rattle.qaudit_c.specs.Held.{held_owns}
 use Rattle.qaudit_c.specs.contracts.handle.Handle.{the_row, the_type}
 

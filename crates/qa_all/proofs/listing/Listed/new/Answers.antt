@@ -1,5 +1,0 @@
-use Rattle.std.proofs.Common.{refl}
-use Rattle.qa_all.proofs.listing.Listed.new.Goals as goal
-
-pub returns-clause-fresh : goal.returns-clause-fresh
-returns-clause-fresh c = λ name. (c.new.ensures.fresh name, (c.new-2.ensures.items, c.new-3.ensures, c.new-4.ensures.items), refl, refl)

@@ -1,8 +1,0 @@
-use Rattle.std.proofs.Common.{◌≡◌, ◌++◌, drop, filter}
-use Rattle.qa_all.specs.Objects.{row_objects}
-use Rattle.qa_departures.specs.Table.{has_findings}
-use Rattle.qa_all.proofs.objects.push_rows.Given as goal
-
-abbrev pub invariant-loop-row : goal.invariant-loop-row
-invariant-loop-row l =
-    l.object ++ row_objects l.unit l.named (filter has_findings (drop l.row-index l.rows)) ≡ l.initial.object ++ row_objects l.unit l.named (filter has_findings l.rows)

@@ -1,6 +1,0 @@
-pub mod Bearing
-pub mod Departed
-pub mod Objects
-pub mod All
-pub mod Keeping
-pub mod Rows

@@ -1,8 +1,0 @@
--- Rows with their heading.
-use Rattle.std.proofs.Common.{◌≡◌, ◌==◌, List, [], ◌∷◌, ◌++◌, length, false, codes, refl}
-use Rattle.qa_around.specs.Texts.{each_text, rows_text}
-use Rattle.qa_around.specs.declared.row.Row.{Row}
-
-pub headed : (rs : List Row) → (length rs == 0) ≡ false → rows_text rs ≡ codes "  before it:\n" ++ each_text rs
-headed [] some = absurd cc
-headed (r ∷ rs) some = refl

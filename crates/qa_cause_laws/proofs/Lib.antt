@@ -1,4 +1,0 @@
-pub mod Sums
-pub mod Sets
-mod Accepted
-mod Breaking

@@ -1,5 +1,0 @@
-use Rattle.qa_cause_laws.proofs.Accepted.{object_of_accepted, outcome_of_accepted, text_of_accepted}
-use Rattle.qa_cause_laws.proofs.traces.accepted_departs_from_nothing.Goals as goal
-
-pub returns : goal.returns
-returns c = record { text = text_of_accepted; object = object_of_accepted; outcome = outcome_of_accepted }

@@ -1,6 +1,0 @@
-use Rattle.std.proofs.Common.{◌≡◌, take, fold}
-use Rattle.qa_connection.specs.Steps.{grown_by}
-use Rattle.qa_connection.proofs.congestion.grow.Given as goal
-
-abbrev pub invariant-loop-packet : goal.invariant-loop-packet
-invariant-loop-packet l = l.reno ≡ fold (grown_by l.max_datagram_size) l.fn.reno (take l.packet-index l.packets)

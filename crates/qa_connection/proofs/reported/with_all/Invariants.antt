@@ -1,6 +1,0 @@
-use Rattle.std.proofs.Common.{◌≡◌, take, fold}
-use Rattle.qa_connection.specs.Reporting.{with_bytes}
-use Rattle.qa_connection.proofs.reported.with_all.Given as goal
-
-abbrev pub invariant-loop-packet : goal.invariant-loop-packet
-invariant-loop-packet l = l.bytes ≡ fold with_bytes l.fn.before (take l.packet-index l.packets)

@@ -1,6 +1,0 @@
-use Rattle.std.proofs.Common.{◌≡◌, take}
-use Rattle.qa_connection.specs.Steps.{sent_at}
-use Rattle.qa_connection.proofs.sampling.sent_at.Given as goal
-
-abbrev pub invariant-loop-packet : goal.invariant-loop-packet
-invariant-loop-packet l = l.sent ≡ sent_at l.number (take l.packet-index l.packets)

@@ -1,9 +1,0 @@
-use Rattle.std.proofs.Common.{ap, Option, ℕ}
-use Rattle.qa_connection.specs.declared.spaces.SpaceState.{SpaceState}
-use Rattle.qa_connection.proofs.spaces.SpaceState.raise.Goals as goal
-
-pub returns : goal.returns
-returns c =
-    let old = c.args.self.now in
-    let with : Option ℕ → SpaceState = λ most. record { discarded = old.discarded; largest = most; last_eliciting = old.last_eliciting } in
-    ap with c.raised-self.ensures

@@ -1,0 +1,2 @@
+pub mod text_lemmas
+pub mod members_lemmas

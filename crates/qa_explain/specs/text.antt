@@ -1,0 +1,9 @@
+pub mod Pieces
+pub mod Subjects
+pub mod Runs
+pub mod Deadlines
+pub mod Sending
+pub mod Reports
+pub mod Predicates
+pub mod Facts
+pub mod Sources

@@ -1,0 +1,188 @@
+//! Deadlines, and the times and amounts that make them.
+ghost use Rattle.std.specs.Prelude.{◌≡◌, ◌++◌, OnOk};
+ghost use Rattle.qa_explain.specs.members.Deadlines as text;
+
+use crate::members::object::Object;
+use crate::text::due_time;
+use qa_base::{Due, Event, PacketNumber, Ticks, TimeUnit};
+use qa_ledger::Basis;
+use std::alloc::AllocError;
+
+// ---- what the timer is set for
+
+#[tactic(auto, unfolding(crate::specs::members::Deadlines::some_due))]
+fn push_some_due(out: &mut Object, unit: TimeUnit, due: Due) -> Result<(), AllocError>
+    ensures { OnOk result (out.new ≡ out.old ++ text.some_due unit due) }
+{
+    out.string("set_kind", due.kind.name())?;
+    out.string("set_space", due.space.name())?;
+    out.amount("deadline", unit.name(), due.time)
+}
+
+#[tactic(auto, unfolding(crate::specs::members::Deadlines::no_due))]
+fn push_no_due(out: &mut Object, unit: TimeUnit) -> Result<(), AllocError>
+    ensures { OnOk result (out.new ≡ out.old ++ text.no_due unit) }
+{
+    out.null("set_kind")?;
+    out.null("set_space")?;
+    out.some_amount("deadline", unit.name(), None)
+}
+
+/// Writes what the timer is set for, its time in the unit (V12; RFC 9002, A.8).
+pub fn push_due(out: &mut Object, unit: TimeUnit, due: Option<Due>) -> Result<(), AllocError>
+    ensures { OnOk result (out.new ≡ out.old ++ text.due_facts unit due) }
+{
+    match due {
+        None => push_no_due(out, unit),
+        Some(due) => push_some_due(out, unit, due),
+    }
+}
+
+// ---- why then
+
+/// From what a deadline counts, and from when.
+#[tactic(auto, unfolding(crate::specs::members::Deadlines::origin))]
+fn push_origin(out: &mut Object, unit: TimeUnit, words: &str, time: u64) -> Result<(), AllocError>
+    ensures { OnOk result (out.new ≡ out.old ++ text.origin unit words.now time) }
+{
+    out.string("counts_from", words)?;
+    out.amount("counts_from", unit.name(), u128::from(time))
+}
+
+/// A loss delay behind a packet (RFC 9002, section 6.1.2).
+#[tactic(auto, unfolding(crate::specs::members::Deadlines::packet_delay))]
+fn push_packet_delay(
+    out: &mut Object,
+    unit: TimeUnit,
+    number: u64,
+    latest_rtt: u64,
+    smoothed_rtt: u64,
+) -> Result<(), AllocError>
+    ensures { OnOk result (out.new
+        ≡ out.old ++ text.packet_delay unit number latest_rtt smoothed_rtt) }
+{
+    out.number("packet", u128::from(number))?;
+    out.amount("latest_rtt", unit.name(), u128::from(latest_rtt))?;
+    out.amount("smoothed_rtt", unit.name(), u128::from(smoothed_rtt))
+}
+
+/// A probe timeout (RFC 9002, section 6.2.1).
+#[tactic(auto, unfolding(crate::specs::members::Deadlines::timeout))]
+fn push_timeout(
+    out: &mut Object,
+    unit: TimeUnit,
+    smoothed_rtt: u64,
+    rttvar: u64,
+    peer_delay: u64,
+    count: u64,
+) -> Result<(), AllocError>
+    ensures { OnOk result (out.new
+        ≡ out.old ++ text.timeout unit smoothed_rtt rttvar peer_delay count) }
+{
+    out.amount("smoothed_rtt", unit.name(), u128::from(smoothed_rtt))?;
+    out.amount("rttvar", unit.name(), u128::from(rttvar))?;
+    out.amount("max_ack_delay", unit.name(), u128::from(peer_delay))?;
+    out.number("pto_count", u128::from(count))
+}
+
+#[tactic(auto, unfolding(crate::specs::members::Deadlines::some_basis))]
+fn push_some_basis(out: &mut Object, unit: TimeUnit, basis: Basis) -> Result<(), AllocError>
+    ensures { OnOk result (out.new ≡ out.old ++ text.some_basis unit basis) }
+{
+    match basis {
+        Basis::Packet {
+            number,
+            sent,
+            latest_rtt,
+            smoothed_rtt,
+        } => {
+            push_origin(out, unit, "packet", sent.get())?;
+            push_packet_delay(out, unit, number.get(), latest_rtt, smoothed_rtt)
+        }
+        Basis::Eliciting {
+            sent,
+            smoothed_rtt,
+            rttvar,
+            peer_delay,
+            pto_count,
+        } => {
+            push_origin(out, unit, "ack-eliciting packet", sent.get())?;
+            push_timeout(out, unit, smoothed_rtt, rttvar, peer_delay, pto_count)
+        }
+        Basis::Kept {
+            set,
+            smoothed_rtt,
+            rttvar,
+            pto_count,
+        } => {
+            push_origin(out, unit, "timer set", set.get())?;
+            push_timeout(out, unit, smoothed_rtt, rttvar, 0, pto_count)
+        }
+    }
+}
+
+fn push_basis(out: &mut Object, unit: TimeUnit, basis: Option<Basis>) -> Result<(), AllocError>
+    ensures { OnOk result (out.new ≡ out.old ++ text.basis_facts unit basis) }
+{
+    match basis {
+        None => Ok(()),
+        Some(basis) => push_some_basis(out, unit, basis),
+    }
+}
+
+// ---- early and late
+
+/// By how much something is off, and by how much it may be.
+#[tactic(auto, unfolding(crate::specs::members::Deadlines::off_by))]
+fn push_off_by(
+    out: &mut Object,
+    unit: TimeUnit,
+    key: &str,
+    by: u128,
+    allowed: Option<u128>,
+) -> Result<(), AllocError>
+    ensures { OnOk result (out.new ≡ out.old ++ text.off_by unit key.now by allowed) }
+{
+    out.amount(key, unit.name(), by)?;
+    out.some_amount("allowed", unit.name(), allowed)
+}
+
+/// V13: what the timer is set for and why then, by how much it fired early, and by how much it may.
+#[tactic(auto, unfolding(crate::specs::members::Deadlines::early_facts))]
+pub(crate) fn push_early(
+    out: &mut Object,
+    unit: TimeUnit,
+    event: &Event,
+    due: &Option<Due>,
+    basis: Option<Basis>,
+    early: u64,
+) -> Result<(), AllocError>
+    ensures { OnOk result (out.new
+        ≡ out.old ++ text.early_facts unit event.now due.now basis early) }
+{
+    let by = due_time(*due).saturating_sub(u128::from(event.time().get()));
+    push_due(out, unit, *due)?;
+    push_off_by(out, unit, "early", by, Some(u128::from(early)))?;
+    push_basis(out, unit, basis)
+}
+
+/// V18: what the timer is set for and since when, by how much the event comes late, and by how much
+/// it may.
+#[tactic(auto, unfolding(crate::specs::members::Deadlines::late_facts))]
+pub(crate) fn push_late(
+    out: &mut Object,
+    unit: TimeUnit,
+    event: &Event,
+    due: &Option<Due>,
+    since: Ticks,
+    limit: Option<u128>,
+) -> Result<(), AllocError>
+    ensures { OnOk result (out.new
+        ≡ out.old ++ text.late_facts unit event.now due.now since limit) }
+{
+    let from = due_time(*due).max(u128::from(since.get()));
+    let by = u128::from(event.time().get()).saturating_sub(from);
+    push_due(out, unit, *due)?;
+    out.amount("set_since", unit.name(), u128::from(since.get()))?;
+    push_off_by(out, unit, "late", by, limit)
+}

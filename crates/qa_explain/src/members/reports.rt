@@ -1,0 +1,250 @@
+//! What a sender reports, and what the machine has.
+ghost use Rattle.std.specs.Prelude.{◌≡◌, ◌++◌, OnOk};
+ghost use Rattle.qa_explain.specs.members.Reports as text;
+
+use crate::members::object::Object;
+use crate::members::sending::push_bytes;
+use crate::text::{differs, is_of_controller};
+use qa_base::{Event, Field, MetricValues, TimeUnit, Totals};
+use std::alloc::AllocError;
+
+/// The unit of a number of bytes, at the end of a key.
+const BYTES: &str = "bytes";
+
+// ---- V16
+
+/// How far a reported value is from the machine's, where it has one.
+fn gap(reported: u64, held: Option<u64>) -> Option<u128>
+    ensures { result ≡ text.gap reported held }
+{
+    match held {
+        None => None,
+        Some(held) => Some(u128::from(reported.abs_diff(held))),
+    }
+}
+
+/// A value that the machine may not have.
+fn push_held(out: &mut Object, unit: &str, held: Option<u64>) -> Result<(), AllocError>
+    ensures { OnOk result (out.new ≡ out.old ++ text.held_at unit.now held) }
+{
+    match held {
+        None => out.some_amount("held", unit, None),
+        Some(held) => out.some_amount("held", unit, Some(u128::from(held))),
+    }
+}
+
+#[tactic(auto, unfolding(crate::specs::members::Reports::values_of))]
+fn push_values(
+    out: &mut Object,
+    field: Field,
+    unit: &str,
+    slack: u128,
+    reported: u64,
+    held: Option<u64>,
+) -> Result<(), AllocError>
+    ensures { OnOk result (out.new
+        ≡ out.old ++ text.values_of field unit.now slack reported held) }
+{
+    out.string("field", field.name())?;
+    out.amount("reported", unit, u128::from(reported))?;
+    push_held(out, unit, held)?;
+    out.some_amount("difference", unit, gap(reported, held))?;
+    out.amount("slack", unit, slack)
+}
+
+#[tactic(auto, unfolding(crate::specs::members::Reports::difference))]
+fn push_difference(
+    out: &mut Object,
+    field: Field,
+    unit: &str,
+    slack: u128,
+    reported: u64,
+    held: Option<u64>,
+) -> Result<(), AllocError>
+    ensures { OnOk result (out.new
+        ≡ out.old ++ text.difference field unit.now slack reported held) }
+{
+    out.begin_object()?;
+    push_values(out, field, unit, slack, reported, held)?;
+    out.end_object()
+}
+
+/// An object of a reported value, where it differs.
+fn push_differing(
+    out: &mut Object,
+    field: Field,
+    unit: &str,
+    slack: u128,
+    reported: Option<u64>,
+    held: Option<u64>,
+) -> Result<(), AllocError>
+    ensures { OnOk result (out.new
+        ≡ out.old ++ text.differing field unit.now slack reported held) }
+{
+    let Some(reported) = reported else {
+        return Ok(());
+    };
+    if differs(slack, reported, held) {
+        return push_difference(out, field, unit, slack, reported, held);
+    }
+    Ok(())
+}
+
+#[tactic(auto, unfolding(crate::specs::members::Reports::of_controller))]
+fn push_of_controller(
+    out: &mut Object,
+    slack: u128,
+    values: &MetricValues,
+    held: &Totals,
+) -> Result<(), AllocError>
+    ensures { OnOk result (out.new ≡ out.old ++ text.of_controller slack values.now held.now) }
+{
+    let window = Some(held.window);
+    push_differing(out, Field::Window, BYTES, slack, values.window, window)?;
+    push_differing(
+        out,
+        Field::Ssthresh,
+        BYTES,
+        slack,
+        values.ssthresh,
+        held.ssthresh,
+    )
+}
+
+#[tactic(auto, unfolding(crate::specs::members::Reports::of_bytes))]
+fn push_of_bytes(
+    out: &mut Object,
+    first: Field,
+    slack: u128,
+    values: &MetricValues,
+    held: &Totals,
+) -> Result<(), AllocError>
+    ensures { OnOk result (out.new
+        ≡ out.old ++ text.of_bytes first slack values.now held.now) }
+{
+    if is_of_controller(first) {
+        push_of_controller(out, slack, values, held)?;
+    }
+    push_differing(
+        out,
+        Field::BytesInFlight,
+        BYTES,
+        slack,
+        values.bytes_in_flight,
+        Some(held.bytes_in_flight),
+    )
+}
+
+#[tactic(auto, unfolding(crate::specs::members::Reports::of_samples))]
+fn push_of_samples(
+    out: &mut Object,
+    unit: &str,
+    slack: u128,
+    values: &MetricValues,
+    held: &Totals,
+) -> Result<(), AllocError>
+    ensures { OnOk result (out.new
+        ≡ out.old ++ text.of_samples unit.now slack values.now held.now) }
+{
+    let (latest, least) = (Some(held.latest_rtt), Some(held.min_rtt));
+    push_differing(
+        out,
+        Field::LatestRtt,
+        unit,
+        slack,
+        values.latest_rtt,
+        latest,
+    )?;
+    push_differing(out, Field::MinRtt, unit, slack, values.min_rtt, least)
+}
+
+#[tactic(auto, unfolding(crate::specs::members::Reports::of_estimates))]
+fn push_of_estimates(
+    out: &mut Object,
+    unit: &str,
+    slack: u128,
+    values: &MetricValues,
+    held: &Totals,
+) -> Result<(), AllocError>
+    ensures { OnOk result (out.new
+        ≡ out.old ++ text.of_estimates unit.now slack values.now held.now) }
+{
+    let (smoothed, rttvar) = (Some(held.smoothed_rtt), Some(held.rttvar));
+    push_differing(
+        out,
+        Field::SmoothedRtt,
+        unit,
+        slack,
+        values.smoothed_rtt,
+        smoothed,
+    )?;
+    push_differing(out, Field::Rttvar, unit, slack, values.rttvar, rttvar)
+}
+
+/// By how much reported values may differ, in bytes and in the unit of times.
+#[derive(Clone, Copy)]
+pub(crate) struct Slack {
+    pub bytes: u64,
+    pub time: u128,
+}
+
+#[tactic(auto, unfolding(crate::specs::members::Reports::differences))]
+fn push_differences(
+    out: &mut Object,
+    unit: TimeUnit,
+    first: Field,
+    slack: Slack,
+    values: &MetricValues,
+    held: &Totals,
+) -> Result<(), AllocError>
+    ensures { OnOk result (out.new
+        ≡ out.old ++ text.differences unit first slack.bytes slack.time values.now held.now) }
+{
+    out.begin_list("differences")?;
+    push_of_bytes(out, first, u128::from(slack.bytes), values, held)?;
+    push_of_samples(out, unit.name(), slack.time, values, held)?;
+    push_of_estimates(out, unit.name(), slack.time, values, held)?;
+    out.end_list()
+}
+
+/// V16: an object of each reported value that differs, of which this is the first.
+pub(crate) fn push_metric(
+    out: &mut Object,
+    unit: TimeUnit,
+    first: Option<Field>,
+    event: &Event,
+    held: &Totals,
+    slack: Slack,
+) -> Result<(), AllocError>
+    ensures { OnOk result (out.new
+        ≡ out.old ++ text.metric_facts unit first event.now held.now slack.bytes slack.time) }
+{
+    let Some(first) = first else {
+        return Ok(());
+    };
+    match event {
+        Event::Metrics { values, .. } => push_differences(out, unit, first, slack, values, held),
+        _ => Ok(()),
+    }
+}
+
+// ---- V19
+
+/// V19: the reported window, and what makes the greatest that is right behind persistent congestion
+/// (RFC 9002, section 7.6.2).
+#[tactic(auto, unfolding(crate::specs::members::Reports::collapse_facts))]
+pub(crate) fn push_collapse(
+    out: &mut Object,
+    least: u64,
+    acknowledged: Option<u64>,
+    slack: u64,
+    reported: Option<u64>,
+) -> Result<(), AllocError>
+    ensures { OnOk result (out.new
+        ≡ out.old ++ text.collapse_facts least acknowledged slack reported) }
+{
+    push_bytes(out, "reported_window", reported)?;
+    out.amount("least", BYTES, u128::from(least))?;
+    push_bytes(out, "acknowledged", acknowledged)?;
+    out.amount("slack", BYTES, u128::from(slack))
+}

@@ -1,0 +1,7 @@
+use Rattle.qa_format.specs.format.Written.{boolean}
+use Rattle.qa_fast_reader.proofs.Finding.{put_in_flight}
+use Rattle.qa_fast_reader.proofs.Taking.{boolean_value}
+use Rattle.qa_fast_reader.proofs.found.Found.in_flight.Goals as goal
+
+pub returns : goal.returns
+returns c = let b = c.in_ok-value.value in record { value = boolean b; is = boolean_value b c.args.bytes.now c.in_ok-value.rest.now c.in_ok-value.ensures; keeps = put_in_flight c.args.self.now b }

@@ -1,0 +1,54 @@
+//! A line.
+ghost use Rattle.std.specs.Prelude.{◌≡◌, true, Ok, IfSome};
+ghost use Rattle.qa_format.specs.format.Reading as reading;
+ghost use Rattle.qa_format.specs.format.Written.{line_fits};
+ghost use Rattle.qa_fast_reader.specs.Found.{Reads};
+
+use crate::exact::exact_lost;
+use crate::found::Found;
+use crate::reports::exact_report;
+use qa_format::Line;
+use qa_scan::{begin_object, comma, end_object};
+use std::alloc::Global;
+
+/// The event that the bytes of a line say, where the line has the form that most loggers write;
+/// None for any other line.
+///
+/// The form is one object with the keys of an event, each with a value of its kind, and any other
+/// keys: their values are integers without sign of at most 19 digits, strings of printable ASCII
+/// without an escape, booleans, null, or lists of these. Lines in a usual order (`usual_line`) are
+/// read here too, and more quickly there. A line with a fault is never of this form, and neither
+/// are a header and a blank line. Only ranges take memory, and None comes where it was refused.
+pub fn quick_line(alloc: Global, bytes: &[u8]) -> Option<Line>
+    ensures read { IfSome result (λ line. reading.reading bytes.now ≡ Ok line) }
+    ensures fitting { IfSome result (λ line. line_fits line ≡ true) }
+{
+    if let Some(line) = exact_lost(alloc, bytes) {
+        return Some(line);
+    }
+    if let Some(line) = exact_report(bytes) {
+        return Some(line);
+    }
+    any_order(alloc, bytes)
+}
+
+/// The same, where the keys may stand in any order.
+#[inline(never)]
+fn any_order(alloc: Global, bytes: &[u8]) -> Option<Line>
+    ensures { Reads bytes.now result }
+{
+    let mut rest = begin_object(bytes)?;
+    let mut found = Found::nothing();
+    for i in 0..u64::MAX {
+        let behind = found.member(alloc, rest)?;
+        let Some(more) = comma(behind) else {
+            let end = end_object(behind)?;
+            if !end.is_empty() {
+                return None;
+            }
+            return found.line_of();
+        };
+        rest = more;
+    }
+    None
+}

@@ -1,8 +1,0 @@
--- Words for laws of the machine: what a sender does in a course, and what one more event makes of its packets.
-pub mod Sequence
-pub mod Parts
-pub mod Latest
-pub mod Oldest
-pub mod Sums
-pub mod Declared
-pub mod Among

@@ -1,8 +1,0 @@
-use Rattle.qa_json.specs.Deadlines.{origin}
-use Rattle.qa_json.proofs.Pushed.{last}
-use Rattle.qa_json.proofs.deadlines.push_origin.Goals as goal
-
-pub returns : goal.returns
-unfolding origin
-returns c =
-    last c.amount.result _ _ _ _ _ (c.in_ok-string.ensures) (rw (c.name.ensures, c.from.ensures) at c.amount.ensures)

@@ -1,0 +1,8 @@
+use Rattle.std.proofs.Common.{refl}
+use Rattle.qa_ledger.proofs.violating.broken_of_answers.Goals as goal
+
+-- Written out, so that a wrong body is refused at this line.
+pub returns : goal.returns
+returns g c s h tells =
+    let due = c.deadline_at-due.ensures s h tells in
+    rw (c.is_ack_unsent.ensures s h tells, c.is_timer_not_set.ensures s h due, c.is_timer_other.ensures s h due, c.is_timer_early.ensures s h tells due, c.is_probe_owed.ensures s h tells, c.is_not_confirmed.ensures s h tells) refl

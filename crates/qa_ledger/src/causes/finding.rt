@@ -1,0 +1,255 @@
+//! The cause of a refusal, from the events before the event.
+ghost use Rattle.std.specs.Prelude.{◌≡◌, List, IfOk, Some};
+ghost use Rattle.qa_base.specs.declared.event.Event.{Event as AnEvent};
+ghost use Rattle.qa_base.specs.machine.Loss as loss;
+ghost use Rattle.qa_base.specs.machine.State as states;
+ghost use Rattle.qa_base.specs.machine.Window as windows;
+ghost use Rattle.qa_base.specs.values.Constants.{minimum_window as minimum_window_of};
+ghost use Rattle.qa_base.specs.values.Settings.{Settings, in_unit};
+ghost use Rattle.qa_ledger.specs.causes.Causes as causes;
+ghost use Rattle.qa_packet_numbers.specs.Missing as sets;
+
+use crate::causes::cause::{Cause, Free, Owed};
+use crate::causes::deadline::{timer_early, timer_late};
+use crate::causes::facts::Facts;
+use crate::other_window;
+use qa_base::constants::{PROBE_DATAGRAMS, minimum_window};
+use qa_base::{Event, PacketNumber, Rule, Space, Span};
+use qa_packet_numbers::Ranges;
+use std::alloc::{AllocError, Global};
+
+// ---- what is owed
+
+/// What is owed after these events. `AllocError` comes where it is out of memory.
+pub fn owed_of<S: Facts>(alloc: Global, state: &S) -> Result<Owed, AllocError>
+    ensures { IfOk result (λ owed. (c : Settings) (h : List AnEvent) → S.tells state.now c h
+        → owed ≡ causes.owed_now c h) }
+{
+    let numbers = state.owed_numbers()?;
+    owed_by(alloc, state.owed_space(), &numbers)
+}
+
+/// What is owed, by its space and its numbers.
+fn owed_by(
+    alloc: Global,
+    space: Option<Space>,
+    numbers: &[PacketNumber],
+) -> Result<Owed, AllocError>
+    ensures { IfOk result (λ owed. owed
+        ≡ record { space = space; numbers = sets.runs_of numbers.now }) }
+{
+    let numbers = Ranges::of_numbers(alloc, numbers)?;
+    Ok(Owed { space, numbers })
+}
+
+/// What is free after these events; None where the header lets a sender spare nothing.
+fn free_of<S: Facts>(alloc: Global, state: &S) -> Result<Option<Free>, AllocError>
+    ensures { IfOk result (λ free. (c : Settings) (h : List AnEvent) → S.tells state.now c h
+        → free ≡ causes.free_now c h) }
+{
+    let header = state.header();
+    if header.options().loss_by_number.is_may() {
+        let numbers = state.free_numbers()?;
+        return free_by(alloc, state.searched(), &numbers);
+    }
+    Ok(None)
+}
+
+/// What is free, by its space and its numbers.
+fn free_by(
+    alloc: Global,
+    space: Option<Space>,
+    numbers: &[PacketNumber],
+) -> Result<Option<Free>, AllocError>
+    ensures { IfOk result (λ free. free
+        ≡ Some (record { space = space; numbers = sets.runs_of numbers.now })) }
+{
+    let numbers = Ranges::of_numbers(alloc, numbers)?;
+    Ok(Some(Free { space, numbers }))
+}
+
+/// V3: what is owed and what is free, in other spaces than that of the Lost line.
+fn loss_not_owed<S: Facts>(alloc: Global, state: &S) -> Result<Cause, AllocError>
+    ensures { IfOk result (λ cause. (c : Settings) (h : List AnEvent) → S.tells state.now c h
+        → cause ≡ Cause.LossNotOwed (causes.owed_now c h) (causes.free_now c h)) }
+{
+    let owed = owed_of(alloc, state)?;
+    let free = free_of(alloc, state)?;
+    Ok(Cause::LossNotOwed { owed, free })
+}
+
+/// V4: what is owed and what is free, and how the ranges differ from what they may name.
+fn loss_set<S: Facts>(alloc: Global, state: &S, ranges: &[Span]) -> Result<Cause, AllocError>
+    ensures { IfOk result (λ cause. (c : Settings) (h : List AnEvent) → S.tells state.now c h
+        → cause ≡ Cause.LossSet (causes.owed_now c h) (causes.free_now c h)
+        (sets.runs_of (sets.unnamed ranges.now (causes.owed_numbers c h)))
+        (sets.others ranges.now (causes.nameable_numbers c h))) }
+{
+    let numbers = state.owed_numbers()?;
+    let nameable = state.nameable_numbers()?;
+    let owed = owed_by(alloc, state.owed_space(), &numbers)?;
+    let free = free_of(alloc, state)?;
+    differing(alloc, owed, free, &numbers, &nameable, ranges)
+}
+
+/// How the ranges differ from the numbers that are owed, all of which they have to name, and from
+/// those that they may name.
+fn differing(
+    alloc: Global,
+    owed: Owed,
+    free: Option<Free>,
+    numbers: &[PacketNumber],
+    nameable: &[PacketNumber],
+    ranges: &[Span],
+) -> Result<Cause, AllocError>
+    ensures { IfOk result (λ cause. cause
+        ≡ Cause.LossSet owed free (sets.runs_of (sets.unnamed ranges.now numbers.now))
+        (sets.others ranges.now nameable.now)) }
+{
+    let unnamed = Ranges::of_unnamed(alloc, ranges, numbers)?;
+    let unowed = Ranges::of_others(alloc, ranges, nameable)?;
+    Ok(Cause::LossSet {
+        owed,
+        free,
+        unnamed,
+        unowed,
+    })
+}
+
+/// The ranges that a Lost line names; none of another event.
+fn lost_ranges(event: &Event) -> &[Span]
+    ensures { result.now ≡ causes.lost_ranges event.now }
+{
+    match event {
+        Event::Lost { ranges, .. } => ranges.as_slice(),
+        _ => &[],
+    }
+}
+
+// ---- what was sent
+
+/// V6: the greatest number that was sent in the space of a packet.
+fn greatest_before<S: Facts>(state: &S, event: &Event) -> Option<PacketNumber>
+    ensures { (c : Settings) (h : List AnEvent) → S.tells state.now c h
+        → result ≡ causes.greatest_before h event.now }
+{
+    match event {
+        Event::Sent { space, .. } => state.greatest_sent(*space),
+        _ => None,
+    }
+}
+
+/// V10: the least number that an acknowledgment names and that was not sent.
+fn first_unsent<S: Facts>(state: &S, event: &Event) -> Option<PacketNumber>
+    ensures { (c : Settings) (h : List AnEvent) → S.tells state.now c h
+        → result ≡ causes.first_unsent_of h event.now }
+{
+    match event {
+        Event::Ack { space, ranges, .. } => state.first_unsent(*space, ranges.as_slice()),
+        _ => None,
+    }
+}
+
+// ---- permission to send
+
+/// V7: the window, and what of it is used.
+fn past_window<S: Facts>(state: &S) -> Cause
+    ensures { (c : Settings) (h : List AnEvent) → S.tells state.now c h
+        → result ≡ Cause.PastWindow (loss.bytes_in_flight c h)
+        (windows.window c h) c.options.window_overshoot }
+{
+    Cause::PastWindow {
+        in_flight: state.bytes_in_flight(),
+        window: state.window(),
+        overshoot: state.header().options().window_overshoot,
+    }
+}
+
+// ---- reported values
+
+/// V16: what the machine holds, and by how much a report may differ from it.
+fn metric<S: Facts>(state: &S) -> Cause
+    ensures { (c : Settings) (h : List AnEvent) → S.tells state.now c h
+        → result ≡ Cause.Metric (states.totals c h) c.options.report_slack_bytes
+        (in_unit c.unit c.options.report_slack_us) }
+{
+    let header = state.header();
+    let options = header.options();
+    Cause::Metric {
+        held: state.totals(),
+        slack_bytes: options.report_slack_bytes,
+        slack_time: header.unit().of_microseconds(options.report_slack_us),
+    }
+}
+
+/// V19: how great the reported window may be behind persistent congestion.
+fn collapse_missing<S: Facts>(state: &S, event: &Event) -> Cause
+    ensures { (c : Settings) (h : List AnEvent) → S.tells state.now c h
+        → result ≡ Cause.CollapseMissing (minimum_window_of c.max_datagram_size)
+        (windows.acknowledged_since_collapse c h) c.options.report_slack_bytes
+        (windows.other_window c h event.now) }
+{
+    Cause::CollapseMissing {
+        least: minimum_window(state.max_datagram_size()),
+        acknowledged: state.acknowledged_since_collapse(),
+        slack: state.header().options().report_slack_bytes,
+        reported: other_window(state, event),
+    }
+}
+
+// ---- the cause
+
+/// The facts of the rule, which the event breaks after these events. `AllocError` comes where it is
+/// out of memory.
+pub fn cause_of<S: Facts>(
+    alloc: Global,
+    state: &S,
+    event: &Event,
+    rule: Rule,
+) -> Result<Cause, AllocError>
+    ensures { IfOk result (λ cause. (c : Settings) (h : List AnEvent) → S.tells state.now c h
+        → cause ≡ causes.cause_of c h event.now rule) }
+{
+    match rule {
+        Rule::TimeBack => Ok(Cause::TimeBack {
+            before: state.last_time(),
+        }),
+        Rule::LossOwed => {
+            let owed = owed_of(alloc, state)?;
+            Ok(Cause::LossOwed { owed })
+        }
+        Rule::LossNotOwed => loss_not_owed(alloc, state),
+        Rule::LossSet => loss_set(alloc, state, lost_ranges(event)),
+        Rule::SpaceGone => Ok(Cause::SpaceGone),
+        Rule::NumberNotHigher => Ok(Cause::NumberNotHigher {
+            greatest: greatest_before(state, event),
+        }),
+        Rule::PastWindow => Ok(past_window(state)),
+        Rule::PastProbe => Ok(Cause::PastProbe {
+            allowance: PROBE_DATAGRAMS * state.max_datagram_size(),
+            spent: state.probe_spent(),
+        }),
+        Rule::PastRecovery => Ok(Cause::PastRecovery {
+            spent: state.recovery_spent(),
+        }),
+        Rule::AckUnsent => Ok(Cause::AckUnsent {
+            unsent: first_unsent(state, event),
+        }),
+        Rule::TimerNotSet => Ok(Cause::TimerNotSet),
+        Rule::TimerOther => Ok(Cause::TimerOther {
+            due: state.deadline(),
+        }),
+        Rule::TimerEarly => Ok(timer_early(state)),
+        Rule::ProbeOwed => Ok(Cause::ProbeOwed {
+            space: state.probe_due(),
+        }),
+        Rule::NotConfirmed => Ok(Cause::NotConfirmed),
+        Rule::Metric(_) => Ok(metric(state)),
+        Rule::OwedAtEnd => {
+            let owed = owed_of(alloc, state)?;
+            Ok(Cause::OwedAtEnd { owed })
+        }
+        Rule::TimerLate => Ok(timer_late(state)),
+        Rule::CollapseMissing => Ok(collapse_missing(state, event)),
+    }
+}

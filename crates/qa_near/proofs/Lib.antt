@@ -1,2 +1,0 @@
-mod Named
-pub mod KeysOf

@@ -1,9 +1,0 @@
-use Rattle.std.proofs.Common.{◌≡◌, take}
-use Rattle.std.specs.List.{list_any}
-use Rattle.qa_base.specs.machine.Packets.{Packet, history_of}
-use Rattle.qa_base.specs.machine.Detection.{are_ends}
-use Rattle.qa_plain.specs.Looks.{lost_in}
-use Rattle.qa_plain.proofs.congestion.is_persistent.Given as goal
-
-abbrev pub invariant-loop-place : goal.invariant-loop-place
-invariant-loop-place l = l.found ≡ list_any (λ (p : Packet). list_any (are_ends l.losses.look.rtt l.header (history_of l.events) p) (lost_in (history_of l.events) l.losses (history_of l.events))) (lost_in (history_of l.events) l.losses (history_of (take l.place l.events)))

@@ -1,9 +1,0 @@
-use Rattle.std.proofs.Common.{rules}
-use Rattle.qa_format.specs.format.Written.{integer}
-use Rattle.qa_quick.proofs.Finding.{put_delay}
-use Rattle.qa_quick.proofs.Taking.{integer_value}
-use Rattle.qa_quick.proofs.found.Found.delay.Goals as goal
-
--- The search is written out, so that a wrong body is refused at it.
-pub returns : goal.returns
-returns c = let n = c.in_ok-value.value in record { value = integer n; is = integer_value n c.args.bytes.now c.in_ok-value.rest.now c.in_ok-value.ensures.0 c.in_ok-value.ensures.1; keeps = search (rules, put_delay) }

@@ -1,5 +1,0 @@
-use Rattle.qa_quick.proofs.Taking.{last_member}
-use Rattle.qa_quick.proofs.found.Found.ended.Goals as goal
-
-pub returns : goal.returns
-returns c whole before = last_member c.args.self.now c.line_of.result whole c.args.bytes.now before (c.is_last.ensures c.if-not-is_last.false) c.line_of.ensures

@@ -1,5 +1,0 @@
-use Rattle.qa_quick.proofs.Saying.{says_keys}
-use Rattle.qa_quick.proofs.found.Found.handshake_keys.Goals as goal
-
-pub returns : goal.returns
-returns c = says_keys c.args.self.now c.in_ok-time.time c.requires c.in_ok-time.ensures

@@ -1,9 +1,0 @@
-use Rattle.std.proofs.Common.{codes, refl}
-use Rattle.std.proofs.lemmas.Option.{IfSome_then}
-use Rattle.qa_quick.proofs.Taking.{next_if}
-use Rattle.qa_quick.proofs.found.Found.leave_if.Goals as goal
-
-pub returns : goal.returns
-returns c =
-    IfSome_then c.leave.result c.leave.ensures
-    (λ rest puts whole before. next_if (codes "leave") _ _ whole c.args.bytes.now c.in-Some.behind.now rest.now refl c.in-Some.ensures (λ _. puts) before)

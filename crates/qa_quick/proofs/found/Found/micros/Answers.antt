@@ -1,5 +1,0 @@
-use Rattle.qa_quick.proofs.Saying.{time_is}
-use Rattle.qa_quick.proofs.found.Found.micros.Goals as goal
-
-pub returns : goal.returns
-returns c = time_is c.args.self.now.time c.in_ok-self.field-0 c.new.result c.in_ok-self.was c.new.ensures

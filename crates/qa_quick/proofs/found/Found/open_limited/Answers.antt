@@ -1,9 +1,0 @@
-use Rattle.qa_format.specs.format.Written.{boolean}
-use Rattle.qa_quick.proofs.Finding.{put_limited}
-use Rattle.qa_quick.proofs.Taking.{boolean_value}
-use Rattle.qa_quick.proofs.found.Found.open_limited.Goals as goal
-
-pub returns : goal.returns
-returns c ended =
-    let b = c.in_ok-value.value in
-    record { value = boolean b; is = boolean_value b c.args.bytes.now c.in_ok-value.rest.now (c.in_ok-value.ensures ended); keeps = put_limited c.args.self.now b }

@@ -1,5 +1,0 @@
-use Rattle.qa_quick.proofs.Making.{list_made}
-use Rattle.qa_quick.proofs.objects.list.Goals as goal
-
-pub returns : goal.returns
-returns c whole before = list_made c.items.new.into whole c.in_ok-rest.rest.now (c.in_ok-rest.ensures whole before)

@@ -1,6 +1,0 @@
-use Rattle.std.proofs.Common.{◌≡◌, drop, fold}
-use Rattle.qa_ranges.specs.Missing.{runs_of, with_number}
-use Rattle.qa_ranges.proofs.ranges.Ranges.of_numbers.Given as goal
-
-abbrev pub invariant-loop-number : goal.invariant-loop-number
-invariant-loop-number l = fold with_number l.set (drop l.number-index l.numbers) ≡ runs_of l.numbers

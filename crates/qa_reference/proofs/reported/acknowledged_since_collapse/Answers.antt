@@ -1,0 +1,31 @@
+use Rattle.std.proofs.Common.{◌∙◌, sym, ap}
+use Rattle.qa_base.specs.machine.Window.{acknowledged_since_collapse}
+use Rattle.qa_reference.proofs.Turns.{one_more, at_end}
+use Rattle.qa_reference.proofs.reported.acknowledged_since_collapse.Goals as goal
+
+pub since_collapse_after-sum-requires-clause-whole : goal.since_collapse_after-sum-requires-clause-whole
+since_collapse_after-sum-requires-clause-whole c = one_more c.args.events.now c.loop-place.place c.index-events-place.result c.loop-place-test.true c.index-events-place.is
+
+pub since_collapse_after-sum-requires-clause-seen : goal.since_collapse_after-sum-requires-clause-seen
+since_collapse_after-sum-requires-clause-seen c = c.losses_after-losses.ensures
+
+pub since_collapse_after-sum-requires-clause-known : goal.since_collapse_after-sum-requires-clause-known
+since_collapse_after-sum-requires-clause-known c = c.loop-place.invariant.sum
+
+pub refreshed_where_asked-rtt-requires : goal.refreshed_where_asked-rtt-requires
+refreshed_where_asked-rtt-requires c = record { seen = c.losses_after-losses.ensures }
+
+pub losses_after-losses-requires-clause-known : goal.losses_after-losses-requires-clause-known
+losses_after-losses-requires-clause-known c = c.loop-place.invariant.rtt
+
+pub loop-place-preserved : goal.loop-place-preserved
+loop-place-preserved c = record {
+  rtt = c.refreshed_where_asked-rtt.ensures;
+  sum = c.since_collapse_after-sum.ensures ∙ sym (ap (acknowledged_since_collapse c.args.header.now) (one_more c.args.events.now c.loop-place.place c.index-events-place.result c.loop-place-test.true c.index-events-place.is));
+}
+
+pub losses_after-losses-requires-clause-whole : goal.losses_after-losses-requires-clause-whole
+losses_after-losses-requires-clause-whole c = one_more c.args.events.now c.loop-place.place c.index-events-place.result c.loop-place-test.true c.index-events-place.is
+
+pub returns : goal.returns
+returns c = c.loop-place.invariant.sum ∙ at_end (acknowledged_since_collapse c.args.header.now) c.args.events.now c.loop-place.place c.loop-place-test.false

@@ -1,0 +1,32 @@
+-- Words for what one more event makes of a quantity.
+use Rattle.std.specs.Prelude.{◌∷◌, ℕ, Bool, max, true, false, Option, Some, None, List, []}
+use Rattle.std.specs.Prelude.{unwrap_or}
+use Rattle.qa_base.specs.declared.event.Event.{Event}
+use Rattle.qa_base.specs.declared.event.Event.TheVariants.{Discard}
+use Rattle.qa_base.specs.machine.Packets.{Packet}
+use Rattle.qa_base.specs.machine.Reno.{Move, CongestionEvent, is_outside_recovery}
+
+-- the greater of the two, where both are there
+abbrev pub raised : Option ℕ → Option ℕ → Option ℕ
+raised None most = most
+raised (Some n) None = Some n
+raised (Some n) (Some m) = Some (max n m)
+
+-- when the last of the packets was sent, where there is one
+abbrev pub last_sending : List Packet → Option ℕ
+last_sending [] = None
+last_sending (p ∷ ps) = Some (max p.time (unwrap_or (last_sending ps) 0))
+
+-- the move of a loss, of packets the last of which was sent at a time, where there are any
+abbrev pub hits_at : ℕ → Option ℕ → List Move
+hits_at now None = []
+hits_at now (Some last) = CongestionEvent last now ∷ []
+
+abbrev pub is_discard : Event → Bool
+is_discard (Discard time space) = true
+is_discard _ = false
+
+-- a loss enters recovery, of packets the last of which was sent at a time, where there are any
+abbrev pub entry_by : Option ℕ → Option ℕ → Bool
+entry_by recovery None = false
+entry_by recovery (Some last) = is_outside_recovery recovery last

@@ -1,9 +1,0 @@
-use Rattle.std.proofs.Common.{◌≡◌, ◌∙◌}
-use Rattle.qa_running.proofs.Causal.{on_each_ok}
-use Rattle.qa_running.proofs.Losses.{owed_numbers_stand}
-use Rattle.qa_sent.specs.Walks.{owed_numbers}
-use Rattle.qa_running.proofs.facts.RunningFacts.owed_numbers.Goals as goal
-
-pub returns : goal.returns
-returns c = rw (← c.self.view_is) (on_each_ok c.owed_numbers.result (λ found. found.items ≡ owed_numbers c.self.inside.machine.packets.packets) _ c.owed_numbers.ensures
-    (λ found is k h answers. is ∙ owed_numbers_stand k h answers.after.run.run c.self.inside.machine.packets answers.after.packets))

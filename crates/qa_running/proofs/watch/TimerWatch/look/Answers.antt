@@ -1,8 +1,0 @@
-use Rattle.std.proofs.Common.{◌∷◌}
-use Rattle.qa_running.proofs.Watching.{watched_more}
-use Rattle.qa_running.proofs.watch.TimerWatch.look.Goals as goal
-
-pub returns : goal.returns
-returns c = λ k e h of proper stands is watched.
-    watched_more c.args.self.now c.set.new.self k e h c.deadline.result c.args.now
-    (c.deadline.ensures k (e ∷ h) of proper (c.open_packets.ensures k (e ∷ h) proper.run stands)) is c.set.ensures.due c.set.ensures.since watched

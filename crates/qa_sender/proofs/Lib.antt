@@ -1,0 +1,16 @@
+pub mod Fates
+pub mod Carrying
+pub mod Events
+pub mod Dropping
+pub mod Queries
+pub mod Losses
+pub mod Sends
+pub mod Acks
+pub mod Answered
+pub mod Followed
+pub mod Watching
+pub mod Causal
+pub mod Nameable
+pub mod Completing
+pub mod Sparing
+pub mod connection_lemmas

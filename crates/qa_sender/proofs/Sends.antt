@@ -1,0 +1,31 @@
+-- What is known before an event of a tolerated run: what it sends is kept behind all other packets, and nothing is owed if it is no Lost line.
+use Rattle.std.proofs.Common.{◌≡◌, ◌<◌, ◌+◌, List, ◌∷◌, length, arith, subst}
+use Rattle.std.specs.List.{AllByRecursion}
+use Rattle.qa_base.specs.declared.event.Event.{Event}
+use Rattle.qa_base.specs.declared.event.Event.TheVariants.{Sent}
+use Rattle.qa_base.specs.declared.space.Permission.{Permission}
+use Rattle.qa_base.specs.machine.Breaches.{is_loss_owed}
+use Rattle.qa_base.specs.machine.Loss.{owed}
+use Rattle.qa_base.specs.machine.Packets.{is_some_packet}
+use Rattle.qa_base.specs.machine.Violations.{IsToleratedRun}
+use Rattle.qa_base.specs.values.Settings.{Settings}
+use Rattle.qa_sender.proofs.Dropping.{held_are_few}
+use Rattle.qa_sender.proofs.Events.{sent_last, settled_before}
+use Rattle.qa_sender.specs.Following.{IsNext}
+use Rattle.qa_sent_packets.specs.Held.{Held, IsBefore}
+use Rattle.qa_sent_packets.specs.Owing.{NoneOwed}
+use Rattle.qa_sent_packets.specs.declared.packet.SentPacket.{SentPacket}
+
+pub next_is_last : (held : Held) (e : Event) → IsNext held e → (packet : SentPacket) (permission : Permission)
+    → e ≡ Sent packet.time packet.space packet.number packet.size packet.eliciting packet.in_flight permission → AllByRecursion (λ q. IsBefore packet q) held.packets
+next_is_last held e next packet permission is =
+    sent_last next.header next.history packet permission (subst (λ (x : Event). IsToleratedRun next.header (x ∷ next.history)) is next.run.run) held next.stands
+
+pub next_has_room : (held : Held) (e : Event) → IsNext held e → held.dropped + length held.packets < 4294967295
+next_has_room held e next = omega (arith, held_are_few held next.header next.history next.stands, next.run.few)
+
+-- of such an event, known by an equation, the second premise is `λ c h. refl`
+pub settled_next : (held : Held) (e x : Event) → e ≡ x → ((c : Settings) (h : List Event) → is_loss_owed c h x ≡ is_some_packet (owed c h)) → IsNext held e → NoneOwed held.packets
+settled_next held e x is asks next =
+    let at : IsNext held x = subst (λ (y : Event). IsNext held y) is next in
+    settled_before at.header x at.history at.run.run (asks at.header at.history) held at.stands

@@ -1,0 +1,23 @@
+use Rattle.std.proofs.Common.{◌≡◌, refl, rules}
+use Rattle.qa_base.specs.declared.event.Event.TheVariants.{Ack, Timer, Discard}
+use Rattle.qa_base.specs.declared.space.TimerKind.TheVariants.{Loss}
+use Rattle.qa_sender.proofs.Sends.{next_has_room, next_is_last, settled_next}
+use Rattle.qa_sender.proofs.machine.Machine.on_event.Goals as goal
+
+pub on_sent-requires-clause-ordered : goal.on_sent-requires-clause-ordered
+on_sent-requires-clause-ordered c = next_is_last c.args.self.now.packets c.args.event.now c.requires.next _ c.in-Sent.permission c.in-Sent.is
+
+pub on_sent-requires-clause-few : goal.on_sent-requires-clause-few
+on_sent-requires-clause-few c = next_has_room c.args.self.now.packets c.args.event.now c.requires.next
+
+pub on_ack-requires : goal.on_ack-requires
+on_ack-requires c =
+    settled_next c.args.self.now.packets c.args.event.now (Ack c.in-Ack.time c.in-Ack.space c.in-Ack.ranges c.in-Ack.delay c.in-Ack.app_limited) c.in-Ack.is (λ k h. refl) c.requires.next
+
+pub on_loss_timer-requires : goal.on_loss_timer-requires
+on_loss_timer-requires c =
+    let is : c.args.event.now ≡ Timer c.in-Timer-default-Loss-default.time Loss c.in-Timer-default-Loss-default.space = search rules in
+    settled_next c.args.self.now.packets c.args.event.now (Timer c.in-Timer-default-Loss-default.time Loss c.in-Timer-default-Loss-default.space) is (λ k h. refl) c.requires.next
+
+pub on_discard-requires : goal.on_discard-requires
+on_discard-requires c = settled_next c.args.self.now.packets c.args.event.now (Discard c.in-Discard.time c.in-Discard.space) c.in-Discard.is (λ k h. refl) c.requires.next

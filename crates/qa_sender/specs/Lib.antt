@@ -1,0 +1,11 @@
+pub mod Standing
+pub mod Thresholds
+pub mod Trimmed
+pub mod Running
+pub mod Following
+pub mod Watch
+pub mod Machine
+pub mod Shown
+pub mod Freeing
+pub mod Losing
+pub mod connection

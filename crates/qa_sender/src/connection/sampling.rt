@@ -1,0 +1,87 @@
+//! The round-trip time, by its samples (RFC 9002, section 5).
+ghost use Rattle.std.specs.Prelude.{◌≡◌, reverse};
+ghost use Rattle.std.specs.List.{list_any};
+ghost use Rattle.qa_base.specs.machine.Rtt as estimates;
+ghost use Rattle.qa_sender.specs.connection.Steps as steps;
+
+use qa_base::{Header, PacketNumber, Ticks};
+use qa_recovery::Rtt;
+use qa_sent_packets::SentPacket;
+
+/// The estimate before the first sample.
+pub(crate) fn start(header: &Header) -> Rtt
+    ensures { result ≡ estimates.start header.now.initial_rtt }
+{
+    Rtt::start(Ticks::of(header.initial_rtt()))
+}
+
+/// When the last packet of this number was sent.
+fn sent_at(packets: &[SentPacket], number: PacketNumber) -> Option<Ticks>
+    ensures { result ≡ steps.sent_at number packets.now }
+{
+    let mut sent = None;
+    for packet in packets {
+        if packet.number == number {
+            sent = Some(packet.time);
+        }
+    }
+    sent
+}
+
+/// Whether one of the packets is ack-eliciting; where the sender samples no others, the one of this
+/// number.
+fn some_sampled(packets: &[SentPacket], only: bool, number: PacketNumber) -> bool
+    ensures { result ≡ list_any (steps.gives_sample only number) packets.now }
+{
+    packets.iter().any(|packet| packet.eliciting && (!only || packet.number == number))
+}
+
+/// The peer's delay, limited once the handshake is confirmed (RFC 9002, section 5.3).
+pub(crate) fn limited_delay(header: &Header, confirmed: bool, delay: u64) -> u64
+    ensures { result ≡ steps.limited_delay header.now.max_ack_delay confirmed delay }
+{
+    if confirmed {
+        delay.min(header.max_ack_delay())
+    } else {
+        delay
+    }
+}
+
+/// The sample of a packet that was sent then is taken in, where there is one.
+fn sample(rtt: &mut Rtt, sent: Option<Ticks>, delay: u64, now: Ticks)
+    ensures { rtt.new ≡ estimates.updated rtt.old (steps.sample_at now delay sent) }
+{
+    if let Some(sent) = sent {
+        rtt.sample(Ticks::of(now.get().saturating_sub(sent.get())), delay, now);
+    }
+}
+
+/// An acknowledgment is taken in that newly acknowledges these packets, which stand in the order of
+/// sending. It gives a sample where the largest acknowledged number and an ack-eliciting packet are
+/// among them (RFC 9002, section 5.1); where the sender samples no others, these are the same.
+pub(crate) fn acknowledge(
+    rtt: &mut Rtt,
+    packets: &[SentPacket],
+    number: PacketNumber,
+    delay: u64,
+    now: Ticks,
+    only: bool,
+)
+    ensures { rtt.new ≡ estimates.updated rtt.old
+        (steps.sample_by only now delay number packets.now) }
+{
+    if some_sampled(packets, only, number) {
+        sample(rtt, sent_at(packets, number), delay, now);
+    }
+}
+
+/// An event that found losses is taken in, with the event's sample before. Persistent congestion
+/// refreshes `min_rtt` where the header asks for it (RFC 9002, section 5.2).
+pub(crate) fn refresh(rtt: &mut Rtt, header: &Header, is_persistent: bool)
+    ensures { rtt.new ≡ steps.refreshed_if header.now.options.refresh_min_rtt is_persistent
+        rtt.old }
+{
+    if header.options().refresh_min_rtt && is_persistent {
+        rtt.refresh();
+    }
+}

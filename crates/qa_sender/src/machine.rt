@@ -1,0 +1,450 @@
+//! What each kind of event does to the state of a sender.
+ghost use Rattle.std.specs.Prelude.{◌≡◌, ◌≤◌, ◌<◌, ◌+◌, [], ◌∷◌, ℕ, List, length, filter, map};
+ghost use Rattle.std.specs.Prelude.{true, false, Some, IfOk, OnOk, OnErr};
+ghost use Rattle.std.specs.List.{AllByRecursion};
+ghost use Rattle.qa_base.specs.declared.event.Event.{Event as AnEvent};
+ghost use Rattle.qa_base.specs.declared.event.Event.TheVariants as events;
+ghost use Rattle.qa_base.specs.declared.space.TimerKind.TheVariants.{Loss, Pto};
+ghost use Rattle.qa_base.specs.declared.space.Space.{Space as ASpace};
+ghost use Rattle.qa_base.specs.machine.Detection.{looks_at as looks_at_of};
+ghost use Rattle.qa_base.specs.machine.Loss as loss;
+ghost use Rattle.qa_base.specs.machine.Violations.{IsToleratedRun};
+ghost use Rattle.qa_base.specs.values.Events.{fits, time_of};
+ghost use Rattle.qa_base.specs.values.Limits.{max_lines, max_packet_size};
+ghost use Rattle.qa_base.specs.values.Settings.{AreInRange, Settings};
+ghost use Rattle.qa_sender.specs.connection.Changes.{completed, with_persistent_congestion};
+ghost use Rattle.qa_sender.specs.connection.Changes.{with_congestion_event};
+ghost use Rattle.qa_sender.specs.connection.Detecting.{detection_after};
+ghost use Rattle.qa_sender.specs.connection.Known.{HasParts, IsMeasured, AreLosses};
+ghost use Rattle.qa_sender.specs.connection.Known.{IsProperToleratedRun};
+ghost use Rattle.qa_sender.specs.connection.Steps.{last_sent};
+ghost use Rattle.qa_sender.specs.declared.connection.detection.Detection.{Detection as ADetection};
+ghost use Rattle.qa_packet_numbers.specs.Sent.{AreSent};
+ghost use Rattle.qa_sender.specs.Following.{IsNext, takes_memory};
+ghost use Rattle.qa_sender.specs.Freeing.{free_of};
+ghost use Rattle.qa_sender.specs.Losing.{HoldsLosses, LosesWhatIsOwed};
+ghost use Rattle.qa_sender.specs.Thresholds.{AreThresholdsAt};
+ghost use Rattle.qa_sender.specs.Machine.{Follows, StandsFor as Stands, StandsOnceFound};
+ghost use Rattle.qa_sender.specs.Standing.{StandsFor};
+ghost use Rattle.qa_sender.specs.Trimmed.{IsTrimmed};
+ghost use Rattle.qa_sender.specs.Watch.{IsWatched};
+ghost use Rattle.qa_sent_packets.specs.Fates.{is_new};
+ghost use Rattle.qa_sent_packets.specs.Free.{AreOwedIn};
+ghost use Rattle.qa_sent_packets.specs.Held.{IsBefore};
+ghost use Rattle.qa_sent_packets.specs.Owing.{NoneOwed};
+ghost use Rattle.qa_sent_packets.specs.Steps.{covered_by};
+ghost use Rattle.qa_sent_packets.specs.declared.fate.Fate.TheVariants.{Open};
+
+use crate::answers::open_in;
+use crate::connection::{Connection, Detection, Losses};
+use crate::freeing::free_packets;
+use crate::watch::TimerWatch;
+use qa_base::{Event, Header, MetricValues, Permission, Space, Span, Spans, Ticks, TimerKind};
+use qa_packet_numbers::{Ranges, SentNumbers};
+use qa_sent_packets::{Fate, SentPacket, SentPackets, Thresholds, are_falling};
+use std::alloc::{AllocError, Global};
+
+/// The state of a sender after some events: what RFC 9002 keeps in A.3 and B.2, and what the rules
+/// ask beside it.
+#[derive(Drop)]
+pub(crate) struct Machine {
+    /// The connection.
+    pub(crate) connection: Connection,
+    /// The packets since the oldest that is still open or owed.
+    pub(crate) packets: SentPackets,
+    /// The numbers that were sent.
+    pub(crate) numbers: SentNumbers,
+    /// What the timer is set for, and since when.
+    pub(crate) watch: TimerWatch,
+}
+
+impl Machine {
+    /// Before any event. Takes no memory.
+    pub(crate) fn start(alloc: Global, header: Header) -> Machine
+        ensures { Stands result header [] }
+    {
+        Machine {
+            connection: Connection::start(header),
+            packets: SentPackets::new(alloc),
+            numbers: SentNumbers::new(alloc),
+            watch: TimerWatch::start(),
+        }
+    }
+
+    /// An acknowledgment came (RFC 9002, A.7). Nothing may be owed. `AllocError` comes where it is
+    /// out of memory, and leaves the machine as it was.
+    pub(crate) fn on_ack(
+        &mut self,
+        alloc: Global,
+        time: Ticks,
+        space: Space,
+        ranges: &Spans,
+        delay: u64,
+        app_limited: bool,
+    ) -> Result<(), AllocError>
+        requires { NoneOwed self.old.packets.packets }
+        ensures ok { OnOk result
+            (Follows self.old self.new (events.Ack time space ranges.now delay app_limited)) }
+        ensures err { OnErr result (self.new ≡ self.old) }
+    {
+        let largest = ranges.greatest();
+        let ranges = ranges.as_slice();
+        let acknowledged = cover(alloc, &mut self.packets, space, ranges)?;
+        self.connection.acknowledge(space, largest);
+        if acknowledged.is_empty() {
+            self.packets.take_back(acknowledged);
+            self.finish(time, None);
+            return Ok(());
+        }
+        self.connection.sample(&acknowledged, largest, delay, time);
+        let detection = self
+            .connection
+            .detected(space, time.get(), time, &acknowledged);
+        self.find_losses(space, time.get(), time);
+        self.connection.grow(&acknowledged, app_limited);
+        self.packets.take_back(acknowledged);
+        self.connection.restart(time);
+        self.finish(time, Some(detection));
+        Ok(())
+    }
+
+    /// A packet was sent (A.5 and B.4). It is open, was sent after those that are kept, and fewer
+    /// than 4,294,967,295 were ever sent. `AllocError` comes where it is out of memory; its number
+    /// may be among those that were sent then, and nothing else has changed.
+    pub(crate) fn on_sent(
+        &mut self,
+        packet: SentPacket,
+        permission: Permission,
+    ) -> Result<(), AllocError>
+        requires open { packet.fate ≡ Open }
+        requires small { packet.size ≤ max_packet_size }
+        requires ordered { AllByRecursion (λ q. IsBefore packet q) self.old.packets.packets }
+        requires few { self.old.packets.dropped + length self.old.packets.packets < max_lines }
+        ensures ok { OnOk result
+            (Follows self.old self.new
+            (events.Sent packet.time packet.space packet.number packet.size packet.eliciting
+            packet.in_flight permission)) }
+        ensures err { OnErr result (self.new ≡ record self.old { numbers = self.new.numbers }) }
+    {
+        self.numbers.insert(packet.space, packet.number)?;
+        self.packets.push(packet)?;
+        self.connection.send(&packet, permission);
+        self.finish(packet.time, None);
+        Ok(())
+    }
+
+    /// The loss timer of a space fired (A.9). Nothing may be owed.
+    pub(crate) fn on_loss_timer(&mut self, time: Ticks, space: Space)
+        requires { NoneOwed self.old.packets.packets }
+        ensures { Follows self.old self.new (events.Timer time Loss space) }
+    {
+        let early = self.connection.header.timer_early();
+        let open = open_in(&self.packets, space);
+        let due = self.connection.loss_time(space, open.oldest);
+        let looked = looks_at(early, time, due);
+        let detection = self.connection.detected(space, looked, time, &[]);
+        self.connection.timer.last_set = Some(time);
+        self.find_losses(space, looked, time);
+        self.finish(time, Some(detection));
+    }
+
+    /// A probe timeout of a space (A.9).
+    pub(crate) fn on_probe_timeout(&mut self, time: Ticks, space: Space)
+        ensures { Follows self.old self.new (events.Timer time Pto space) }
+    {
+        self.connection.probe(space, time);
+        self.finish(time, None);
+    }
+
+    /// Packets of these numbers were declared lost (A.10): what is owed, and beyond it what is free
+    /// and named. With these the Lost line completes the detection in front of it. What is owed has
+    /// to be of the space of that.
+    pub(crate) fn on_lost(&mut self, time: Ticks, ranges: &Spans)
+        requires { AreOwedIn (free_of self.old.connection).space self.old.packets.packets }
+        ensures { (space : ASpace)
+            → Follows self.old self.new (events.Lost time space ranges.now) }
+    {
+        let free = free_packets(&self.connection);
+        let completes = self.packets.take(ranges.as_slice(), free);
+        self.complete(completes);
+        self.packets.declare_lost();
+        self.finish(time, None);
+    }
+
+    /// A Lost line completes the detection of the event before, or not. Where it does, what is lost
+    /// by that is taken in: all that is held as owed now.
+    fn complete(&mut self, completes: bool)
+        ensures connection { (c : Settings) (h : List AnEvent) (d : ADetection)
+            → completes ≡ true → self.old.connection.detection ≡ Some d → IsToleratedRun c h
+            → IsMeasured self.old.connection c h → HoldsLosses self.old.packets c h
+            → self.new.connection
+            ≡ completed d (last_sent (loss.declared c h))
+            (loss.is_persistent c h) self.old.connection }
+        ensures still { completes ≡ false → self.new.connection ≡ self.old.connection }
+        ensures packets { self.new.packets ≡ self.old.packets }
+        ensures numbers { self.new.numbers ≡ self.old.numbers }
+        ensures watch { self.new.watch ≡ self.old.watch }
+        ensures range { (d : ADetection) → completes ≡ true
+            → self.old.connection.detection ≡ Some d → AreInRange self.old.connection.header }
+    {
+        if !completes {
+            return;
+        }
+        let Some(detection) = self.connection.detection else {
+            return;
+        };
+        let losses = losses(&self.packets, &self.connection);
+        self.connection.complete(losses, &detection);
+    }
+
+    /// The keys of a space were discarded (A.11 and B.9). Nothing may be owed.
+    pub(crate) fn on_discard(&mut self, time: Ticks, space: Space)
+        requires { NoneOwed self.old.packets.packets }
+        ensures { Follows self.old self.new (events.Discard time space) }
+    {
+        self.connection.discard(space, time);
+        self.packets.discard(space);
+        self.finish(time, None);
+    }
+
+    /// The handshake was confirmed (RFC 9001, section 4.1.2).
+    pub(crate) fn on_confirmed(&mut self, time: Ticks)
+        ensures { Follows self.old self.new (events.Confirmed time) }
+    {
+        self.connection.handshake.confirmed = true;
+        self.finish(time, None);
+    }
+
+    /// The keys of the Handshake space are there.
+    pub(crate) fn on_keys(&mut self, time: Ticks)
+        ensures { Follows self.old self.new (events.Keys time) }
+    {
+        self.connection.handshake.has_keys = true;
+        self.finish(time, None);
+    }
+
+    /// The sender reported its own state.
+    pub(crate) fn on_metrics(&mut self, time: Ticks, values: &MetricValues)
+        ensures { Follows self.old self.new (events.Metrics time values.now) }
+    {
+        self.connection.report(values.window);
+        self.finish(time, None);
+    }
+
+    /// Any event that breaks no rule. `AllocError` comes where it is out of memory, which only a
+    /// packet that is sent and an acknowledgment can be; numbers that were sent may have changed
+    /// then, and nothing else.
+    pub(crate) fn on_event(&mut self, alloc: Global, event: &Event) -> Result<(), AllocError>
+        requires next { IsNext self.old.packets event.now }
+        requires owed { AreOwedIn (free_of self.old.connection).space self.old.packets.packets }
+        requires fitting { fits event.now ≡ true }
+        ensures ok { OnOk result (Follows self.old self.new event.now) }
+        ensures err { OnErr result (self.new ≡ record self.old { numbers = self.new.numbers }) }
+        ensures memory { OnErr result (takes_memory event.now ≡ true) }
+    {
+        match event {
+            Event::Sent {
+                time,
+                space,
+                number,
+                size,
+                eliciting,
+                in_flight,
+                permission,
+            } => {
+                let packet = SentPacket {
+                    time: *time,
+                    space: *space,
+                    number: *number,
+                    size: *size,
+                    eliciting: *eliciting,
+                    in_flight: *in_flight,
+                    fate: Fate::Open,
+                };
+                self.on_sent(packet, *permission)
+            }
+            Event::Ack {
+                time,
+                space,
+                ranges,
+                delay,
+                app_limited,
+            } => self.on_ack(alloc, *time, *space, ranges, *delay, *app_limited),
+            Event::Timer {
+                time,
+                kind: TimerKind::Loss,
+                space,
+            } => {
+                self.on_loss_timer(*time, *space);
+                Ok(())
+            }
+            Event::Timer {
+                time,
+                kind: TimerKind::Pto,
+                space,
+            } => {
+                self.on_probe_timeout(*time, *space);
+                Ok(())
+            }
+            Event::Lost { time, ranges, .. } => {
+                self.on_lost(*time, ranges);
+                Ok(())
+            }
+            Event::Discard { time, space } => {
+                self.on_discard(*time, *space);
+                Ok(())
+            }
+            Event::Confirmed { time } => {
+                self.on_confirmed(*time);
+                Ok(())
+            }
+            Event::Keys { time } => {
+                self.on_keys(*time);
+                Ok(())
+            }
+            Event::Metrics { time, values } => {
+                self.on_metrics(*time, values);
+                Ok(())
+            }
+        }
+    }
+
+    /// Looks for losses in a space as of a time, and takes in what they mean for the window, now
+    /// (A.10 and B.8). Nothing may be owed before.
+    fn find_losses(&mut self, space: Space, looked: u64, now: Ticks)
+        requires { NoneOwed self.old.packets.packets }
+        ensures packets { (c : Settings) (h : List AnEvent) → IsMeasured self.old.connection c h
+            → StandsOnceFound self.old.packets c h space looked → StandsFor self.new.packets c h }
+        ensures connection { (c : Settings) (h : List AnEvent) → IsToleratedRun c h
+            → LosesWhatIsOwed c h
+            → IsMeasured self.old.connection c h → StandsOnceFound self.old.packets c h space looked
+            → self.new.connection
+            ≡ with_persistent_congestion (loss.is_persistent c h)
+            (with_congestion_event now (last_sent (loss.declared c h)) self.old.connection) }
+        ensures range { AreInRange self.old.connection.header }
+        ensures numbers { self.new.numbers ≡ self.old.numbers }
+        ensures watch { self.new.watch ≡ self.old.watch }
+    {
+        let thresholds = thresholds(&self.connection, space, looked);
+        self.packets.detect(space, &thresholds);
+        let losses = losses(&self.packets, &self.connection);
+        self.connection.lose(losses, now);
+    }
+
+    /// Ends an event that happened now and looked for losses or did not: it is counted, packets
+    /// that are of no more use are dropped, and the timer is set (A.8).
+    ///
+    /// It is a part of each kind of event, since only two of them look for losses.
+    #[inline(always)]
+    fn finish(&mut self, now: Ticks, detection: Option<Detection>)
+        ensures { (c : Settings) (e : AnEvent) (h : List AnEvent) → now ≡ time_of e
+            → detection ≡ detection_after c (e ∷ h) → IsProperToleratedRun c (e ∷ h)
+            → self.old.connection.events ≡ length h
+            → HasParts self.old.connection c (e ∷ h) → StandsFor self.old.packets c (e ∷ h)
+            → AreSent self.old.numbers (e ∷ h) → IsWatched self.old.watch c h
+            → Stands self.new c (e ∷ h) }
+    {
+        self.connection.count(now, detection);
+        trim(&mut self.packets);
+        self.watch.follow(&self.connection, &self.packets, now);
+    }
+}
+
+/// Drops the packets that are of no more use. The first that is left is open or owed.
+#[tactic(auto, using(crate::proofs::Dropping::stands_trimmed, crate::proofs::Dropping::front_dropped))]
+#[inline(always)]
+fn trim(packets: &mut SentPackets)
+    ensures stands { (c : Settings) (h : List AnEvent) → IsToleratedRun c h
+        → StandsFor packets.old c h
+        → StandsFor packets.new c h }
+    ensures trimmed { IsTrimmed packets.new.packets }
+{
+    packets.drop_closed();
+}
+
+/// Covers the packets of the space that some span names. Returns those of them that were open, in
+/// the order of sending. Nothing may be owed. `AllocError` comes where it is out of memory, and
+/// leaves the packets as they were.
+fn cover(
+    alloc: Global,
+    packets: &mut SentPackets,
+    space: Space,
+    spans: &[Span],
+) -> Result<Vec<SentPacket>, AllocError>
+    requires settled { NoneOwed packets.old.packets }
+    ensures ok { OnOk result
+        (packets.new
+        ≡ record {
+          dropped = packets.old.dropped;
+          packets = map (covered_by space spans.now) packets.old.packets;
+        }) }
+    ensures found { IfOk result (λ found. found.items
+        ≡ filter (is_new space spans.now) packets.old.packets) }
+    ensures err { OnErr result (packets.new ≡ packets.old) }
+{
+    let mut found = packets.lend_list();
+    if are_falling(spans) {
+        // They mostly do, and are in order by themselves, which takes no memory.
+        packets.acknowledge(space, spans, true, &mut found)?;
+        return Ok(found);
+    }
+    let in_order = Ranges::of_spans(alloc, spans)?;
+    packets.acknowledge(space, in_order.as_slice(), false, &mut found)?;
+    Ok(found)
+}
+
+/// As of when a loss timer looks for losses that goes off at a time: when it is due, if that is
+/// later, but no later than it may be early.
+fn looks_at(early: u64, time: Ticks, due: Option<u64>) -> u64
+    requires { early ≤ 1000000000000 }
+    ensures { result ≡ looks_at_of early time due }
+{
+    match due {
+        None => time.get(),
+        Some(due) => time.get().max(due.min(time.get() + early)),
+    }
+}
+
+/// By what the event tells which packets of the space are past a threshold, as of a time.
+fn thresholds(connection: &Connection, space: Space, now: u64) -> Thresholds
+    ensures { (c : Settings) (h : List AnEvent) → IsMeasured connection.now c h
+        → AreThresholdsAt c h space now result }
+{
+    Thresholds {
+        header: connection.header,
+        rtt: connection.rtt,
+        now,
+        largest: connection.spaces.of(space).largest,
+    }
+}
+
+/// What is lost by the last event: what is held as owed.
+#[inline(always)]
+fn losses(packets: &SentPackets, connection: &Connection) -> Losses
+    ensures { (c : Settings) (h : List AnEvent) → HoldsLosses packets.now c h → IsToleratedRun c h
+        → IsMeasured connection.now c h → AreLosses result c h }
+{
+    Losses {
+        last_lost: packets.last_owed(),
+        is_persistent: is_persistent(packets, connection),
+    }
+}
+
+/// Whether what is lost by the last event establishes persistent congestion (RFC 9002, section
+/// 7.6).
+#[inline(always)]
+fn is_persistent(packets: &SentPackets, connection: &Connection) -> bool
+    ensures { (c : Settings) (h : List AnEvent) → HoldsLosses packets.now c h → IsToleratedRun c h
+        → IsMeasured connection.now c h → result ≡ loss.is_persistent c h }
+{
+    match connection.rtt.first_rtt_sample {
+        None => false,
+        Some(first) => {
+            let limit = connection.rtt.persistent_after(
+                connection.header.granularity(),
+                Ticks::of(connection.header.max_ack_delay()),
+            );
+            packets.is_persistent(limit, first)
+        }
+    }
+}

@@ -1,6 +1,0 @@
-use Rattle.std.proofs.Common.{◌≡◌, ◌++◌, drop, map, take}
-use Rattle.qa_sent.specs.Steps.{declared}
-use Rattle.qa_sent.proofs.declaring.declare_in.Given as goal
-
-abbrev pub invariant-loop-at : goal.invariant-loop-at
-invariant-loop-at l = l.packets.items ≡ map declared (take l.at l.fn.packets.items) ++ drop l.at l.fn.packets.items

@@ -1,8 +1,0 @@
-use Rattle.std.proofs.Common.{arith}
-use Rattle.qa_sent.proofs.Declared.{sound_declared}
-use Rattle.qa_sent.proofs.packets.SentPackets.declare_lost.Goals as goal
-
-pub invariant_of-self : goal.invariant_of-self
-invariant_of-self c =
-    let inside = c.self.inside in
-    rw c.declare_in.ensures (sound_declared inside.dropped inside.packets.items inside.losses _ inside.lanes c.self.invariant (omega arith))

@@ -1,7 +1,0 @@
-use Rattle.qa_sent.proofs.Taken.{taken_behind}
-use Rattle.qa_sent.proofs.taking.take_in_lane.Goals as goal
-
-pub advance-requires-clause-behind : goal.advance-requires-clause-behind
-advance-requires-clause-behind c =
-    rw (c.take_all-losses.ensures.packets, c.take_all-losses.ensures.next)
-    (taken_behind c.args.free c.args.spans.now c.args.dropped c.args.packets.now.items c.args.lane.now.next c.requires.lane.behind)

@@ -1,0 +1,20 @@
+use Rattle.std.proofs.Common.{◌≡◌, ◌∙◌, None, count_by, sym, ap}
+use Rattle.std.specs.Prelude.{slice_range}
+use Rattle.qa_sent_packets.specs.Fates.{is_owed}
+use Rattle.qa_sent_packets.specs.Held.{Held}
+use Rattle.qa_sent_packets.specs.Walks.{are_apart}
+use Rattle.qa_sent_packets.proofs.Owed.{apart_of_none, apart_of_part}
+use Rattle.qa_sent_packets.proofs.packets.SentPackets.is_persistent.Goals as goal
+
+pub returns : goal.returns
+returns c =
+    let part = c.owed_part.result in
+    c.are_apart_in.ensures
+    ∙ (ap (λ (h : Held). are_apart c.args.limit c.args.first None (slice_range h.packets part.start part.end)) c.self.view_is
+    ∙ sym (apart_of_part c.args.limit c.args.first c.args.self.now.packets part.start part.end c.owed_part.ensures))
+
+pub returns-then-self-eq0 : goal.returns-then-self-eq0
+returns-then-self-eq0 c =
+    let ps = c.self.inside.packets.items in
+    let none : count_by (λ p. is_owed p.fate) ps ≡ 0 = sym c.self.invariant.owed.count ∙ c.if-self-eq0.true in
+    apart_of_none c.args.limit c.args.first ps none ∙ ap (λ (h : Held). are_apart c.args.limit c.args.first None h.packets) c.self.view_is

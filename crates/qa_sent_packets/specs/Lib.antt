@@ -1,0 +1,13 @@
+pub mod Detection
+pub mod Dropping
+pub mod Fates
+pub mod Held
+pub mod Owing
+pub mod Steps
+pub mod Walks
+pub mod Told
+pub mod BySpace
+pub mod Covering
+pub mod Naming
+pub mod Free
+pub mod Unacknowledged

@@ -1,0 +1,84 @@
+-- What events make of the packets that are kept.
+use Rattle.std.specs.Prelude.{ℕ, ◌+◌, ◌&&◌, Bool, List, drop, length, take_while, Option}
+use Rattle.std.specs.Prelude.{if◌then◌else◌}
+use Rattle.qa_base.specs.declared.space.Space.{Space}
+use Rattle.qa_base.specs.declared.space.Permission.TheVariants.{Window}
+use Rattle.qa_base.specs.machine.Detection.{is_past_threshold}
+use Rattle.qa_base.specs.machine.Packets.{Packet}
+use Rattle.qa_base.specs.machine.Rtt.{Estimate}
+use Rattle.qa_base.specs.values.Events.{is_named}
+use Rattle.qa_base.specs.values.Settings.{Settings}
+use Rattle.qa_sent_packets.specs.Fates.{is_closed, is_flying, is_owed, is_waiting}
+use Rattle.qa_sent_packets.specs.Held.{Held}
+use Rattle.qa_sent_packets.specs.declared.fate.Fate.{Fate}
+use Rattle.qa_sent_packets.specs.declared.fate.Fate.TheVariants.{Acknowledged, DeclaredLost}
+use Rattle.qa_sent_packets.specs.declared.fate.Fate.TheVariants.{Discarded, Owed}
+use Rattle.qa_sent_packets.specs.declared.packet.SentPacket.{SentPacket}
+
+-- the packet with this fate
+abbrev pub with_fate : Fate → SentPacket → SentPacket
+with_fate f p = record {
+  time = p.time;
+  space = p.space;
+  number = p.number;
+  size = p.size;
+  eliciting = p.eliciting;
+  in_flight = p.in_flight;
+  fate = f;
+}
+
+-- an acknowledgment of these ranges in the space (RFC 9002, A.7)
+abbrev pub covered_by : Space → List (ℕ × ℕ) → SentPacket → SentPacket
+covered_by s ranges p =
+    if is_waiting s p && is_named ranges p.number then with_fate Acknowledged p else p
+
+-- ---- detection (RFC 9002, A.10)
+
+-- by what a detection tells which packets are past a threshold: the header, the estimate, as of
+-- when it looks, and the largest acknowledged number of its space
+pub record Thresholds : Type 0 where
+  pub header : Settings
+  pub rtt : Estimate
+  pub now : ℕ
+  pub largest : Option ℕ
+
+-- the packet as the definitions have it, of which a detection asks for its number and time alone
+abbrev pub packet_at : SentPacket → Packet
+packet_at p = record {
+  place = 0;
+  time = p.time;
+  space = p.space;
+  number = p.number;
+  size = p.size;
+  eliciting = p.eliciting;
+  in_flight = p.in_flight;
+  permission = Window;
+}
+
+abbrev pub is_past_threshold_by : Thresholds → SentPacket → Bool
+is_past_threshold_by l p = is_past_threshold l.header l.rtt l.now l.largest (packet_at p)
+
+-- a detection in the space finds those past a threshold of the packets that are open and in flight
+abbrev pub found_by : Space → Thresholds → SentPacket → SentPacket
+found_by s l p = if is_flying s p && is_past_threshold_by l p then with_fate Owed p else p
+
+-- a Lost line declares what is owed
+abbrev pub declared : SentPacket → SentPacket
+declared p = if is_owed p.fate then with_fate DeclaredLost p else p
+
+-- the keys of the space are discarded (RFC 9002, section 6.4)
+abbrev pub discarded_in : Space → SentPacket → SentPacket
+discarded_in s p = if is_waiting s p then with_fate Discarded p else p
+
+-- ---- dropping
+
+-- how many closed packets stand before all others
+abbrev pub closed_count : List SentPacket → ℕ
+closed_count ps = length (take_while is_closed ps)
+
+-- they are dropped
+abbrev pub trimmed : Held → Held
+trimmed h = record {
+  dropped = h.dropped + closed_count h.packets;
+  packets = drop (closed_count h.packets) h.packets;
+}

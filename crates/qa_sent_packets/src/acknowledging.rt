@@ -1,0 +1,106 @@
+//! What an acknowledgment covers, and what of that it newly acknowledges.
+ghost use Rattle.std.specs.Prelude.{◌≡◌, ◌≤◌, ◌+◌, [], filter, length, map, reverse, true, OnErr};
+ghost use Rattle.std.specs.Prelude.{OnOk};
+ghost use Rattle.std.specs.Vec.{vec_capacity, vec_len};
+ghost use Rattle.qa_base.specs.machine.Numbers.{AreRanges};
+ghost use Rattle.qa_base.specs.values.Limits.{max_lines};
+ghost use Rattle.qa_sent_packets.specs.Covering.{AreApart, HasRoom};
+ghost use Rattle.qa_sent_packets.specs.Fates.{is_new};
+ghost use Rattle.qa_sent_packets.specs.Held.{AreOrdered, IsSpacePackets};
+ghost use Rattle.qa_sent_packets.specs.Naming.{turned};
+ghost use Rattle.qa_sent_packets.specs.Steps.{covered_by};
+
+use crate::advancing::advance;
+use crate::covering::cover_spans;
+use crate::named::NamedNumbers;
+use crate::packet::SentPacket;
+use crate::space_packets::SpacePackets;
+use qa_base::{Space, Span};
+use std::alloc::AllocError;
+use std::collections::VecDeque;
+
+/// Whether each span ends below the one before it, as those of an acknowledgment mostly do.
+pub fn are_falling(spans: &[Span]) -> bool
+    ensures apart { result ≡ true → AreApart (reverse spans.now) }
+    ensures each { AreApart (reverse spans.now) → result ≡ true }
+    ensures ranges { AreRanges (reverse spans.now) }
+{
+    let mut falling = true;
+    let mut next = 0;
+    for at in 0..spans.len() {
+        let span = NamedNumbers::nth(spans, true, at);
+        falling = falling && next <= span.lo().get();
+        next = span.hi().get() + 1;
+    }
+    falling
+}
+
+/// Covers the packets that some span names in what is kept for the space, finds which of them
+/// were open, and raises the space's `next` to the first that is still in flight. The
+/// spans rise, taken from the first to the last or, where they fall, from the last to the first.
+/// `AllocError` comes where it is out of memory, and leaves the packets as they were.
+pub(crate) fn acknowledge_in_space(
+    packets: &mut VecDeque<SentPacket>,
+    dropped: u64,
+    space_packets: &mut SpacePackets,
+    space: Space,
+    spans: &[Span],
+    falling: bool,
+    found: &mut Vec<SentPacket>,
+) -> Result<(), AllocError>
+    requires few { dropped + length packets.old.items ≤ max_lines }
+    requires space_packets { IsSpacePackets space dropped packets.old.items space_packets.old }
+    requires ordered { AreOrdered packets.old.items }
+    requires apart { AreApart (turned falling spans.now) }
+    requires ranges { AreRanges (turned falling spans.now) }
+    requires none { found.old.items ≡ [] }
+    ensures packets { OnOk result (packets.new.items
+        ≡ map (covered_by space spans.now) packets.old.items) }
+    ensures new { OnOk result (found.new.items
+        ≡ filter (is_new space spans.now) packets.old.items) }
+    ensures err { OnErr result (packets.new.items ≡ packets.old.items) }
+    ensures space_packets { IsSpacePackets space dropped packets.new.items space_packets.new }
+{
+    make_ready(space_packets, spans, falling, found)?;
+    cover_spans(
+        packets,
+        dropped,
+        space_packets,
+        space,
+        spans,
+        falling,
+        found,
+    );
+    advance(packets, dropped, space_packets, space);
+    Ok(())
+}
+
+/// Takes the memory that an acknowledgment needs: for the entries that it passes over, which lie
+/// below its highest span, and for those that it may find.
+fn make_ready(
+    space_packets: &mut SpacePackets,
+    spans: &[Span],
+    falling: bool,
+    found: &mut Vec<SentPacket>,
+) -> Result<(), AllocError>
+    requires few { length space_packets.old.unacknowledged.entries ≤ max_lines }
+    requires apart { AreApart (turned falling spans.now) }
+    requires ranges { AreRanges (turned falling spans.now) }
+    ensures entries { space_packets.new.unacknowledged.entries
+        ≡ space_packets.old.unacknowledged.entries }
+    ensures next { space_packets.new.next ≡ space_packets.old.next }
+    ensures in_flight { space_packets.new.in_flight ≡ space_packets.old.in_flight }
+    ensures awaiting { space_packets.new.awaiting ≡ space_packets.old.awaiting }
+    ensures items { found.new.items ≡ found.old.items }
+    ensures room { OnOk result
+        (HasRoom (vec_len found.new)
+        (vec_capacity found.new) space_packets.new.unacknowledged.entries
+        (turned falling spans.now)) }
+{
+    if spans.is_empty() {
+        return Ok(());
+    }
+    let highest = NamedNumbers::nth(spans, falling, spans.len() - 1);
+    space_packets.unacknowledged.part(highest.lo().get())?;
+    found.reserve(space_packets.unacknowledged.most_to(highest.hi().get()))
+}

@@ -1,6 +1,0 @@
-use Rattle.std.proofs.lemmas.Option.{IfSome_then}
-use Rattle.qa_tokens.proofs.Lexing.{spaced, lexes_colon}
-use Rattle.qa_tokens.proofs.tokens.colon.Goals as goal
-
-pub returns : goal.returns
-returns c = IfSome_then c.past.result c.past.ensures (λ rest past. spaced past.spaced (lexes_colon _ _ past.is) past.spaced_behind)

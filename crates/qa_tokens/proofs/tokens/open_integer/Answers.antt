@@ -1,8 +1,0 @@
-use Rattle.std.proofs.lemmas.Option.{IfSome_then}
-use Rattle.qa_tokens.proofs.Lexing.{lexes_integer}
-use Rattle.qa_tokens.proofs.tokens.open_integer.Goals as goal
-
-pub returns : goal.returns
-returns c =
-    IfSome_then c.digits.result c.digits.ensures
-    (λ found is. (is.1, λ ended. lexes_integer found.0 c.args.bytes.now found.1.now is.1 ended is.0))

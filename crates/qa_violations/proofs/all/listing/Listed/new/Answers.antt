@@ -1,0 +1,5 @@
+use Rattle.std.proofs.Common.{refl}
+use Rattle.qa_violations.proofs.all.listing.Listed.new.Goals as goal
+
+pub returns-clause-fresh : goal.returns-clause-fresh
+returns-clause-fresh c = λ name. (c.new.ensures.fresh name, (c.new-2.ensures.items, c.new-3.ensures, c.new-4.ensures.items), refl, refl)

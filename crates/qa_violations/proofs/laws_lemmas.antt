@@ -1,0 +1,4 @@
+pub mod Sums
+pub mod Sets
+pub mod Accepted
+pub mod Breaking

@@ -1,0 +1,4 @@
+pub mod table
+pub mod around
+pub mod all
+pub mod laws

@@ -1,0 +1,84 @@
+//! The rows of a trace, behind violations too.
+ghost use Rattle.std.specs.Prelude.{◌≡◌, ℕ, List, false, Some, Err, IfOk, OnErr};
+ghost use Rattle.qa_violations.specs.all.All.{past_sender_rules};
+ghost use Rattle.qa_violations.specs.all.Rows.{WritesAllRows};
+ghost use Rattle.qa_check.specs.Audit.{ReadsBy, ReadsEnoughBy, is_read_fault, is_write_fault};
+ghost use Rattle.qa_check.specs.Failures.{failures_after};
+ghost use Rattle.qa_check.specs.Writing.{BeginsToldRead, ShowsToldRead};
+ghost use Rattle.qa_format.specs.verdicts.Explain.{told};
+ghost use Rattle.qa_why.specs.json_rows.Rows.{row_of};
+
+use crate::all::tolerating::Tolerating;
+use qa_check::{AuditFault, Line, LineText, Outcome, Sink, Source, judge};
+use qa_ledger::{Explains, Tolerates};
+use qa_why::row;
+use std::alloc::{AllocError, Global};
+
+/// A line is told by its row.
+struct PastRow;
+
+impl<L: Tolerates + Explains + Drop> LineText<Tolerating<L>> for PastRow {
+    ghost use Rattle.qa_why.specs.json_rows.Rows.{row_of};
+
+    ghost text = { row_of };
+
+    fn of_line(
+        alloc: Global,
+        line: u64,
+        said: &Line,
+        judge: &Tolerating<L>,
+    ) -> Result<Vec<u8>, AllocError> {
+        row(alloc, line, said, judge.ledger())
+    }
+}
+
+/// Reads a trace and writes the row of each line that is admitted past violations of sender
+/// rules, and no report.
+///
+/// The rows are those that `qa_why::rows` writes, and go on behind the first violation. The rows of
+/// each piece that is read are written before the next is asked for; after a failure the rows so
+/// far stand written. What is returned is the kind of how the trace ends past its violations.
+pub fn rows_all<L: Tolerates + Explains + Drop, R: Source, W: Sink>(
+    alloc: Global,
+    reader: &mut R,
+    writer: &mut W,
+) -> Result<Outcome, AuditFault>
+    // For a reader that tells its bytes: their rows were written, and the kind of how they end is
+    // returned.
+    ensures told { (bytes : List ℕ) → R.left reader.old ≡ Some bytes
+        → IfOk result (λ outcome.
+        WritesAllRows (W.held writer.old) (W.held writer.new) outcome bytes) }
+
+    // For every reader: what was read decides, since it is all there is, or nothing behind it
+    // counts.
+    ensures ok { IfOk result (λ outcome. (bytes : List ℕ)
+        × ReadsEnoughBy past_sender_rules (R.left reader.old) (R.left reader.new)
+        (R.last_read reader.new) bytes
+        × WritesAllRows (W.held writer.old) (W.held writer.new) outcome bytes) }
+
+    // The bytes before the last read did not fix how the trace ends, whatever the result.
+    ensures reads { ReadsBy past_sender_rules (R.left reader.old) (R.left reader.new)
+        (R.last_read reader.new) }
+
+    // After a failed read all rows of the lines that an LF ended were written, and nothing else.
+    ensures rows { result ≡ Err AuditFault.Read
+        → ShowsToldRead past_sender_rules row_of (R.left reader.old) (R.left reader.new)
+        (W.held writer.old) (W.held writer.new) }
+
+    // After another failure the beginning of the rows was written.
+    ensures begun { is_read_fault result ≡ false → OnErr result
+        (BeginsToldRead past_sender_rules row_of (R.left reader.old) (R.left reader.new)
+        (R.last_read reader.new) (W.held writer.old) (W.held writer.new)
+        (told row_of past_sender_rules)) }
+
+    // A fault of the reader or the writer is returned exactly where it failed, once.
+    ensures read_failures { R.read_failures reader.new
+        ≡ failures_after (is_read_fault result) (R.read_failures reader.old) }
+    ensures write_failures { W.write_failures writer.new
+        ≡ failures_after (is_write_fault result) (W.write_failures writer.old) }
+{
+    match judge::<Tolerating<L>, PastRow, R, W>(alloc, reader, writer) {
+        Ok(verdict) => Ok(Outcome::of(&verdict)),
+        Err(fault) => Err(fault),
+    }
+}

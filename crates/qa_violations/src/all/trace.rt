@@ -1,0 +1,223 @@
+//! From a reader of bytes to all violations of a trace, on a writer.
+ghost use Rattle.std.specs.Prelude.{[], ◌≡◌, ◌≢◌, ◌++◌, ℕ, List, false, Some, Err, OnErr, IfOk};
+ghost use Rattle.std.specs.Prelude.{take};
+ghost use Rattle.std.specs.Io.KnownBytes.{Appends};
+ghost use Rattle.qa_violations.specs.all.All.{WritesAll, all_outcome, all_written};
+ghost use Rattle.qa_violations.specs.all.All.{past_sender_rules, told_by};
+ghost use Rattle.qa_check.specs.Audit.{ReadsBy, ReadsEnoughBy, is_read_fault, is_write_fault};
+ghost use Rattle.qa_check.specs.Failures.{failures_after};
+ghost use Rattle.qa_why.specs.Why.{good_lines};
+
+use crate::all::keeping::Kept;
+use crate::all::listing::Listed;
+use crate::all::tolerating::Tolerating;
+use crate::around::Manner;
+use qa_check::{AuditFault, Outcome, Sink, Source, write_whole};
+use qa_format::{Form, Line};
+use qa_ledger::{Explains, Tolerates};
+use qa_why::{Both, Notes, Why, find, unless_accepted, whole};
+use std::alloc::{AllocError, Global};
+
+impl<L: Tolerates + Explains + Drop> Notes<Tolerating<L>> for Listed {
+    ghost use Rattle.qa_violations.specs.all.Keeping.{CoversListed};
+
+    ghost covers = { CoversListed };
+
+    fn note(
+        &mut self,
+        _name: &str,
+        n: u64,
+        _line: &[u8],
+        said: &Line,
+        judge: Option<&Tolerating<L>>,
+    ) -> Result<(), AllocError> {
+        match judge {
+            Some(judge) => self.note_said(n, said, judge),
+            None => Ok(()),
+        }
+    }
+}
+
+impl<L: Tolerates + Explains + Drop> Notes<Tolerating<L>> for Kept {
+    ghost use Rattle.qa_violations.specs.all.Keeping.{Covers};
+
+    ghost covers = { Covers };
+
+    fn note(
+        &mut self,
+        name: &str,
+        n: u64,
+        line: &[u8],
+        said: &Line,
+        judge: Option<&Tolerating<L>>,
+    ) -> Result<(), AllocError> {
+        match judge {
+            Some(judge) => self.note_said(name, n, line, said, judge),
+            None => Ok(()),
+        }
+    }
+}
+
+/// Reads a trace and writes its violations of sender rules, the first of each kind with its
+/// facts; how it ends past them, unless it is accepted but for them; and a table of all. Behind
+/// each violation that is told with its facts, and behind the end, stand the rows of the last good
+/// lines before it, up to so many; in an object those before the first violation, or else before
+/// the end. Where it is to be quiet, it writes nothing of a trace that is accepted and violates
+/// nothing.
+///
+/// A trace that violates a rule is `Outcome::Refused`, or `Outcome::Unreadable` where it ends so.
+/// Further notes are taken of the good lines, and handed back with the kind of the verdict;
+/// `NoNotes` where none are wanted. It reads up to the line that ends the trace past its
+/// violations, and fails where a stream fails, or memory runs out. Beside what `audit` and those
+/// notes hold it takes memory for so many rows and for the text alone, which is bounded.
+pub fn why_all<L: Tolerates + Explains + Drop, N: Notes<Tolerating<L>> + Drop, R: Source, W: Sink>(
+    alloc: Global,
+    manner: Manner,
+    name: &str,
+    notes: N,
+    reader: &mut R,
+    writer: &mut W,
+) -> Result<(Outcome, N), AuditFault>
+    requires fresh { N.covers name.now notes notes [] }
+
+    // For a reader that tells its bytes: the text for them was written, the kind of their verdict
+    // is returned, and these are notes of their good lines.
+    ensures told { (bytes : List ℕ) → R.left reader.old ≡ Some bytes
+        → IfOk result (λ told.
+        WritesAll (W.held writer.old) (W.held writer.new) manner name.now told.0 bytes
+        × N.covers name.now notes told.1 (good_lines past_sender_rules bytes)) }
+
+    // For every reader: what was read decides, since it is all there is, or nothing behind it
+    // counts.
+    ensures ok { IfOk result (λ told. (bytes : List ℕ)
+        × ReadsEnoughBy past_sender_rules (R.left reader.old) (R.left reader.new)
+        (R.last_read reader.new) bytes
+        × WritesAll (W.held writer.old) (W.held writer.new) manner name.now told.0 bytes
+        × N.covers name.now notes told.1 (good_lines past_sender_rules bytes)) }
+
+    // The bytes before the last read did not fix how the trace ends, whatever the result.
+    ensures reads { ReadsBy past_sender_rules (R.left reader.old) (R.left reader.new)
+        (R.last_read reader.new) }
+
+    // After a failed write the beginning of the text was written, and else nothing.
+    ensures beginning { result ≡ Err AuditFault.Write → (bytes : List ℕ) × (n : ℕ)
+        × ReadsEnoughBy past_sender_rules (R.left reader.old) (R.left reader.new)
+        (R.last_read reader.new) bytes
+        × Appends (W.held writer.old) (W.held writer.new)
+        (take n (all_written manner name.now bytes)) }
+    ensures unwritten { result ≢ Err AuditFault.Write
+        → OnErr result (W.held writer.new ≡ W.held writer.old) }
+
+    // A fault of the reader or the writer is returned exactly where it failed, once.
+    ensures read_failures { R.read_failures reader.new
+        ≡ failures_after (is_read_fault result) (R.read_failures reader.old) }
+    ensures write_failures { W.write_failures writer.new
+        ≡ failures_after (is_write_fault result) (W.write_failures writer.old) }
+{
+    let (told, notes) = find_all::<L, N, R>(alloc, manner, name, notes, reader)?;
+    let all = whole(alloc, manner.form, name, told)?;
+    write_whole(
+        writer,
+        unless_accepted(manner.quiet, all.outcome, &all.text),
+    )?;
+    Ok((all.outcome, notes))
+}
+
+/// What is told of all violations of what is read, in a form, and the notes of its good lines.
+fn find_all<L: Tolerates + Explains + Drop, N: Notes<Tolerating<L>> + Drop, R: Source>(
+    alloc: Global,
+    manner: Manner,
+    name: &str,
+    notes: N,
+    reader: &mut R,
+) -> Result<(Why, N), AuditFault>
+    requires fresh { N.covers name.now notes notes [] }
+    ensures told { IfOk result (λ told. (bytes : List ℕ)
+        × ReadsEnoughBy past_sender_rules (R.left reader.old) (R.left reader.new)
+        (R.last_read reader.new) bytes
+        × (told.0.text.items ≡ told_by manner.around manner.form name.now bytes)
+        × (told.0.outcome ≡ all_outcome bytes)
+        × N.covers name.now notes told.1 (good_lines past_sender_rules bytes)) }
+    ensures reads { ReadsBy past_sender_rules (R.left reader.old) (R.left reader.new)
+        (R.last_read reader.new) }
+    ensures read_failures { R.read_failures reader.new
+        ≡ failures_after (is_read_fault result) (R.read_failures reader.old) }
+    ensures written { is_write_fault result ≡ false }
+{
+    match manner.form {
+        Form::Text => find_texts::<L, N, R>(alloc, manner.around, name, notes, reader),
+        Form::Json => find_members::<L, N, R>(alloc, manner.around, name, notes, reader),
+    }
+}
+
+/// The text of all violations of what is read.
+fn find_texts<L: Tolerates + Explains + Drop, N: Notes<Tolerating<L>> + Drop, R: Source>(
+    alloc: Global,
+    around: u16,
+    name: &str,
+    notes: N,
+    reader: &mut R,
+) -> Result<(Why, N), AuditFault>
+    requires fresh { N.covers name.now notes notes [] }
+    ensures told { IfOk result (λ told. (bytes : List ℕ)
+        × ReadsEnoughBy past_sender_rules (R.left reader.old) (R.left reader.new)
+        (R.last_read reader.new) bytes
+        × (told.0.text.items ≡ told_by around Form.Text name.now bytes)
+        × (told.0.outcome ≡ all_outcome bytes)
+        × N.covers name.now notes told.1 (good_lines past_sender_rules bytes)) }
+    ensures reads { ReadsBy past_sender_rules (R.left reader.old) (R.left reader.new)
+        (R.last_read reader.new) }
+    ensures read_failures { R.read_failures reader.new
+        ≡ failures_after (is_read_fault result) (R.read_failures reader.old) }
+    ensures written { is_write_fault result ≡ false }
+{
+    let mut both = Both {
+        first: Kept::new(alloc, around),
+        second: notes,
+    };
+    let end = find::<Tolerating<L>, Both<Kept, N>, R>(alloc, Form::Text, name, reader, &mut both)?;
+    let Both { first, second } = both;
+    match first.finish(name, end) {
+        Ok(all) => Ok((all, second)),
+        Err(_) => Err(AuditFault::OutOfMemory),
+    }
+}
+
+/// The members of an object that tell of all violations of what is read.
+fn find_members<L: Tolerates + Explains + Drop, N: Notes<Tolerating<L>> + Drop, R: Source>(
+    alloc: Global,
+    around: u16,
+    name: &str,
+    notes: N,
+    reader: &mut R,
+) -> Result<(Why, N), AuditFault>
+    requires fresh { N.covers name.now notes notes [] }
+    ensures told { IfOk result (λ told. (bytes : List ℕ)
+        × ReadsEnoughBy past_sender_rules (R.left reader.old) (R.left reader.new)
+        (R.last_read reader.new) bytes
+        × (told.0.text.items ≡ told_by around Form.Json name.now bytes)
+        × (told.0.outcome ≡ all_outcome bytes)
+        × N.covers name.now notes told.1 (good_lines past_sender_rules bytes)) }
+    ensures reads { ReadsBy past_sender_rules (R.left reader.old) (R.left reader.new)
+        (R.last_read reader.new) }
+    ensures read_failures { R.read_failures reader.new
+        ≡ failures_after (is_read_fault result) (R.read_failures reader.old) }
+    ensures written { is_write_fault result ≡ false }
+{
+    let mut both = Both {
+        first: Listed::new(alloc, around),
+        second: notes,
+    };
+    let end = find::<Tolerating<L>, Both<Listed, N>, R>(
+        alloc,
+        Form::Json,
+        name,
+        reader,
+        &mut both,
+    )?;
+    let Both { first, second } = both;
+    match first.finish(end) {
+        Ok(all) => Ok((all, second)),
+        Err(_) => Err(AuditFault::OutOfMemory),
+    }
+}

@@ -1,6 +1,0 @@
-use Rattle.std.proofs.Common.{refl}
-use Rattle.qa_warnings.proofs.Telling.{told_none}
-use Rattle.qa_warnings.proofs.told.Told.new.Goals as goal
-
-pub returns : goal.returns
-returns c = λ name. rw (told_none, c.new.ensures.items, c.new-2.ensures.items) (refl, refl, refl, refl)

@@ -1,8 +1,0 @@
-use Rattle.std.proofs.Common.{◌∙◌, map, sym}
-use Rattle.qa_warnings.specs.Found.{at, of_header}
-use Rattle.qa_warnings.proofs.Telling.{full_stays}
-use Rattle.qa_warnings.proofs.told.Told.tell_header.Goals as goal
-
-pub returns-then-is_full : goal.returns-then-is_full
-returns-then-is_full c = λ fs tells.
-    full_stays c.args.name.now c.args.self.now fs (map (at c.args.n) (of_header c.args.version c.args.line.now)) (sym c.is_full.ensures ∙ c.if-is_full.true) tells

@@ -1,7 +1,0 @@
-use Rattle.qa_why.specs.Sending.{recovery_line}
-use Rattle.qa_why.proofs.Pushed.{last}
-use Rattle.qa_why.proofs.sending.push_recovery_line.Goals as goal
-
-pub returns : goal.returns
-unfolding recovery_line
-returns c = last c.push_words.result _ _ _ _ _ (c.in_ok-push_number.ensures) c.push_words.ensures

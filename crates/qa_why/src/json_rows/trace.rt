@@ -1,0 +1,76 @@
+//! The rows of a trace, from a reader of bytes to a writer.
+ghost use Rattle.std.specs.Prelude.{◌≡◌, ℕ, List, false, Some, Err, IfOk, OnErr};
+ghost use Rattle.qa_format.specs.verdicts.Verdict.{strict};
+ghost use Rattle.qa_check.specs.Audit.{Reads, ReadsEnough, is_read_fault, is_write_fault};
+ghost use Rattle.qa_check.specs.Failures.{failures_after};
+ghost use Rattle.qa_check.specs.Writing.{BeginsToldRead, ShowsToldRead};
+ghost use Rattle.qa_format.specs.format.Reading.{reading};
+ghost use Rattle.qa_format.specs.format.Written.{line_fits};
+ghost use Rattle.qa_format.specs.verdicts.Explain.{told};
+ghost use Rattle.qa_why.specs.json_rows.Rows.{WritesRows, row_of};
+
+use crate::json_rows::line::row;
+use qa_check::{AuditFault, Line, LineText, Outcome, Sink, Source, judge};
+use qa_ledger::Explains;
+use std::alloc::{AllocError, Global};
+
+/// A line is told by its row.
+pub struct JsonRow;
+
+impl<L: Explains> LineText<L> for JsonRow {
+    ghost use Rattle.qa_why.specs.json_rows.Rows.{row_of};
+
+    ghost text = { row_of };
+
+    fn of_line(alloc: Global, line: u64, said: &Line, ledger: &L) -> Result<Vec<u8>, AllocError> {
+        row(alloc, line, said, ledger)
+    }
+}
+
+/// Reads a trace and writes the row of each line that is admitted, and no report.
+///
+/// The rows of each piece that is read are written before the next is asked for. It reads what
+/// `audit` reads, and fails where that fails; after a failure the rows so far stand written. What
+/// is returned is the kind of the verdict.
+pub fn rows<L: Explains + Drop, R: Source, W: Sink>(
+    alloc: Global,
+    reader: &mut R,
+    writer: &mut W,
+) -> Result<Outcome, AuditFault>
+    // For a reader that tells its bytes: their rows were written, and the kind of their verdict is
+    // returned.
+    ensures told { (bytes : List ℕ) → R.left reader.old ≡ Some bytes
+        → IfOk result (λ outcome.
+        WritesRows (W.held writer.old) (W.held writer.new) outcome bytes) }
+
+    // For every reader: what was read decides, since it is all there is, or nothing behind it
+    // counts.
+    ensures ok { IfOk result (λ outcome. (bytes : List ℕ)
+        × ReadsEnough (R.left reader.old) (R.left reader.new) (R.last_read reader.new) bytes
+        × WritesRows (W.held writer.old) (W.held writer.new) outcome bytes) }
+
+    // The bytes before the last read did not fix the verdict, whatever the result.
+    ensures reads { Reads (R.left reader.old) (R.left reader.new) (R.last_read reader.new) }
+
+    // After a failed read all rows of the lines that an LF ended were written, and nothing else.
+    ensures rows { result ≡ Err AuditFault.Read
+        → ShowsToldRead (strict reading) row_of (R.left reader.old) (R.left reader.new)
+        (W.held writer.old) (W.held writer.new) }
+
+    // After another failure the beginning of the rows was written.
+    ensures begun { is_read_fault result ≡ false → OnErr result
+        (BeginsToldRead (strict reading) row_of (R.left reader.old) (R.left reader.new)
+        (R.last_read reader.new) (W.held writer.old) (W.held writer.new)
+        (told row_of (strict reading))) }
+
+    // A fault of the reader or the writer is returned exactly where it failed, once.
+    ensures read_failures { R.read_failures reader.new
+        ≡ failures_after (is_read_fault result) (R.read_failures reader.old) }
+    ensures write_failures { W.write_failures writer.new
+        ≡ failures_after (is_write_fault result) (W.write_failures writer.old) }
+{
+    match judge::<L, JsonRow, R, W>(alloc, reader, writer) {
+        Ok(verdict) => Ok(Outcome::of(&verdict)),
+        Err(fault) => Err(fault),
+    }
+}

@@ -1,7 +1,0 @@
-mod Finish
-mod Letters
-mod Matches
-mod Meaning
-mod Rows
-mod Turns
-mod Walking

@@ -1,6 +1,0 @@
-//! The arguments of the program `qaudit-why`: what they ask for, or that they ask for nothing.
-#![tactic(auto)]
-
-mod arguments;
-
-pub use arguments::{Asked, Inquiry, Told, parse};

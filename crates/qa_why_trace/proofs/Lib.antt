@@ -1,4 +1,0 @@
-mod Among
-mod Judged
-pub mod Told
-mod Found
