@@ -1,0 +1,106 @@
+#!/usr/bin/env python3
+"""Compares the causes that causes.py finds with those that docs/findings.md names.
+
+They were found by reading the traces of conformance/real and the sources of their senders. A trace
+that is not in the table below has a cause that no question of causes.py asks for.
+"""
+
+import json
+import subprocess
+import sys
+import unittest
+from pathlib import Path
+
+from causes import CAUSES, cause_of
+
+HERE = Path(__file__).parent
+REAL = HERE.parent / "conformance" / "real"
+LESS_THE_DELAY = "V16: `latest_rtt` is less the delay"
+PROBE = "V16: a probe timeout takes packets out of flight"
+FROM_THE_MINIMUM = "V16: `rttvar` is taken from the minimum"
+HANDSHAKE = "V3: packets of the handshake are declared lost"
+ROUNDED = "V16: whole milliseconds decide whether the delay is subtracted"
+NAMED = {
+    "quic-go-probe": PROBE,
+    "quic-go-reno-probe": PROBE,
+    "quic-go-latest": LESS_THE_DELAY,
+    "quic-go-cubic-latest": LESS_THE_DELAY,
+    "aioquic-latest": LESS_THE_DELAY,
+    "aioquic-rttvar": FROM_THE_MINIMUM,
+    "aioquic-minimum": FROM_THE_MINIMUM,
+    "aioquic-crypto-lost": HANDSHAKE,
+}
+# A packet, its acknowledgment 20 ms later, and another packet.
+SAMPLES = """\
+{"event":"header","version":2,"role":"client","max_datagram_size":1200,"max_ack_delay":2000,\
+"report_slack_us":100}
+{"event":"sent","time":0,"space":"app","number":0,"size":1200,"eliciting":true,"in_flight":true}
+{"event":"ack","time":20000,"space":"app","ranges":[[0,0]],"delay":0}
+{"event":"sent","time":20000,"space":"app","number":1,"size":1200,"eliciting":true,"in_flight":true}
+"""
+
+
+def verdict_on(trace: bytes) -> str:
+    """The first line of the report on a trace."""
+    audit = [sys.executable, str(HERE / "audit.py")]
+    report = subprocess.run(audit, input=trace, capture_output=True, check=True).stdout
+    return report.decode().partition("\n")[0]
+
+
+def cause_behind_sample(rule: str, delay: int, reported: dict[str, int]) -> str:
+    """The cause where a report behind a second sample, of 23 ms, is refused."""
+    ack = {"event": "ack", "time": 43000, "space": "app", "ranges": [[1, 1]], "delay": delay}
+    report = {"event": "metrics", "time": 43000, **reported}
+    trace = f"{SAMPLES}{json.dumps(ack)}\n{json.dumps(report)}\n"
+    return cause_of(trace.encode(), f"refused line 6 {rule}")
+
+
+class Causes(unittest.TestCase):
+    """Causes of real traces, and each question on both sides."""
+
+    def test_real_traces(self) -> None:
+        """Each refused trace has the cause that the findings name, or its rule alone."""
+        for path in sorted((REAL / "traces").glob("*.trace")):
+            trace = path.read_bytes()
+            verdict = verdict_on(trace)
+            rule = verdict if verdict == "accepted" else verdict.split(" ", 3)[3]
+            with self.subTest(path.stem):
+                self.assertEqual(cause_of(trace, verdict), NAMED.get(path.stem, rule))
+
+    def test_delay_explains_the_sample(self) -> None:
+        """A report that is less the delay, or the limited one, within the slack; others are not."""
+        rule = "V16 metric latest_rtt"
+        less = (19900, 20100, 20900, 21100)
+        for reported in (*less, 19899, 20101, 20899, 21101):
+            with self.subTest(reported):
+                found = cause_behind_sample(rule, 3000, {"latest_rtt": reported})
+                self.assertEqual(found, LESS_THE_DELAY if reported in less else rule)
+
+    def test_whole_milliseconds(self) -> None:
+        """A sample that is the minimum and the delay within a millisecond, and one that is not."""
+        rule = "V16 metric rttvar"
+        for delay, cause in ((2000, ROUNDED), (4000, ROUNDED), (1000, rule), (5000, rule)):
+            with self.subTest(delay):
+                self.assertEqual(cause_behind_sample(rule, delay, {"rttvar": 1}), cause)
+
+    def test_no_delay(self) -> None:
+        """Without a delay nothing is subtracted."""
+        for rule in ("V16 metric latest_rtt", "V16 metric rttvar"):
+            reported = {rule.split()[-1]: 1}
+            with self.subTest(rule):
+                self.assertEqual(cause_behind_sample(rule, 0, reported), rule)
+
+    def test_not_refused(self) -> None:
+        """What is no refusal is its own cause."""
+        for verdict in ("accepted", "not converted", "unreadable line 2 F1 not-json"):
+            self.assertEqual(cause_of(b"", verdict), verdict)
+
+    def test_every_cause_is_seen(self) -> None:
+        """No cause is left out of these tests."""
+        named = {cause for questions in CAUSES.values() for _, cause in questions}
+        seen = {name.partition(": ")[2] for name in (*NAMED.values(), ROUNDED)}
+        self.assertEqual(named, seen)
+
+
+if __name__ == "__main__":
+    unittest.main()
