@@ -37,7 +37,7 @@ python_of_page := page/qaudit-page page/qaudit-matrix $(wildcard page/qaudit_pag
 python_of_page_tests := page/measure $(wildcard page/*.py page/tests/*.py)
 python_of_qlog := qlog/qlog-to-trace qlog/test_qlog.py $(wildcard qlog/qlog_to_trace/*.py)
 # captures/transfer.py runs where aioquic is, and is checked for style alone.
-python_of_captures := captures/audit.py captures/causes.py captures/run captures/table captures/test_causes.py examples/delay.py examples/logger.py
+python_of_captures := captures/audit.py captures/causes.py captures/run captures/stacks.py captures/table captures/test_causes.py examples/delay.py examples/logger.py
 python_of_bindings := $(wildcard bindings/python/*.py)
 python_of_bench := $(addprefix bench/,instructions library peers run trace) $(wildcard bench/*.py) bench/programs/read.py
 
