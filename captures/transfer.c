@@ -1,6 +1,6 @@
 // A transfer over OpenSSL's QUIC, 3.5 and later, with a qlog in the folder that QLOGDIR names.
 //
-//   transfer server PORT CERT KEY            serves one connection and ends
+//   transfer server PORT CERT KEY [no-retry] serves one connection and ends
 //   transfer client PORT down|up BYTES PARTS
 //
 // cc transfer.c -lssl -lcrypto
@@ -73,22 +73,22 @@ static void answer(SSL *stream) {
   SSL_free(stream);
 }
 
-static SSL *listener_at(int port, SSL_CTX *context) {
+static SSL *listener_at(int port, uint64_t flags, SSL_CTX *context) {
   int server = opened_socket();
   struct sockaddr_in address = loopback(port);
   if (bind(server, (struct sockaddr *)&address, sizeof address)) fail("bind");
-  SSL *listener = SSL_new_listener(context, 0);
+  SSL *listener = SSL_new_listener(context, flags);
   if (!listener || !SSL_set_fd(listener, server) || !SSL_listen(listener)) fail("SSL_listen");
   return listener;
 }
 
-static void serve(int port, const char *cert, const char *key) {
+static void serve(int port, const char *cert, const char *key, uint64_t flags) {
   SSL_CTX *context = SSL_CTX_new(OSSL_QUIC_server_method());
   if (!context || SSL_CTX_use_certificate_chain_file(context, cert) <= 0 ||
       SSL_CTX_use_PrivateKey_file(context, key, SSL_FILETYPE_PEM) <= 0)
     fail("SSL_CTX_new");
   SSL_CTX_set_alpn_select_cb(context, choose_protocol, NULL);
-  SSL *listener = listener_at(port, context);
+  SSL *listener = listener_at(port, flags, context);
   SSL *connection = SSL_accept_connection(listener, 0);
   if (!connection) fail("SSL_accept_connection");
   SSL_set_default_stream_mode(connection, SSL_DEFAULT_STREAM_MODE_NONE);
@@ -150,15 +150,16 @@ static void transfer(int port, char way, uint64_t size, int parts) {
 }
 
 int main(int count, char **words) {
-  if (count == 5 && !strcmp(words[1], "server")) {
-    serve(atoi(words[2]), words[3], words[4]);
+  int sends_no_retry = count == 6 && !strcmp(words[5], "no-retry");
+  if ((count == 5 || sends_no_retry) && !strcmp(words[1], "server")) {
+    serve(atoi(words[2]), words[3], words[4], sends_no_retry ? SSL_LISTENER_FLAG_NO_VALIDATE : 0);
     return 0;
   }
   if (count == 6 && !strcmp(words[1], "client") && atoi(words[5]) > 0) {
     transfer(atoi(words[2]), words[3][0], strtoull(words[4], NULL, 10), atoi(words[5]));
     return 0;
   }
-  fprintf(stderr, "%s server PORT CERT KEY | %s client PORT down|up BYTES PARTS\n", words[0],
+  fprintf(stderr, "%s server PORT CERT KEY [no-retry] | %s client PORT down|up BYTES PARTS\n", words[0],
           words[0]);
   return USAGE;
 }
