@@ -122,6 +122,26 @@ def is_probe_forgotten(before: Before, event: Event) -> bool:
     return "pto" in before.timers and int(event["bytes_in_flight"]) < before.in_flight
 
 
+def padded_in_flight(before: Before) -> int:
+    """The bytes in flight of packets that have PADDING and elicit no acknowledgment."""
+    bare = (packet for packet in before.sent.values() if not packet["eliciting"])
+    return sum(int(packet["size"]) for packet in bare if packet["in_flight"])
+
+
+def is_padding_forgotten(before: Before, event: Event) -> bool:
+    """Whether what is not reported in flight are just these."""
+    padded = padded_in_flight(before)
+    return padded > 0 and before.in_flight - int(event["bytes_in_flight"]) == padded
+
+
+def is_padding_in_the_way(before: Before, event: Event) -> bool:
+    """Whether the packet is one of these, or has room if they are left out, as in the report."""
+    padded = padded_in_flight(before)
+    others = before.in_flight - padded
+    are_left_out = padded > 0 and before.reports.get("bytes_in_flight") == others
+    return not event["eliciting"] or are_left_out and others < before.reports.get("window", 0)
+
+
 def is_from_the_minimum(before: Before, event: Event) -> bool:
     """Whether the reported `rttvar` is that of the distance between the sample and the minimum."""
     last = before.reports
@@ -150,7 +170,8 @@ Question = Callable[[Before, Event], bool]
 CAUSES: dict[str, list[tuple[Question, str]]] = {
     "V16 metric latest_rtt": [(is_less_the_delay, "`latest_rtt` is less the delay")],
     "V16 metric bytes_in_flight": [
-        (is_probe_forgotten, "a probe timeout takes packets out of flight")
+        (is_padding_forgotten, "a padded ACK is not in flight"),
+        (is_probe_forgotten, "a probe timeout takes packets out of flight"),
     ],
     "V16 metric rttvar": [
         (is_rounded, "whole milliseconds decide whether the delay is subtracted"),
@@ -159,6 +180,7 @@ CAUSES: dict[str, list[tuple[Question, str]]] = {
     "V16 metric smoothed_rtt": [
         (is_rounded, "whole milliseconds decide whether the delay is subtracted")
     ],
+    "V7 past-window": [(is_padding_in_the_way, "a padded ACK is not in flight")],
     "V3 loss-not-owed": [(is_declared_unasked, "packets of the handshake are declared lost")],
 }
 

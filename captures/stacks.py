@@ -11,6 +11,8 @@ SIDES = ("client", "server")
 # Their servers serve on, and are interrupted once the connection is closed.
 SERVE_ON = ("ngtcp2", "curl", "firefox", "chromium")
 BROWSERS = ("firefox", "chromium")
+# Stacks that have a client only. Their server is ngtcp2's, whose logs are kept apart.
+CLIENTS = ("curl", *BROWSERS)
 # Debian's packages that have the stacks; what captures/build makes of a source leaves its version.
 PACKAGES = {
     "quic-go": "golang-github-lucas-clemente-quic-go-dev",
@@ -46,6 +48,11 @@ user_pref("datareporting.policy.dataSubmissionEnabled", false);
 """
 
 
+def server_set(logs: Path) -> Path:
+    """The folder for the server's logs, beside that of the logs of a stack with a client only."""
+    return logs.with_name(f"ngtcp2-for-{logs.name}")
+
+
 @dataclass(frozen=True)
 class Transfer:
     """A transfer: what is moved which way, where its files lie, and its ports."""
@@ -72,7 +79,10 @@ class Transfer:
     def log(self, side: str) -> str:
         """The log of a side: a qlog, but of Chromium one of its own kind."""
         kind = "netlog" if (self.stack, side) == ("chromium", "client") else "qlog"
-        return str(self.folder / f"{side}.{kind}")
+        folder = self.folder
+        if side == "server" and self.stack in CLIENTS:
+            folder = server_set(folder.parent) / folder.name
+        return str(folder / f"{side}.{kind}")
 
     def folder_of(self, side: str) -> Path:
         """Where a stack that names its logs itself leaves that of a side."""

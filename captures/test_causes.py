@@ -19,6 +19,7 @@ LESS_THE_DELAY = "V16: `latest_rtt` is less the delay"
 PROBE = "V16: a probe timeout takes packets out of flight"
 FROM_THE_MINIMUM = "V16: `rttvar` is taken from the minimum"
 HANDSHAKE = "V3: packets of the handshake are declared lost"
+PADDED = "V16: a padded ACK is not in flight"
 ROUNDED = "V16: whole milliseconds decide whether the delay is subtracted"
 NAMED = {
     "quic-go-probe": PROBE,
@@ -37,6 +38,10 @@ SAMPLES = """\
 {"event":"sent","time":0,"space":"app","number":0,"size":1200,"eliciting":true,"in_flight":true}
 {"event":"ack","time":20000,"space":"app","ranges":[[0,0]],"delay":0}
 {"event":"sent","time":20000,"space":"app","number":1,"size":1200,"eliciting":true,"in_flight":true}
+"""
+
+PADDED_ACK = """\
+{"event":"sent","time":20000,"space":"app","number":2,"size":40,"eliciting":false,"in_flight":true}
 """
 
 
@@ -83,6 +88,33 @@ class Causes(unittest.TestCase):
             with self.subTest(delay):
                 self.assertEqual(cause_behind_sample(rule, delay, {"rttvar": 1}), cause)
 
+    def test_padded_ack(self) -> None:
+        """A report without the bytes of an ACK that was padded, and one of other bytes."""
+        rule = "V16 metric bytes_in_flight"
+        for reported, cause in ((1200, PADDED), (1199, rule), (0, rule)):
+            report = {"event": "metrics", "time": 43000, "bytes_in_flight": reported}
+            trace = f"{SAMPLES}{PADDED_ACK}{json.dumps(report)}\n".encode()
+            with self.subTest(reported):
+                self.assertEqual(cause_of(trace, f"refused line 6 {rule}"), cause)
+
+    def test_padded_ack_and_window(self) -> None:
+        """A packet that has room if the padded ACK is left out as in the report, and others."""
+        rule, named = "V7 past-window", "V7: a padded ACK is not in flight"
+        packet = SAMPLES.splitlines()[-1].replace('"number":1', '"number":3')
+        cases = ((1200, 1201, named), (1200, 1200, rule), (1240, 1201, rule))
+        for reported, window, cause in cases:
+            report = {"event": "metrics", "time": 20000, "window": window}
+            report |= {"bytes_in_flight": reported}
+            trace = f"{SAMPLES}{PADDED_ACK}{json.dumps(report)}\n{packet}\n".encode()
+            with self.subTest(reported=reported, window=window):
+                self.assertEqual(cause_of(trace, f"refused line 7 {rule}"), cause)
+
+    def test_padded_ack_is_refused(self) -> None:
+        """The padded ACK is itself what passes the window."""
+        trace = f"{SAMPLES}{PADDED_ACK}".encode()
+        found = cause_of(trace, "refused line 5 V7 past-window")
+        self.assertEqual(found, "V7: a padded ACK is not in flight")
+
     def test_no_delay(self) -> None:
         """Without a delay nothing is subtracted."""
         for rule in ("V16 metric latest_rtt", "V16 metric rttvar"):
@@ -98,7 +130,7 @@ class Causes(unittest.TestCase):
     def test_every_cause_is_seen(self) -> None:
         """No cause is left out of these tests."""
         named = {cause for questions in CAUSES.values() for _, cause in questions}
-        seen = {name.partition(": ")[2] for name in (*NAMED.values(), ROUNDED)}
+        seen = {name.partition(": ")[2] for name in (*NAMED.values(), PADDED, ROUNDED)}
         self.assertEqual(named, seen)
 
 
