@@ -159,7 +159,7 @@ int main(int count, char **words) {
     transfer(atoi(words[2]), words[3][0], strtoull(words[4], NULL, 10), atoi(words[5]));
     return 0;
   }
-  fprintf(stderr, "%s server PORT CERT KEY [no-retry] | %s client PORT down|up BYTES PARTS\n", words[0],
-          words[0]);
+  fprintf(stderr, "%s server PORT CERT KEY [no-retry] | %s client PORT down|up BYTES PARTS\n",
+          words[0], words[0]);
   return USAGE;
 }
