@@ -107,6 +107,11 @@ def is_named(key: tuple[str, int], event: Event) -> bool:
     return space == event["space"] and any(first <= number <= last for first, last in ranges)
 
 
+def is_sample_left_out(before: Before, event: Event) -> bool:
+    """Whether the reported sample is still the one of the report before."""
+    return before.sample is not None and event["latest_rtt"] == before.reports.get("latest_rtt")
+
+
 def is_less_the_delay(before: Before, event: Event) -> bool:
     """Whether the delay explains by how much the reported sample is less than that of the log."""
     sample = before.sample
@@ -142,14 +147,22 @@ def is_padding_in_the_way(before: Before, event: Event) -> bool:
     return not event["eliciting"] or are_left_out and others < before.reports.get("window", 0)
 
 
+def variation(last: dict[str, int], distance: int) -> int:
+    """`rttvar` behind a sample at this distance (RFC 9002, 5.3)."""
+    return (3 * last["rttvar"] + distance) // 4
+
+
 def is_from_the_minimum(before: Before, event: Event) -> bool:
-    """Whether the reported `rttvar` is that of the distance between the sample and the minimum."""
+    """Whether `rttvar` is that of the distance between sample and minimum, and not the RFC's."""
     last = before.reports
     now = last | reported_by(event)
-    if "rttvar" not in last or "latest_rtt" not in now or "min_rtt" not in now:
+    if not {"rttvar", "smoothed_rtt"} <= last.keys() or not {"latest_rtt", "min_rtt"} <= now.keys():
         return False
-    distance = abs(now["latest_rtt"] - now["min_rtt"])
-    return abs((3 * last["rttvar"] + distance) // 4 - now["rttvar"]) <= ROUNDED * before.unit
+    from_minimum = variation(last, abs(now["latest_rtt"] - now["min_rtt"]))
+    from_smoothed = variation(last, abs(now["latest_rtt"] - last["smoothed_rtt"]))
+    rounded = ROUNDED * before.unit
+    off = abs(now["rttvar"] - from_minimum)
+    return off <= rounded < abs(now["rttvar"] - from_smoothed)
 
 
 def is_rounded(before: Before, _: Event) -> bool:
@@ -168,7 +181,10 @@ def is_declared_unasked(before: Before, event: Event) -> bool:
 # For what a rule refuses: the questions in their order, and what a yes means.
 Question = Callable[[Before, Event], bool]
 CAUSES: dict[str, list[tuple[Question, str]]] = {
-    "V16 metric latest_rtt": [(is_less_the_delay, "`latest_rtt` is less the delay")],
+    "V16 metric latest_rtt": [
+        (is_sample_left_out, "a sample is not taken"),
+        (is_less_the_delay, "`latest_rtt` is less the delay"),
+    ],
     "V16 metric bytes_in_flight": [
         (is_padding_forgotten, "a padded ACK is not in flight"),
         (is_probe_forgotten, "a probe timeout takes packets out of flight"),

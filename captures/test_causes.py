@@ -21,9 +21,12 @@ FROM_THE_MINIMUM = "V16: `rttvar` is taken from the minimum"
 HANDSHAKE = "V3: packets of the handshake are declared lost"
 PADDED = "V16: a padded ACK is not in flight"
 ROUNDED = "V16: whole milliseconds decide whether the delay is subtracted"
+NOT_TAKEN = "V16: a sample is not taken"
 NAMED = {
     "quic-go-probe": PROBE,
     "quic-go-reno-probe": PROBE,
+    "quic-go-sample": NOT_TAKEN,
+    "ngtcp2-sample": NOT_TAKEN,
     "quic-go-latest": LESS_THE_DELAY,
     "quic-go-cubic-latest": LESS_THE_DELAY,
     "aioquic-latest": LESS_THE_DELAY,
@@ -52,12 +55,15 @@ def verdict_on(trace: bytes) -> str:
     return report.decode().partition("\n")[0]
 
 
-def cause_behind_sample(rule: str, delay: int, reported: dict[str, int]) -> str:
+def cause_behind_sample(
+    rule: str, delay: int, reported: dict[str, int], before: dict[str, int] | None = None
+) -> str:
     """The cause where a report behind a second sample, of 23 ms, is refused."""
+    earlier = {"event": "metrics", "time": 20000, **(before or {})}
     ack = {"event": "ack", "time": 43000, "space": "app", "ranges": [[1, 1]], "delay": delay}
     report = {"event": "metrics", "time": 43000, **reported}
-    trace = f"{SAMPLES}{json.dumps(ack)}\n{json.dumps(report)}\n"
-    return cause_of(trace.encode(), f"refused line 6 {rule}")
+    trace = SAMPLES + "".join(json.dumps(line) + "\n" for line in (earlier, ack, report))
+    return cause_of(trace.encode(), f"refused line 7 {rule}")
 
 
 class Causes(unittest.TestCase):
@@ -80,6 +86,22 @@ class Causes(unittest.TestCase):
             with self.subTest(reported):
                 found = cause_behind_sample(rule, 3000, {"latest_rtt": reported})
                 self.assertEqual(found, LESS_THE_DELAY if reported in less else rule)
+
+    def test_sample_is_not_taken(self) -> None:
+        """A report that has the sample from before, though it also fits another cause."""
+        rule, reported = "V16 metric latest_rtt", {"latest_rtt": 20000}
+        found = cause_behind_sample(rule, 3000, reported, before=reported)
+        self.assertEqual(found, NOT_TAKEN)
+        found = cause_behind_sample(rule, 3000, reported, before={"latest_rtt": 20001})
+        self.assertEqual(found, LESS_THE_DELAY)
+
+    def test_minimum_and_smoothed(self) -> None:
+        """A variation that only the distance from the minimum explains, and one of both."""
+        rule, reported = "V16 metric rttvar", {"latest_rtt": 23000, "rttvar": 1500}
+        for smoothed, cause in ((22000, FROM_THE_MINIMUM), (20000, rule)):
+            last = {"rttvar": 1000, "smoothed_rtt": smoothed, "min_rtt": 20000}
+            with self.subTest(smoothed):
+                self.assertEqual(cause_behind_sample(rule, 0, reported, before=last), cause)
 
     def test_whole_milliseconds(self) -> None:
         """A sample that is the minimum and the delay within a millisecond, and one that is not."""
