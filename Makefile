@@ -38,7 +38,7 @@ python_of_page := page/qaudit-page page/qaudit-matrix $(wildcard page/qaudit_pag
 python_of_page_tests := page/measure $(wildcard page/*.py page/tests/*.py)
 python_of_qlog := qlog/qlog-to-trace qlog/test_qlog.py $(wildcard qlog/qlog_to_trace/*.py)
 # captures/transfer.py runs where aioquic is, and is checked for style alone.
-python_of_captures := captures/audit.py captures/run captures/table examples/delay.py examples/logger.py
+python_of_captures := captures/audit.py captures/causes.py captures/run captures/stacks.py captures/table captures/test_causes.py examples/delay.py examples/logger.py
 python_of_release := release/edits
 python_of_bindings := $(wildcard bindings/python/*.py)
 python_of_bench := $(addprefix bench/,instructions library peers run trace) $(wildcard bench/*.py) bench/programs/read.py
@@ -51,7 +51,7 @@ conformance := conformance-cuts conformance-failing conformance-refusals conform
 # What is handed to the library for C, in each language.
 bindings := conformance-library bindings-rust bindings-go bindings-python
 
-.PHONY: help build run lib one_byte lines test test_library gate conformance $(bindings) $(conformance) links made_up contracts crates $(runner_tests) test_qlog test_page lint \
+.PHONY: help build run lib one_byte lines test test_library gate conformance $(bindings) $(conformance) links made_up contracts crates $(runner_tests) test_qlog test_captures test_page lint \
 	edits tried bench install dist clean
 
 help:
@@ -103,7 +103,7 @@ lines:
 # The tests of the runners and the checks of pages and sources need no program of ours, so they run beside the gate,
 # in its first minutes.
 test:
-	$(MAKE) --no-print-directory -j 2 gate links made_up contracts crates $(runner_tests) test_qlog
+	$(MAKE) --no-print-directory -j 2 gate links made_up contracts crates $(runner_tests) test_qlog test_captures
 	$(MAKE) --no-print-directory -j 4 --output-sync=target $(conformance)
 	QAUDIT_WHY='$(abspath $(program_why))' $(MAKE) --no-print-directory test_page
 	if [ -f $(library) ]; then $(MAKE) --no-print-directory test_library; else \
@@ -117,7 +117,7 @@ test_library: $(bindings)
 gate:
 	rt ci
 
-conformance: $(conformance) links made_up contracts crates $(runner_tests) test_qlog
+conformance: $(conformance) links made_up contracts crates $(runner_tests) test_qlog test_captures
 
 conformance-cuts:
 	conformance/cuts $(program)
@@ -217,6 +217,9 @@ $(runner_tests):
 # The converter of logs, over small logs and those of conformance/real, and the example of a logger.
 test_qlog:
 	python3 qlog/test_qlog.py
+
+test_captures:
+	python3 captures/test_causes.py
 
 # Pages: their columns, their HTML, and in a headless Chromium what a person does. It wants Debian's libjs-dygraphs, and
 # chromium-driver and python3-selenium, and says what it leaves out. QAUDIT_WHY names a program that was proved; without one

@@ -1,14 +1,13 @@
-// A transfer over quic-go with qlogs.
+// A transfer over quic-go, with a qlog in the folder that QLOGDIR names.
 //
-// transfer server ADDR QLOG CERT KEY [mtu]      serves one connection and ends
-// transfer client ADDR QLOG down|up BYTES [mtu] [chunks]
+//	transfer server ADDRESS CERT KEY            serves one connection and ends
+//	transfer client ADDRESS down|up BYTES PARTS
 //
-// "mtu" leaves path MTU discovery on. With chunks > 1 the transfer is that many requests in a row.
+// A transfer of several parts is as many requests in a row. What the versions of the library do not
+// have in common is in debian12.go and today.go.
 package main
 
 import (
-	"bufio"
-	"context"
 	"crypto/tls"
 	"encoding/binary"
 	"fmt"
@@ -16,30 +15,26 @@ import (
 	"os"
 	"strconv"
 	"time"
-
-	quic "github.com/lucas-clemente/quic-go"
-	"github.com/lucas-clemente/quic-go/logging"
-	"github.com/lucas-clemente/quic-go/qlog"
 )
 
-type bufferedCloser struct {
-	*bufio.Writer
-	io.Closer
-}
+// A request is a way, `d` or `u`, and how many bytes are moved that way.
+const requestSize = 9
 
-func (b bufferedCloser) Close() error {
-	b.Flush()
-	return b.Closer.Close()
-}
+const (
+	idle          = 20 * time.Second
+	handshakeIdle = 15 * time.Second
+	betweenParts  = 30 * time.Millisecond
+	untilLogged   = 300 * time.Millisecond
+)
 
-func tracer(path string) logging.Tracer {
-	return qlog.NewTracer(func(p logging.Perspective, id []byte) io.WriteCloser {
-		f, err := os.Create(path)
-		if err != nil {
-			panic(err)
-		}
-		return bufferedCloser{bufio.NewWriter(f), f}
-	})
+// A connection's way to its next stream: one that it opens, or one that its peer has opened.
+type streams func() (io.ReadWriteCloser, error)
+
+// Bytes without an end. What they are does not matter, so they are left as they are.
+type zeros struct{}
+
+func (zeros) Read(bytes []byte) (int, error) {
+	return len(bytes), nil
 }
 
 func check(err error) {
@@ -49,86 +44,86 @@ func check(err error) {
 	}
 }
 
-func config(path string, mtu bool) *quic.Config {
-	return &quic.Config{
-		Tracer: tracer(path), DisablePathMTUDiscovery: !mtu, MaxIdleTimeout: 20 * time.Second,
-		HandshakeIdleTimeout: 15 * time.Second,
+func settings(certificates ...tls.Certificate) *tls.Config {
+	return &tls.Config{
+		Certificates: certificates, InsecureSkipVerify: true, NextProtos: []string{"x"},
 	}
 }
 
-func has(s string) bool {
-	for _, a := range os.Args {
-		if a == s {
-			return true
+// answer reads a request and does what it asks.
+func answer(stream io.ReadWriteCloser) {
+	defer stream.Close()
+	var request [requestSize]byte
+	if _, err := io.ReadFull(stream, request[:]); err != nil {
+		return
+	}
+	if request[0] == 'd' {
+		io.CopyN(stream, zeros{}, int64(binary.BigEndian.Uint64(request[1:])))
+		return
+	}
+	io.Copy(io.Discard, stream)
+	stream.Write([]byte("ok"))
+}
+
+// ask sends a request and reads its answer.
+func ask(stream io.ReadWriteCloser, way byte, size int64) error {
+	var request [requestSize]byte
+	request[0] = way
+	binary.BigEndian.PutUint64(request[1:], uint64(size))
+	if _, err := stream.Write(request[:]); err != nil {
+		return err
+	}
+	if way == 'u' {
+		if _, err := io.CopyN(stream, zeros{}, size); err != nil {
+			return err
 		}
 	}
-	return false
+	stream.Close()
+	_, err := io.Copy(io.Discard, stream)
+	return err
+}
+
+func serve(address, certFile, keyFile string) {
+	certificate, err := tls.LoadX509KeyPair(certFile, keyFile)
+	check(err)
+	accept, end := accepted(address, settings(certificate))
+	for {
+		stream, err := accept()
+		if err != nil {
+			break
+		}
+		go answer(stream)
+	}
+	end()
+}
+
+func transfer(address string, way byte, size int64, parts int) {
+	open, end := dialled(address, settings())
+	for part := 0; part < parts; part++ {
+		stream, err := open()
+		check(err)
+		check(ask(stream, way, size/int64(parts)))
+		if parts > 1 {
+			time.Sleep(betweenParts)
+		}
+	}
+	end()
 }
 
 func main() {
-	if os.Args[1] == "server" {
-		cert, err := tls.LoadX509KeyPair(os.Args[4], os.Args[5])
+	switch {
+	case len(os.Args) == 5 && os.Args[1] == "server":
+		serve(os.Args[2], os.Args[3], os.Args[4])
+	case len(os.Args) == 6 && os.Args[1] == "client":
+		size, err := strconv.ParseInt(os.Args[4], 10, 64)
 		check(err)
-		l, err := quic.ListenAddr(os.Args[2], &tls.Config{Certificates: []tls.Certificate{cert}, NextProtos: []string{"x"}},
-			config(os.Args[3], has("mtu")))
+		parts, err := strconv.Atoi(os.Args[5])
 		check(err)
-		c, err := l.Accept(context.Background())
-		check(err)
-		for {
-			st, err := c.AcceptStream(context.Background())
-			if err != nil {
-				break
-			}
-			go func() {
-				var h [9]byte
-				if _, err := io.ReadFull(st, h[:]); err != nil {
-					return
-				}
-				n := int64(binary.BigEndian.Uint64(h[1:]))
-				if h[0] == 'd' {
-					io.CopyN(st, zeros{}, n)
-				} else {
-					io.Copy(io.Discard, st)
-					st.Write([]byte("ok"))
-				}
-				st.Close()
-			}()
-		}
-		time.Sleep(100 * time.Millisecond)
-		l.Close()
-		time.Sleep(100 * time.Millisecond)
-		return
+		transfer(os.Args[2], os.Args[3][0], size, parts)
+	default:
+		fmt.Fprintln(os.Stderr, "transfer server ADDRESS CERT KEY | "+
+			"transfer client ADDRESS down|up BYTES PARTS")
+		os.Exit(64)
 	}
-	n, _ := strconv.ParseInt(os.Args[5], 10, 64)
-	chunks := 1
-	if v, err := strconv.Atoi(os.Args[len(os.Args)-1]); err == nil && len(os.Args) > 6 {
-		chunks = v
-	}
-	c, err := quic.DialAddr(os.Args[2], &tls.Config{InsecureSkipVerify: true, NextProtos: []string{"x"}}, config(os.Args[3], has("mtu")))
-	check(err)
-	for i := 0; i < chunks; i++ {
-		st, err := c.OpenStreamSync(context.Background())
-		check(err)
-		var h [9]byte
-		h[0] = os.Args[4][0]
-		binary.BigEndian.PutUint64(h[1:], uint64(n/int64(chunks)))
-		_, err = st.Write(h[:])
-		check(err)
-		if h[0] == 'u' {
-			_, err = io.CopyN(st, zeros{}, n/int64(chunks))
-			check(err)
-		}
-		st.Close()
-		_, err = io.Copy(io.Discard, st)
-		check(err)
-		if chunks > 1 {
-			time.Sleep(30 * time.Millisecond)
-		}
-	}
-	c.CloseWithError(0, "")
-	time.Sleep(100 * time.Millisecond)
+	time.Sleep(untilLogged)
 }
-
-type zeros struct{}
-
-func (zeros) Read(p []byte) (int, error) { return len(p), nil }

@@ -1,0 +1,223 @@
+"""Why a log is refused, as far as its trace shows it: a name for what the refused line is about.
+
+Each cause is a question to the lines before the refused one and to that line. It is a sign and no
+proof: that a value fits another formula does not say that the sender has that formula. What fits no
+question is named by the rule.
+"""
+
+import json
+from collections.abc import Callable, Iterator
+from dataclasses import dataclass, field
+from typing import Any
+
+Event = dict[str, Any]
+
+# `refused line 12 V7 past-window`, and behind V16 `metric latest_rtt`.
+WORDS_OF_REFUSAL = 3
+MICROSECONDS_IN_A_MILLISECOND = 1000
+# By how many microseconds a value that is computed from rounded ones may be off.
+ROUNDED = 2
+UNITS_IN_A_MICROSECOND = {"us": 1, "ns": 1000}
+# Of `max_ack_delay`, where a header has none.
+LONGEST_DELAY_US = 25000
+HANDSHAKE_SPACES = ("initial", "handshake")
+
+
+@dataclass
+class Sample:
+    """A sample of the round-trip time by the log's times, and the delay that came with it."""
+
+    latest: int
+    minimum: int
+    delay: int
+
+
+@dataclass
+class Before:
+    """What the lines before the refused one leave: packets, the last sample, the last reports."""
+
+    unit: int = 1
+    slack: int = 0
+    longest_delay: int = 0
+    in_whole_milliseconds: bool = True
+    sent: dict[tuple[str, int], Event] = field(default_factory=dict)
+    in_flight: int = 0
+    sample: Sample | None = None
+    reports: dict[str, int] = field(default_factory=dict)
+    timers: list[str] = field(default_factory=list)
+    last_kind: str = "header"
+
+    def take(self, event: Event) -> None:
+        """Goes on by a line."""
+        kind = event["event"]
+        if kind == "header":
+            self.unit = UNITS_IN_A_MICROSECOND[event.get("unit", "us")]
+            self.slack = event.get("report_slack_us", 0) * self.unit
+            self.longest_delay = event.get("max_ack_delay", LONGEST_DELAY_US * self.unit)
+            # A log in nanoseconds has whole milliseconds only if they are exact.
+            self.in_whole_milliseconds = self.unit == 1
+        elif event["time"] % (MICROSECONDS_IN_A_MILLISECOND * self.unit):
+            self.in_whole_milliseconds = False
+        taker = getattr(self, f"_take_{kind}", None)
+        if taker:
+            taker(event)
+        if kind != "metrics":
+            self.last_kind = kind
+
+    def _take_sent(self, event: Event) -> None:
+        self.sent[event["space"], event["number"]] = event
+        if event["in_flight"]:
+            self.in_flight += event["size"]
+
+    def _take_ack(self, event: Event) -> None:
+        largest = max(last for _, last in event["ranges"])
+        newest = self.sent.get((event["space"], largest))
+        new = [packet for key, packet in self.sent.items() if is_named(key, event)]
+        if newest and any(packet["eliciting"] for packet in new):
+            latest = event["time"] - newest["time"]
+            minimum = min(latest, self.sample.minimum) if self.sample else latest
+            self.sample = Sample(latest, minimum, event.get("delay", 0))
+        self._take_lost(event)
+
+    def _take_lost(self, event: Event) -> None:
+        gone = [key for key in self.sent if is_named(key, event)]
+        for key in gone:
+            packet = self.sent.pop(key)
+            self.in_flight -= packet["size"] if packet["in_flight"] else 0
+
+    def _take_discard(self, event: Event) -> None:
+        self._take_lost({"space": event["space"], "ranges": [[0, 1 << 62]]})
+
+    def _take_timer(self, event: Event) -> None:
+        self.timers.append(event["kind"])
+
+    def _take_metrics(self, event: Event) -> None:
+        self.reports |= reported_by(event)
+
+
+def reported_by(event: Event) -> dict[str, int]:
+    """The values that a report has."""
+    return {key: value for key, value in event.items() if isinstance(value, int)}
+
+
+def is_named(key: tuple[str, int], event: Event) -> bool:
+    """Whether a packet is one of those that a line names."""
+    space, number = key
+    ranges = event["ranges"]
+    return space == event["space"] and any(first <= number <= last for first, last in ranges)
+
+
+def is_sample_left_out(before: Before, event: Event) -> bool:
+    """Whether the reported sample is still the one of the report before."""
+    return before.sample is not None and event["latest_rtt"] == before.reports.get("latest_rtt")
+
+
+def is_less_the_delay(before: Before, event: Event) -> bool:
+    """Whether the delay explains by how much the reported sample is less than that of the log."""
+    sample = before.sample
+    if not sample or not sample.delay:
+        return False
+    delays = (sample.delay, min(sample.delay, before.longest_delay))
+    reported = event["latest_rtt"]
+    return any(abs(sample.latest - delay - reported) <= before.slack for delay in delays)
+
+
+def is_probe_forgotten(before: Before, event: Event) -> bool:
+    """Whether less is reported in flight than is, after a probe timeout."""
+    return "pto" in before.timers and int(event["bytes_in_flight"]) < before.in_flight
+
+
+def padded_in_flight(before: Before) -> int:
+    """The bytes in flight of packets that have PADDING and elicit no acknowledgment."""
+    bare = (packet for packet in before.sent.values() if not packet["eliciting"])
+    return sum(int(packet["size"]) for packet in bare if packet["in_flight"])
+
+
+def is_padding_forgotten(before: Before, event: Event) -> bool:
+    """Whether what is not reported in flight are just these."""
+    padded = padded_in_flight(before)
+    return padded > 0 and before.in_flight - int(event["bytes_in_flight"]) == padded
+
+
+def is_padding_in_the_way(before: Before, event: Event) -> bool:
+    """Whether the packet is one of these, or has room if they are left out, as in the report."""
+    padded = padded_in_flight(before)
+    others = before.in_flight - padded
+    are_left_out = padded > 0 and before.reports.get("bytes_in_flight") == others
+    return not event["eliciting"] or are_left_out and others < before.reports.get("window", 0)
+
+
+def variation(last: dict[str, int], distance: int) -> int:
+    """`rttvar` behind a sample at this distance (RFC 9002, 5.3)."""
+    return (3 * last["rttvar"] + distance) // 4
+
+
+def is_from_the_minimum(before: Before, event: Event) -> bool:
+    """Whether `rttvar` is that of the distance between sample and minimum, and not the RFC's."""
+    last = before.reports
+    now = last | reported_by(event)
+    if not {"rttvar", "smoothed_rtt"} <= last.keys() or not {"latest_rtt", "min_rtt"} <= now.keys():
+        return False
+    from_minimum = variation(last, abs(now["latest_rtt"] - now["min_rtt"]))
+    from_smoothed = variation(last, abs(now["latest_rtt"] - last["smoothed_rtt"]))
+    rounded = ROUNDED * before.unit
+    off = abs(now["rttvar"] - from_minimum)
+    return off <= rounded < abs(now["rttvar"] - from_smoothed)
+
+
+def is_rounded(before: Before, _: Event) -> bool:
+    """Whether the log's whole milliseconds decide if the delay is subtracted (RFC 9002, 5.3)."""
+    sample = before.sample
+    if not sample or not before.in_whole_milliseconds or not sample.delay:
+        return False
+    return abs(sample.latest - sample.minimum - sample.delay) <= MICROSECONDS_IN_A_MILLISECOND
+
+
+def is_declared_unasked(before: Before, event: Event) -> bool:
+    """Whether packets of the handshake are declared lost with no acknowledgment and no timer."""
+    return event["space"] in HANDSHAKE_SPACES and before.last_kind not in ("ack", "timer")
+
+
+# For what a rule refuses: the questions in their order, and what a yes means.
+Question = Callable[[Before, Event], bool]
+CAUSES: dict[str, list[tuple[Question, str]]] = {
+    "V16 metric latest_rtt": [
+        (is_sample_left_out, "a sample is not taken"),
+        (is_less_the_delay, "`latest_rtt` is less the delay"),
+    ],
+    "V16 metric bytes_in_flight": [
+        (is_padding_forgotten, "a padded ACK is not in flight"),
+        (is_probe_forgotten, "a probe timeout takes packets out of flight"),
+    ],
+    "V16 metric rttvar": [
+        (is_rounded, "whole milliseconds decide whether the delay is subtracted"),
+        (is_from_the_minimum, "`rttvar` is taken from the minimum"),
+    ],
+    "V16 metric smoothed_rtt": [
+        (is_rounded, "whole milliseconds decide whether the delay is subtracted")
+    ],
+    "V7 past-window": [(is_padding_in_the_way, "a padded ACK is not in flight")],
+    "V3 loss-not-owed": [(is_declared_unasked, "packets of the handshake are declared lost")],
+}
+
+
+def events_of(trace: bytes) -> Iterator[tuple[int, Event]]:
+    """The lines of a trace with their numbers."""
+    for number, line in enumerate(trace.split(b"\n"), 1):
+        if line.strip():
+            yield number, json.loads(line)
+
+
+def cause_of(trace: bytes, verdict: str) -> str:
+    """What a verdict says in a table: `accepted`, a cause, the rule, or what went wrong."""
+    words = verdict.split()
+    if words[0] != "refused":
+        return verdict
+    refused, rule = int(words[2]), " ".join(words[WORDS_OF_REFUSAL:])
+    before = Before()
+    for number, event in events_of(trace):
+        if number == refused:
+            named = (cause for asks, cause in CAUSES.get(rule, []) if asks(before, event))
+            return next((f"{words[WORDS_OF_REFUSAL]}: {cause}" for cause in named), rule)
+        before.take(event)
+    return rule
