@@ -35,7 +35,7 @@ python_of_fuzz := conformance/fuzz/run
 # The pages, and what measures and tests them.
 python_of_page := page/qaudit-page page/qaudit-matrix $(wildcard page/qaudit_page/*.py)
 python_of_page_tests := page/measure $(wildcard page/*.py page/tests/*.py)
-python_of_qlog := qlog/qlog-to-trace qlog/test_qlog.py $(wildcard qlog/qlog_to_trace/*.py)
+python_of_qlog := qlog/qlog-to-trace $(wildcard qlog/qlog_to_trace/*.py qlog/tests/*.py)
 # captures/transfer.py runs where aioquic is, and is checked for style alone.
 python_of_captures := captures/audit.py captures/run captures/table examples/delay.py examples/logger.py
 python_of_bindings := $(wildcard bindings/python/*.py)
@@ -198,7 +198,7 @@ $(runner_tests):
 
 # The converter of logs, over small logs and those of conformance/real, and the example of a logger.
 test_qlog:
-	python3 qlog/test_qlog.py
+	cd qlog && python3 -m unittest
 
 # Pages: their columns, their HTML, and in a headless Chromium what a person does. It wants Debian's libjs-dygraphs, and
 # chromium-driver and python3-selenium, and says what it leaves out. QAUDIT_WHY names a program that was proved; without one
@@ -212,7 +212,7 @@ lint:
 	mypy $(python)
 	mypy $(python_of_fuzz)
 	mypy $(python_of_bench)
-	mypy $(python_of_qlog)
+	MYPYPATH=qlog mypy $(python_of_qlog)
 	mypy $(python_of_bindings)
 	mypy $(python_of_captures)
 	MYPYPATH=page mypy $(python_of_page)
