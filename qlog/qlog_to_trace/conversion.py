@@ -3,7 +3,7 @@
 from collections import defaultdict
 from collections.abc import Iterable
 
-from .dialects import Dialect, Limited
+from .dialects import Absent, Dialect, Limited
 from .events import SPACE_OF_NAME, SPACES, Event
 from .flight import Flight, as_ranges
 from .groups import Group, Groups, Kind
@@ -78,12 +78,22 @@ class Conversion:
                 continue
             count = event.pto_count()
             self._pto_count = self._pto_count if count is None else count
-            found = found or set(event.data) != {"pto_count"}
-            self._metrics |= event.metrics()
+            if set(event.data) != {"pto_count"}:
+                found = True
+                self._take_values(event.metrics())
         self._has_sample = self._has_sample or self._metrics.get("min_rtt", 0) > 0
-        if before is not None and self._metrics["window"] < before:
+        if before is not None and self._metrics.get("window", before) < before:
             self._has_fallen = True
         return found
+
+    def _take_values(self, values: dict[str, int]) -> None:
+        """Takes the values of one event, by what those mean that it leaves out."""
+        if self._dialect.absent is Absent.NONE:
+            for key in self._metrics.keys() - values.keys():
+                del self._metrics[key]
+        elif self._dialect.absent is Absent.SAME_OR_ZERO:
+            self._metrics.pop("bytes_in_flight", None)
+        self._metrics |= values
 
     def _report(self, time: int) -> None:
         """A report of all values that are known. Before a sample a log says 0, or nothing."""

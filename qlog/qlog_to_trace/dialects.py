@@ -3,7 +3,7 @@
 A new stack is one more entry of DIALECTS. The one named `generic` is for all others.
 """
 
-from dataclasses import dataclass
+from dataclasses import dataclass, replace
 from enum import Enum
 from typing import Any
 
@@ -18,6 +18,14 @@ class Limited(Enum):
     NEVER = "not at all"
 
 
+class Absent(Enum):
+    """What it means that metrics do not have a value that was reported before."""
+
+    SAME = "it is as it was"
+    SAME_OR_ZERO = "it is as it was, or 0"
+    NONE = "the sender has none"
+
+
 @dataclass(frozen=True)
 class Dialect:
     """A kind of log. Times are in microseconds."""
@@ -25,6 +33,8 @@ class Dialect:
     name: str
     # It is of this kind where its title or the name of its vantage point has one of these.
     marks: tuple[str, ...] = ()
+    # Where several have the same mark, its qlog_version or file_schema begins with one of these.
+    schemas: tuple[str, ...] = ("",)
     # Whether logs of it were converted and audited; if not, it is as the documentation says.
     is_tried: bool = False
     # The RTT before a sample, where the log does not say it.
@@ -35,6 +45,10 @@ class Dialect:
     losses_stand_before: bool = False
     # The metrics after a packet that was sent stand before it.
     metrics_stand_before: bool = False
+    # packet_received stands behind all that it caused.
+    received_stands_last: bool = False
+    # What a value means that metrics leave out.
+    absent: Absent = Absent.SAME
     # Whether timers that expire are logged; where it is not known, by whether the log has one.
     logs_timers: bool | None = None
     # Nothing tells of a probe timeout but a PING that is sent.
@@ -65,25 +79,43 @@ class Dialect:
 
 GENERIC = Dialect("generic")
 
+# 0.29: a JSON text a line, draft-02, times with six decimals, read after the event. Metrics
+# have changes alone. Before a sample all RTT values are 0 and the probe timeout is 200 ms,
+# three times 66.667 ms. latest_rtt is the sample without the peer's delay, smoothed_rtt and
+# rtt_variance are whole microseconds. No ssthresh. PADDING is not logged. Packets of one
+# datagram are all logged before the metrics of the first. The timer of a client with nothing in
+# flight is not logged.
+QUIC_GO = Dialect(
+    "quic-go",
+    ("quic-go",),
+    ("draft",),
+    is_tried=True,
+    initial_rtt=66_666,
+    initial_datagrams=32,
+    logs_timers=True,
+    delay_spaces=("app",),
+    slack_us=1_000,
+    window_overshoot=True,
+    sample_eliciting_only=True,
+    timer_early_us=3_000,
+)
+
+# 0.50: JSON-SEQ, 0.3. packet_received is logged after its frames were handled, so it stands behind
+# the losses and metrics that it caused, and key_discarded between the metrics of the packets of one
+# datagram. The rest is as in 0.29.
+QUIC_GO_0_50 = replace(QUIC_GO, name="quic-go-0.50", schemas=("0.",), received_stands_last=True)
+
 DIALECTS = (
-    # 0.29: a JSON text a line, draft-02, times with six decimals, read after the event. Metrics
-    # have changes alone. Before a sample all RTT values are 0 and the probe timeout is 200 ms,
-    # three times 66.667 ms. latest_rtt is the sample without the peer's delay, smoothed_rtt and
-    # rtt_variance are whole microseconds. No ssthresh. PADDING is not logged. Packets of one
-    # datagram are all logged before the metrics of the first. The timer of a client with nothing in
-    # flight is not logged.
-    Dialect(
-        "quic-go",
-        ("quic-go",),
-        is_tried=True,
-        initial_rtt=66_666,
-        initial_datagrams=32,
-        logs_timers=True,
-        delay_spaces=("app",),
-        slack_us=1_000,
-        window_overshoot=True,
-        sample_eliciting_only=True,
-        timer_early_us=3_000,
+    QUIC_GO,
+    QUIC_GO_0_50,
+    # 0.59: the schema of 0.4, and values of 0 are left out. All packets are kept until they are
+    # acknowledged, so that there is a sample where the largest is not ack-eliciting.
+    replace(
+        QUIC_GO_0_50,
+        name="quic-go-0.59",
+        schemas=("urn:",),
+        absent=Absent.SAME_OR_ZERO,
+        sample_eliciting_only=False,
     ),
     # 0.12: JSON-SEQ, 0.3, all times in whole ms, rounded down. No timers and no keys. Metrics have
     # all values. The delay of Initial and Handshake acknowledgments is logged as 0. The packet
@@ -93,6 +125,7 @@ DIALECTS = (
         ("ngtcp2",),
         is_tried=True,
         losses_stand_before=True,
+        absent=Absent.NONE,
         logs_timers=False,
         limited=Limited.BY_WINDOW,
         slack_us=2_000,
@@ -143,4 +176,7 @@ def dialect_of(header: dict[str, Any]) -> Dialect:
     name = vantage.get("name") if isinstance(vantage, dict) else vantage
     said = (header.get("title"), header.get("description"), name, header.get("code_version"))
     text = " ".join(str(it) for it in said).lower()
-    return next((it for it in DIALECTS if any(mark in text for mark in it.marks)), GENERIC)
+    schema = str(header.get("file_schema") or header.get("qlog_version") or "")
+    marked = [it for it in DIALECTS if any(mark in text for mark in it.marks)]
+    fitting = [it for it in marked if schema.startswith(it.schemas)]
+    return next(iter(fitting or marked), GENERIC)

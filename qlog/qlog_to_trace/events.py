@@ -236,6 +236,11 @@ class Event:
         """Whether it says that keys are gone."""
         return self.name in ("key_retired", "key_discarded")
 
+    @property
+    def tells_of_keys(self) -> bool:
+        """Whether it says that keys came or are gone."""
+        return self.retires_keys or self.name == "key_updated"
+
 
 @lru_cache(maxsize=64)
 def space_of_packet(kind: str) -> str | None:

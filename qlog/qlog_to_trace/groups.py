@@ -7,6 +7,7 @@ from enum import Enum, auto
 
 from .dialects import Dialect
 from .events import Event
+from .order import PacketFirst
 
 BESIDE_SENT = ("metrics_updated", "loss_timer_updated", "congestion_state_updated")
 BESIDE_TIMER = (*BESIDE_SENT, "packet_lost")
@@ -79,7 +80,7 @@ class Groups:
     """
 
     def __init__(self, events: Iterable[Event], dialect: Dialect) -> None:
-        self._ahead = Ahead(events)
+        self._ahead = Ahead(PacketFirst().over(events) if dialect.received_stands_last else events)
         self._dialect = dialect
 
     def __iter__(self) -> Iterator[Group]:

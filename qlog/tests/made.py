@@ -62,9 +62,14 @@ def parameters(**values: Any) -> Event:
     return {"time": 0, "name": "transport:parameters_set", "data": data}
 
 
-def header(name: str = "ngtcp2", role: str = "server", form: str = "relative") -> Event:
-    """The header of a trace."""
+def header(
+    name: str = "ngtcp2", role: str = "server", form: str = "relative", schema: str = ""
+) -> Event:
+    """The header of a trace. Logs of quic-go are of 0.29 where no schema is said."""
+    said = schema or ("draft-02" if name == "quic-go" else "0.3")
     return {
+        "qlog_version": said,
+        **({"file_schema": said} if said.startswith("urn:") else {}),
         "vantage_point": {"name": name, "type": role},
         "common_fields": {"time_format": form},
     }
