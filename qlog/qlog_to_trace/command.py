@@ -218,7 +218,7 @@ class Converter:
         """Reads the log twice, and writes the trace."""
         choices = choices_of(self._args)
         dialect = self._dialect()
-        survey = Survey(self._events("looked at"))
+        survey = Survey(self._events("looked at"), dialect, self._role)
         options = options_of(dialect, survey, choices)
         lines = Lines(self._write, self.notes, options.get("unit", "us"))
         size = write_header(lines, self.notes, self._role, dialect, survey, options)
@@ -273,6 +273,8 @@ def convert(args: argparse.Namespace) -> int:
         return FAILED
     if converter.torn_at:
         complain(f"{name}: torn off at {converter.torn_at}; the trace ends there")
+    for warning in converter.notes.warnings:
+        complain(f"{name}: {warning}")
     if args.notes:
         for note in converter.notes.lines():
             sys.stderr.write(f"{note}\n")

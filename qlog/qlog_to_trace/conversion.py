@@ -1,22 +1,56 @@
 """The second reading of a log: the lines of its events."""
 
 from collections import defaultdict
-from collections.abc import Iterable
+from collections.abc import Iterable, Iterator
 
 from .dialects import Absent, Dialect, Limited
-from .events import SPACE_OF_NAME, SPACES, Event
+from .events import GREATEST_SIZE, SPACE_OF_NAME, SPACES, Event
 from .flight import Flight, as_ranges
 from .groups import Group, Groups, Kind
 from .handshake import Handshake
 from .lines import RTTS, Lines
 from .notes import Guess, Notes, Omission
-from .survey import Survey
+from .survey import Retry, Survey
 
 # RFC 9002, 6.1: kPacketThreshold, kTimeThreshold, and 6.2.4: packets of a probe.
 PACKET_THRESHOLD = 3
 TIME_THRESHOLD = (9, 8)
 DATAGRAMS_OF_PROBE = 2
+# Losses that are later than this behind a packet are those of a timer. Nanoseconds.
+GAP_OF_LOSSES = 1_000_000
 KINDS_OF_TIMER = {"ack": "loss", "loss": "loss", "loss_timeout": "loss", "pto": "pto"}
+
+
+def behind(retry: Retry, events: Iterable[Event], notes: Notes) -> Iterator[Event]:
+    """The events behind a Retry, without the losses of packets that were sent before it."""
+    count = 0
+    for event in events:
+        if event.index <= retry.index:
+            count += event.name == "packet_sent" and event.space is not None
+            continue
+        is_lost = event.name == "packet_lost" and event.space is not None
+        if is_lost and event.number <= retry.numbers.get(str(event.space), -1):
+            notes.omit(Omission.LOSS_BEFORE_RETRY)
+            continue
+        yield event
+    notes.warnings.append(
+        f"the trace begins behind the Retry at {retry.place}; packets before it: {count}"
+    )
+
+
+def detections(events: list[Event], gap: int) -> Iterator[list[Event]]:
+    """Losses, with what stands among them, by the times at which they were found."""
+    found: list[Event] = []
+    last: Event | None = None
+    for event in events:
+        if event.name == "packet_lost":
+            if last and event.time - last.time > gap:
+                yield found
+                found = []
+            last = event
+        found.append(event)
+    if found:
+        yield found
 
 
 class Conversion:
@@ -29,6 +63,8 @@ class Conversion:
         told = dialect.logs_timers
         self._logs_timers = survey.has_timers if told is None else told
         self._datagram = datagram
+        # How far behind a packet its losses may be logged.
+        self._gap = 0 if survey.has_milliseconds else GAP_OF_LOSSES
         self._flight = Flight()
         self._handshake = Handshake(role, survey, lines, self._flight, notes)
         # The latest values of each metric, RTTs in nanoseconds.
@@ -58,6 +94,10 @@ class Conversion:
             Kind.TIMER: self._on_timer,
             Kind.OTHER: self._on_other,
         }
+        if self._survey.sizes.are_guessed:
+            events = self._survey.sizes.over(events)
+        if self._survey.retry:
+            events = behind(self._survey.retry, events, self._notes)
         for group in Groups(events, self._dialect):
             acts[group.kind](group)
 
@@ -135,6 +175,8 @@ class Conversion:
         self._guess_probes(group)
         is_reported = self._take_metrics(group.beside)
         reported = self._metrics.get("bytes_in_flight")
+        if is_reported and reported is not None:
+            self._settle_size(group, reported)
         if self._handshake.awaits_discard:
             added = sum(event.size for event in group.events if event.is_in_flight)
             self._handshake.settle(first, reported, added)
@@ -148,6 +190,13 @@ class Conversion:
             self._report(max(last.time, *(it.time for it in group.beside)))
         if is_late:
             self._handshake.discard("initial", last)
+
+    def _settle_size(self, group: Group, reported: int) -> None:
+        """Takes the growth of the bytes in flight for a size that the log does not have."""
+        in_flight = [event for event in group.events if event.is_in_flight]
+        growth = reported - self._flight.bytes
+        if len(in_flight) == 1 and in_flight[0].is_size_guessed and 0 < growth <= GREATEST_SIZE:
+            in_flight[0].size = growth
 
     def _guess_probes(self, group: Group) -> None:
         """Probe timeouts that a log without timers shows by its count, or by a PING."""
@@ -174,6 +223,8 @@ class Conversion:
     def _write_sent(self, event: Event) -> None:
         space, number, size = event.space, event.number, event.size
         assert space
+        if event.is_size_guessed:
+            self._notes.guess(Guess.SIZE)
         is_eliciting, is_in_flight = event.is_eliciting, event.is_in_flight
         self._lines.event(
             "sent",
@@ -258,24 +309,31 @@ class Conversion:
         elif held != self._metrics:
             self._report(event.time)
         self._handshake.after_received(event)
-        self._lost_alone(later)
+        for found in detections(later, self._gap):
+            self._lost_alone(found)
 
     def _not_shown(self, group: Group) -> list[Event]:
         """Takes from a packet that came what stands behind it and begins with a loss that no
-        acknowledgment can show, where the log has no timers."""
+        acknowledgment of it can show, where the log has no timers."""
         if self._logs_timers:
             return []
-        event = group.first
-        tops = [high for frame in event.acks for _, high in event.ranges(frame)]
+        tops = [high for frame in group.first.acks for _, high in group.first.ranges(frame)]
         for place, it in enumerate(group.beside):
-            if it.name == "packet_lost" and not self._can_be_shown(it, event.space, tops):
+            if it.name == "packet_lost" and not self._can_be_shown(it, group.first, tops):
                 later = group.beside[place:]
                 del group.beside[place:]
                 return later
         return []
 
-    def _can_be_shown(self, lost: Event, space: str | None, tops: list[int]) -> bool:
-        return lost.space == space and lost.number < max([*tops, self._largest.get(space or "", 0)])
+    def _can_be_shown(self, lost: Event, received: Event, tops: list[int]) -> bool:
+        """By a number that is far enough below, or by its age if it was found at the same time."""
+        space = received.space
+        if lost.space != space:
+            return False
+        is_far = any(lost.number + PACKET_THRESHOLD <= top for top in tops)
+        if lost.time - received.time > self._gap and not is_far:
+            return False
+        return lost.number < max([*tops, self._largest.get(space or "", 0)])
 
     def _settle_received(self, event: Event, lost: list[Event]) -> None:
         """The discards that are due, by what leaves with an acknowledgment and its losses."""
@@ -348,7 +406,9 @@ class Conversion:
     # Losses and timers.
 
     def _on_lost(self, group: Group) -> None:
-        self._lost_alone([*group.events, *group.beside])
+        lost = [*group.events, *group.beside]
+        for found in [lost] if self._logs_timers else detections(lost, self._gap):
+            self._lost_alone(found)
 
     def _lost_alone(self, lost: list[Event]) -> None:
         """Losses that no acknowledgment shows: those of a timer, where the log has no timers.

@@ -41,6 +41,8 @@ class Dialect:
     initial_rtt: int | None = None
     # How many datagrams the first window has.
     initial_datagrams: int = 10
+    # How large a packet is that a frame without a length fills.
+    full_packet: int = 1200
     # packet_lost stands before the packet_received that shows the loss.
     losses_stand_before: bool = False
     # The metrics after a packet that was sent stand before it.
@@ -105,6 +107,22 @@ QUIC_GO = Dialect(
 # datagram. The rest is as in 0.29.
 QUIC_GO_0_50 = replace(QUIC_GO, name="quic-go-0.50", schemas=("0.",), received_stands_last=True)
 
+# 3.6: JSON-SEQ, 0.3, delta times of which the first is the time of day. Each is cut to a whole ms,
+# so that the clock of the log loses up to one an event, unless the sender's own has whole ms. No
+# sizes, no metrics, no timers, no keys. A STREAM frame without a length fills its packet, but for
+# the two bytes of that length. NewReno.
+OPENSSL = Dialect(
+    "openssl",
+    ("openssl/",),
+    is_tried=True,
+    full_packet=1_198,
+    logs_timers=False,
+    limited=Limited.NEVER,
+    unit="us",
+    window_overshoot=True,
+    timer_early_us=1_000,
+)
+
 DIALECTS = (
     QUIC_GO,
     QUIC_GO_0_50,
@@ -156,6 +174,9 @@ DIALECTS = (
         unit="us",
         timer_early_us=1_000,
     ),
+    # 3.5: packets that are not ack-eliciting are not kept.
+    replace(OPENSSL, name="openssl-3.5", marks=("openssl/3.5",), sample_eliciting_only=True),
+    OPENSSL,
     # By their documentation: JSON-SEQ of the Rust crate `qlog`, 0.3, times in ms with fractions;
     # metrics have what changed.
     Dialect("quinn", ("quinn",), slack_us=1_000, slack_bytes=1_200, timer_early_us=1_000),

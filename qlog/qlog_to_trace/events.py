@@ -73,6 +73,8 @@ BYTES = {
     "bytes_in_flight": "bytes_in_flight",
 }
 WINDOWS = tuple(key for key, name in BYTES.items() if name == "window")
+# Nanoseconds of ten years: no connection is so old, so a time that is greater counts from an epoch.
+LEAST_OF_EPOCH = 10 * 365 * 24 * 3600 * 10**9
 GREATEST_PACKET_NUMBER = (1 << 62) - 1
 GREATEST_SIZE = 65527
 GREATEST_BYTES = (1 << 64) - 1
@@ -83,7 +85,18 @@ Ranges = list[list[int]]
 class Event:
     """An event: its time in nanoseconds from the start, its name without a category, its data."""
 
-    __slots__ = ("index", "place", "time", "scale", "name", "data", "space", "_kinds")
+    __slots__ = (
+        "index",
+        "place",
+        "time",
+        "scale",
+        "name",
+        "data",
+        "space",
+        "is_size_guessed",
+        "_kinds",
+        "_size",
+    )
 
     def __init__(self, place: str, time: int, name: str, data: dict[str, Any]) -> None:
         self.place, self.time, self.name, self.data = place, time, name, data
@@ -94,6 +107,9 @@ class Event:
         kind = self.header.get("packet_type") or data.get("packet_type") or data.get("type") or ""
         self.space = space_of_packet(str(kind)) if kind else None
         self._kinds: list[str] | None = None
+        # The size of the packet, once it was asked for or found by other values.
+        self._size: int | None = None
+        self.is_size_guessed = False
 
     def error(self, reason: str) -> Unusable:
         """What is wrong with the event."""
@@ -139,15 +155,33 @@ class Event:
         return self.integer(number, "packet_number")
 
     @property
-    def size(self) -> int:
-        """The size of the packet."""
+    def packet_type(self) -> str:
+        """The type of the packet, however it is written."""
+        return plain(str(self.header.get("packet_type") or self.data.get("packet_type") or ""))
+
+    @property
+    def _said_size(self) -> Any:
         raw = self.data.get("raw") or {}
         size = raw.get("length") if isinstance(raw, dict) else None
-        size = size or self.header.get("packet_size") or self.data.get("packet_size")
-        found = self.integer(size, "raw.length", GREATEST_SIZE)
-        if found == 0:
-            raise self.error("raw.length is 0")
-        return found
+        return size or self.header.get("packet_size") or self.data.get("packet_size") or size
+
+    @property
+    def has_size(self) -> bool:
+        """Whether the log says the size of the packet."""
+        return self._said_size is not None
+
+    @property
+    def size(self) -> int:
+        """The size of the packet."""
+        if self._size is None:
+            self._size = self.integer(self._said_size, "raw.length", GREATEST_SIZE)
+            if self._size == 0:
+                raise self.error("raw.length is 0")
+        return self._size
+
+    @size.setter
+    def size(self, size: int) -> None:
+        self._size = size
 
     @property
     def frames(self) -> list[dict[str, Any]]:
@@ -242,10 +276,15 @@ class Event:
         return self.retires_keys or self.name == "key_updated"
 
 
+def plain(kind: str) -> str:
+    """The type of a packet in one manner of writing."""
+    return kind.lower().replace("-", "").replace("_", "")
+
+
 @lru_cache(maxsize=64)
 def space_of_packet(kind: str) -> str | None:
     """The packet number space of a type of packet, however it is written; nothing for another."""
-    return SPACE_OF_PACKET.get(kind.lower().replace("-", "").replace("_", ""))
+    return SPACE_OF_PACKET.get(plain(kind))
 
 
 def as_number(value: Any) -> int | Decimal:
@@ -281,10 +320,13 @@ class Times:
     def next(self, value: Any) -> int:
         """The time of the next event."""
         time = int(as_number(value) * self.scale)
-        if self._is_delta:
+        if self._start is None:
+            # The first may count from an epoch also where the others count from the one before.
+            self._start = time if self._is_absolute or time >= LEAST_OF_EPOCH else 0
+            time -= self._start
+        elif self._is_delta:
             time += self._last
-        elif self._is_absolute:
-            self._start = time if self._start is None else self._start
+        else:
             time -= self._start
         self._last = time
         return max(time, 0)

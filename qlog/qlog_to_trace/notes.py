@@ -15,6 +15,7 @@ class Guess(Enum):
     INITIAL_RTT = "initial_rtt: that of the stack's sources or documentation"
     PROBE_BY_COUNT = "a probe timeout and its space: pto_count rose"
     PROBE_BY_PING = "a probe timeout and its space: a PING was sent"
+    SIZE = "size: by the header and the frames, for the log does not have it"
     LOSS_TIMER = "a loss timer: no acknowledgment shows the losses"
     DISCARD = "discard: the log tells of none"
     CONFIRMED = "confirmed: the log does not say when"
@@ -32,6 +33,7 @@ class Omission(Enum):
     LEFT_FLIGHT = "packets that left the bytes in flight with no event"
     FLIGHT_DIFFERS = "bytes in flight below those of the packets that are open"
     LOSS_OF_NOTHING = "a loss that neither an acknowledgment nor a timer shows"
+    LOSS_BEFORE_RETRY = "a loss of a packet that was sent before a Retry, which resets recovery"
     OTHER_TIMER = "a timer of another kind than loss and pto, or of no space"
 
 
@@ -42,6 +44,8 @@ class Notes:
         self.guesses: Counter[Guess] = Counter()
         self.omissions: Counter[Omission] = Counter()
         self._of_next_line: list[Guess] = []
+        # What is told in any case, since part of the log is not audited.
+        self.warnings: list[str] = []
 
     def guess(self, guess: Guess) -> None:
         """Counts a guess; the next line tells of it."""

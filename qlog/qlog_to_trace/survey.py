@@ -1,18 +1,37 @@
 """The first reading of a log: what has to be known before the first line is written."""
 
 from collections.abc import Iterable
+from dataclasses import dataclass
 
+from .dialects import Dialect
 from .errors import Unusable
 from .events import NANOSECONDS, Event
 from .notes import Guess
+from .sizes import Sizes
 
 LEAST_DATAGRAM = 1200
+
+
+@dataclass(frozen=True)
+class Retry:
+    """The Retry that a client took in, behind which its trace begins (RFC 9002, 6.3)."""
+
+    index: int
+    place: str
+    # The last numbers that were sent before it, by space.
+    numbers: dict[str, int]
 
 
 class Survey:
     """What the header and the second reading need. All packets are checked here."""
 
-    def __init__(self, events: Iterable[Event]) -> None:
+    def __init__(self, events: Iterable[Event], dialect: Dialect, role: str) -> None:
+        self._role = role
+        self.sizes = Sizes(dialect.full_packet)
+        self.retry: Retry | None = None
+        self._last_numbers: dict[str, int] = {}
+        # Whether each time is a whole millisecond.
+        self.has_milliseconds = True
         # Nanoseconds.
         self.max_ack_delay: int | None = None
         self.first_smoothed: int | None = None
@@ -35,8 +54,10 @@ class Survey:
             raise Unusable("no packet_sent of a QUIC packet with a size")
 
     def _see(self, event: Event) -> None:
-        if event.time % NANOSECONDS["us"]:
-            self.has_nanoseconds = True
+        if event.time % NANOSECONDS["ms"]:
+            self.has_milliseconds = False
+            if event.time % NANOSECONDS["us"]:
+                self.has_nanoseconds = True
         if event.name == "parameters_set":
             self._see_parameters(event)
         elif event.name == "packet_sent":
@@ -63,11 +84,18 @@ class Survey:
         if event.space is None:
             return
         assert event.number >= 0
+        self._last_numbers[event.space] = event.number
+        self.sizes.see(event)
         self.largest_size = max(self.largest_size, event.size)
         if self.handshake_done is None and "handshake_done" in event.frame_types:
             self.handshake_done = event.index
 
     def _see_received(self, event: Event) -> None:
+        if event.space is None:
+            # A client takes in one Retry at most (RFC 9000, section 17.2.5.2).
+            if event.packet_type == "retry" and self._role == "client" and self.retry is None:
+                self.retry = Retry(event.index, event.place, dict(self._last_numbers))
+            return
         for ack in event.acks:
             event.ranges(ack)
             self._has_ack = True

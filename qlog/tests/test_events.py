@@ -90,6 +90,32 @@ class Events(unittest.TestCase):
         events = [sent(0, 0), sent(0, 1), received(20, [[1]]), lost(23, 0), received(23, [[0, 1]])]
         self.assertEqual(converted(events).kinds[-3:], ["timer", "lost", "ack"])
 
+    def test_a_loss_at_a_later_time_is_one_of_a_timer(self) -> None:
+        first = [sent(0, 0), sent(1, 1), sent(2, 2)]
+        for events, last in (
+            ([received(20, [[2]]), lost(23, 0), sent(23, 3)], ["ack", "timer", "lost", "sent"]),
+            ([received(20, [[2]]), lost(20, 0), sent(23, 3)], ["ack", "lost", "sent"]),
+            # Each time has a timer of its own.
+            ([received(20, [[2]]), lost(23, 0), lost(24, 1)], ["timer", "lost", "timer", "lost"]),
+        ):
+            kinds = converted(first + events, name="OpenSSL/3.6.5").kinds
+            self.assertEqual(kinds[-len(last) :], last)
+
+    def test_a_loss_by_number_is_shown_although_the_clock_went_on(self) -> None:
+        events = [*(sent(0, n) for n in range(5)), received(20, [[2, 4]]), lost(21, 0), lost(21, 1)]
+        kinds = converted(events, name="OpenSSL/3.6.5").kinds
+        self.assertEqual(kinds[-2:], ["ack", "lost"])
+
+    def test_a_trace_begins_behind_a_retry(self) -> None:
+        retry = received(50, None, "retry")
+        first = [sent(0, 0, "initial"), sent(0, 1, "initial"), retry, lost(50, 0, "initial")]
+        rest = [sent(50, 2, "initial"), received(100, [[2]], "initial"), lost(100, 1, "initial")]
+        end = converted(first + [retry] + rest, "--notes", name="OpenSSL/3.6.5", role="client")
+        self.assertEqual(end.kinds, ["header", "sent", "ack"])
+        self.assertEqual(end.only("sent")[0]["number"], 2)
+        self.assertIn("the trace begins behind the Retry at line 4; packets before", end.errors)
+        self.assertIn("left out 2: a loss of a packet that was sent before a Retry", end.errors)
+
     def test_a_rise_of_the_count_is_a_probe_timeout(self) -> None:
         first = [sent(0, 0, "initial"), metrics(0, pto_count=0)]
         found = converted([*first, sent(999, 1, "initial"), metrics(999, pto_count=1)])

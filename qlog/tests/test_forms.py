@@ -62,6 +62,9 @@ class Forms(unittest.TestCase):
             ("relative_to_epoch", late, [0, 2250]),
             ("delta", early, [1500, 3500]),
             ("relative_to_previous_event", early, [1500, 3500]),
+            # The first counts from an epoch, and the others from the one before.
+            ("delta", [sent(1795474052428, 0), sent(2, 1)], [0, 2000]),
+            ("relative_to_previous_event", [sent(1795474052428, 0), sent(2, 1)], [0, 2000]),
         ):
             found = converted(events, form=form).only("sent")
             self.assertEqual([it["time"] for it in found], times, form)
