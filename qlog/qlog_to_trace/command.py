@@ -273,7 +273,7 @@ def convert(args: argparse.Namespace) -> int:
         return FAILED
     if converter.torn_at:
         complain(f"{name}: torn off at {converter.torn_at}; the trace ends there")
-    for warning in converter.notes.warnings:
+    for warning in converter.notes.told():
         complain(f"{name}: {warning}")
     if args.notes:
         for note in converter.notes.lines():

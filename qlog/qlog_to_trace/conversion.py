@@ -4,8 +4,8 @@ from collections import defaultdict
 from collections.abc import Iterable, Iterator
 
 from .dialects import Absent, Dialect, Limited
-from .events import GREATEST_SIZE, SPACE_OF_NAME, SPACES, Event
-from .flight import Flight, as_ranges
+from .events import SPACE_OF_NAME, SPACES, Event
+from .flight import Bare, Flight, as_ranges
 from .groups import Group, Groups, Kind
 from .handshake import Handshake
 from .lines import RTTS, Lines
@@ -66,6 +66,7 @@ class Conversion:
         # How far behind a packet its losses may be logged.
         self._gap = 0 if survey.has_milliseconds else GAP_OF_LOSSES
         self._flight = Flight()
+        self._bare = Bare()
         self._handshake = Handshake(role, survey, lines, self._flight, notes)
         # The latest values of each metric, RTTs in nanoseconds.
         self._metrics: dict[str, int] = {}
@@ -96,10 +97,20 @@ class Conversion:
         }
         if self._survey.sizes.are_guessed:
             events = self._survey.sizes.over(events)
+        if self._survey.has_repeats:
+            events = self._without_repeats(events)
         if self._survey.retry:
             events = behind(self._survey.retry, events, self._notes)
         for group in Groups(events, self._dialect):
             acts[group.kind](group)
+
+    def _without_repeats(self, events: Iterable[Event]) -> Iterator[Event]:
+        """The events without the packets that a probe repeats, which stay in flight."""
+        for event in events:
+            if event.repeats:
+                self._notes.omit(Omission.LOSS_OF_PROBE)
+            else:
+                yield event
 
     # What the log says beside packets.
 
@@ -162,7 +173,11 @@ class Conversion:
         """The Lost line of each space, at the time of an event."""
         spaces: dict[str, list[int]] = defaultdict(list)
         for it in lost:
-            if it.name == "packet_lost" and it.space:
+            if it.name != "packet_lost" or not it.space:
+                continue
+            if self._bare.has(it.space, it.number):
+                self._notes.omit(Omission.LOSS_NOT_IN_FLIGHT)
+            else:
                 spaces[it.space].append(it.number)
         for space, numbers in spaces.items():
             self._lines.event("lost", event.time, space=space, ranges=as_ranges(numbers))
@@ -193,10 +208,17 @@ class Conversion:
 
     def _settle_size(self, group: Group, reported: int) -> None:
         """Takes the growth of the bytes in flight for a size that the log does not have."""
-        in_flight = [event for event in group.events if event.is_in_flight]
+        in_flight = [event for event in group.events if event.is_in_flight] or group.events
+        event = in_flight[0]
         growth = reported - self._flight.bytes
-        if len(in_flight) == 1 and in_flight[0].is_size_guessed and 0 < growth <= GREATEST_SIZE:
-            in_flight[0].size = growth
+        is_asked = self._dialect.sizes_by_growth or event.is_size_guessed
+        if not is_asked or len(in_flight) > 1 or growth == event.size:
+            return
+        if 0 < growth <= max(self._datagram, event.size):
+            event.size, event.is_padded = growth, True
+            if not event.is_size_guessed:
+                self._notes.guess(Guess.SIZE_BY_GROWTH)
+            event.is_size_guessed = False
 
     def _guess_probes(self, group: Group) -> None:
         """Probe timeouts that a log without timers shows by its count, or by a PING."""
@@ -238,6 +260,8 @@ class Conversion:
         )
         if is_in_flight:
             self._flight.add(space, number, size, event.time)
+        else:
+            self._bare.add(space, number)
         if is_eliciting:
             self._last_eliciting[space] = event.time
 
@@ -360,6 +384,7 @@ class Conversion:
         delay = 0
         if space in self._dialect.delay_spaces:
             delay = event.nanoseconds(frame.get("ack_delay") or 0, "ack_delay")
+            delay <<= self._survey.delay_exponent if self._dialect.delay_is_encoded else 0
         self._lines.event(
             "ack",
             event.time,
@@ -430,13 +455,26 @@ class Conversion:
 
     def _on_timer(self, group: Group) -> None:
         event = group.first
+        lost = [it for it in group.beside if it.name == "packet_lost" and it.space]
+        is_counted = any(it.pto_count() is not None for it in group.beside)
         kind = KINDS_OF_TIMER.get(str(event.data.get("timer_type")))
-        space = SPACE_OF_NAME.get(str(event.data.get("packet_number_space")))
-        if kind is None or space is None:
+        if kind is None and (lost or is_counted):
+            kind = "loss" if lost else "pto"
+        if kind is None:
             self._notes.omit(Omission.OTHER_TIMER)
-            return
-        self._write_timer(event, kind, space)
+        elif not lost and (kind == "loss" or (self._survey.has_pto_count and not is_counted)):
+            self._notes.omit(Omission.IDLE_TIMER)
+        else:
+            self._write_timer(event, kind, self._space_of_timer(event, kind, lost))
         self._after_timer(event, group.beside)
+
+    def _space_of_timer(self, event: Event, kind: str, lost: list[Event]) -> str:
+        """The space that the log names, else that of what the timer did."""
+        space = SPACE_OF_NAME.get(str(event.data.get("packet_number_space")))
+        if space:
+            return space
+        self._notes.guess(Guess.TIMER_SPACE)
+        return str(lost[0].space) if kind == "loss" and lost else self._probed_space()
 
     def _write_timer(self, event: Event, kind: str, space: str) -> None:
         self._lines.event("timer", event.time, kind=kind, space=space)

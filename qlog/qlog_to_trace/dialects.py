@@ -41,6 +41,10 @@ class Dialect:
     initial_rtt: int | None = None
     # How many datagrams the first window has.
     initial_datagrams: int = 10
+    # Sizes leave out padding, and are those by which the bytes in flight grow.
+    sizes_by_growth: bool = False
+    # The delay of acknowledgments is as on the wire, not yet multiplied (RFC 9000, 19.3).
+    delay_is_encoded: bool = False
     # How large a packet is that a frame without a length fills.
     full_packet: int = 1200
     # packet_lost stands before the packet_received that shows the loss.
@@ -177,10 +181,24 @@ DIALECTS = (
     # 3.5: packets that are not ack-eliciting are not kept.
     replace(OPENSSL, name="openssl-3.5", marks=("openssl/3.5",), sample_eliciting_only=True),
     OPENSSL,
+    # As Firefox 153 runs it: JSON-SEQ, 0.3, times with six decimals, those of the loop that handles
+    # events. recovery:parameters_set has the initial RTT. Metrics have what changed. A size leaves
+    # out padding, or is that of the datagram so far. Timers have no space, and expire also where
+    # they had been moved. packet_lost names what a probe repeats, too. latest_rtt is the sample
+    # less the delay.
+    Dialect(
+        "neqo",
+        ("neqo",),
+        is_tried=True,
+        sizes_by_growth=True,
+        delay_is_encoded=True,
+        logs_timers=True,
+        slack_us=1_000,
+        timer_early_us=1_000,
+    ),
     # By their documentation: JSON-SEQ of the Rust crate `qlog`, 0.3, times in ms with fractions;
     # metrics have what changed.
     Dialect("quinn", ("quinn",), slack_us=1_000, slack_bytes=1_200, timer_early_us=1_000),
-    Dialect("neqo", ("neqo",), slack_us=1_000, timer_early_us=1_000),
     Dialect("quiche", ("quiche",), slack_us=1_000, slack_bytes=1_200, timer_early_us=1_000),
     # By its documentation: one JSON object, events as lists, times in microseconds. Its losses name
     # no packets, so a log with losses gives no trace.

@@ -2,6 +2,7 @@
 
 from collections.abc import Iterable, Iterator
 from decimal import Decimal
+from fractions import Fraction
 from functools import lru_cache
 from typing import Any
 
@@ -31,6 +32,7 @@ NAMES = {
     "packet_lost",
     "packets_lost",
     "metrics_updated",
+    "recovery_parameters_set",
     "congestion_state_updated",
     "loss_timer_updated",
     "key_updated",
@@ -42,6 +44,7 @@ NAMES = {
 OTHER_NAMES = {
     "recovery_metrics_updated": "metrics_updated",
     "timer_updated": "loss_timer_updated",
+    "recovery:parameters_set": "recovery_parameters_set",
     "transport_parameters_set": "parameters_set",
     "metric_update": "metrics_updated",
 }
@@ -94,6 +97,7 @@ class Event:
         "data",
         "space",
         "is_size_guessed",
+        "is_padded",
         "_kinds",
         "_size",
     )
@@ -110,6 +114,8 @@ class Event:
         # The size of the packet, once it was asked for or found by other values.
         self._size: int | None = None
         self.is_size_guessed = False
+        # Whether it has PADDING that is not logged.
+        self.is_padded = False
 
     def error(self, reason: str) -> Unusable:
         """What is wrong with the event."""
@@ -136,6 +142,13 @@ class Event:
             return value * self.scale
         try:
             return max(0, int(as_number(value) * self.scale))
+        except (ArithmeticError, TypeError, ValueError) as error:
+            raise self.error(f"{what} is no number") from error
+
+    def fraction(self, value: Any, what: str) -> Fraction:
+        """A number that need not be whole."""
+        try:
+            return Fraction(as_number(value))
         except (ArithmeticError, TypeError, ValueError) as error:
             raise self.error(f"{what} is no number") from error
 
@@ -215,7 +228,7 @@ class Event:
     @property
     def is_in_flight(self) -> bool:
         """Whether it counts to the bytes in flight."""
-        return self.is_eliciting or "padding" in self.frame_types
+        return self.is_eliciting or self.is_padded or "padding" in self.frame_types
 
     def ranges(self, ack: dict[str, Any]) -> Ranges:
         """The ranges of an ACK frame."""
@@ -259,6 +272,11 @@ class Event:
     def has_expired(self) -> bool:
         """Whether it says that the loss detection timer fired."""
         return self.name == "loss_timer_updated" and self.data.get("event_type") == "expired"
+
+    @property
+    def repeats(self) -> bool:
+        """Whether a packet_lost names what a probe sends again, which is no loss."""
+        return self.name == "packet_lost" and self.data.get("trigger") == "pto_expired"
 
     def key_space(self) -> str | None:
         """The space of whose keys it speaks."""
@@ -342,7 +360,7 @@ def member_of(record: Record, fields: list[str]) -> dict[str, Any] | None:
 @lru_cache(maxsize=256)
 def known_name(name: str) -> str | None:
     """The name of an event without its category, as most drafts have it; nothing for another."""
-    name = name.rpartition(":")[2]
+    name = OTHER_NAMES.get(name) or name.rpartition(":")[2]
     name = OTHER_NAMES.get(name, name)
     return name if name in NAMES else None
 

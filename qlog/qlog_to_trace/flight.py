@@ -28,6 +28,26 @@ def joined(ranges: Ranges) -> Ranges:
     return found
 
 
+class Bare:
+    """The last packets of each space that were sent and are not in flight."""
+
+    KEPT = 4_096
+
+    def __init__(self) -> None:
+        self._numbers: dict[str, dict[int, None]] = {space: {} for space in SPACES}
+
+    def add(self, space: str, number: int) -> None:
+        """A packet was sent."""
+        numbers = self._numbers[space]
+        numbers[number] = None
+        if len(numbers) > self.KEPT:
+            del numbers[next(iter(numbers))]
+
+    def has(self, space: str, number: int) -> bool:
+        """Whether it is one of them."""
+        return number in self._numbers[space]
+
+
 class Flight:
     """Sizes and times of the packets in flight by space and number, and their sum."""
 

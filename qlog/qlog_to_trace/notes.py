@@ -16,6 +16,8 @@ class Guess(Enum):
     PROBE_BY_COUNT = "a probe timeout and its space: pto_count rose"
     PROBE_BY_PING = "a probe timeout and its space: a PING was sent"
     SIZE = "size: by the header and the frames, for the log does not have it"
+    SIZE_BY_GROWTH = "size: that by which the bytes in flight grew, for the log's is another"
+    TIMER_SPACE = "the space of a timer: the log does not have it"
     LOSS_TIMER = "a loss timer: no acknowledgment shows the losses"
     DISCARD = "discard: the log tells of none"
     CONFIRMED = "confirmed: the log does not say when"
@@ -34,7 +36,10 @@ class Omission(Enum):
     FLIGHT_DIFFERS = "bytes in flight below those of the packets that are open"
     LOSS_OF_NOTHING = "a loss that neither an acknowledgment nor a timer shows"
     LOSS_BEFORE_RETRY = "a loss of a packet that was sent before a Retry, which resets recovery"
-    OTHER_TIMER = "a timer of another kind than loss and pto, or of no space"
+    LOSS_NOT_IN_FLIGHT = "a loss of a packet that is not in flight"
+    LOSS_OF_PROBE = "a packet_lost by pto_expired: what a probe repeats stays in flight"
+    IDLE_TIMER = "a timer that had been moved: it expired, and did nothing"
+    OTHER_TIMER = "a timer of another kind than loss and pto"
 
 
 class Notes:
@@ -61,6 +66,12 @@ class Notes:
         told = [guess.value for guess in dict.fromkeys(self._of_next_line)]
         self._of_next_line = []
         return {"x_guess": told} if told else {}
+
+    def told(self) -> list[str]:
+        """What is told in any case: the warnings, and timers, which decide what may be sent."""
+        timers = (Omission.OTHER_TIMER, Omission.IDLE_TIMER)
+        left = [f"left out {self.omissions[it]}: {it.value}" for it in timers if self.omissions[it]]
+        return self.warnings + left
 
     def lines(self) -> list[str]:
         """What `--notes` prints."""

@@ -2,6 +2,7 @@
 
 from collections.abc import Iterable
 from dataclasses import dataclass
+from fractions import Fraction
 
 from .dialects import Dialect
 from .errors import Unusable
@@ -10,6 +11,16 @@ from .notes import Guess
 from .sizes import Sizes
 
 LEAST_DATAGRAM = 1200
+DEFAULT_DELAY_EXPONENT = 3
+GREATEST_DELAY_EXPONENT = 20
+# RFC 9000, 18.2: values of 2^14 ms and more are invalid.
+GREATEST_MAX_ACK_DELAY = ((1 << 14) - 1) * NANOSECONDS["ms"]
+# Parameters of recovery, by their keys in the header.
+RECOVERY_PARAMETERS = {
+    "max_datagram_size": "max_datagram_size",
+    "initial_congestion_window": "initial_window",
+    "reordering_threshold": "packet_threshold",
+}
 
 
 @dataclass(frozen=True)
@@ -37,6 +48,14 @@ class Survey:
         self.first_smoothed: int | None = None
         self.first_window: int | None = None
         self.largest_size = 0
+        # What recovery:parameters_set says, by the keys of the header.
+        self.recovery: dict[str, int] = {}
+        self.time_threshold: Fraction | None = None
+        # By how many bits a delay on the wire is shifted.
+        self.delay_exponent = DEFAULT_DELAY_EXPONENT
+        # Whether the log counts probe timeouts, and whether it names as lost what probes repeat.
+        self.has_pto_count = False
+        self.has_repeats = False
         # The spaces of whose discard the log tells.
         self.retired: set[str] = set()
         self.has_timers = False
@@ -60,6 +79,8 @@ class Survey:
                 self.has_nanoseconds = True
         if event.name == "parameters_set":
             self._see_parameters(event)
+        elif event.name == "recovery_parameters_set":
+            self._see_recovery(event)
         elif event.name == "packet_sent":
             self._see_sent(event)
         elif event.name == "packet_received":
@@ -68,6 +89,7 @@ class Survey:
             self._see_metrics(event)
         elif event.name == "packet_lost" and event.space:
             assert event.number >= 0
+            self.has_repeats |= event.repeats
         elif event.name == "packets_lost":
             raise event.error("it names no packets, so no trace can be made of this log")
         elif event.retires_keys:
@@ -77,8 +99,28 @@ class Survey:
 
     def _see_parameters(self, event: Event) -> None:
         delay = event.data.get("max_ack_delay")
-        if event.data.get("owner", event.data.get("initiator")) == "remote" and delay is not None:
-            self.max_ack_delay = event.nanoseconds(delay, "max_ack_delay")
+        if event.data.get("owner", event.data.get("initiator")) != "remote":
+            return
+        if delay is not None:
+            found = event.nanoseconds(delay, "max_ack_delay")
+            if found > GREATEST_MAX_ACK_DELAY:
+                raise event.error(f"max_ack_delay is {delay}")
+            self.max_ack_delay = found
+        exponent = event.data.get("ack_delay_exponent")
+        if exponent is not None:
+            what = "ack_delay_exponent"
+            self.delay_exponent = event.integer(exponent, what, GREATEST_DELAY_EXPONENT)
+
+    def _see_recovery(self, event: Event) -> None:
+        rtt = event.data.get("initial_rtt")
+        if rtt is not None:
+            self.recovery["initial_rtt"] = event.nanoseconds(rtt, "initial_rtt")
+        for name, key in RECOVERY_PARAMETERS.items():
+            if event.data.get(name) is not None:
+                self.recovery[key] = event.integer(event.data[name], name)
+        threshold = event.data.get("time_threshold")
+        if threshold is not None:
+            self.time_threshold = event.fraction(threshold, "time_threshold")
 
     def _see_sent(self, event: Event) -> None:
         if event.space is None:
@@ -108,6 +150,7 @@ class Survey:
 
     def _see_metrics(self, event: Event) -> None:
         self.has_window = self.has_window or event.has_window
+        self.has_pto_count = self.has_pto_count or event.pto_count() is not None
         if self._has_ack:
             return
         values = event.metrics()

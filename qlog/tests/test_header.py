@@ -20,6 +20,38 @@ class Header(unittest.TestCase):
         self.assertEqual(said, [26000, 1252, 40064])
         self.assertEqual(line["initial_rtt"], 66666)
 
+    def test_the_parameters_of_recovery(self) -> None:
+        said = {"initial_rtt": 100.0, "max_datagram_size": 1252, "reordering_threshold": 10}
+        said |= {"initial_congestion_window": 12520, "time_threshold": 1.125}
+        for name in ("recovery:parameters_set", "quic:recovery_parameters_set"):
+            for stack in ("something", "quic-go"):
+                events = [{"time": 0, "name": name, "data": said}, sent(0, 0, size=1100)]
+                end = converted(events, name=stack)
+                keys = ("initial_rtt", "max_datagram_size", "initial_window", "packet_threshold")
+                values = [end.lines[0][key] for key in keys]
+                self.assertEqual(values, [100_000, 1252, 12520, 10])
+                self.assertEqual(end.errors, "")
+
+    def test_parameters_of_recovery_that_a_header_cannot_say(self) -> None:
+        for said, word in (
+            ({"time_threshold": 1.25}, "its time_threshold is 1.25, and traces know 9/8 alone"),
+            ({"reordering_threshold": 2}, "its reordering_threshold is 2, which the header does"),
+        ):
+            event = {"time": 0, "name": "recovery:parameters_set", "data": said}
+            end = converted([event, sent(0, 0)])
+            self.assertEqual(end.lines[0]["packet_threshold"], 3)
+            self.assertIn(f"qlog-to-trace: LOG: {word}", end.errors)
+
+    def test_values_that_a_header_cannot_have_are_left_out(self) -> None:
+        said = {"initial_rtt": 0, "max_datagram_size": 100, "initial_congestion_window": 1}
+        event = {"time": 0, "name": "recovery:parameters_set", "data": said}
+        line = converted([event, sent(0, 0)]).lines[0]
+        self.assertEqual(line["max_datagram_size"], 1200)
+        self.assertFalse({"initial_rtt", "initial_window"} & set(line))
+        end = converted([parameters(max_ack_delay=16_384), sent(0, 0)])
+        self.assertEqual((end.status, end.text), (2, ""))
+        self.assertIn("max_ack_delay is 16384", end.errors)
+
     def test_the_datagram_size_of_ten_in_the_window(self) -> None:
         line = converted([sent(0, 0), metrics(0, congestion_window=14520, smoothed_rtt=333)])
         self.assertEqual(line.lines[0]["max_datagram_size"], 1452)
