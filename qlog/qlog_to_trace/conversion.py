@@ -1,10 +1,10 @@
 """The second reading of a log: the lines of its events."""
 
 from collections import defaultdict
-from collections.abc import Iterable, Iterator
+from collections.abc import Callable, Iterable, Iterator
 
 from .dialects import Absent, Dialect, Limited
-from .events import SPACE_OF_NAME, SPACES, Event
+from .events import SPACE_OF_NAME, SPACES, UNKNOWN_METRICS, Event
 from .flight import Bare, Flight, as_ranges
 from .groups import Group, Groups, Kind
 from .handshake import Handshake
@@ -86,7 +86,7 @@ class Conversion:
         # When the last ack-eliciting packet of a space was sent.
         self._last_eliciting: dict[str, int] = {}
 
-    def convert(self, events: Iterable[Event]) -> None:
+    def convert(self, events: Iterable[Event], is_torn: Callable[[], bool]) -> None:
         """Writes all lines behind the header."""
         acts = {
             Kind.SENT: self._on_sent,
@@ -101,7 +101,7 @@ class Conversion:
             events = self._without_repeats(events)
         if self._survey.retry:
             events = behind(self._survey.retry, events, self._notes)
-        for group in Groups(events, self._dialect):
+        for group in Groups(events, self._dialect, is_torn):
             acts[group.kind](group)
 
     def _without_repeats(self, events: Iterable[Event]) -> Iterator[Event]:
@@ -125,6 +125,8 @@ class Conversion:
         for event in events:
             if event.name == "congestion_state_updated":
                 self._state = str(event.data.get("new"))
+            if event.name == UNKNOWN_METRICS:
+                self._metrics.clear()
             if event.name != "metrics_updated":
                 continue
             count = event.pto_count()

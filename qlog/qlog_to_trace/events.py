@@ -7,7 +7,7 @@ from functools import lru_cache
 from typing import Any
 
 from .errors import Unusable
-from .forms import Record, object_at
+from .forms import BROKEN_METRICS, Record, object_at
 
 NANOSECONDS = {"ns": 1, "us": 1_000, "ms": 1_000_000}
 SPACE_OF_PACKET = {
@@ -40,6 +40,8 @@ NAMES = {
     "key_discarded",
     "parameters_set",
 }
+# Metrics that cannot be read: what they said is not known any more.
+UNKNOWN_METRICS = "unknown_metrics"
 # Names of later drafts for the same.
 OTHER_NAMES = {
     "recovery_metrics_updated": "metrics_updated",
@@ -96,6 +98,7 @@ class Event:
         "name",
         "data",
         "space",
+        "connection",
         "is_size_guessed",
         "is_padded",
         "_kinds",
@@ -106,6 +109,8 @@ class Event:
         self.place, self.time, self.name, self.data = place, time, name, data
         # Which of the events of the log it is.
         self.index = 0
+        # The connection and path of which it is, if it names one.
+        self.connection: object = None
         # How many nanoseconds its durations count.
         self.scale = NANOSECONDS["ms"]
         kind = self.header.get("packet_type") or data.get("packet_type") or data.get("type") or ""
@@ -230,6 +235,11 @@ class Event:
         """Whether it counts to the bytes in flight."""
         return self.is_eliciting or self.is_padded or "padding" in self.frame_types
 
+    @property
+    def is_closing(self) -> bool:
+        """Whether it closes the connection."""
+        return "connection_close" in self.frame_types
+
     def ranges(self, ack: dict[str, Any]) -> Ranges:
         """The ranges of an ACK frame."""
         found = []
@@ -328,7 +338,8 @@ class Times:
         if unit not in NANOSECONDS:
             raise Unusable(f"time_units is {unit}")
         self.scale = NANOSECONDS[unit]
-        self._last = 0
+        # The time of the event before.
+        self.last = 0
         self._start: int | None = None
 
     def _form_of_field(self) -> str:
@@ -343,10 +354,10 @@ class Times:
             self._start = time if self._is_absolute or time >= LEAST_OF_EPOCH else 0
             time -= self._start
         elif self._is_delta:
-            time += self._last
+            time += self.last
         else:
             time -= self._start
-        self._last = time
+        self.last = time
         return max(time, 0)
 
 
@@ -378,6 +389,8 @@ def time_of(member: dict[str, Any], record: Record, times: Times) -> int:
 
 def event_of(record: Record, times: Times) -> Event | None:
     """The event of a record, or nothing where the record is none that matters."""
+    if record.value is BROKEN_METRICS:
+        return Event(record.place, times.last, UNKNOWN_METRICS, {})
     member = member_of(record, times.fields)
     if member is None:
         return None
@@ -391,7 +404,25 @@ def event_of(record: Record, times: Times) -> Event | None:
     data = member.get("data")
     event = Event(record.place, time, known, data if isinstance(data, dict) else {})
     event.scale = times.scale
+    event.connection = connection_of(member, event.data)
     return event
+
+
+def connection_of(member: dict[str, Any], data: dict[str, Any]) -> object:
+    """What tells apart connections in one trace, and the paths of multipath QUIC."""
+    group, path = member.get("group_id"), data.get("path_id")
+    return None if group is None and path is None else f"{group} {path}"
+
+
+def losses_of(event: Event) -> Iterator[Event]:
+    """A loss for each packet that a packets_lost names."""
+    packets = event.data.get("packets")
+    if not isinstance(packets, list) or not all(isinstance(it, dict) for it in packets):
+        raise event.error("it names no packets, so no trace can be made of this log")
+    for header in packets:
+        lost = Event(event.place, event.time, "packet_lost", {"header": header})
+        lost.connection = event.connection
+        yield lost
 
 
 def events_of(records: Iterable[Record], header: dict[str, Any]) -> Iterator[Event]:
@@ -399,6 +430,8 @@ def events_of(records: Iterable[Record], header: dict[str, Any]) -> Iterator[Eve
     times = Times(header)
     for index, record in enumerate(records):
         event = event_of(record, times)
-        if event is not None:
-            event.index = index
-            yield event
+        if event is None:
+            continue
+        for it in losses_of(event) if event.name == "packets_lost" else (event,):
+            it.index = index
+            yield it

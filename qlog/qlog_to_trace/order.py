@@ -1,6 +1,6 @@
 """Events in the order in which things happened, for logs that have another."""
 
-from collections.abc import Iterable, Iterator
+from collections.abc import Callable, Iterable, Iterator
 
 from .events import Event
 
@@ -25,7 +25,7 @@ class PacketFirst:
         # Whether what follows was caused by a timer.
         self._is_timed = False
 
-    def over(self, events: Iterable[Event]) -> Iterator[Event]:
+    def over(self, events: Iterable[Event], is_torn: Callable[[], bool]) -> Iterator[Event]:
         """The same events, each packet before what it caused."""
         for event in events:
             if event.name == "packet_sent":
@@ -42,6 +42,9 @@ class PacketFirst:
                 yield from self._metrics(event)
             elif event.name != "loss_timer_updated":
                 yield from self._other(event)
+        # At the end of a torn log the packet is missing for which they wait.
+        if is_torn():
+            self._held = []
         yield from self._flushed()
 
     def _flushed(self) -> Iterator[Event]:

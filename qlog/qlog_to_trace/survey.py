@@ -1,5 +1,6 @@
 """The first reading of a log: what has to be known before the first line is written."""
 
+from collections import Counter
 from collections.abc import Iterable
 from dataclasses import dataclass
 from fractions import Fraction
@@ -20,6 +21,11 @@ RECOVERY_PARAMETERS = {
     "max_datagram_size": "max_datagram_size",
     "initial_congestion_window": "initial_window",
     "reordering_threshold": "packet_threshold",
+}
+# Why a log needs the frames of packets.
+WHY_FRAMES = {
+    "packet_sent": "which packets are ack-eliciting is not in this log, so it gives no trace",
+    "packet_received": "no acknowledgment is in this log, so it gives no trace",
 }
 
 
@@ -67,10 +73,16 @@ class Survey:
         self.handshake_done: int | None = None
         self.last_crypto_before_done: int | None = None
         self._has_ack = False
+        # How many packets of a space were sent and came, and how many of them have no frames.
+        self._packets: Counter[str] = Counter()
+        self._without_frames: Counter[str] = Counter()
         for event in events:
             self._see(event)
         if self.largest_size == 0:
             raise Unusable("no packet_sent of a QUIC packet with a size")
+        for name, count in self._without_frames.items():
+            if count == self._packets[name]:
+                raise Unusable(f"each {name} is without its frames: {WHY_FRAMES[name]}")
 
     def _see(self, event: Event) -> None:
         if event.time % NANOSECONDS["ms"]:
@@ -87,15 +99,19 @@ class Survey:
             self._see_received(event)
         elif event.name == "metrics_updated":
             self._see_metrics(event)
-        elif event.name == "packet_lost" and event.space:
-            assert event.number >= 0
-            self.has_repeats |= event.repeats
-        elif event.name == "packets_lost":
-            raise event.error("it names no packets, so no trace can be made of this log")
+        elif event.name == "packet_lost":
+            self._see_lost(event)
         elif event.retires_keys:
             self.retired.add(event.key_space() or "")
         elif event.has_expired:
             self.has_timers = True
+
+    def _see_lost(self, event: Event) -> None:
+        if event.space:
+            assert event.number >= 0
+            self.has_repeats |= event.repeats
+        elif not event.packet_type:
+            raise event.error("no packet_type, so it does not say of which space the packet is")
 
     def _see_parameters(self, event: Event) -> None:
         delay = event.data.get("max_ack_delay")
@@ -127,6 +143,7 @@ class Survey:
             return
         assert event.number >= 0
         self._last_numbers[event.space] = event.number
+        self._count_frames(event)
         self.sizes.see(event)
         self.largest_size = max(self.largest_size, event.size)
         if self.handshake_done is None and "handshake_done" in event.frame_types:
@@ -138,6 +155,7 @@ class Survey:
             if event.packet_type == "retry" and self._role == "client" and self.retry is None:
                 self.retry = Retry(event.index, event.place, dict(self._last_numbers))
             return
+        self._count_frames(event)
         for ack in event.acks:
             event.ranges(ack)
             self._has_ack = True
@@ -147,6 +165,10 @@ class Survey:
             self.first_handshake_received = event.index
         if self.handshake_done is None and "crypto" in event.frame_types:
             self.last_crypto_before_done = event.index
+
+    def _count_frames(self, event: Event) -> None:
+        self._packets[event.name] += 1
+        self._without_frames[event.name] += "frames" not in event.data
 
     def _see_metrics(self, event: Event) -> None:
         self.has_window = self.has_window or event.has_window
