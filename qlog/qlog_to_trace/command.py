@@ -13,12 +13,13 @@ from typing import BinaryIO, TextIO
 
 from .connections import Connections, chosen_of, others
 from .conversion import Conversion
-from .dialects import BY_NAME, DIALECTS, Dialect, dialect_of
+from .dialects import BY_NAME, DIALECTS, GENERIC, Dialect, dialect_of
 from .errors import Unusable
 from .events import Event, events_of
 from .forms import Form, form_of
 from .header import Choices, options_of, write_header
 from .lines import Line, Lines
+from .looking import order_of
 from .notes import Notes
 from .survey import Survey
 
@@ -246,6 +247,7 @@ class Converter:
         choices = choices_of(self._args)
         dialect = self._dialect()
         survey = self._survey(dialect)
+        dialect = self._looked_at(dialect, survey)
         options = options_of(dialect, survey, choices)
         lines = Lines(self._write, self.notes, options.get("unit", "us"))
         size = write_header(lines, self.notes, self._role, dialect, survey, options)
@@ -272,6 +274,28 @@ class Converter:
         if connections.count > 1:
             self.notes.warnings.append(others(connections.count, self._chosen, CONNECTIONS))
         return survey
+
+    def _looked_at(self, dialect: Dialect, survey: Survey) -> Dialect:
+        """The dialect, with what the first reading found."""
+        looking = survey.looking
+        if dialect is GENERIC:
+            found = looking.dialect(dialect, survey.has_milliseconds)
+            self.notes.findings = looking.told(found, survey.has_milliseconds)
+        else:
+            found = looking.corrected(dialect)
+            if found is not dialect:
+                self.notes.misread(
+                    f"its order is not that of {dialect.name}: {order_of(found).value};"
+                    " it is read so"
+                )
+        if looking.is_apart:
+            counts = looking.counts
+            self.notes.misread(
+                f"of {counts.acknowledgments} reports beside acknowledgments"
+                f" {max(counts.behind, counts.before)} agree with the packets that were sent: the"
+                " log may be misread, and a refusal be the reading's and not the sender's"
+            )
+        return found
 
     def _dialect(self) -> Dialect:
         asked = self._args.dialect

@@ -118,6 +118,7 @@ def write_header(
         line["initial_window"] = window
     if version >= 3 and not survey.has_window:
         notes.guess(Guess.NO_WINDOW)
-    lines.header(line | options | {"x_dialect": dialect.name})
+    told = {"x_note": notes.of_header} if notes.of_header else {}
+    lines.header(line | options | {"x_dialect": dialect.name} | told)
     warn(survey, options, notes)
     return size

@@ -51,6 +51,10 @@ class Notes:
         self._of_next_line: list[Guess] = []
         # What is told in any case, since part of the log is not audited.
         self.warnings: list[str] = []
+        # Those of them that a reader of a refusal has to know.
+        self.of_header: list[str] = []
+        # What the first reading found.
+        self.findings: list[str] = []
 
     def guess(self, guess: Guess) -> None:
         """Counts a guess; the next line tells of it."""
@@ -60,6 +64,11 @@ class Notes:
     def omit(self, omission: Omission, count: int = 1) -> None:
         """Counts what is left out."""
         self.omissions[omission] += count
+
+    def misread(self, text: str) -> None:
+        """Tells, also in the header of the trace, that a refusal may be due to the reading."""
+        self.warnings.append(text)
+        self.of_header.append(text)
 
     def for_next_line(self) -> dict[str, list[str]]:
         """The key by which a line tells of the guesses that stand in it."""
@@ -77,4 +86,4 @@ class Notes:
         """What `--notes` prints."""
         guessed = [f"guessed {count}: {it.value}" for it, count in self.guesses.items()]
         left = [f"left out {count}: {it.value}" for it, count in self.omissions.items()]
-        return sorted(guessed) + sorted(left)
+        return [f"found: {it}" for it in self.findings] + sorted(guessed) + sorted(left)

@@ -8,10 +8,14 @@ from fractions import Fraction
 from .dialects import Dialect
 from .errors import Unusable
 from .events import NANOSECONDS, Event
+from .looking import Looking
 from .notes import Guess
 from .sizes import Sizes
 
 LEAST_DATAGRAM = 1200
+# What fits in an Ethernet frame. A part of the window that is larger, and larger than each packet,
+# is of a window of more datagrams.
+USUAL_DATAGRAM = 1500
 DEFAULT_DELAY_EXPONENT = 3
 GREATEST_DELAY_EXPONENT = 20
 # RFC 9000, 18.2: values of 2^14 ms and more are invalid.
@@ -45,6 +49,7 @@ class Survey:
     def __init__(self, events: Iterable[Event], dialect: Dialect, role: str) -> None:
         self._role = role
         self.sizes = Sizes(dialect.full_packet)
+        self.looking = Looking()
         self.retry: Retry | None = None
         self._last_numbers: dict[str, int] = {}
         # Whether each time is a whole millisecond.
@@ -105,6 +110,7 @@ class Survey:
             self.retired.add(event.key_space() or "")
         elif event.has_expired:
             self.has_timers = True
+        self.looking.see(event)
 
     def _see_lost(self, event: Event) -> None:
         if event.space:
@@ -185,7 +191,8 @@ class Survey:
         """The part of the first window, where no packet was larger; else the largest packet."""
         window = self.first_window or 0
         part, rest = divmod(window, initial_datagrams)
-        if rest == 0 and part >= max(self.largest_size, LEAST_DATAGRAM):
+        greatest = max(self.largest_size, USUAL_DATAGRAM)
+        if rest == 0 and max(self.largest_size, LEAST_DATAGRAM) <= part <= greatest:
             return part, Guess.DATAGRAM_BY_WINDOW
         if self.largest_size < LEAST_DATAGRAM:
             return LEAST_DATAGRAM, Guess.DATAGRAM_LEAST
