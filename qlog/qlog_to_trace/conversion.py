@@ -2,6 +2,7 @@
 
 from collections import defaultdict
 from collections.abc import Callable, Iterable, Iterator
+from fractions import Fraction
 
 from .dialects import Absent, Dialect, Limited
 from .events import SPACE_OF_NAME, SPACES, UNKNOWN_METRICS, Event
@@ -9,7 +10,7 @@ from .flight import Bare, Flight, as_ranges
 from .groups import Group, Groups, Kind
 from .handshake import Handshake
 from .lines import RTTS, Lines
-from .notes import Guess, Notes, Omission
+from .notes import Guess, Limit, Notes, Omission
 from .survey import Retry, Survey
 
 # RFC 9002, 6.1: kPacketThreshold, kTimeThreshold, and 6.2.4: packets of a probe.
@@ -18,6 +19,10 @@ TIME_THRESHOLD = (9, 8)
 DATAGRAMS_OF_PROBE = 2
 # Losses that are later than this behind a packet are those of a timer. Nanoseconds.
 GAP_OF_LOSSES = 1_000_000
+# Loss timers that are all later than this part of the round-trip time go by another threshold, if it
+# is a time that is not that of the program (nanoseconds).
+LATE_BY_TIME = Fraction(6, 5)
+LATE_BY_PROGRAM = 10_000_000
 KINDS_OF_TIMER = {"ack": "loss", "loss": "loss", "loss_timeout": "loss", "pto": "pto"}
 
 
@@ -77,6 +82,10 @@ class Conversion:
         self._probe_left = 0
         # Whether the window fell since the last packet that was sent.
         self._has_fallen = False
+        # When losses were last declared.
+        self._last_loss: int | None = None
+        # Whether all loss timers found packets at a later time than that of the RFC.
+        self._are_timers_late: bool | None = None
         # Whether packets are judged by the window that was reported last.
         self.is_window_reported = False
         # The window of the last report.
@@ -103,6 +112,8 @@ class Conversion:
             events = behind(self._survey.retry, events, self._notes)
         for group in Groups(events, self._dialect, is_torn):
             acts[group.kind](group)
+        if self._are_timers_late:
+            self._notes.limits.add(Limit.TIME_THRESHOLD)
 
     def _without_repeats(self, events: Iterable[Event]) -> Iterator[Event]:
         """The events without the packets that a probe repeats, which stay in flight."""
@@ -179,8 +190,12 @@ class Conversion:
                 continue
             if self._bare.has(it.space, it.number):
                 self._notes.omit(Omission.LOSS_NOT_IN_FLIGHT)
-            else:
-                spaces[it.space].append(it.number)
+                continue
+            spaces[it.space].append(it.number)
+            if self._flight.time_of(it.space, it.number) == self._last_loss:
+                self._notes.limits.add(Limit.SAME_TICK)
+        if spaces:
+            self._last_loss = event.time
         for space, numbers in spaces.items():
             self._lines.event("lost", event.time, space=space, ranges=as_ranges(numbers))
             self._flight.take(space, numbers)
@@ -467,8 +482,19 @@ class Conversion:
         elif not lost and (kind == "loss" or (self._survey.has_pto_count and not is_counted)):
             self._notes.omit(Omission.IDLE_TIMER)
         else:
+            if lost:
+                self._see_age(lost[0])
             self._write_timer(event, kind, self._space_of_timer(event, kind, lost))
         self._after_timer(event, group.beside)
+
+    def _see_age(self, lost: Event) -> None:
+        """How old the packet is that a loss timer found."""
+        rtt = max(self._metrics.get("latest_rtt", 0), self._metrics.get("smoothed_rtt", 0))
+        sent = self._flight.time_of(str(lost.space), lost.number)
+        if rtt and sent:
+            age, (times, part) = lost.time - sent, TIME_THRESHOLD
+            is_late = age > rtt * LATE_BY_TIME and part * (age - LATE_BY_PROGRAM) > times * rtt
+            self._are_timers_late = is_late and self._are_timers_late is not False
 
     def _space_of_timer(self, event: Event, kind: str, lost: list[Event]) -> str:
         """The space that the log names, else that of what the timer did."""

@@ -8,7 +8,7 @@ from .dialects import Dialect
 from .errors import Unusable
 from .events import GREATEST_SIZE, NANOSECONDS
 from .lines import Lines
-from .notes import Guess, Notes
+from .notes import Guess, Limit, Notes
 from .survey import LEAST_DATAGRAM, Survey
 
 # The ranges of the header's keys.
@@ -91,6 +91,10 @@ def warn(survey: Survey, options: dict[str, Any], notes: Notes) -> None:
             f"its reordering_threshold is {said}, which the header does not say; losses by number"
             " may be refused"
         )
+    if survey.has_marks:
+        notes.limits.add(Limit.MARKS)
+    if survey.has_ack_frequency:
+        notes.limits.add(Limit.ACK_FREQUENCY)
     time_threshold = survey.time_threshold
     if time_threshold and abs(time_threshold - TIME_THRESHOLD) > ROUNDING_OF_THRESHOLD:
         notes.warnings.append(

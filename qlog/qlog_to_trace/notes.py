@@ -42,6 +42,27 @@ class Omission(Enum):
     OTHER_TIMER = "a timer of another kind than loss and pto"
 
 
+class Limit(Enum):
+    """What a log shows that no trace can say, so that a good sender may be refused."""
+
+    MARKS = (
+        "acknowledgments report CE marks, of which traces say nothing: a window that falls by them,"
+        " or the packet of an entry into recovery, may be refused"
+    )
+    ACK_FREQUENCY = (
+        "ACK_FREQUENCY frames change the peer's max_ack_delay, of which a trace has one alone:"
+        " probe timeouts may be refused"
+    )
+    TIME_THRESHOLD = (
+        "its loss timers fire later than at 9/8 of the round-trip time, the one time threshold that"
+        " traces have: losses by time may be refused"
+    )
+    SAME_TICK = (
+        "a packet is lost that was sent in the same tick in which a loss was declared before: by"
+        " such times it does not enter recovery anew, and what follows may be refused"
+    )
+
+
 class Notes:
     """How often each guess was made and each thing left out."""
 
@@ -55,6 +76,7 @@ class Notes:
         self.of_header: list[str] = []
         # What the first reading found.
         self.findings: list[str] = []
+        self.limits: set[Limit] = set()
 
     def guess(self, guess: Guess) -> None:
         """Counts a guess; the next line tells of it."""
@@ -80,7 +102,7 @@ class Notes:
         """What is told in any case: the warnings, and timers, which decide what may be sent."""
         timers = (Omission.OTHER_TIMER, Omission.IDLE_TIMER)
         left = [f"left out {self.omissions[it]}: {it.value}" for it in timers if self.omissions[it]]
-        return self.warnings + left
+        return self.warnings + [it.value for it in Limit if it in self.limits] + left
 
     def lines(self) -> list[str]:
         """What `--notes` prints."""

@@ -73,6 +73,9 @@ class Survey:
         # Whether a congestion window is logged, and whether a time is no whole microsecond.
         self.has_window = False
         self.has_nanoseconds = False
+        # Whether packets were marked by CE, and whether the peer was asked for another delay.
+        self.has_marks = False
+        self.has_ack_frequency = False
         # Places of events.
         self.first_handshake_received: int | None = None
         self.handshake_done: int | None = None
@@ -152,6 +155,7 @@ class Survey:
         self._count_frames(event)
         self.sizes.see(event)
         self.largest_size = max(self.largest_size, event.size)
+        self.has_ack_frequency |= "ack_frequency" in event.frame_types
         if self.handshake_done is None and "handshake_done" in event.frame_types:
             self.handshake_done = event.index
 
@@ -165,6 +169,7 @@ class Survey:
         for ack in event.acks:
             event.ranges(ack)
             self._has_ack = True
+            self.has_marks |= bool(ack.get("ce")) and event.integer(ack["ce"], "ce") > 0
         if event.space != "handshake":
             return
         if self.first_handshake_received is None:
