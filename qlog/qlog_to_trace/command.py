@@ -13,10 +13,11 @@ from typing import BinaryIO, TextIO
 
 from .connections import Connections, chosen_of, others
 from .conversion import Conversion
+from .detection import form_of
 from .dialects import BY_NAME, DIALECTS, GENERIC, Dialect, dialect_of
 from .errors import Unusable
 from .events import Event, events_of
-from .forms import Form, form_of
+from .forms import Form
 from .header import Choices, options_of, write_header
 from .lines import Line, Lines
 from .looking import order_of
@@ -255,6 +256,9 @@ class Converter:
         conversion.is_window_reported = options.get("window") == "reported"
         events = self._events("converted", Connections(self._chosen))
         conversion.convert(events, lambda: self._form.torn_at is not None)
+        for what, count in self._form.left_out.items():
+            if count:
+                self.notes.warnings.append(f"left out {count}: {what}")
 
     def _survey(self, dialect: Dialect) -> Survey:
         """The first reading, and what it says of connections."""

@@ -19,8 +19,8 @@ TIME_THRESHOLD = (9, 8)
 DATAGRAMS_OF_PROBE = 2
 # Losses that are later than this behind a packet are those of a timer. Nanoseconds.
 GAP_OF_LOSSES = 1_000_000
-# Loss timers that are all later than this part of the round-trip time go by another threshold, if it
-# is a time that is not that of the program (nanoseconds).
+# Loss timers that are all later than this part of the round-trip time go by another threshold, if
+# they are later by more than what a program takes (nanoseconds).
 LATE_BY_TIME = Fraction(6, 5)
 LATE_BY_PROGRAM = 10_000_000
 KINDS_OF_TIMER = {"ack": "loss", "loss": "loss", "loss_timeout": "loss", "pto": "pto"}
@@ -78,8 +78,9 @@ class Conversion:
         self._has_sample = False
         self._state: str | None = None
         self._pto_count = 0
-        # Bytes that the last probe timeout still allows.
+        # Bytes that the last probe timeout still allows, and packets until an acknowledgment comes.
         self._probe_left = 0
+        self._probes_left = 0
         # Whether the window fell since the last packet that was sent.
         self._has_fallen = False
         # When losses were last declared.
@@ -241,6 +242,11 @@ class Conversion:
         """Probe timeouts that a log without timers shows by its count, or by a PING."""
         if self._logs_timers:
             return
+        if self._dialect.probes_by_trigger:
+            if group.first.is_probe and self._probes_left <= 0:
+                self._notes.guess(Guess.PROBE_BY_TRIGGER)
+                self._write_timer(group.first, "pto", str(group.first.space))
+            return
         if self._dialect.probes_by_ping:
             if any(self._is_ping_of_probe(event) for event in group.events):
                 self._notes.guess(Guess.PROBE_BY_PING)
@@ -277,6 +283,7 @@ class Conversion:
         )
         if is_in_flight:
             self._flight.add(space, number, size, event.time)
+            self._probes_left -= 1
         else:
             self._bare.add(space, number)
         if is_eliciting:
@@ -410,6 +417,7 @@ class Conversion:
             delay=self._lines.in_unit(delay),
             limited=self._is_limited(before) and not lost,
         )
+        self._probes_left = 0
         top = max(high for _, high in ranges)
         self._largest[space] = max(top, self._largest.get(space, 0))
         self._flight.take(space, self._flight.named(space, ranges))
@@ -508,6 +516,7 @@ class Conversion:
         self._lines.event("timer", event.time, kind=kind, space=space)
         if kind == "pto":
             self._probe_left = DATAGRAMS_OF_PROBE * self._datagram
+            self._probes_left = DATAGRAMS_OF_PROBE
             if not self._logs_timers:
                 self._pto_count += 1
 

@@ -5,6 +5,7 @@ A new stack is one more entry of DIALECTS. The one named `generic` is for all ot
 
 from dataclasses import dataclass, replace
 from enum import Enum
+from fractions import Fraction
 from typing import Any
 
 MICROSECONDS_OF_INITIAL_RTT = 333_000
@@ -59,6 +60,10 @@ class Dialect:
     logs_timers: bool | None = None
     # Nothing tells of a probe timeout but a PING that is sent.
     probes_by_ping: bool = False
+    # A packet says by its trigger that it is the probe of a timeout.
+    probes_by_trigger: bool = False
+    # The sender's window is not logged, and not that of NewReno, so none is judged.
+    hides_window: bool = False
     # A packet whose number this divides has a PING behind an ACK frame of several ranges, so that
     # the frame is acknowledged; that is no probe.
     packets_between_pings: int | None = None
@@ -76,6 +81,8 @@ class Dialect:
     window_overshoot: bool = False
     sample_eliciting_only: bool = False
     packet_threshold: int = 3
+    # Where it is another than that of the RFC (6.1.2), for which traces have no key.
+    time_threshold: Fraction | None = None
     # Whether a packet so many numbers behind may be spared, as where the threshold adapts.
     # Said only where the window is a reported one.
     may_spare: bool = False
@@ -195,6 +202,23 @@ DIALECTS = (
         logs_timers=True,
         slack_us=1_000,
         timer_early_us=1_000,
+    ),
+    # The netlog of Chromium 156 (Google quiche): no window, no metrics, no timers. CUBIC. Packets
+    # come at whole ms, and leave and are lost at microseconds. A probe timeout passes over a
+    # number. The time threshold is 5/4. Losses may stand behind the acknowledgment or before it.
+    Dialect(
+        "chromium",
+        ("netlog of chromium",),
+        is_tried=True,
+        initial_rtt=100_000,
+        logs_timers=False,
+        probes_by_trigger=True,
+        hides_window=True,
+        limited=Limited.NEVER,
+        unit="us",
+        may_spare=True,
+        time_threshold=Fraction(5, 4),
+        timer_early_us=3_000,
     ),
     # By their documentation: JSON-SEQ of the Rust crate `qlog`, 0.3, times in ms with fractions;
     # metrics have what changed.

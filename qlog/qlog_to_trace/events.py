@@ -284,6 +284,11 @@ class Event:
         return self.name == "loss_timer_updated" and self.data.get("event_type") == "expired"
 
     @property
+    def is_probe(self) -> bool:
+        """Whether a packet says that a probe timeout sent it."""
+        return self.data.get("trigger") == "pto_probe"
+
+    @property
     def repeats(self) -> bool:
         """Whether a packet_lost names what a probe sends again, which is no loss."""
         return self.name == "packet_lost" and self.data.get("trigger") == "pto_expired"

@@ -8,23 +8,9 @@ from .errors import Torn, Unusable
 from .scanner import DECODER, Scanner, is_torn
 
 RECORD_SEPARATOR = b"\x1e"
-# A first line that is longer is no record of a sequence.
-LONGEST_HEADER = 1 << 20
 # What a record may name that decides what follows it; metrics decide only what is reported.
 NAMES_THAT_MATTER = (b"packet", b"timer", b"key_", b"parameters_set")
 BROKEN_METRICS = {"name": "metrics that are no JSON"}
-# By their first bytes, files that are no log.
-KINDS_OF_FILE = {
-    b"\x1f\x8b": "compressed by gzip: unpack it first",
-    b"\x28\xb5\x2f\xfd": "compressed by zstd: unpack it first",
-    b"\xfd7zXZ": "compressed by xz: unpack it first",
-    b"BZh": "compressed by bzip2: unpack it first",
-    b"PK\x03\x04": "a zip archive: unpack it first",
-    b"\xef\xbb\xbf": "it begins with a byte order mark, which JSON has not: take it off first",
-    b"\xd4\xc3\xb2\xa1": "a capture of packets and no log",
-    b"\x0a\x0d\x0d\x0a": "a capture of packets and no log",
-}
-MARKS_OF_SEQUENCE = ("trace", "qlog_format", "file_schema", "serialization_format")
 
 
 class Record(NamedTuple):
@@ -54,6 +40,8 @@ class Form:
         # Records that are no JSON: what is wrong with the one at which the log is torn, and with
         # those that were passed over.
         self.break_of_record: str | None = None
+        # What it did not hand on, and how many of each.
+        self.left_out: dict[str, int] = {}
         self.passed_over: list[str] = []
 
     def headers(self) -> list[dict[str, Any]]:
@@ -217,26 +205,3 @@ def is_cut_short(error: Exception) -> bool:
     """Whether what is wrong with a text can be that its end is missing."""
     is_cut = isinstance(error, json.JSONDecodeError) and is_torn(error)
     return is_cut or isinstance(error, UnicodeDecodeError)
-
-
-def form_of(file: BinaryIO) -> Form:
-    """The form of a log, by its first bytes."""
-    file.seek(0)
-    first = file.readline(LONGEST_HEADER)
-    if not first:
-        raise Unusable("empty")
-    for mark, kind in KINDS_OF_FILE.items():
-        if first.startswith(mark):
-            raise Unusable(kind)
-    if first.startswith(RECORD_SEPARATOR):
-        return Sequence(file)
-    try:
-        header = DECODER.decode(first.decode())
-    except (ValueError, RecursionError):
-        header = None
-    if not isinstance(header, dict):
-        return Document(file)
-    if header.get("event") == "header":
-        raise Unusable("this is a trace already, as qaudit reads it, and no log")
-    is_sequence = "traces" not in header and any(mark in header for mark in MARKS_OF_SEQUENCE)
-    return Sequence(file) if is_sequence else Document(file)

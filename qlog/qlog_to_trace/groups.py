@@ -149,7 +149,7 @@ class Groups:
         if self._dialect.metrics_stand_before:
             return Group(Kind.SENT, [event])
         packets = [event]
-        while is_sent(self._ahead.peek()):
+        while (following := self._ahead.peek()) and is_sent(following) and not following.is_probe:
             packets.append(self._ahead.take())
         return Group(Kind.SENT, packets, self._beside(BESIDE_SENT))
 

@@ -44,7 +44,8 @@ def options_of(dialect: Dialect, survey: Survey, choices: Choices) -> dict[str, 
     if choices.version >= 3:
         by_log = "ns" if survey.has_nanoseconds else "us"
         # By which controller a sender has its window is its own choice (RFC 9002, section 7).
-        window = said.get("window", REPORTED if survey.has_window else "newreno")
+        has_window = survey.has_window or dialect.hides_window
+        window = said.get("window", REPORTED if has_window else "newreno")
         if window != REPORTED and said.get("loss_by_number") == MAY:
             raise Unusable("its losses may be declared only where it has a window that is reported")
         threshold = survey.recovery.get("packet_threshold")
@@ -83,7 +84,7 @@ def datagram_size_of(dialect: Dialect, survey: Survey, notes: Notes) -> int:
     return size
 
 
-def warn(survey: Survey, options: dict[str, Any], notes: Notes) -> None:
+def warn(dialect: Dialect, survey: Survey, options: dict[str, Any], notes: Notes) -> None:
     """What the log says of the sender's choices, and a header cannot."""
     said = survey.recovery.get("packet_threshold", options.get("packet_threshold"))
     if said != options.get("packet_threshold"):
@@ -95,7 +96,7 @@ def warn(survey: Survey, options: dict[str, Any], notes: Notes) -> None:
         notes.limits.add(Limit.MARKS)
     if survey.has_ack_frequency:
         notes.limits.add(Limit.ACK_FREQUENCY)
-    time_threshold = survey.time_threshold
+    time_threshold = survey.time_threshold or dialect.time_threshold
     if time_threshold and abs(time_threshold - TIME_THRESHOLD) > ROUNDING_OF_THRESHOLD:
         notes.warnings.append(
             f"its time_threshold is {float(time_threshold):.4g}, and traces know 9/8 alone; losses"
@@ -118,11 +119,14 @@ def write_header(
     if rtt and lines.in_unit(rtt) and rtt <= GREATEST_INITIAL_RTT:
         line["initial_rtt"] = lines.in_unit(rtt)
     window = survey.recovery.get("initial_window", survey.first_window) or 0
+    if dialect.hides_window and options.get("window") == REPORTED:
+        notes.guess(Guess.HIDDEN_WINDOW)
+        window = GREATEST_WINDOW
     if 2 * size <= window <= GREATEST_WINDOW:
         line["initial_window"] = window
-    if version >= 3 and not survey.has_window:
+    if version >= 3 and not survey.has_window and options["window"] != REPORTED:
         notes.guess(Guess.NO_WINDOW)
     told = {"x_note": notes.of_header} if notes.of_header else {}
     lines.header(line | options | {"x_dialect": dialect.name} | told)
-    warn(survey, options, notes)
+    warn(dialect, survey, options, notes)
     return size
