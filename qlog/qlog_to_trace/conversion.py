@@ -160,6 +160,11 @@ class Conversion:
             self._metrics.pop("bytes_in_flight", None)
         self._metrics |= values
 
+    def _take_zero(self) -> None:
+        """Bytes in flight that are left out although some left are 0, where 0 is left out."""
+        if self._dialect.absent is Absent.SAME_OR_ZERO:
+            self._metrics.setdefault("bytes_in_flight", 0)
+
     def _report(self, time: int) -> None:
         """A report of all values that are known. Before a sample a log says 0, or nothing."""
         known = {
@@ -340,7 +345,7 @@ class Conversion:
             lost = []
         if event.space == "handshake":
             self._handshake.take_keys(event)
-        held = dict(self._metrics)
+        held, in_flight = dict(self._metrics), self._flight.bytes
         is_reported = self._take_metrics(group.beside)
         lost = lost or [it for it in group.beside if it.name == "packet_lost"]
         if self._handshake.awaits_discard:
@@ -349,6 +354,8 @@ class Conversion:
             self._write_ack(event, frame, held.get("window"), lost)
             lost = []
         self._lost_alone(lost)
+        if is_reported and self._flight.bytes < in_flight:
+            self._take_zero()
         if "handshake_done" in event.frame_types:
             self._handshake.on_done(event)
         if is_reported:

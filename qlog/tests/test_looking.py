@@ -59,7 +59,7 @@ class Orders(unittest.TestCase):
         ]
         end = converted(without, "--notes", name="something")
         self.assertIn("found: a value that metrics leave out: it is as it was, or 0", found(end))
-        self.assertNotIn("bytes_in_flight", end.lines[-1])
+        self.assertEqual(end.lines[-1]["bytes_in_flight"], 0)
         kept = converted(events, "--notes", name="something")
         self.assertIn("found: a value that metrics leave out: it is as it was", found(kept))
         self.assertEqual(kept.lines[-1]["bytes_in_flight"], 0)

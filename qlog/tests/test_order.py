@@ -70,10 +70,17 @@ class ValuesThatAreLeftOut(unittest.TestCase):
     EVENTS = [sent(0, 0), metrics(0, congestion_window=40960, bytes_in_flight=1200)]
     ACK = [metrics(20, latest_rtt=20, smoothed_rtt=20, min_rtt=20), received(20.1, [[0]])]
 
+    SCHEMA = "urn:ietf:params:qlog:file:sequential"
+
+    def test_a_value_that_changed_and_is_left_out_is_0(self) -> None:
+        line = new_quic_go(self.EVENTS + self.ACK, self.SCHEMA).lines[-1]
+        self.assertEqual((line["bytes_in_flight"], line["window"]), (0, 40960))
+
     def test_a_value_that_may_be_0_is_not_said(self) -> None:
-        line = new_quic_go(self.EVENTS + self.ACK, "urn:ietf:params:qlog:file:sequential").lines[-1]
+        again = [metrics(30, smoothed_rtt=21), received(30.1, [[0]])]
+        line = new_quic_go(self.EVENTS + self.ACK + again, self.SCHEMA).lines[-1]
+        self.assertEqual((line["time"], line["smoothed_rtt"]), (30_000, 21_000))
         self.assertNotIn("bytes_in_flight", line)
-        self.assertEqual(line["window"], 40960)
 
     def test_a_value_that_did_not_change_is_said_again(self) -> None:
         self.assertEqual(new_quic_go(self.EVENTS + self.ACK).lines[-1]["bytes_in_flight"], 1200)
