@@ -68,6 +68,8 @@ class Conversion:
         told = dialect.logs_timers
         self._logs_timers = survey.has_timers if told is None else told
         self._datagram = datagram
+        # Whether sizes are those by which the bytes in flight grow.
+        self._settles_sizes = dialect.sizes_by_growth or survey.sizes.are_guessed
         # How far behind a packet its losses may be logged.
         self._gap = 0 if survey.has_milliseconds else GAP_OF_LOSSES
         self._flight = Flight()
@@ -213,7 +215,7 @@ class Conversion:
         self._guess_probes(group)
         is_reported = self._take_metrics(group.beside)
         reported = self._metrics.get("bytes_in_flight")
-        if is_reported and reported is not None:
+        if is_reported and reported is not None and self._settles_sizes:
             self._settle_size(group, reported)
         if self._handshake.awaits_discard:
             added = sum(event.size for event in group.events if event.is_in_flight)
@@ -364,6 +366,8 @@ class Conversion:
         elif held != self._metrics:
             self._report(event.time)
         self._handshake.after_received(event)
+        if not later:
+            return
         for found in detections(later, self._gap):
             self._lost_alone(found)
 

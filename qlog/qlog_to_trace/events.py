@@ -97,11 +97,14 @@ class Event:
         "scale",
         "name",
         "data",
+        "header",
         "space",
         "connection",
         "is_size_guessed",
         "is_padded",
+        "_frames",
         "_kinds",
+        "_acks",
         "_size",
     )
 
@@ -113,9 +116,15 @@ class Event:
         self.connection: object = None
         # How many nanoseconds its durations count.
         self.scale = NANOSECONDS["ms"]
+        # The header of the packet; some logs have its keys beside.
+        header = data.get("header")
+        self.header: dict[str, Any] = header if isinstance(header, dict) else data
         kind = self.header.get("packet_type") or data.get("packet_type") or data.get("type") or ""
         self.space = space_of_packet(str(kind)) if kind else None
+        # What was asked for once.
+        self._frames: list[dict[str, Any]] | None = None
         self._kinds: list[str] | None = None
+        self._acks: list[dict[str, Any]] | None = None
         # The size of the packet, once it was asked for or found by other values.
         self._size: int | None = None
         self.is_size_guessed = False
@@ -160,12 +169,6 @@ class Event:
     # Packets.
 
     @property
-    def header(self) -> dict[str, Any]:
-        """The header of the packet; some logs have its keys beside."""
-        header = self.data.get("header")
-        return header if isinstance(header, dict) else self.data
-
-    @property
     def number(self) -> int:
         """The packet number."""
         number = self.header.get("packet_number")
@@ -185,16 +188,22 @@ class Event:
 
     @property
     def has_size(self) -> bool:
-        """Whether the log says the size of the packet."""
-        return self._said_size is not None
+        """Whether the size of the packet is known."""
+        if self._size is None:
+            said = self._said_size
+            if said is None:
+                return False
+            self._size = self.integer(said, "raw.length", GREATEST_SIZE)
+            if self._size == 0:
+                raise self.error("raw.length is 0")
+        return True
 
     @property
     def size(self) -> int:
         """The size of the packet."""
-        if self._size is None:
-            self._size = self.integer(self._said_size, "raw.length", GREATEST_SIZE)
-            if self._size == 0:
-                raise self.error("raw.length is 0")
+        if self._size is None and not self.has_size:
+            raise self.error("no raw.length")
+        assert self._size is not None
         return self._size
 
     @size.setter
@@ -204,31 +213,34 @@ class Event:
     @property
     def frames(self) -> list[dict[str, Any]]:
         """The frames of the packet."""
-        frames = self.data.get("frames") or []
-        if not isinstance(frames, list) or not all(isinstance(it, dict) for it in frames):
-            raise self.error("frames is no list of objects")
-        return frames
+        if self._frames is None:
+            frames = self.data.get("frames") or []
+            if not isinstance(frames, list) or not all(isinstance(it, dict) for it in frames):
+                raise self.error("frames is no list of objects")
+            self._frames = frames
+        return self._frames
 
     @property
     def frame_types(self) -> list[str]:
         """The kinds of its frames, in their order."""
         if self._kinds is None:
-            kinds = (it.get("frame_type") or it.get("type") for it in self.frames)
-            self._kinds = [str(it).lower() for it in kinds]
+            self._kinds = [
+                kind_of_frame(str(it.get("frame_type") or it.get("type"))) for it in self.frames
+            ]
         return self._kinds
 
     @property
     def acks(self) -> list[dict[str, Any]]:
         """Its ACK frames."""
-        kinds = self.frame_types
-        if not any(kind in ACK_FRAMES for kind in kinds):
-            return []
-        return [it for it, kind in zip(self.frames, kinds, strict=True) if kind in ACK_FRAMES]
+        if self._acks is None:
+            kinds = zip(self.frames, self.frame_types, strict=True)
+            self._acks = [it for it, kind in kinds if kind in ACK_FRAMES]
+        return self._acks
 
     @property
     def is_eliciting(self) -> bool:
         """Whether it is ack-eliciting."""
-        return any(kind not in QUIET_FRAMES for kind in self.frame_types)
+        return not QUIET_FRAMES.issuperset(self.frame_types)
 
     @property
     def is_in_flight(self) -> bool:
@@ -307,6 +319,12 @@ class Event:
     def tells_of_keys(self) -> bool:
         """Whether it says that keys came or are gone."""
         return self.retires_keys or self.name == "key_updated"
+
+
+@lru_cache(maxsize=256)
+def kind_of_frame(kind: str) -> str:
+    """The kind of a frame in one manner of writing."""
+    return kind.lower()
 
 
 def plain(kind: str) -> str:
@@ -409,14 +427,10 @@ def event_of(record: Record, times: Times) -> Event | None:
     data = member.get("data")
     event = Event(record.place, time, known, data if isinstance(data, dict) else {})
     event.scale = times.scale
-    event.connection = connection_of(member, event.data)
+    if "group_id" in member or "path_id" in event.data:
+        # What tells apart connections in one trace, and the paths of multipath QUIC.
+        event.connection = f"{member.get('group_id')} {event.data.get('path_id')}"
     return event
-
-
-def connection_of(member: dict[str, Any], data: dict[str, Any]) -> object:
-    """What tells apart connections in one trace, and the paths of multipath QUIC."""
-    group, path = member.get("group_id"), data.get("path_id")
-    return None if group is None and path is None else f"{group} {path}"
 
 
 def losses_of(event: Event) -> Iterator[Event]:

@@ -44,8 +44,9 @@ class Group:
     @property
     def is_closing(self) -> bool:
         """Whether a packet of it closes the connection."""
-        packets = self.kind in (Kind.SENT, Kind.RECEIVED)
-        return packets and any(event.is_closing for event in self.events)
+        if self.kind is not Kind.SENT and self.kind is not Kind.RECEIVED:
+            return False
+        return any([event.is_closing for event in self.events])
 
     def without_end(self) -> "Group | None":
         """What is sure of the last group of a torn log, of which more may have followed."""
@@ -71,6 +72,8 @@ class Ahead:
 
     def peek(self, place: int = 0) -> Event | None:
         """The next event, or one behind it; nothing at the end."""
+        if not place and self._kept:
+            return self._kept[0]
         while len(self._kept) <= place:
             event = next(self._events, None)
             if event is None:

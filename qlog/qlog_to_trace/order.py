@@ -73,7 +73,7 @@ class PacketFirst:
         self._held = []
 
     def _metrics(self, event: Event) -> Iterator[Event]:
-        has_sample = any(event.metrics().get(it) for it in ("latest_rtt", "smoothed_rtt"))
+        has_sample = bool(event.data.get("latest_rtt") or event.data.get("smoothed_rtt"))
         if set(event.data) == {"pto_count"} or (self._is_timed and not has_sample):
             yield event
         elif self._awaited and not has_sample:

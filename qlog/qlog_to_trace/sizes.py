@@ -71,9 +71,7 @@ class Sizes:
         self.are_guessed = False
 
     def see(self, event: Event) -> None:
-        """Looks at a packet in the first reading."""
-        if event.has_size:
-            return
+        """Looks at a packet without a size in the first reading."""
         size = self._by_frames(event)
         if size is not None:
             self._see_frames(event, size)

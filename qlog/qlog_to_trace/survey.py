@@ -1,6 +1,5 @@
 """The first reading of a log: what has to be known before the first line is written."""
 
-from collections import Counter
 from collections.abc import Iterable
 from dataclasses import dataclass
 from fractions import Fraction
@@ -81,16 +80,16 @@ class Survey:
         self.handshake_done: int | None = None
         self.last_crypto_before_done: int | None = None
         self._has_ack = False
-        # How many packets of a space were sent and came, and how many of them have no frames.
-        self._packets: Counter[str] = Counter()
-        self._without_frames: Counter[str] = Counter()
+        # Events of packets with and without frames.
+        self._with_frames: set[str] = set()
+        self._without_frames: set[str] = set()
         for event in events:
             self._see(event)
         if self.largest_size == 0:
             raise Unusable("no packet_sent of a QUIC packet with a size")
-        for name, count in self._without_frames.items():
-            if count == self._packets[name]:
-                raise Unusable(f"each {name} is without its frames: {WHY_FRAMES[name]}")
+        for name, why in WHY_FRAMES.items():
+            if name in self._without_frames - self._with_frames:
+                raise Unusable(f"each {name} is without its frames: {why}")
 
     def _see(self, event: Event) -> None:
         if event.time % NANOSECONDS["ms"]:
@@ -152,8 +151,9 @@ class Survey:
             return
         assert event.number >= 0
         self._last_numbers[event.space] = event.number
-        self._count_frames(event)
-        self.sizes.see(event)
+        self._see_frames(event)
+        if not event.has_size:
+            self.sizes.see(event)
         self.largest_size = max(self.largest_size, event.size)
         self.has_ack_frequency |= "ack_frequency" in event.frame_types
         if self.handshake_done is None and "handshake_done" in event.frame_types:
@@ -165,7 +165,7 @@ class Survey:
             if event.packet_type == "retry" and self._role == "client" and self.retry is None:
                 self.retry = Retry(event.index, event.place, dict(self._last_numbers))
             return
-        self._count_frames(event)
+        self._see_frames(event)
         for ack in event.acks:
             event.ranges(ack)
             self._has_ack = True
@@ -177,9 +177,11 @@ class Survey:
         if self.handshake_done is None and "crypto" in event.frame_types:
             self.last_crypto_before_done = event.index
 
-    def _count_frames(self, event: Event) -> None:
-        self._packets[event.name] += 1
-        self._without_frames[event.name] += "frames" not in event.data
+    def _see_frames(self, event: Event) -> None:
+        if "frames" not in event.data:
+            self._without_frames.add(event.name)
+        elif event.name not in self._with_frames:
+            self._with_frames.add(event.name)
 
     def _see_metrics(self, event: Event) -> None:
         self.has_window = self.has_window or event.has_window
