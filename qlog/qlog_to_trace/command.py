@@ -35,6 +35,7 @@ EVENTS_OF_PROGRESS = 20_000
 # How many records are told of that are no JSON.
 MOST_OF_RECORDS = 3
 TRACES, CONNECTIONS = "traces", "connections or paths"
+LONGEST_LINE = 65_536
 COPIED_AT_ONCE = 1 << 20
 ENCODER = json.JSONEncoder(separators=(",", ":"))
 
@@ -102,14 +103,14 @@ class Key:
     name: str
     # The version of the format that brought it.
     version: int
-    # The strings that it may have. Without any it is `yes` or `no`, or a number.
+    # The strings that it may have. Without any it is `yes` or `no`, or a number of these.
     values: tuple[str, ...] = ()
-    is_number: bool = False
+    numbers: range | None = None
 
     def add_to(self, group: argparse._ArgumentGroup) -> None:
         """Makes an option of it."""
         about = f"{self.name}, of version {self.version}"
-        if self.is_number:
+        if self.numbers is not None:
             group.add_argument(self.option, dest=self.name, type=natural, metavar="N", help=about)
         else:
             values = self.values or tuple(YES_OR_NO)
@@ -123,16 +124,16 @@ class Key:
 
 YES_OR_NO = {"yes": True, "no": False}
 KEYS = (
-    Key("--timer-late-us", "timer_late_us", 2, is_number=True),
+    Key("--timer-late-us", "timer_late_us", 2, numbers=range(10**15 + 1)),
     Key("--refresh-min-rtt", "refresh_min_rtt", 2),
-    Key("--slack-us", "report_slack_us", 2, is_number=True),
-    Key("--slack-bytes", "report_slack_bytes", 2, is_number=True),
+    Key("--slack-us", "report_slack_us", 2, numbers=range(10**9 + 1)),
+    Key("--slack-bytes", "report_slack_bytes", 2, numbers=range(1 << 32)),
     Key("--unit", "unit", 3, ("us", "ns")),
     Key("--window", "window", 3, ("newreno", "reported")),
     Key("--window-overshoot", "window_overshoot", 3),
     Key("--sample-eliciting-only", "sample_eliciting_only", 3),
-    Key("--packet-threshold", "packet_threshold", 3, is_number=True),
-    Key("--timer-early-us", "timer_early_us", 3, is_number=True),
+    Key("--packet-threshold", "packet_threshold", 3, numbers=range(3, 65_536)),
+    Key("--timer-early-us", "timer_early_us", 3, numbers=range(10**9 + 1)),
     Key("--loss-by-number", "loss_by_number", 3, ("must", "may")),
 )
 
@@ -147,8 +148,13 @@ def choices_of(args: argparse.Namespace) -> Choices:
 def wrong_in(args: argparse.Namespace) -> str | None:
     """What is wrong with arguments that each are right."""
     for key in KEYS:
-        if key.version > args.version and key.value_of(args) is not None:
+        value = key.value_of(args)
+        if value is None:
+            continue
+        if key.version > args.version:
             return f"{key.option} needs --version {key.version}"
+        if key.numbers is not None and value not in key.numbers:
+            return f"{key.option} is {key.numbers.start} to {key.numbers.stop - 1}"
     return None
 
 
@@ -240,7 +246,10 @@ class Converter:
         return connections.over(self._progress.over(events, what))
 
     def _write(self, line: Line) -> None:
-        self._output.write(ENCODER.encode(line) + "\n")
+        text = ENCODER.encode(line)
+        if len(text) > LONGEST_LINE:
+            raise Unusable(f"a line of {len(text)} bytes, where a trace has {LONGEST_LINE} at most")
+        self._output.write(text + "\n")
         self.written += 1
 
     def convert(self) -> None:

@@ -80,6 +80,10 @@ BYTES = {
 WINDOWS = tuple(key for key, name in BYTES.items() if name == "window")
 # Nanoseconds of ten years: no connection is so old, so a time that is greater counts from an epoch.
 LEAST_OF_EPOCH = 10 * 365 * 24 * 3600 * 10**9
+GREATEST_DURATION = 10**18
+# Numbers of more decimal digits, or more bits, are not looked at.
+MOST_DIGITS = 40
+LONGEST_NUMBER = 256
 GREATEST_PACKET_NUMBER = (1 << 62) - 1
 GREATEST_SIZE = 65527
 GREATEST_BYTES = (1 << 64) - 1
@@ -139,25 +143,30 @@ class Event:
         """A whole number that a log may write as a string or with a fraction of 0."""
         number = value if type(value) is int else self._integer(value, what)
         if not 0 <= number <= greatest:
-            raise self.error(f"{what} is {number}")
+            is_long = number.bit_length() > LONGEST_NUMBER
+            raise self.error(f"{what} is {'out of range' if is_long else number}")
         return number
 
     def _integer(self, value: Any, what: str) -> int:
         if isinstance(value, bool) or not isinstance(value, int | str | Decimal):
             raise self.error(f"no {what}")
         try:
-            return int(Decimal(value))
+            return int(as_number(Decimal(value)))
         except (ArithmeticError, ValueError) as error:
             raise self.error(f"{what} is no number") from error
 
     def nanoseconds(self, value: Any, what: str) -> int:
         """A duration, rounded down."""
         if type(value) is int and value >= 0:
-            return value * self.scale
-        try:
-            return max(0, int(as_number(value) * self.scale))
-        except (ArithmeticError, TypeError, ValueError) as error:
-            raise self.error(f"{what} is no number") from error
+            found = value * self.scale
+        else:
+            try:
+                found = max(0, int(as_number(value) * self.scale))
+            except (ArithmeticError, TypeError, ValueError) as error:
+                raise self.error(f"{what} is no number") from error
+        if found > GREATEST_DURATION:
+            raise self.error(f"{what} is out of range")
+        return found
 
     def fraction(self, value: Any, what: str) -> Fraction:
         """A number that need not be whole."""
@@ -255,7 +264,10 @@ class Event:
     def ranges(self, ack: dict[str, Any]) -> Ranges:
         """The ranges of an ACK frame."""
         found = []
-        for pair in ack.get("acked_ranges") or []:
+        pairs = ack.get("acked_ranges") or []
+        if not isinstance(pairs, list):
+            raise self.error("acked_ranges is no list")
+        for pair in pairs:
             ends = pair if isinstance(pair, list) and pair else [pair]
             low, high = self.integer(ends[0], "a range"), self.integer(ends[-1], "a range")
             if low > high:
@@ -339,8 +351,13 @@ def space_of_packet(kind: str) -> str | None:
 
 
 def as_number(value: Any) -> int | Decimal:
-    """A number that a log may write as a string."""
-    return value if isinstance(value, int) else Decimal(value)
+    """A number that a log may write as a string, if it is none of very many digits."""
+    if isinstance(value, int):
+        return value
+    number = Decimal(value)
+    if abs(number.adjusted()) > MOST_DIGITS:
+        raise ArithmeticError("too many digits")
+    return number
 
 
 class Times:

@@ -132,6 +132,10 @@ class Ends(unittest.TestCase):
             (sequence({"configuration": {"time_units": []}} | role, []), "time_units is"),
             ('{"qlog_format": "NDJSON", "trace": 5}\n', "trace is no object"),
             (b"\x1e\xff\n" + good.encode(), "line 1: not JSON"),
+            (sequence(header(), [sent(0, "1e999999999")]), "line 2: .*: packet_number is no num"),
+            (sequence(header(), [sent("1e999999999", 0)]), "line 2: time is no number"),
+            (sequence(header(), [sent(0, 10**4000)]), "line 2: .*: packet_number is out of range"),
+            (sequence(header(), [received(1, True), sent(0, 0)]), "line 2: .* is no list"),
         ]
         for text, reason in bad:
             end = End(text)
@@ -148,12 +152,26 @@ class Ends(unittest.TestCase):
         self.assertEqual(end.status, 2)
         self.assertRegex(end.errors, "line 4: .*congestion_window.*; the trace ends behind ")
 
+    def test_traces_that_nobody_could_read_are_not_written(self) -> None:
+        many = [[number, number] for number in range(0, 12_000, 2)]
+        slow = received(1, [[0]], delay=10**14)
+        for event, reason in (
+            (sent(10**12 + 1, 1), "it goes on past 1000000000000000 us, the last time of a trace"),
+            (received(1, many), "a line of [0-9]+ bytes, where a trace has 65536 at most"),
+            (slow, "line 3: packet_received: ack_delay is out of range"),
+        ):
+            end = converted([sent(0, 0), event])
+            self.assertEqual(end.status, 2)
+            self.assertRegex(end.errors, f"LOG: {reason}; the trace ends behind its line 2\n$")
+
     def test_arguments(self) -> None:
         for words in (
             ["--version", "2", "--unit", "ns"],
             ["--version", "2", "--window", "reported"],
             ["--version", "1", "--slack-us", "1"],
             ["--slack-us", "-1"],
+            ["--slack-us", "1000000001"],
+            ["--packet-threshold", "2"],
             ["--version", "9"],
             ["--window", "cubic"],
             ["--window-overshoot", "maybe"],
