@@ -35,7 +35,7 @@ class Real(unittest.TestCase):
     """Each log of conformance/real/traces gives the trace beside it."""
 
     def test_real(self) -> None:
-        paths = sorted(REAL.glob("*.qlog"))
+        paths = [*sorted(REAL.glob("*.qlog")), *sorted(REAL.glob("*.netlog"))]
         self.assertTrue(paths)
         for path in paths:
             with self.subTest(path.name):
