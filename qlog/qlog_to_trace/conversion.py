@@ -480,24 +480,34 @@ class Conversion:
         """
         if not lost:
             return
-        first = lost[0]
-        space = str(first.space)
-        if not self._logs_timers and first.number < self._largest.get(space, 0):
+        first = next(self._in_flight(lost), None)
+        space = str(first.space) if first else ""
+        if first and not self._logs_timers and first.number < self._largest.get(space, 0):
             self._notes.guess(Guess.LOSS_TIMER)
             self._write_timer(first, "loss", space)
-        else:
+        elif first:
             self._notes.omit(Omission.LOSS_OF_NOTHING)
-        self._after_timer(first, lost)
+        self._after_timer(lost[0], lost)
+
+    def _in_flight(self, events: Iterable[Event]) -> Iterator[Event]:
+        """The losses among events, but for those of packets that are not in flight."""
+        for event in events:
+            if event.name == "packet_lost" and event.space:
+                if not self._bare.has(event.space, event.number):
+                    yield event
 
     def _on_timer(self, group: Group) -> None:
         event = group.first
-        lost = [it for it in group.beside if it.name == "packet_lost" and it.space]
+        has_losses = any(it.name == "packet_lost" for it in group.beside)
+        lost = list(self._in_flight(group.beside))
         is_counted = any(it.pto_count() is not None for it in group.beside)
         kind = KINDS_OF_TIMER.get(str(event.data.get("timer_type")))
-        if kind is None and (lost or is_counted):
-            kind = "loss" if lost else "pto"
+        if kind is None and (has_losses or is_counted):
+            kind = "loss" if has_losses else "pto"
         if kind is None:
             self._notes.omit(Omission.OTHER_TIMER)
+        elif kind == "loss" and has_losses and not lost:
+            self._notes.omit(Omission.BARE_TIMER)
         elif not lost and (kind == "loss" or (self._survey.has_pto_count and not is_counted)):
             self._notes.omit(Omission.IDLE_TIMER)
         else:

@@ -46,6 +46,10 @@ class Dialect:
     sizes_by_growth: bool = False
     # The delay of acknowledgments is as on the wire, not yet multiplied (RFC 9000, 19.3).
     delay_is_encoded: bool = False
+    # Each difference of its times is cut to a whole millisecond.
+    cuts_times: bool = False
+    # What to do where its logs give no trace.
+    advice: str = ""
     # How large a packet is that a frame without a length fills.
     full_packet: int = 1200
     # packet_lost stands before the packet_received that shows the loss.
@@ -126,6 +130,7 @@ OPENSSL = Dialect(
     "openssl",
     ("openssl/",),
     is_tried=True,
+    cuts_times=True,
     full_packet=1_198,
     logs_timers=False,
     limited=Limited.NEVER,
@@ -222,7 +227,14 @@ DIALECTS = (
     ),
     # By their documentation: JSON-SEQ of the Rust crate `qlog`, 0.3, times in ms with fractions;
     # metrics have what changed.
-    Dialect("quinn", ("quinn",), slack_us=1_000, slack_bytes=1_200, timer_early_us=1_000),
+    Dialect(
+        "quinn",
+        ("quinn",),
+        advice="quinn logs none; hooks in its recovery code give a trace (docs/stacks.md)",
+        slack_us=1_000,
+        slack_bytes=1_200,
+        timer_early_us=1_000,
+    ),
     Dialect("quiche", ("quiche",), slack_us=1_000, slack_bytes=1_200, timer_early_us=1_000),
     # By its documentation: one JSON object, events as lists, times in microseconds. Its losses name
     # no packets, so a log with losses gives no trace.

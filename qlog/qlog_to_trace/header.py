@@ -92,6 +92,8 @@ def warn(dialect: Dialect, survey: Survey, options: dict[str, Any], notes: Notes
             f"its reordering_threshold is {said}, which the header does not say; losses by number"
             " may be refused"
         )
+    if dialect.cuts_times:
+        notes.limits.add(Limit.CUT_CLOCK)
     if survey.has_marks:
         notes.limits.add(Limit.MARKS)
     if survey.has_ack_frequency:

@@ -41,6 +41,7 @@ class Omission(Enum):
     LOSS_NOT_IN_FLIGHT = "a loss of a packet that is not in flight"
     LOSS_OF_PROBE = "a packet_lost by pto_expired: what a probe repeats stays in flight"
     IDLE_TIMER = "a timer that had been moved: it expired, and did nothing"
+    BARE_TIMER = "a loss timer that found only packets that are not in flight"
     OTHER_TIMER = "a timer of another kind than loss and pto"
 
 
@@ -50,6 +51,10 @@ class Limit(Enum):
     MARKS = (
         "acknowledgments report CE marks, of which traces say nothing: a window that falls by them,"
         " or the packet of an entry into recovery, may be refused"
+    )
+    CUT_CLOCK = (
+        "each difference of its times is cut to a millisecond, so its clock falls behind, unless"
+        " the sender's has whole milliseconds too: what times decide may be refused"
     )
     ACK_FREQUENCY = (
         "ACK_FREQUENCY frames change the peer's max_ack_delay, of which a trace has one alone:"
@@ -102,7 +107,7 @@ class Notes:
 
     def told(self) -> list[str]:
         """What is told in any case: the warnings, and timers, which decide what may be sent."""
-        timers = (Omission.OTHER_TIMER, Omission.IDLE_TIMER)
+        timers = (Omission.OTHER_TIMER, Omission.IDLE_TIMER, Omission.BARE_TIMER)
         left = [f"left out {self.omissions[it]}: {it.value}" for it in timers if self.omissions[it]]
         return self.warnings + [it.value for it in Limit if it in self.limits] + left
 

@@ -89,7 +89,8 @@ class Survey:
             raise Unusable("no packet_sent of a QUIC packet with a size")
         for name, why in WHY_FRAMES.items():
             if name in self._without_frames - self._with_frames:
-                raise Unusable(f"each {name} is without its frames: {why}")
+                advice = f". {dialect.advice}" if dialect.advice else ""
+                raise Unusable(f"each {name} is without its frames: {why}{advice}")
 
     def _see(self, event: Event) -> None:
         if event.time % NANOSECONDS["ms"]:

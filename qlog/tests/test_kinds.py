@@ -60,6 +60,11 @@ class NoLogs(unittest.TestCase):
         why = "each packet_received is without its frames: no acknowledgment is in this log"
         self.refused(sequence(header(), [EVENTS[0], no_frames[1]]), why)
 
+    def test_quinn_is_told_of_hooks(self) -> None:
+        no_frames = [without_frames(event) for event in EVENTS]
+        why = "each packet_sent is without its frames: .* quinn logs none; hooks in its recovery"
+        self.refused(sequence(header(name="quinn"), no_frames), why)
+
     def test_losses_that_do_not_say_their_space(self) -> None:
         event = {"time": 30, "name": "recovery:packet_lost", "data": {"packet_number": 0}}
         self.refused(sequence(header(), [*EVENTS, event]), "line 5: packet_lost: no packet_type")

@@ -25,6 +25,11 @@ class Limits(unittest.TestCase):
             ack["data"]["frames"][0] |= {"ect0": 1, "ect1": 0, "ce": count}
             self.assertEqual(told([sent(0, 0), ack], "acknowledgments report CE marks"), is_told)
 
+    def test_a_clock_that_is_cut(self) -> None:
+        for name, is_told in (("OpenSSL/3.6.5", True), ("something", False)):
+            errors = converted([sent(0, 0), received(100, [[0]])], name=name).errors
+            self.assertEqual("each difference of its times is cut" in errors, is_told)
+
     def test_another_delay_of_the_peer(self) -> None:
         for frame, is_told in (("ping", False), ("ack_frequency", True)):
             events = [sent(0, 0, frames=(frame,)), received(100, [[0]])]

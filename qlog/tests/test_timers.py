@@ -78,6 +78,16 @@ class LossesThatAreNone(unittest.TestCase):
         self.assertEqual(end.only("lost")[0]["ranges"], [[0, 0]])
         self.assertIn("left out 1: a loss of a packet that is not in flight", end.errors)
 
+    def test_a_timer_for_packets_that_are_not_in_flight_is_none(self) -> None:
+        events = [sent(0, 0, frames=("ack",)), sent(0, 1), received(10, [[1]])]
+        timer = expired(13, "ack", packet_number_space="application_data")
+        for name, found in (("quic-go", [timer, lost(13, 0)]), ("ngtcp2", [lost(13, 0)])):
+            end = converted([*events, *found, sent(14, 2)], "--notes", name=name)
+            self.assertEqual(end.kinds, ["header", "sent", "sent", "ack", "sent"])
+            self.assertIn("left out 1: a loss of a packet that is not in flight", end.errors)
+            told = "left out 1: a loss timer that found only packets that are not in flight"
+            self.assertEqual(told in end.errors, name == "quic-go")
+
 
 class ValuesOfFirefox(unittest.TestCase):
     """Sizes without their padding, and delays as on the wire."""
