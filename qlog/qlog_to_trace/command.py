@@ -223,6 +223,8 @@ class Converter:
         # Of several traces --connection says which; of one trace, which of its connections.
         asked = None if self._traces > 1 else args.connection
         self._chosen = 1 if asked is None else asked
+        # Whether events name connections, once the log was read.
+        self._has_connections = False
         file.seek(0, 2)
         self._progress = Progress(self._form, file.tell(), sys.stderr)
 
@@ -241,9 +243,9 @@ class Converter:
         """The records that are no JSON and hold nothing of recovery."""
         return self._form.passed_over
 
-    def _events(self, what: str, connections: Connections) -> Iterator[Event]:
+    def _events(self, what: str) -> Iterator[Event]:
         events = events_of(self._form.events(self._index), self._header)
-        return connections.over(self._progress.over(events, what))
+        return self._progress.over(events, what)
 
     def _write(self, line: Line) -> None:
         text = ENCODER.encode(line)
@@ -263,7 +265,9 @@ class Converter:
         size = write_header(lines, self.notes, self._role, dialect, survey, options)
         conversion = Conversion(dialect, self._role, survey, lines, self.notes, size)
         conversion.is_window_reported = options.get("window") == "reported"
-        events = self._events("converted", Connections(self._chosen))
+        events = self._events("converted")
+        if self._has_connections:
+            events = Connections(self._chosen).over(events)
         conversion.convert(events, lambda: self._form.torn_at is not None)
         for what, count in self._form.left_out.items():
             if count:
@@ -272,7 +276,7 @@ class Converter:
     def _survey(self, dialect: Dialect) -> Survey:
         """The first reading, and what it says of connections."""
         connections = Connections(self._chosen)
-        events = self._events("looked at", connections)
+        events = connections.over(self._events("looked at"))
         try:
             survey = Survey(events, dialect, self._role)
         except Unusable:
@@ -281,6 +285,7 @@ class Converter:
                 raise Unusable(self._form.break_of_record, self._form.torn_at) from None
             raise
         chosen_of(max(connections.count, 1), self._chosen, CONNECTIONS)
+        self._has_connections = connections.count > 0
         if self._traces > 1:
             chosen = self._args.connection or 1
             self.notes.warnings.append(others(self._traces, chosen, TRACES))

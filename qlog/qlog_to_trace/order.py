@@ -29,7 +29,9 @@ class PacketFirst:
         """The same events, each packet before what it caused."""
         for event in events:
             if event.name == "packet_sent":
-                yield from self._flushed()
+                if self._held or self._of_sent:
+                    yield from self._flushed()
+                self._is_timed = False
                 self._awaited += event.space is not None and event.is_in_flight
                 yield event
             elif event.name == "packet_received":

@@ -97,11 +97,7 @@ class Survey:
             self.has_milliseconds = False
             if event.time % NANOSECONDS["us"]:
                 self.has_nanoseconds = True
-        if event.name == "parameters_set":
-            self._see_parameters(event)
-        elif event.name == "recovery_parameters_set":
-            self._see_recovery(event)
-        elif event.name == "packet_sent":
+        if event.name == "packet_sent":
             self._see_sent(event)
         elif event.name == "packet_received":
             self._see_received(event)
@@ -109,6 +105,10 @@ class Survey:
             self._see_metrics(event)
         elif event.name == "packet_lost":
             self._see_lost(event)
+        elif event.name == "parameters_set":
+            self._see_parameters(event)
+        elif event.name == "recovery_parameters_set":
+            self._see_recovery(event)
         elif event.retires_keys:
             self.retired.add(event.key_space() or "")
         elif event.has_expired:
