@@ -36,7 +36,7 @@ python_of_fuzz := conformance/fuzz/run
 # The pages, and what measures and tests them.
 python_of_page := page/qaudit-page page/qaudit-matrix $(wildcard page/qaudit_page/*.py)
 python_of_page_tests := page/measure $(wildcard page/*.py page/tests/*.py)
-python_of_qlog := qlog/qlog-to-trace qlog/test_qlog.py $(wildcard qlog/qlog_to_trace/*.py)
+python_of_qlog := qlog/qlog-to-trace $(wildcard qlog/qlog_to_trace/*.py qlog/tests/*.py)
 # captures/transfer.py runs where aioquic is, and is checked for style alone.
 python_of_captures := captures/audit.py captures/causes.py captures/run captures/stacks.py captures/table captures/test_causes.py examples/delay.py examples/logger.py
 python_of_release := release/edits
@@ -216,7 +216,7 @@ $(runner_tests):
 
 # The converter of logs, over small logs and those of conformance/real, and the example of a logger.
 test_qlog:
-	python3 qlog/test_qlog.py
+	cd qlog && python3 -m unittest
 
 test_captures:
 	python3 captures/test_causes.py
@@ -233,7 +233,7 @@ lint:
 	mypy $(python)
 	mypy $(python_of_fuzz)
 	mypy $(python_of_bench)
-	mypy $(python_of_qlog)
+	MYPYPATH=qlog mypy $(python_of_qlog)
 	mypy $(python_of_bindings)
 	mypy $(python_of_release)
 	mypy $(python_of_captures)

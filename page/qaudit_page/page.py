@@ -108,6 +108,7 @@ def written(wanted: Wanted, library: str, trace: Trace, verdict: Verdict, part: 
         MARK=MARKS[verdict.kind],
         SENTENCE=sentence(verdict),
         FACTS=pairs(facts_of(verdict.said, trace.unit)),
+        CONVERTED=converted(trace),
         QUOTE=quote(trace, verdict),
         DEPARTURES=section_of(verdict, trace.unit),
         OVERVIEW=pairs(overview(wanted, trace, verdict, part)),
@@ -159,6 +160,19 @@ def sentence(verdict: Verdict) -> str:
     line = link(verdict.line, f"line {count(verdict.line)}")
     what = f"{html(verdict.rule)} {html(verdict.name)}"
     return f"<b>{word} at {line}: {what}.</b> {meaning_of(verdict.rule)}"
+
+
+def converted(trace: Trace) -> str:
+    """What the converter of logs says of a trace whose log it may have misread."""
+    first = next((line for line in trace.lines if line.strip()), b"")
+    try:
+        said = json.loads(first)
+    except (ValueError, RecursionError):
+        return ""
+    notes = said.get("x_note") if isinstance(said, dict) else None
+    told = [note for note in notes if isinstance(note, str)] if isinstance(notes, list) else []
+    paragraphs = (f'<p class="note">The converter says of the log: {html(it)}</p>' for it in told)
+    return "".join(paragraphs)
 
 
 def quote(trace: Trace, verdict: Verdict) -> str:

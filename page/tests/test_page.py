@@ -356,6 +356,20 @@ class Safety(unittest.TestCase):
         self.assertEqual(len(packets["acked"]), 400)
 
 
+class Conversions(unittest.TestCase):
+    """What the converter of logs says of a log that it may have misread."""
+
+    def test_its_note_is_shown(self) -> None:
+        note = "its order is another </p><script>"
+        shown = "The converter says of the log: its order is another &lt;/p&gt;&lt;script&gt;</p>"
+        noted: list[tuple[dict[str, Any], bool]] = [({"x_note": [note, 5]}, True), ({}, False)]
+        for said, is_shown in (*noted, ({"x_note": note}, False)):
+            header = json.dumps(json.loads(HEADER) | said)
+            text = made(joined("", header, sent(0)))
+            self.assertEqual(shown in text, is_shown)
+            self.assertEqual("The converter says" in text, is_shown)
+
+
 class Limits(unittest.TestCase):
     """What a page takes."""
 

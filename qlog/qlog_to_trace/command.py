@@ -11,13 +11,16 @@ from dataclasses import dataclass
 from pathlib import Path
 from typing import BinaryIO, TextIO
 
+from .connections import Connections, chosen_of, others
 from .conversion import Conversion
-from .dialects import BY_NAME, DIALECTS, Dialect, dialect_of
+from .detection import form_of
+from .dialects import BY_NAME, DIALECTS, GENERIC, Dialect, dialect_of
 from .errors import Unusable
 from .events import Event, events_of
-from .forms import Form, form_of
+from .forms import Form
 from .header import Choices, options_of, write_header
 from .lines import Line, Lines
+from .looking import order_of
 from .notes import Notes
 from .survey import Survey
 
@@ -29,6 +32,10 @@ STANDARD_INPUT = "standard input"
 # From how many bytes on a line of progress is worth its place, and how many events lie between two.
 LARGE = 20_000_000
 EVENTS_OF_PROGRESS = 20_000
+# How many records are told of that are no JSON.
+MOST_OF_RECORDS = 3
+TRACES, CONNECTIONS = "traces", "connections or paths"
+LONGEST_LINE = 65_536
 COPIED_AT_ONCE = 1 << 20
 ENCODER = json.JSONEncoder(separators=(",", ":"))
 
@@ -63,6 +70,12 @@ def arguments() -> argparse.ArgumentParser:
         help="of the format of traces, 3 where nothing is said",
     )
     add("--vantage", choices=ROLES, help="which side, where the log has both or says neither")
+    add(
+        "--connection",
+        type=natural,
+        metavar="N",
+        help="which connection, trace or path, from 1 on, where the log has several",
+    )
     names = [dialect.name for dialect in DIALECTS]
     add("--dialect", choices=names, help="the kind of log, where the log does not say it")
     add("--notes", action="store_true", help="count the guesses on standard error")
@@ -90,14 +103,14 @@ class Key:
     name: str
     # The version of the format that brought it.
     version: int
-    # The strings that it may have. Without any it is `yes` or `no`, or a number.
+    # The strings that it may have. Without any it is `yes` or `no`, or a number of these.
     values: tuple[str, ...] = ()
-    is_number: bool = False
+    numbers: range | None = None
 
     def add_to(self, group: argparse._ArgumentGroup) -> None:
         """Makes an option of it."""
         about = f"{self.name}, of version {self.version}"
-        if self.is_number:
+        if self.numbers is not None:
             group.add_argument(self.option, dest=self.name, type=natural, metavar="N", help=about)
         else:
             values = self.values or tuple(YES_OR_NO)
@@ -111,16 +124,16 @@ class Key:
 
 YES_OR_NO = {"yes": True, "no": False}
 KEYS = (
-    Key("--timer-late-us", "timer_late_us", 2, is_number=True),
+    Key("--timer-late-us", "timer_late_us", 2, numbers=range(10**15 + 1)),
     Key("--refresh-min-rtt", "refresh_min_rtt", 2),
-    Key("--slack-us", "report_slack_us", 2, is_number=True),
-    Key("--slack-bytes", "report_slack_bytes", 2, is_number=True),
+    Key("--slack-us", "report_slack_us", 2, numbers=range(10**9 + 1)),
+    Key("--slack-bytes", "report_slack_bytes", 2, numbers=range(1 << 32)),
     Key("--unit", "unit", 3, ("us", "ns")),
     Key("--window", "window", 3, ("newreno", "reported")),
     Key("--window-overshoot", "window_overshoot", 3),
     Key("--sample-eliciting-only", "sample_eliciting_only", 3),
-    Key("--packet-threshold", "packet_threshold", 3, is_number=True),
-    Key("--timer-early-us", "timer_early_us", 3, is_number=True),
+    Key("--packet-threshold", "packet_threshold", 3, numbers=range(3, 65_536)),
+    Key("--timer-early-us", "timer_early_us", 3, numbers=range(10**9 + 1)),
     Key("--loss-by-number", "loss_by_number", 3, ("must", "may")),
 )
 
@@ -135,8 +148,13 @@ def choices_of(args: argparse.Namespace) -> Choices:
 def wrong_in(args: argparse.Namespace) -> str | None:
     """What is wrong with arguments that each are right."""
     for key in KEYS:
-        if key.version > args.version and key.value_of(args) is not None:
+        value = key.value_of(args)
+        if value is None:
+            continue
+        if key.version > args.version:
             return f"{key.option} needs --version {key.version}"
+        if key.numbers is not None and value not in key.numbers:
+            return f"{key.option} is {key.numbers.start} to {key.numbers.stop - 1}"
     return None
 
 
@@ -170,19 +188,23 @@ def role_of(header: dict[str, object]) -> str | None:
     return str(kind) if kind in ROLES else None
 
 
-def choose(headers: list[dict[str, object]], asked: str | None) -> tuple[int, str]:
-    """Which trace of a log, and its role."""
+def choose(
+    headers: list[dict[str, object]], asked: str | None, number: int | None
+) -> tuple[int, str, int]:
+    """Which trace of a log, its role, and how many there are of which it could be."""
     if not headers:
         raise Unusable("it has no traces")
     roles = [role_of(header) for header in headers]
-    for index, role in enumerate(roles):
-        if role is not None and asked in (None, role):
-            return index, role
-    if asked is not None and None in roles:
-        return roles.index(None), asked
-    if asked is not None:
+    fitting = [at for at, role in enumerate(roles) if role is not None and asked in (None, role)]
+    if not fitting and asked is not None and None in roles:
+        fitting = [roles.index(None)]
+    if not fitting and asked is not None:
         raise Unusable(f"no trace of a {asked} is in it")
-    raise Unusable("its vantage point is neither a client nor a server: say which by --vantage")
+    if not fitting:
+        raise Unusable("its vantage point is neither a client nor a server: say which by --vantage")
+    chosen = chosen_of(len(fitting), number, TRACES) if len(fitting) > 1 else 1
+    index = fitting[chosen - 1]
+    return index, roles[index] or asked or "", len(fitting)
 
 
 class Converter:
@@ -196,8 +218,13 @@ class Converter:
         # How many lines of the trace were written.
         self.written = 0
         headers = self._form.headers()
-        self._index, self._role = choose(headers, args.vantage)
+        self._index, self._role, self._traces = choose(headers, args.vantage, args.connection)
         self._header = headers[self._index]
+        # Of several traces --connection says which; of one trace, which of its connections.
+        asked = None if self._traces > 1 else args.connection
+        self._chosen = 1 if asked is None else asked
+        # Whether events name connections, once the log was read.
+        self._has_connections = False
         file.seek(0, 2)
         self._progress = Progress(self._form, file.tell(), sys.stderr)
 
@@ -206,25 +233,87 @@ class Converter:
         """Where the log is torn off, if it is."""
         return self._form.torn_at
 
+    @property
+    def break_of_record(self) -> str | None:
+        """What is wrong with the record at which it is torn off, if it is no JSON."""
+        return self._form.break_of_record
+
+    @property
+    def passed_over(self) -> list[str]:
+        """The records that are no JSON and hold nothing of recovery."""
+        return self._form.passed_over
+
     def _events(self, what: str) -> Iterator[Event]:
         events = events_of(self._form.events(self._index), self._header)
         return self._progress.over(events, what)
 
     def _write(self, line: Line) -> None:
-        self._output.write(ENCODER.encode(line) + "\n")
+        text = ENCODER.encode(line)
+        if len(text) > LONGEST_LINE:
+            raise Unusable(f"a line of {len(text)} bytes, where a trace has {LONGEST_LINE} at most")
+        self._output.write(text + "\n")
         self.written += 1
 
     def convert(self) -> None:
         """Reads the log twice, and writes the trace."""
         choices = choices_of(self._args)
         dialect = self._dialect()
-        survey = Survey(self._events("looked at"))
+        survey = self._survey(dialect)
+        dialect = self._looked_at(dialect, survey)
         options = options_of(dialect, survey, choices)
         lines = Lines(self._write, self.notes, options.get("unit", "us"))
         size = write_header(lines, self.notes, self._role, dialect, survey, options)
         conversion = Conversion(dialect, self._role, survey, lines, self.notes, size)
         conversion.is_window_reported = options.get("window") == "reported"
-        conversion.convert(self._events("converted"))
+        events = self._events("converted")
+        if self._has_connections:
+            events = Connections(self._chosen).over(events)
+        conversion.convert(events, lambda: self._form.torn_at is not None)
+        for what, count in self._form.left_out.items():
+            if count:
+                self.notes.warnings.append(f"left out {count}: {what}")
+
+    def _survey(self, dialect: Dialect) -> Survey:
+        """The first reading, and what it says of connections."""
+        connections = Connections(self._chosen)
+        events = connections.over(self._events("looked at"))
+        try:
+            survey = Survey(events, dialect, self._role)
+        except Unusable:
+            chosen_of(max(connections.count, 1), self._chosen, CONNECTIONS)
+            if self._form.break_of_record:
+                raise Unusable(self._form.break_of_record, self._form.torn_at) from None
+            raise
+        chosen_of(max(connections.count, 1), self._chosen, CONNECTIONS)
+        self._has_connections = connections.count > 0
+        if self._traces > 1:
+            chosen = self._args.connection or 1
+            self.notes.warnings.append(others(self._traces, chosen, TRACES))
+        if connections.count > 1:
+            self.notes.warnings.append(others(connections.count, self._chosen, CONNECTIONS))
+        return survey
+
+    def _looked_at(self, dialect: Dialect, survey: Survey) -> Dialect:
+        """The dialect, with what the first reading found."""
+        looking = survey.looking
+        if dialect is GENERIC:
+            found = looking.dialect(dialect, survey.has_milliseconds)
+            self.notes.findings = looking.told(found, survey.has_milliseconds)
+        else:
+            found = looking.corrected(dialect)
+            if found is not dialect:
+                self.notes.misread(
+                    f"its order is not that of {dialect.name}: {order_of(found).value};"
+                    " it is read so"
+                )
+        if looking.is_apart:
+            counts = looking.counts
+            self.notes.misread(
+                f"of {counts.acknowledgments} reports beside acknowledgments"
+                f" {max(counts.behind, counts.before)} agree with the packets that were sent: the"
+                " log may be misread, and a refusal be the reading's and not the sender's"
+            )
+        return found
 
     def _dialect(self) -> Dialect:
         asked = self._args.dialect
@@ -249,6 +338,19 @@ def complain(text: str) -> None:
     sys.stderr.write(f"qlog-to-trace: {text}\n")
 
 
+def tell(converter: Converter, name: str) -> None:
+    """What of a log is not in its trace, on standard error."""
+    for record in converter.passed_over[:MOST_OF_RECORDS]:
+        complain(f"{name}: {record}; the record is passed over")
+    if len(converter.passed_over) > MOST_OF_RECORDS:
+        complain(f"{name}: {len(converter.passed_over)} such records are passed over")
+    if converter.torn_at:
+        what = converter.break_of_record or "torn off"
+        complain(f"{name}: {what} at {converter.torn_at}; the trace ends there")
+    for warning in converter.notes.told():
+        complain(f"{name}: {warning}")
+
+
 def convert(args: argparse.Namespace) -> int:
     """Converts the log that the arguments name; the exit status."""
     name = args.file or STANDARD_INPUT
@@ -271,8 +373,7 @@ def convert(args: argparse.Namespace) -> int:
     except OSError as error:
         complain(f"{name}: {error.strerror}")
         return FAILED
-    if converter.torn_at:
-        complain(f"{name}: torn off at {converter.torn_at}; the trace ends there")
+    tell(converter, name)
     if args.notes:
         for note in converter.notes.lines():
             sys.stderr.write(f"{note}\n")

@@ -1,22 +1,61 @@
 """The second reading of a log: the lines of its events."""
 
 from collections import defaultdict
-from collections.abc import Iterable
+from collections.abc import Callable, Iterable, Iterator
+from fractions import Fraction
 
-from .dialects import Dialect, Limited
-from .events import SPACE_OF_NAME, SPACES, Event
-from .flight import Flight, as_ranges
+from .dialects import Absent, Dialect, Limited
+from .events import SPACE_OF_NAME, SPACES, UNKNOWN_METRICS, Event
+from .flight import Bare, Flight, as_ranges
 from .groups import Group, Groups, Kind
 from .handshake import Handshake
 from .lines import RTTS, Lines
-from .notes import Guess, Notes, Omission
-from .survey import Survey
+from .notes import Guess, Limit, Notes, Omission
+from .survey import Retry, Survey
 
 # RFC 9002, 6.1: kPacketThreshold, kTimeThreshold, and 6.2.4: packets of a probe.
 PACKET_THRESHOLD = 3
 TIME_THRESHOLD = (9, 8)
 DATAGRAMS_OF_PROBE = 2
+# Losses that are later than this behind a packet are those of a timer. Nanoseconds.
+GAP_OF_LOSSES = 1_000_000
+# Loss timers that are all later than this part of the round-trip time go by another threshold, if
+# they are later by more than what a program takes (nanoseconds).
+LATE_BY_TIME = Fraction(6, 5)
+LATE_BY_PROGRAM = 10_000_000
 KINDS_OF_TIMER = {"ack": "loss", "loss": "loss", "loss_timeout": "loss", "pto": "pto"}
+
+
+def behind(retry: Retry, events: Iterable[Event], notes: Notes) -> Iterator[Event]:
+    """The events behind a Retry, without the losses of packets that were sent before it."""
+    count = 0
+    for event in events:
+        if event.index <= retry.index:
+            count += event.name == "packet_sent" and event.space is not None
+            continue
+        is_lost = event.name == "packet_lost" and event.space is not None
+        if is_lost and event.number <= retry.numbers.get(str(event.space), -1):
+            notes.omit(Omission.LOSS_BEFORE_RETRY)
+            continue
+        yield event
+    notes.warnings.append(
+        f"the trace begins behind the Retry at {retry.place}; packets before it: {count}"
+    )
+
+
+def detections(events: list[Event], gap: int) -> Iterator[list[Event]]:
+    """Losses, with what stands among them, by the times at which they were found."""
+    found: list[Event] = []
+    last: Event | None = None
+    for event in events:
+        if event.name == "packet_lost":
+            if last and event.time - last.time > gap:
+                yield found
+                found = []
+            last = event
+        found.append(event)
+    if found:
+        yield found
 
 
 class Conversion:
@@ -29,17 +68,27 @@ class Conversion:
         told = dialect.logs_timers
         self._logs_timers = survey.has_timers if told is None else told
         self._datagram = datagram
+        # Whether sizes are those by which the bytes in flight grow.
+        self._settles_sizes = dialect.sizes_by_growth or survey.sizes.are_guessed
+        # How far behind a packet its losses may be logged.
+        self._gap = 0 if survey.has_milliseconds else GAP_OF_LOSSES
         self._flight = Flight()
+        self._bare = Bare()
         self._handshake = Handshake(role, survey, lines, self._flight, notes)
         # The latest values of each metric, RTTs in nanoseconds.
         self._metrics: dict[str, int] = {}
         self._has_sample = False
         self._state: str | None = None
         self._pto_count = 0
-        # Bytes that the last probe timeout still allows.
+        # Bytes that the last probe timeout still allows, and packets until an acknowledgment comes.
         self._probe_left = 0
+        self._probes_left = 0
         # Whether the window fell since the last packet that was sent.
         self._has_fallen = False
+        # When losses were last declared.
+        self._last_loss: int | None = None
+        # Whether all loss timers found packets at a later time than that of the RFC.
+        self._are_timers_late: bool | None = None
         # Whether packets are judged by the window that was reported last.
         self.is_window_reported = False
         # The window of the last report.
@@ -49,7 +98,7 @@ class Conversion:
         # When the last ack-eliciting packet of a space was sent.
         self._last_eliciting: dict[str, int] = {}
 
-    def convert(self, events: Iterable[Event]) -> None:
+    def convert(self, events: Iterable[Event], is_torn: Callable[[], bool]) -> None:
         """Writes all lines behind the header."""
         acts = {
             Kind.SENT: self._on_sent,
@@ -58,8 +107,24 @@ class Conversion:
             Kind.TIMER: self._on_timer,
             Kind.OTHER: self._on_other,
         }
-        for group in Groups(events, self._dialect):
+        if self._survey.sizes.are_guessed:
+            events = self._survey.sizes.over(events)
+        if self._survey.has_repeats:
+            events = self._without_repeats(events)
+        if self._survey.retry:
+            events = behind(self._survey.retry, events, self._notes)
+        for group in Groups(events, self._dialect, is_torn):
             acts[group.kind](group)
+        if self._are_timers_late:
+            self._notes.limits.add(Limit.TIME_THRESHOLD)
+
+    def _without_repeats(self, events: Iterable[Event]) -> Iterator[Event]:
+        """The events without the packets that a probe repeats, which stay in flight."""
+        for event in events:
+            if event.repeats:
+                self._notes.omit(Omission.LOSS_OF_PROBE)
+            else:
+                yield event
 
     # What the log says beside packets.
 
@@ -74,16 +139,33 @@ class Conversion:
         for event in events:
             if event.name == "congestion_state_updated":
                 self._state = str(event.data.get("new"))
+            if event.name == UNKNOWN_METRICS:
+                self._metrics.clear()
             if event.name != "metrics_updated":
                 continue
             count = event.pto_count()
             self._pto_count = self._pto_count if count is None else count
-            found = found or set(event.data) != {"pto_count"}
-            self._metrics |= event.metrics()
+            if set(event.data) != {"pto_count"}:
+                found = True
+                self._take_values(event.metrics())
         self._has_sample = self._has_sample or self._metrics.get("min_rtt", 0) > 0
-        if before is not None and self._metrics["window"] < before:
+        if before is not None and self._metrics.get("window", before) < before:
             self._has_fallen = True
         return found
+
+    def _take_values(self, values: dict[str, int]) -> None:
+        """Takes the values of one event, by what those mean that it leaves out."""
+        if self._dialect.absent is Absent.NONE:
+            for key in self._metrics.keys() - values.keys():
+                del self._metrics[key]
+        elif self._dialect.absent is Absent.SAME_OR_ZERO:
+            self._metrics.pop("bytes_in_flight", None)
+        self._metrics |= values
+
+    def _take_zero(self) -> None:
+        """Bytes in flight that are left out although some left are 0, where 0 is left out."""
+        if self._dialect.absent is Absent.SAME_OR_ZERO:
+            self._metrics.setdefault("bytes_in_flight", 0)
 
     def _report(self, time: int) -> None:
         """A report of all values that are known. Before a sample a log says 0, or nothing."""
@@ -112,8 +194,16 @@ class Conversion:
         """The Lost line of each space, at the time of an event."""
         spaces: dict[str, list[int]] = defaultdict(list)
         for it in lost:
-            if it.name == "packet_lost" and it.space:
-                spaces[it.space].append(it.number)
+            if it.name != "packet_lost" or not it.space:
+                continue
+            if self._bare.has(it.space, it.number):
+                self._notes.omit(Omission.LOSS_NOT_IN_FLIGHT)
+                continue
+            spaces[it.space].append(it.number)
+            if self._flight.time_of(it.space, it.number) == self._last_loss:
+                self._notes.limits.add(Limit.SAME_TICK)
+        if spaces:
+            self._last_loss = event.time
         for space, numbers in spaces.items():
             self._lines.event("lost", event.time, space=space, ranges=as_ranges(numbers))
             self._flight.take(space, numbers)
@@ -125,6 +215,8 @@ class Conversion:
         self._guess_probes(group)
         is_reported = self._take_metrics(group.beside)
         reported = self._metrics.get("bytes_in_flight")
+        if is_reported and reported is not None and self._settles_sizes:
+            self._settle_size(group, reported)
         if self._handshake.awaits_discard:
             added = sum(event.size for event in group.events if event.is_in_flight)
             self._handshake.settle(first, reported, added)
@@ -139,9 +231,28 @@ class Conversion:
         if is_late:
             self._handshake.discard("initial", last)
 
+    def _settle_size(self, group: Group, reported: int) -> None:
+        """Takes the growth of the bytes in flight for a size that the log does not have."""
+        in_flight = [event for event in group.events if event.is_in_flight] or group.events
+        event = in_flight[0]
+        growth = reported - self._flight.bytes
+        is_asked = self._dialect.sizes_by_growth or event.is_size_guessed
+        if not is_asked or len(in_flight) > 1 or growth == event.size:
+            return
+        if 0 < growth <= max(self._datagram, event.size):
+            event.size, event.is_padded = growth, True
+            if not event.is_size_guessed:
+                self._notes.guess(Guess.SIZE_BY_GROWTH)
+            event.is_size_guessed = False
+
     def _guess_probes(self, group: Group) -> None:
         """Probe timeouts that a log without timers shows by its count, or by a PING."""
         if self._logs_timers:
+            return
+        if self._dialect.probes_by_trigger:
+            if group.first.is_probe and self._probes_left <= 0:
+                self._notes.guess(Guess.PROBE_BY_TRIGGER)
+                self._write_timer(group.first, "pto", str(group.first.space))
             return
         if self._dialect.probes_by_ping:
             if any(self._is_ping_of_probe(event) for event in group.events):
@@ -164,6 +275,8 @@ class Conversion:
     def _write_sent(self, event: Event) -> None:
         space, number, size = event.space, event.number, event.size
         assert space
+        if event.is_size_guessed:
+            self._notes.guess(Guess.SIZE)
         is_eliciting, is_in_flight = event.is_eliciting, event.is_in_flight
         self._lines.event(
             "sent",
@@ -177,6 +290,9 @@ class Conversion:
         )
         if is_in_flight:
             self._flight.add(space, number, size, event.time)
+            self._probes_left -= 1
+        else:
+            self._bare.add(space, number)
         if is_eliciting:
             self._last_eliciting[space] = event.time
 
@@ -231,7 +347,7 @@ class Conversion:
             lost = []
         if event.space == "handshake":
             self._handshake.take_keys(event)
-        held = dict(self._metrics)
+        held, in_flight = dict(self._metrics), self._flight.bytes
         is_reported = self._take_metrics(group.beside)
         lost = lost or [it for it in group.beside if it.name == "packet_lost"]
         if self._handshake.awaits_discard:
@@ -240,6 +356,8 @@ class Conversion:
             self._write_ack(event, frame, held.get("window"), lost)
             lost = []
         self._lost_alone(lost)
+        if is_reported and self._flight.bytes < in_flight:
+            self._take_zero()
         if "handshake_done" in event.frame_types:
             self._handshake.on_done(event)
         if is_reported:
@@ -248,24 +366,33 @@ class Conversion:
         elif held != self._metrics:
             self._report(event.time)
         self._handshake.after_received(event)
-        self._lost_alone(later)
+        if not later:
+            return
+        for found in detections(later, self._gap):
+            self._lost_alone(found)
 
     def _not_shown(self, group: Group) -> list[Event]:
         """Takes from a packet that came what stands behind it and begins with a loss that no
-        acknowledgment can show, where the log has no timers."""
+        acknowledgment of it can show, where the log has no timers."""
         if self._logs_timers:
             return []
-        event = group.first
-        tops = [high for frame in event.acks for _, high in event.ranges(frame)]
+        tops = [high for frame in group.first.acks for _, high in group.first.ranges(frame)]
         for place, it in enumerate(group.beside):
-            if it.name == "packet_lost" and not self._can_be_shown(it, event.space, tops):
+            if it.name == "packet_lost" and not self._can_be_shown(it, group.first, tops):
                 later = group.beside[place:]
                 del group.beside[place:]
                 return later
         return []
 
-    def _can_be_shown(self, lost: Event, space: str | None, tops: list[int]) -> bool:
-        return lost.space == space and lost.number < max([*tops, self._largest.get(space or "", 0)])
+    def _can_be_shown(self, lost: Event, received: Event, tops: list[int]) -> bool:
+        """By a number that is far enough below, or by its age if it was found at the same time."""
+        space = received.space
+        if lost.space != space:
+            return False
+        is_far = any(lost.number + PACKET_THRESHOLD <= top for top in tops)
+        if lost.time - received.time > self._gap and not is_far:
+            return False
+        return lost.number < max([*tops, self._largest.get(space or "", 0)])
 
     def _settle_received(self, event: Event, lost: list[Event]) -> None:
         """The discards that are due, by what leaves with an acknowledgment and its losses."""
@@ -292,6 +419,7 @@ class Conversion:
         delay = 0
         if space in self._dialect.delay_spaces:
             delay = event.nanoseconds(frame.get("ack_delay") or 0, "ack_delay")
+            delay <<= self._survey.delay_exponent if self._dialect.delay_is_encoded else 0
         self._lines.event(
             "ack",
             event.time,
@@ -300,6 +428,7 @@ class Conversion:
             delay=self._lines.in_unit(delay),
             limited=self._is_limited(before) and not lost,
         )
+        self._probes_left = 0
         top = max(high for _, high in ranges)
         self._largest[space] = max(top, self._largest.get(space, 0))
         self._flight.take(space, self._flight.named(space, ranges))
@@ -338,7 +467,9 @@ class Conversion:
     # Losses and timers.
 
     def _on_lost(self, group: Group) -> None:
-        self._lost_alone([*group.events, *group.beside])
+        lost = [*group.events, *group.beside]
+        for found in [lost] if self._logs_timers else detections(lost, self._gap):
+            self._lost_alone(found)
 
     def _lost_alone(self, lost: list[Event]) -> None:
         """Losses that no acknowledgment shows: those of a timer, where the log has no timers.
@@ -349,29 +480,64 @@ class Conversion:
         """
         if not lost:
             return
-        first = lost[0]
-        space = str(first.space)
-        if not self._logs_timers and first.number < self._largest.get(space, 0):
+        first = next(self._in_flight(lost), None)
+        space = str(first.space) if first else ""
+        if first and not self._logs_timers and first.number < self._largest.get(space, 0):
             self._notes.guess(Guess.LOSS_TIMER)
             self._write_timer(first, "loss", space)
-        else:
+        elif first:
             self._notes.omit(Omission.LOSS_OF_NOTHING)
-        self._after_timer(first, lost)
+        self._after_timer(lost[0], lost)
+
+    def _in_flight(self, events: Iterable[Event]) -> Iterator[Event]:
+        """The losses among events, but for those of packets that are not in flight."""
+        for event in events:
+            if event.name == "packet_lost" and event.space:
+                if not self._bare.has(event.space, event.number):
+                    yield event
 
     def _on_timer(self, group: Group) -> None:
         event = group.first
+        has_losses = any(it.name == "packet_lost" for it in group.beside)
+        lost = list(self._in_flight(group.beside))
+        is_counted = any(it.pto_count() is not None for it in group.beside)
         kind = KINDS_OF_TIMER.get(str(event.data.get("timer_type")))
-        space = SPACE_OF_NAME.get(str(event.data.get("packet_number_space")))
-        if kind is None or space is None:
+        if kind is None and (has_losses or is_counted):
+            kind = "loss" if has_losses else "pto"
+        if kind is None:
             self._notes.omit(Omission.OTHER_TIMER)
-            return
-        self._write_timer(event, kind, space)
+        elif kind == "loss" and has_losses and not lost:
+            self._notes.omit(Omission.BARE_TIMER)
+        elif not lost and (kind == "loss" or (self._survey.has_pto_count and not is_counted)):
+            self._notes.omit(Omission.IDLE_TIMER)
+        else:
+            if lost:
+                self._see_age(lost[0])
+            self._write_timer(event, kind, self._space_of_timer(event, kind, lost))
         self._after_timer(event, group.beside)
+
+    def _see_age(self, lost: Event) -> None:
+        """How old the packet is that a loss timer found."""
+        rtt = max(self._metrics.get("latest_rtt", 0), self._metrics.get("smoothed_rtt", 0))
+        sent = self._flight.time_of(str(lost.space), lost.number)
+        if rtt and sent:
+            age, (times, part) = lost.time - sent, TIME_THRESHOLD
+            is_late = age > rtt * LATE_BY_TIME and part * (age - LATE_BY_PROGRAM) > times * rtt
+            self._are_timers_late = is_late and self._are_timers_late is not False
+
+    def _space_of_timer(self, event: Event, kind: str, lost: list[Event]) -> str:
+        """The space that the log names, else that of what the timer did."""
+        space = SPACE_OF_NAME.get(str(event.data.get("packet_number_space")))
+        if space:
+            return space
+        self._notes.guess(Guess.TIMER_SPACE)
+        return str(lost[0].space) if kind == "loss" and lost else self._probed_space()
 
     def _write_timer(self, event: Event, kind: str, space: str) -> None:
         self._lines.event("timer", event.time, kind=kind, space=space)
         if kind == "pto":
             self._probe_left = DATAGRAMS_OF_PROBE * self._datagram
+            self._probes_left = DATAGRAMS_OF_PROBE
             if not self._logs_timers:
                 self._pto_count += 1
 

@@ -3,8 +3,9 @@
 A new stack is one more entry of DIALECTS. The one named `generic` is for all others.
 """
 
-from dataclasses import dataclass
+from dataclasses import dataclass, replace
 from enum import Enum
+from fractions import Fraction
 from typing import Any
 
 MICROSECONDS_OF_INITIAL_RTT = 333_000
@@ -18,6 +19,14 @@ class Limited(Enum):
     NEVER = "not at all"
 
 
+class Absent(Enum):
+    """What it means that metrics do not have a value that was reported before."""
+
+    SAME = "it is as it was"
+    SAME_OR_ZERO = "it is as it was, or 0"
+    NONE = "the sender has none"
+
+
 @dataclass(frozen=True)
 class Dialect:
     """A kind of log. Times are in microseconds."""
@@ -25,20 +34,40 @@ class Dialect:
     name: str
     # It is of this kind where its title or the name of its vantage point has one of these.
     marks: tuple[str, ...] = ()
+    # Where several have the same mark, its qlog_version or file_schema begins with one of these.
+    schemas: tuple[str, ...] = ("",)
     # Whether logs of it were converted and audited; if not, it is as the documentation says.
     is_tried: bool = False
     # The RTT before a sample, where the log does not say it.
     initial_rtt: int | None = None
     # How many datagrams the first window has.
     initial_datagrams: int = 10
+    # Sizes leave out padding, and are those by which the bytes in flight grow.
+    sizes_by_growth: bool = False
+    # The delay of acknowledgments is as on the wire, not yet multiplied (RFC 9000, 19.3).
+    delay_is_encoded: bool = False
+    # Each difference of its times is cut to a whole millisecond.
+    cuts_times: bool = False
+    # What to do where its logs give no trace.
+    advice: str = ""
+    # How large a packet is that a frame without a length fills.
+    full_packet: int = 1200
     # packet_lost stands before the packet_received that shows the loss.
     losses_stand_before: bool = False
     # The metrics after a packet that was sent stand before it.
     metrics_stand_before: bool = False
+    # packet_received stands behind all that it caused.
+    received_stands_last: bool = False
+    # What a value means that metrics leave out.
+    absent: Absent = Absent.SAME
     # Whether timers that expire are logged; where it is not known, by whether the log has one.
     logs_timers: bool | None = None
     # Nothing tells of a probe timeout but a PING that is sent.
     probes_by_ping: bool = False
+    # A packet says by its trigger that it is the probe of a timeout.
+    probes_by_trigger: bool = False
+    # The sender's window is not logged, and not that of NewReno, so none is judged.
+    hides_window: bool = False
     # A packet whose number this divides has a PING behind an ACK frame of several ranges, so that
     # the frame is acknowledged; that is no probe.
     packets_between_pings: int | None = None
@@ -56,6 +85,8 @@ class Dialect:
     window_overshoot: bool = False
     sample_eliciting_only: bool = False
     packet_threshold: int = 3
+    # Where it is another than that of the RFC (6.1.2), for which traces have no key.
+    time_threshold: Fraction | None = None
     # Whether a packet so many numbers behind may be spared, as where the threshold adapts.
     # Said only where the window is a reported one.
     may_spare: bool = False
@@ -65,25 +96,60 @@ class Dialect:
 
 GENERIC = Dialect("generic")
 
+# 0.29: a JSON text a line, draft-02, times with six decimals, read after the event. Metrics
+# have changes alone. Before a sample all RTT values are 0 and the probe timeout is 200 ms,
+# three times 66.667 ms. latest_rtt is the sample without the peer's delay, smoothed_rtt and
+# rtt_variance are whole microseconds. No ssthresh. PADDING is not logged. Packets of one
+# datagram are all logged before the metrics of the first. The timer of a client with nothing in
+# flight is not logged.
+QUIC_GO = Dialect(
+    "quic-go",
+    ("quic-go",),
+    ("draft",),
+    is_tried=True,
+    initial_rtt=66_666,
+    initial_datagrams=32,
+    logs_timers=True,
+    delay_spaces=("app",),
+    slack_us=1_000,
+    window_overshoot=True,
+    sample_eliciting_only=True,
+    timer_early_us=3_000,
+)
+
+# 0.50: JSON-SEQ, 0.3. packet_received is logged after its frames were handled, so it stands behind
+# the losses and metrics that it caused, and key_discarded between the metrics of the packets of one
+# datagram. The rest is as in 0.29.
+QUIC_GO_0_50 = replace(QUIC_GO, name="quic-go-0.50", schemas=("0.",), received_stands_last=True)
+
+# 3.6: JSON-SEQ, 0.3, delta times of which the first is the time of day. Each is cut to a whole ms,
+# so that the clock of the log loses up to one an event, unless the sender's own has whole ms. No
+# sizes, no metrics, no timers, no keys. A STREAM frame without a length fills its packet, but for
+# the two bytes of that length. NewReno.
+OPENSSL = Dialect(
+    "openssl",
+    ("openssl/",),
+    is_tried=True,
+    cuts_times=True,
+    full_packet=1_198,
+    logs_timers=False,
+    limited=Limited.NEVER,
+    unit="us",
+    window_overshoot=True,
+    timer_early_us=1_000,
+)
+
 DIALECTS = (
-    # 0.29: a JSON text a line, draft-02, times with six decimals, read after the event. Metrics
-    # have changes alone. Before a sample all RTT values are 0 and the probe timeout is 200 ms,
-    # three times 66.667 ms. latest_rtt is the sample without the peer's delay, smoothed_rtt and
-    # rtt_variance are whole microseconds. No ssthresh. PADDING is not logged. Packets of one
-    # datagram are all logged before the metrics of the first. The timer of a client with nothing in
-    # flight is not logged.
-    Dialect(
-        "quic-go",
-        ("quic-go",),
-        is_tried=True,
-        initial_rtt=66_666,
-        initial_datagrams=32,
-        logs_timers=True,
-        delay_spaces=("app",),
-        slack_us=1_000,
-        window_overshoot=True,
-        sample_eliciting_only=True,
-        timer_early_us=3_000,
+    QUIC_GO,
+    QUIC_GO_0_50,
+    # 0.59: the schema of 0.4, and values of 0 are left out. All packets are kept until they are
+    # acknowledged, so that there is a sample where the largest is not ack-eliciting.
+    replace(
+        QUIC_GO_0_50,
+        name="quic-go-0.59",
+        schemas=("urn:",),
+        absent=Absent.SAME_OR_ZERO,
+        sample_eliciting_only=False,
     ),
     # 0.12: JSON-SEQ, 0.3, all times in whole ms, rounded down. No timers and no keys. Metrics have
     # all values. The delay of Initial and Handshake acknowledgments is logged as 0. The packet
@@ -93,6 +159,7 @@ DIALECTS = (
         ("ngtcp2",),
         is_tried=True,
         losses_stand_before=True,
+        absent=Absent.NONE,
         logs_timers=False,
         limited=Limited.BY_WINDOW,
         slack_us=2_000,
@@ -123,10 +190,51 @@ DIALECTS = (
         unit="us",
         timer_early_us=1_000,
     ),
+    # 3.5: packets that are not ack-eliciting are not kept.
+    replace(OPENSSL, name="openssl-3.5", marks=("openssl/3.5",), sample_eliciting_only=True),
+    OPENSSL,
+    # As Firefox 153 runs it: JSON-SEQ, 0.3, times with six decimals, those of the loop that handles
+    # events. recovery:parameters_set has the initial RTT. Metrics have what changed. A size leaves
+    # out padding, or is that of the datagram so far. Timers have no space, and expire also where
+    # they had been moved. packet_lost names what a probe repeats, too. latest_rtt is the sample
+    # less the delay.
+    Dialect(
+        "neqo",
+        ("neqo",),
+        is_tried=True,
+        sizes_by_growth=True,
+        delay_is_encoded=True,
+        logs_timers=True,
+        slack_us=1_000,
+        timer_early_us=1_000,
+    ),
+    # The netlog of Chromium 156 (Google quiche): no window, no metrics, no timers. CUBIC. Packets
+    # come at whole ms, and leave and are lost at microseconds. A probe timeout passes over a
+    # number. The time threshold is 5/4. Losses may stand behind the acknowledgment or before it.
+    Dialect(
+        "chromium",
+        ("netlog of chromium",),
+        is_tried=True,
+        initial_rtt=100_000,
+        logs_timers=False,
+        probes_by_trigger=True,
+        hides_window=True,
+        limited=Limited.NEVER,
+        unit="us",
+        may_spare=True,
+        time_threshold=Fraction(5, 4),
+        timer_early_us=3_000,
+    ),
     # By their documentation: JSON-SEQ of the Rust crate `qlog`, 0.3, times in ms with fractions;
     # metrics have what changed.
-    Dialect("quinn", ("quinn",), slack_us=1_000, slack_bytes=1_200, timer_early_us=1_000),
-    Dialect("neqo", ("neqo",), slack_us=1_000, timer_early_us=1_000),
+    Dialect(
+        "quinn",
+        ("quinn",),
+        advice="quinn logs none; hooks in its recovery code give a trace (docs/stacks.md)",
+        slack_us=1_000,
+        slack_bytes=1_200,
+        timer_early_us=1_000,
+    ),
     Dialect("quiche", ("quiche",), slack_us=1_000, slack_bytes=1_200, timer_early_us=1_000),
     # By its documentation: one JSON object, events as lists, times in microseconds. Its losses name
     # no packets, so a log with losses gives no trace.
@@ -143,4 +251,7 @@ def dialect_of(header: dict[str, Any]) -> Dialect:
     name = vantage.get("name") if isinstance(vantage, dict) else vantage
     said = (header.get("title"), header.get("description"), name, header.get("code_version"))
     text = " ".join(str(it) for it in said).lower()
-    return next((it for it in DIALECTS if any(mark in text for mark in it.marks)), GENERIC)
+    schema = str(header.get("file_schema") or header.get("qlog_version") or "")
+    marked = [it for it in DIALECTS if any(mark in text for mark in it.marks)]
+    fitting = [it for it in marked if schema.startswith(it.schemas)]
+    return next(iter(fitting or marked), GENERIC)

@@ -2,11 +2,12 @@
 
 from collections.abc import Iterable, Iterator
 from decimal import Decimal
+from fractions import Fraction
 from functools import lru_cache
 from typing import Any
 
 from .errors import Unusable
-from .forms import Record, object_at
+from .forms import BROKEN_METRICS, Record, object_at
 
 NANOSECONDS = {"ns": 1, "us": 1_000, "ms": 1_000_000}
 SPACE_OF_PACKET = {
@@ -31,6 +32,7 @@ NAMES = {
     "packet_lost",
     "packets_lost",
     "metrics_updated",
+    "recovery_parameters_set",
     "congestion_state_updated",
     "loss_timer_updated",
     "key_updated",
@@ -38,10 +40,13 @@ NAMES = {
     "key_discarded",
     "parameters_set",
 }
+# Metrics that cannot be read: what they said is not known any more.
+UNKNOWN_METRICS = "unknown_metrics"
 # Names of later drafts for the same.
 OTHER_NAMES = {
     "recovery_metrics_updated": "metrics_updated",
     "timer_updated": "loss_timer_updated",
+    "recovery:parameters_set": "recovery_parameters_set",
     "transport_parameters_set": "parameters_set",
     "metric_update": "metrics_updated",
 }
@@ -73,6 +78,12 @@ BYTES = {
     "bytes_in_flight": "bytes_in_flight",
 }
 WINDOWS = tuple(key for key, name in BYTES.items() if name == "window")
+# Nanoseconds of ten years: no connection is so old, so a time that is greater counts from an epoch.
+LEAST_OF_EPOCH = 10 * 365 * 24 * 3600 * 10**9
+GREATEST_DURATION = 10**18
+# Numbers of more decimal digits, or more bits, are not looked at.
+MOST_DIGITS = 40
+LONGEST_NUMBER = 256
 GREATEST_PACKET_NUMBER = (1 << 62) - 1
 GREATEST_SIZE = 65527
 GREATEST_BYTES = (1 << 64) - 1
@@ -83,17 +94,46 @@ Ranges = list[list[int]]
 class Event:
     """An event: its time in nanoseconds from the start, its name without a category, its data."""
 
-    __slots__ = ("index", "place", "time", "scale", "name", "data", "space", "_kinds")
+    __slots__ = (
+        "index",
+        "place",
+        "time",
+        "scale",
+        "name",
+        "data",
+        "header",
+        "space",
+        "connection",
+        "is_size_guessed",
+        "is_padded",
+        "_frames",
+        "_kinds",
+        "_acks",
+        "_size",
+    )
 
     def __init__(self, place: str, time: int, name: str, data: dict[str, Any]) -> None:
         self.place, self.time, self.name, self.data = place, time, name, data
         # Which of the events of the log it is.
         self.index = 0
+        # The connection and path of which it is, if it names one.
+        self.connection: object = None
         # How many nanoseconds its durations count.
         self.scale = NANOSECONDS["ms"]
+        # The header of the packet; some logs have its keys beside.
+        header = data.get("header")
+        self.header: dict[str, Any] = header if isinstance(header, dict) else data
         kind = self.header.get("packet_type") or data.get("packet_type") or data.get("type") or ""
         self.space = space_of_packet(str(kind)) if kind else None
+        # What was asked for once.
+        self._frames: list[dict[str, Any]] | None = None
         self._kinds: list[str] | None = None
+        self._acks: list[dict[str, Any]] | None = None
+        # The size of the packet, once it was asked for or found by other values.
+        self._size: int | None = None
+        self.is_size_guessed = False
+        # Whether it has PADDING that is not logged.
+        self.is_padded = False
 
     def error(self, reason: str) -> Unusable:
         """What is wrong with the event."""
@@ -103,33 +143,39 @@ class Event:
         """A whole number that a log may write as a string or with a fraction of 0."""
         number = value if type(value) is int else self._integer(value, what)
         if not 0 <= number <= greatest:
-            raise self.error(f"{what} is {number}")
+            is_long = number.bit_length() > LONGEST_NUMBER
+            raise self.error(f"{what} is {'out of range' if is_long else number}")
         return number
 
     def _integer(self, value: Any, what: str) -> int:
         if isinstance(value, bool) or not isinstance(value, int | str | Decimal):
             raise self.error(f"no {what}")
         try:
-            return int(Decimal(value))
+            return int(as_number(Decimal(value)))
         except (ArithmeticError, ValueError) as error:
             raise self.error(f"{what} is no number") from error
 
     def nanoseconds(self, value: Any, what: str) -> int:
         """A duration, rounded down."""
         if type(value) is int and value >= 0:
-            return value * self.scale
+            found = value * self.scale
+        else:
+            try:
+                found = max(0, int(as_number(value) * self.scale))
+            except (ArithmeticError, TypeError, ValueError) as error:
+                raise self.error(f"{what} is no number") from error
+        if found > GREATEST_DURATION:
+            raise self.error(f"{what} is out of range")
+        return found
+
+    def fraction(self, value: Any, what: str) -> Fraction:
+        """A number that need not be whole."""
         try:
-            return max(0, int(as_number(value) * self.scale))
+            return Fraction(as_number(value))
         except (ArithmeticError, TypeError, ValueError) as error:
             raise self.error(f"{what} is no number") from error
 
     # Packets.
-
-    @property
-    def header(self) -> dict[str, Any]:
-        """The header of the packet; some logs have its keys beside."""
-        header = self.data.get("header")
-        return header if isinstance(header, dict) else self.data
 
     @property
     def number(self) -> int:
@@ -139,54 +185,89 @@ class Event:
         return self.integer(number, "packet_number")
 
     @property
-    def size(self) -> int:
-        """The size of the packet."""
+    def packet_type(self) -> str:
+        """The type of the packet, however it is written."""
+        return plain(str(self.header.get("packet_type") or self.data.get("packet_type") or ""))
+
+    @property
+    def _said_size(self) -> Any:
         raw = self.data.get("raw") or {}
         size = raw.get("length") if isinstance(raw, dict) else None
-        size = size or self.header.get("packet_size") or self.data.get("packet_size")
-        found = self.integer(size, "raw.length", GREATEST_SIZE)
-        if found == 0:
-            raise self.error("raw.length is 0")
-        return found
+        return size or self.header.get("packet_size") or self.data.get("packet_size") or size
+
+    @property
+    def has_size(self) -> bool:
+        """Whether the size of the packet is known."""
+        if self._size is None:
+            said = self._said_size
+            if said is None:
+                return False
+            self._size = self.integer(said, "raw.length", GREATEST_SIZE)
+            if self._size == 0:
+                raise self.error("raw.length is 0")
+        return True
+
+    @property
+    def size(self) -> int:
+        """The size of the packet."""
+        if self._size is None and not self.has_size:
+            raise self.error("no raw.length")
+        assert self._size is not None
+        return self._size
+
+    @size.setter
+    def size(self, size: int) -> None:
+        self._size = size
 
     @property
     def frames(self) -> list[dict[str, Any]]:
         """The frames of the packet."""
-        frames = self.data.get("frames") or []
-        if not isinstance(frames, list) or not all(isinstance(it, dict) for it in frames):
-            raise self.error("frames is no list of objects")
-        return frames
+        if self._frames is None:
+            frames = self.data.get("frames") or []
+            if not isinstance(frames, list) or not all(isinstance(it, dict) for it in frames):
+                raise self.error("frames is no list of objects")
+            self._frames = frames
+        return self._frames
 
     @property
     def frame_types(self) -> list[str]:
         """The kinds of its frames, in their order."""
         if self._kinds is None:
-            kinds = (it.get("frame_type") or it.get("type") for it in self.frames)
-            self._kinds = [str(it).lower() for it in kinds]
+            self._kinds = [
+                kind_of_frame(str(it.get("frame_type") or it.get("type"))) for it in self.frames
+            ]
         return self._kinds
 
     @property
     def acks(self) -> list[dict[str, Any]]:
         """Its ACK frames."""
-        kinds = self.frame_types
-        if not any(kind in ACK_FRAMES for kind in kinds):
-            return []
-        return [it for it, kind in zip(self.frames, kinds, strict=True) if kind in ACK_FRAMES]
+        if self._acks is None:
+            kinds = zip(self.frames, self.frame_types, strict=True)
+            self._acks = [it for it, kind in kinds if kind in ACK_FRAMES]
+        return self._acks
 
     @property
     def is_eliciting(self) -> bool:
         """Whether it is ack-eliciting."""
-        return any(kind not in QUIET_FRAMES for kind in self.frame_types)
+        return not QUIET_FRAMES.issuperset(self.frame_types)
 
     @property
     def is_in_flight(self) -> bool:
         """Whether it counts to the bytes in flight."""
-        return self.is_eliciting or "padding" in self.frame_types
+        return self.is_eliciting or self.is_padded or "padding" in self.frame_types
+
+    @property
+    def is_closing(self) -> bool:
+        """Whether it closes the connection."""
+        return "connection_close" in self.frame_types
 
     def ranges(self, ack: dict[str, Any]) -> Ranges:
         """The ranges of an ACK frame."""
         found = []
-        for pair in ack.get("acked_ranges") or []:
+        pairs = ack.get("acked_ranges") or []
+        if not isinstance(pairs, list):
+            raise self.error("acked_ranges is no list")
+        for pair in pairs:
             ends = pair if isinstance(pair, list) and pair else [pair]
             low, high = self.integer(ends[0], "a range"), self.integer(ends[-1], "a range")
             if low > high:
@@ -226,6 +307,16 @@ class Event:
         """Whether it says that the loss detection timer fired."""
         return self.name == "loss_timer_updated" and self.data.get("event_type") == "expired"
 
+    @property
+    def is_probe(self) -> bool:
+        """Whether a packet says that a probe timeout sent it."""
+        return self.data.get("trigger") == "pto_probe"
+
+    @property
+    def repeats(self) -> bool:
+        """Whether a packet_lost names what a probe sends again, which is no loss."""
+        return self.name == "packet_lost" and self.data.get("trigger") == "pto_expired"
+
     def key_space(self) -> str | None:
         """The space of whose keys it speaks."""
         kind = str(self.data.get("key_type", ""))
@@ -236,16 +327,37 @@ class Event:
         """Whether it says that keys are gone."""
         return self.name in ("key_retired", "key_discarded")
 
+    @property
+    def tells_of_keys(self) -> bool:
+        """Whether it says that keys came or are gone."""
+        return self.retires_keys or self.name == "key_updated"
+
+
+@lru_cache(maxsize=256)
+def kind_of_frame(kind: str) -> str:
+    """The kind of a frame in one manner of writing."""
+    return kind.lower()
+
+
+def plain(kind: str) -> str:
+    """The type of a packet in one manner of writing."""
+    return kind.lower().replace("-", "").replace("_", "")
+
 
 @lru_cache(maxsize=64)
 def space_of_packet(kind: str) -> str | None:
     """The packet number space of a type of packet, however it is written; nothing for another."""
-    return SPACE_OF_PACKET.get(kind.lower().replace("-", "").replace("_", ""))
+    return SPACE_OF_PACKET.get(plain(kind))
 
 
 def as_number(value: Any) -> int | Decimal:
-    """A number that a log may write as a string."""
-    return value if isinstance(value, int) else Decimal(value)
+    """A number that a log may write as a string, if it is none of very many digits."""
+    if isinstance(value, int):
+        return value
+    number = Decimal(value)
+    if abs(number.adjusted()) > MOST_DIGITS:
+        raise ArithmeticError("too many digits")
+    return number
 
 
 class Times:
@@ -266,7 +378,8 @@ class Times:
         if unit not in NANOSECONDS:
             raise Unusable(f"time_units is {unit}")
         self.scale = NANOSECONDS[unit]
-        self._last = 0
+        # The time of the event before.
+        self.last = 0
         self._start: int | None = None
 
     def _form_of_field(self) -> str:
@@ -276,12 +389,15 @@ class Times:
     def next(self, value: Any) -> int:
         """The time of the next event."""
         time = int(as_number(value) * self.scale)
-        if self._is_delta:
-            time += self._last
-        elif self._is_absolute:
-            self._start = time if self._start is None else self._start
+        if self._start is None:
+            # The first may count from an epoch also where the others count from the one before.
+            self._start = time if self._is_absolute or time >= LEAST_OF_EPOCH else 0
             time -= self._start
-        self._last = time
+        elif self._is_delta:
+            time += self.last
+        else:
+            time -= self._start
+        self.last = time
         return max(time, 0)
 
 
@@ -295,7 +411,7 @@ def member_of(record: Record, fields: list[str]) -> dict[str, Any] | None:
 @lru_cache(maxsize=256)
 def known_name(name: str) -> str | None:
     """The name of an event without its category, as most drafts have it; nothing for another."""
-    name = name.rpartition(":")[2]
+    name = OTHER_NAMES.get(name) or name.rpartition(":")[2]
     name = OTHER_NAMES.get(name, name)
     return name if name in NAMES else None
 
@@ -313,6 +429,8 @@ def time_of(member: dict[str, Any], record: Record, times: Times) -> int:
 
 def event_of(record: Record, times: Times) -> Event | None:
     """The event of a record, or nothing where the record is none that matters."""
+    if record.value is BROKEN_METRICS:
+        return Event(record.place, times.last, UNKNOWN_METRICS, {})
     member = member_of(record, times.fields)
     if member is None:
         return None
@@ -326,7 +444,21 @@ def event_of(record: Record, times: Times) -> Event | None:
     data = member.get("data")
     event = Event(record.place, time, known, data if isinstance(data, dict) else {})
     event.scale = times.scale
+    if "group_id" in member or "path_id" in event.data:
+        # What tells apart connections in one trace, and the paths of multipath QUIC.
+        event.connection = f"{member.get('group_id')} {event.data.get('path_id')}"
     return event
+
+
+def losses_of(event: Event) -> Iterator[Event]:
+    """A loss for each packet that a packets_lost names."""
+    packets = event.data.get("packets")
+    if not isinstance(packets, list) or not all(isinstance(it, dict) for it in packets):
+        raise event.error("it names no packets, so no trace can be made of this log")
+    for header in packets:
+        lost = Event(event.place, event.time, "packet_lost", {"header": header})
+        lost.connection = event.connection
+        yield lost
 
 
 def events_of(records: Iterable[Record], header: dict[str, Any]) -> Iterator[Event]:
@@ -334,6 +466,8 @@ def events_of(records: Iterable[Record], header: dict[str, Any]) -> Iterator[Eve
     times = Times(header)
     for index, record in enumerate(records):
         event = event_of(record, times)
-        if event is not None:
-            event.index = index
-            yield event
+        if event is None:
+            continue
+        for it in losses_of(event) if event.name == "packets_lost" else (event,):
+            it.index = index
+            yield it

@@ -28,6 +28,26 @@ def joined(ranges: Ranges) -> Ranges:
     return found
 
 
+class Bare:
+    """The last packets of each space that were sent and are not in flight."""
+
+    KEPT = 4_096
+
+    def __init__(self) -> None:
+        self._numbers: dict[str, dict[int, None]] = {space: {} for space in SPACES}
+
+    def add(self, space: str, number: int) -> None:
+        """A packet was sent."""
+        numbers = self._numbers[space]
+        numbers[number] = None
+        if len(numbers) > self.KEPT:
+            del numbers[next(iter(numbers))]
+
+    def has(self, space: str, number: int) -> bool:
+        """Whether it is one of them."""
+        return number in self._numbers[space]
+
+
 class Flight:
     """Sizes and times of the packets in flight by space and number, and their sum."""
 
@@ -35,11 +55,8 @@ class Flight:
         self._sizes: dict[str, dict[int, int]] = {space: {} for space in SPACES}
         self._times: dict[str, dict[int, int]] = {space: {} for space in SPACES}
         self._bytes = dict.fromkeys(SPACES, 0)
-
-    @property
-    def bytes(self) -> int:
-        """The bytes in flight."""
-        return sum(self._bytes.values())
+        # The bytes in flight.
+        self.bytes = 0
 
     def bytes_of(self, space: str) -> int:
         """The bytes in flight of a space."""
@@ -51,15 +68,18 @@ class Flight:
         self._sizes[space][number] = size
         self._times[space][number] = time
         self._bytes[space] += size
+        self.bytes += size
 
     def take(self, space: str, numbers: Iterable[int]) -> int:
         """Packets leave; how many bytes they had."""
-        sizes = [self._sizes[space].pop(number, 0) for number in numbers]
-        self._bytes[space] -= sum(sizes)
+        sizes = self._sizes[space]
+        total = sum([sizes.pop(number, 0) for number in numbers])
+        self._bytes[space] -= total
+        self.bytes -= total
         if len(self._times[space]) > 2 * len(self._sizes[space]):
             kept = self._sizes[space]
             self._times[space] = {it: self._times[space][it] for it in kept}
-        return sum(sizes)
+        return total
 
     def clear(self, space: str) -> None:
         """The keys of a space are gone."""

@@ -8,9 +8,9 @@ from .errors import Torn, Unusable
 from .scanner import DECODER, Scanner, is_torn
 
 RECORD_SEPARATOR = b"\x1e"
-# A first line that is longer is no record of a sequence.
-LONGEST_HEADER = 1 << 20
-MARKS_OF_SEQUENCE = ("trace", "qlog_format", "file_schema", "serialization_format")
+# What a record may name that decides what follows it; metrics decide only what is reported.
+NAMES_THAT_MATTER = (b"packet", b"timer", b"key_", b"parameters_set")
+BROKEN_METRICS = {"name": "metrics that are no JSON"}
 
 
 class Record(NamedTuple):
@@ -37,6 +37,12 @@ class Form:
         self.file = file
         # Where the log is torn off, once its end was read.
         self.torn_at: str | None = None
+        # Records that are no JSON: what is wrong with the one at which the log is torn, and with
+        # those that were passed over.
+        self.break_of_record: str | None = None
+        # What it did not hand on, and how many of each.
+        self.left_out: dict[str, int] = {}
+        self.passed_over: list[str] = []
 
     def headers(self) -> list[dict[str, Any]]:
         """What the log says of each of its traces beside their events."""
@@ -76,17 +82,33 @@ class Sequence(Form):
         return records
 
     def _records(self) -> Iterator[Record]:
-        self.torn_at = None
+        """The records; one that is no JSON ends them, unless nothing of recovery is in it."""
+        self.torn_at, self.break_of_record, self.passed_over = None, None, []
+        is_first = True
         for number, text in self._texts():
+            place = f"line {number}"
             try:
                 value = DECODER.decode(text.decode())
             except (ValueError, RecursionError) as error:
-                is_cut = isinstance(error, json.JSONDecodeError) and is_torn(error)
-                if not text.endswith(b"\n") and (is_cut or isinstance(error, UnicodeDecodeError)):
-                    self.torn_at = f"line {number}"
+                if is_first:
+                    is_cut = not text.endswith(b"\n") and is_cut_short(error)
+                    raise Unusable("torn off" if is_cut else f"not JSON: {error}", place) from error
+                value = self._broken(place, text, error)
+                if self.torn_at:
                     return
-                raise Unusable(f"not JSON: {error}", f"line {number}") from error
-            yield Record(f"line {number}", value)
+            is_first = False
+            yield Record(place, value)
+
+    def _broken(self, place: str, text: bytes, error: Exception) -> object:
+        """What stands for a record that is no JSON, as RFC 7464, section 2.3 goes on behind one."""
+        if not text.endswith(b"\n") and is_cut_short(error):
+            self.torn_at = place
+        elif any(name in text for name in NAMES_THAT_MATTER):
+            self.torn_at, self.break_of_record = place, f"not JSON: {error}"
+        else:
+            self.passed_over.append(f"{place}: not JSON: {error}")
+            return BROKEN_METRICS if b"metrics" in text else None
+        return None
 
     def _texts(self) -> Iterator[tuple[int, bytes]]:
         """The text of each record with the number of its first line."""
@@ -179,19 +201,7 @@ class Document(Form):
         return scanner
 
 
-def form_of(file: BinaryIO) -> Form:
-    """The form of a log, by its first bytes."""
-    file.seek(0)
-    first = file.readline(LONGEST_HEADER)
-    if not first:
-        raise Unusable("empty")
-    if first.startswith(RECORD_SEPARATOR):
-        return Sequence(file)
-    try:
-        header = DECODER.decode(first.decode())
-    except (ValueError, RecursionError):
-        header = None
-    if not isinstance(header, dict):
-        return Document(file)
-    is_sequence = "traces" not in header and any(mark in header for mark in MARKS_OF_SEQUENCE)
-    return Sequence(file) if is_sequence else Document(file)
+def is_cut_short(error: Exception) -> bool:
+    """Whether what is wrong with a text can be that its end is missing."""
+    is_cut = isinstance(error, json.JSONDecodeError) and is_torn(error)
+    return is_cut or isinstance(error, UnicodeDecodeError)

@@ -1,14 +1,16 @@
 """Events that belong together: a packet or a timer, and what the log says of it beside it."""
 
 from collections import deque
-from collections.abc import Iterable, Iterator
+from collections.abc import Callable, Iterable, Iterator
 from dataclasses import dataclass, field
 from enum import Enum, auto
+from itertools import takewhile
 
 from .dialects import Dialect
-from .events import Event
+from .events import UNKNOWN_METRICS, Event
+from .order import PacketFirst
 
-BESIDE_SENT = ("metrics_updated", "loss_timer_updated", "congestion_state_updated")
+BESIDE_SENT = ("metrics_updated", UNKNOWN_METRICS, "loss_timer_updated", "congestion_state_updated")
 BESIDE_TIMER = (*BESIDE_SENT, "packet_lost")
 
 
@@ -42,8 +44,18 @@ class Group:
     @property
     def is_closing(self) -> bool:
         """Whether a packet of it closes the connection."""
-        packets = self.kind in (Kind.SENT, Kind.RECEIVED)
-        return packets and any("connection_close" in event.frame_types for event in self.events)
+        if self.kind is not Kind.SENT and self.kind is not Kind.RECEIVED:
+            return False
+        return any([event.is_closing for event in self.events])
+
+    def without_end(self) -> "Group | None":
+        """What is sure of the last group of a torn log, of which more may have followed."""
+        return Group(self.kind, self.events) if self.kind is Kind.SENT else None
+
+    def before_closing(self) -> "Group":
+        """The packets before the one that closes the connection, without what was said then."""
+        kept = takewhile(lambda event: not event.is_closing, self.events)
+        return Group(self.kind, list(kept))
 
 
 def is_sent(event: Event | None) -> bool:
@@ -60,6 +72,8 @@ class Ahead:
 
     def peek(self, place: int = 0) -> Event | None:
         """The next event, or one behind it; nothing at the end."""
+        if not place and self._kept:
+            return self._kept[0]
         while len(self._kept) <= place:
             event = next(self._events, None)
             if event is None:
@@ -75,18 +89,40 @@ class Ahead:
 class Groups:
     """The groups of a log, up to the packet that closes the connection.
 
-    What a connection does once it is closing is no part of loss recovery.
+    What a connection does once it is closing is no part of loss recovery, and neither is the packet
+    by which it closes: it may go out whatever the window is.
     """
 
-    def __init__(self, events: Iterable[Event], dialect: Dialect) -> None:
+    def __init__(
+        self, events: Iterable[Event], dialect: Dialect, is_torn: Callable[[], bool]
+    ) -> None:
+        if dialect.received_stands_last:
+            events = PacketFirst().over(events, is_torn)
         self._ahead = Ahead(events)
         self._dialect = dialect
+        # Whether the log is torn off, once its end was read.
+        self._is_torn = is_torn
 
     def __iter__(self) -> Iterator[Group]:
+        last: Group | None = None
+        for group in self._to_closing():
+            if last:
+                yield last
+            last = group
+        if last and self._is_torn():
+            last = last.without_end()
+        if last:
+            yield last
+
+    def _to_closing(self) -> Iterator[Group]:
         while self._ahead.peek():
             group = self._group(self._ahead.take())
-            yield group
-            if group.is_closing:
+            is_closing = group.is_closing
+            if is_closing and group.kind is Kind.SENT:
+                group = group.before_closing()
+            if group.events:
+                yield group
+            if is_closing:
                 return
 
     def _group(self, event: Event) -> Group:
@@ -116,7 +152,7 @@ class Groups:
         if self._dialect.metrics_stand_before:
             return Group(Kind.SENT, [event])
         packets = [event]
-        while is_sent(self._ahead.peek()):
+        while (following := self._ahead.peek()) and is_sent(following) and not following.is_probe:
             packets.append(self._ahead.take())
         return Group(Kind.SENT, packets, self._beside(BESIDE_SENT))
 

@@ -24,8 +24,10 @@ class Handshake:
         self.gone: set[str] = set()
         self.is_confirmed = False
         self.has_keys = False
-        # A client's Initial keys are gone once the Initial packet of the same datagram is logged.
+        # A client's Initial keys are gone once the Initial packet of the same datagram is logged,
+        # where the log says so before its first Handshake packet.
         self._initial_is_due = False
+        self._has_sent = False
         self._untold = {"initial", "handshake"} - survey.retired
         self._pending: list[str] = []
 
@@ -67,7 +69,7 @@ class Handshake:
         if not event.retires_keys:
             if space == "handshake":
                 self.take_keys(event)
-        elif space == "initial" and self.is_client:
+        elif space == "initial" and self.is_client and not self._has_sent:
             self._initial_is_due = True
         elif space:
             self.discard(space, event)
@@ -94,6 +96,7 @@ class Handshake:
             is_late = self._is_late(event, reported)
             if not is_late and (self._initial_is_due or "initial" in self._untold):
                 self.discard("initial", event)
+        self._has_sent |= event.space == "handshake"
         if "handshake_done" in event.frame_types and "handshake" in self._untold:
             self._pending = []
             self.discard("handshake", event)

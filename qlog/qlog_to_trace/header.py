@@ -1,15 +1,23 @@
 """The header of a trace."""
 
 from dataclasses import dataclass
+from fractions import Fraction
 from typing import Any
 
 from .dialects import Dialect
 from .errors import Unusable
+from .events import GREATEST_SIZE, NANOSECONDS
 from .lines import Lines
-from .notes import Guess, Notes
-from .survey import Survey
+from .notes import Guess, Limit, Notes
+from .survey import LEAST_DATAGRAM, Survey
 
-
+# The ranges of the header's keys.
+GREATEST_INITIAL_RTT = 10**12
+GREATEST_WINDOW = (1 << 32) - 1
+PACKET_THRESHOLDS = range(3, 65_536)
+# RFC 9002, 6.1.2, and how a log may round it.
+TIME_THRESHOLD = Fraction(9, 8)
+ROUNDING_OF_THRESHOLD = Fraction(1, 100)
 # Of the keys `window` and `loss_by_number`.
 REPORTED = "reported"
 MAY = "may"
@@ -36,41 +44,91 @@ def options_of(dialect: Dialect, survey: Survey, choices: Choices) -> dict[str, 
     if choices.version >= 3:
         by_log = "ns" if survey.has_nanoseconds else "us"
         # By which controller a sender has its window is its own choice (RFC 9002, section 7).
-        window = said.get("window", REPORTED if survey.has_window else "newreno")
+        has_window = survey.has_window or dialect.hides_window
+        window = said.get("window", REPORTED if has_window else "newreno")
         if window != REPORTED and said.get("loss_by_number") == MAY:
             raise Unusable("its losses may be declared only where it has a window that is reported")
+        threshold = survey.recovery.get("packet_threshold")
+        if threshold not in PACKET_THRESHOLDS:
+            threshold = dialect.packet_threshold
         found |= {
             "unit": dialect.unit or by_log,
             "window": window,
             "window_overshoot": dialect.window_overshoot,
             "sample_eliciting_only": dialect.sample_eliciting_only,
-            "packet_threshold": dialect.packet_threshold,
+            "packet_threshold": threshold,
             "timer_early_us": dialect.timer_early_us,
             "loss_by_number": MAY if dialect.may_spare and window == REPORTED else "must",
         }
     return found | said
 
 
+def initial_rtt_of(dialect: Dialect, survey: Survey, notes: Notes) -> int | None:
+    """The round-trip time before a sample, in nanoseconds, if something says it."""
+    said = survey.recovery.get("initial_rtt")
+    if said:
+        return said
+    if dialect.initial_rtt is not None:
+        notes.guess(Guess.INITIAL_RTT)
+        return dialect.initial_rtt * NANOSECONDS["us"]
+    return survey.first_smoothed
+
+
+def datagram_size_of(dialect: Dialect, survey: Survey, notes: Notes) -> int:
+    """The size of datagrams, as the log says it or by what it has."""
+    said = survey.recovery.get("max_datagram_size", 0)
+    if LEAST_DATAGRAM <= said <= GREATEST_SIZE:
+        return said
+    size, guess = survey.max_datagram_size(dialect.initial_datagrams)
+    notes.guess(guess)
+    return size
+
+
+def warn(dialect: Dialect, survey: Survey, options: dict[str, Any], notes: Notes) -> None:
+    """What the log says of the sender's choices, and a header cannot."""
+    said = survey.recovery.get("packet_threshold", options.get("packet_threshold"))
+    if said != options.get("packet_threshold"):
+        notes.warnings.append(
+            f"its reordering_threshold is {said}, which the header does not say; losses by number"
+            " may be refused"
+        )
+    if dialect.cuts_times:
+        notes.limits.add(Limit.CUT_CLOCK)
+    if survey.has_marks:
+        notes.limits.add(Limit.MARKS)
+    if survey.has_ack_frequency:
+        notes.limits.add(Limit.ACK_FREQUENCY)
+    time_threshold = survey.time_threshold or dialect.time_threshold
+    if time_threshold and abs(time_threshold - TIME_THRESHOLD) > ROUNDING_OF_THRESHOLD:
+        notes.warnings.append(
+            f"its time_threshold is {float(time_threshold):.4g}, and traces know 9/8 alone; losses"
+            " by time may be refused"
+        )
+
+
 def write_header(
     lines: Lines, notes: Notes, role: str, dialect: Dialect, survey: Survey, options: dict[str, Any]
 ) -> int:
     """Writes the header; gives the datagram size."""
-    size, guess = survey.max_datagram_size(dialect.initial_datagrams)
-    notes.guess(guess)
+    size = datagram_size_of(dialect, survey, notes)
     version = options["version"]
     line: dict[str, Any] = {"version": version, "role": role, "max_datagram_size": size}
     if survey.max_ack_delay is None:
         notes.guess(Guess.NO_MAX_ACK_DELAY)
     else:
         line["max_ack_delay"] = lines.in_unit(survey.max_ack_delay)
-    if dialect.initial_rtt is not None:
-        notes.guess(Guess.INITIAL_RTT)
-        line["initial_rtt"] = lines.in_unit(dialect.initial_rtt * 1_000)
-    elif survey.first_smoothed:
-        line["initial_rtt"] = lines.in_unit(survey.first_smoothed)
-    if survey.first_window:
-        line["initial_window"] = survey.first_window
-    if version >= 3 and not survey.has_window:
+    rtt = initial_rtt_of(dialect, survey, notes)
+    if rtt and lines.in_unit(rtt) and rtt <= GREATEST_INITIAL_RTT:
+        line["initial_rtt"] = lines.in_unit(rtt)
+    window = survey.recovery.get("initial_window", survey.first_window) or 0
+    if dialect.hides_window and options.get("window") == REPORTED:
+        notes.guess(Guess.HIDDEN_WINDOW)
+        window = GREATEST_WINDOW
+    if 2 * size <= window <= GREATEST_WINDOW:
+        line["initial_window"] = window
+    if version >= 3 and not survey.has_window and options["window"] != REPORTED:
         notes.guess(Guess.NO_WINDOW)
-    lines.header(line | options | {"x_dialect": dialect.name})
+    told = {"x_note": notes.of_header} if notes.of_header else {}
+    lines.header(line | options | {"x_dialect": dialect.name} | told)
+    warn(dialect, survey, options, notes)
     return size

@@ -3,10 +3,12 @@
 from collections.abc import Callable
 from typing import Any
 
+from .errors import Unusable
 from .events import NANOSECONDS
 from .notes import Guess, Notes
 
 Line = dict[str, Any]
+GREATEST_TIME = 10**15
 RTTS = ("latest_rtt", "min_rtt", "smoothed_rtt", "rttvar")
 
 
@@ -15,7 +17,7 @@ class Lines:
 
     def __init__(self, write: Callable[[Line], None], notes: Notes, unit: str) -> None:
         self._write, self._notes = write, notes
-        self._divisor = NANOSECONDS[unit]
+        self._unit, self._divisor = unit, NANOSECONDS[unit]
         self._time = 0
 
     def in_unit(self, nanoseconds: int) -> int:
@@ -32,6 +34,9 @@ class Lines:
         if time < self._time:
             self._notes.guess(Guess.TIME_BACK)
             time = self._time
+        if time > GREATEST_TIME:
+            last = f"{GREATEST_TIME} {self._unit}"
+            raise Unusable(f"it goes on past {last}, the last time of a trace")
         self._time = time
         self._write({"event": event, "time": time, **keys, **self._notes.for_next_line()})
 

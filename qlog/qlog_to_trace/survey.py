@@ -1,76 +1,176 @@
 """The first reading of a log: what has to be known before the first line is written."""
 
 from collections.abc import Iterable
+from dataclasses import dataclass
+from fractions import Fraction
 
+from .dialects import Dialect
 from .errors import Unusable
 from .events import NANOSECONDS, Event
+from .looking import Looking
 from .notes import Guess
+from .sizes import Sizes
 
 LEAST_DATAGRAM = 1200
+# What fits in an Ethernet frame. A part of the window that is larger, and larger than each packet,
+# is of a window of more datagrams.
+USUAL_DATAGRAM = 1500
+DEFAULT_DELAY_EXPONENT = 3
+GREATEST_DELAY_EXPONENT = 20
+# RFC 9000, 18.2: values of 2^14 ms and more are invalid.
+GREATEST_MAX_ACK_DELAY = ((1 << 14) - 1) * NANOSECONDS["ms"]
+# Parameters of recovery, by their keys in the header.
+RECOVERY_PARAMETERS = {
+    "max_datagram_size": "max_datagram_size",
+    "initial_congestion_window": "initial_window",
+    "reordering_threshold": "packet_threshold",
+}
+# Why a log needs the frames of packets.
+WHY_FRAMES = {
+    "packet_sent": "which packets are ack-eliciting is not in this log, so it gives no trace",
+    "packet_received": "no acknowledgment is in this log, so it gives no trace",
+}
+
+
+@dataclass(frozen=True)
+class Retry:
+    """The Retry that a client took in, behind which its trace begins (RFC 9002, 6.3)."""
+
+    index: int
+    place: str
+    # The last numbers that were sent before it, by space.
+    numbers: dict[str, int]
 
 
 class Survey:
     """What the header and the second reading need. All packets are checked here."""
 
-    def __init__(self, events: Iterable[Event]) -> None:
+    def __init__(self, events: Iterable[Event], dialect: Dialect, role: str) -> None:
+        self._role = role
+        self.sizes = Sizes(dialect.full_packet)
+        self.looking = Looking()
+        self.retry: Retry | None = None
+        self._last_numbers: dict[str, int] = {}
+        # Whether each time is a whole millisecond.
+        self.has_milliseconds = True
         # Nanoseconds.
         self.max_ack_delay: int | None = None
         self.first_smoothed: int | None = None
         self.first_window: int | None = None
         self.largest_size = 0
+        # What recovery:parameters_set says, by the keys of the header.
+        self.recovery: dict[str, int] = {}
+        self.time_threshold: Fraction | None = None
+        # By how many bits a delay on the wire is shifted.
+        self.delay_exponent = DEFAULT_DELAY_EXPONENT
+        # Whether the log counts probe timeouts, and whether it names as lost what probes repeat.
+        self.has_pto_count = False
+        self.has_repeats = False
         # The spaces of whose discard the log tells.
         self.retired: set[str] = set()
         self.has_timers = False
         # Whether a congestion window is logged, and whether a time is no whole microsecond.
         self.has_window = False
         self.has_nanoseconds = False
+        # Whether packets were marked by CE, and whether the peer was asked for another delay.
+        self.has_marks = False
+        self.has_ack_frequency = False
         # Places of events.
         self.first_handshake_received: int | None = None
         self.handshake_done: int | None = None
         self.last_crypto_before_done: int | None = None
         self._has_ack = False
+        # Events of packets with and without frames.
+        self._with_frames: set[str] = set()
+        self._without_frames: set[str] = set()
         for event in events:
             self._see(event)
         if self.largest_size == 0:
             raise Unusable("no packet_sent of a QUIC packet with a size")
+        for name, why in WHY_FRAMES.items():
+            if name in self._without_frames - self._with_frames:
+                advice = f". {dialect.advice}" if dialect.advice else ""
+                raise Unusable(f"each {name} is without its frames: {why}{advice}")
 
     def _see(self, event: Event) -> None:
-        if event.time % NANOSECONDS["us"]:
-            self.has_nanoseconds = True
-        if event.name == "parameters_set":
-            self._see_parameters(event)
-        elif event.name == "packet_sent":
+        if event.time % NANOSECONDS["ms"]:
+            self.has_milliseconds = False
+            if event.time % NANOSECONDS["us"]:
+                self.has_nanoseconds = True
+        if event.name == "packet_sent":
             self._see_sent(event)
         elif event.name == "packet_received":
             self._see_received(event)
         elif event.name == "metrics_updated":
             self._see_metrics(event)
-        elif event.name == "packet_lost" and event.space:
-            assert event.number >= 0
-        elif event.name == "packets_lost":
-            raise event.error("it names no packets, so no trace can be made of this log")
+        elif event.name == "packet_lost":
+            self._see_lost(event)
+        elif event.name == "parameters_set":
+            self._see_parameters(event)
+        elif event.name == "recovery_parameters_set":
+            self._see_recovery(event)
         elif event.retires_keys:
             self.retired.add(event.key_space() or "")
         elif event.has_expired:
             self.has_timers = True
+        self.looking.see(event)
+
+    def _see_lost(self, event: Event) -> None:
+        if event.space:
+            assert event.number >= 0
+            self.has_repeats |= event.repeats
+        elif not event.packet_type:
+            raise event.error("no packet_type, so it does not say of which space the packet is")
 
     def _see_parameters(self, event: Event) -> None:
         delay = event.data.get("max_ack_delay")
-        if event.data.get("owner", event.data.get("initiator")) == "remote" and delay is not None:
-            self.max_ack_delay = event.nanoseconds(delay, "max_ack_delay")
+        if event.data.get("owner", event.data.get("initiator")) != "remote":
+            return
+        if delay is not None:
+            found = event.nanoseconds(delay, "max_ack_delay")
+            if found > GREATEST_MAX_ACK_DELAY:
+                raise event.error(f"max_ack_delay is {delay}")
+            self.max_ack_delay = found
+        exponent = event.data.get("ack_delay_exponent")
+        if exponent is not None:
+            what = "ack_delay_exponent"
+            self.delay_exponent = event.integer(exponent, what, GREATEST_DELAY_EXPONENT)
+
+    def _see_recovery(self, event: Event) -> None:
+        rtt = event.data.get("initial_rtt")
+        if rtt is not None:
+            self.recovery["initial_rtt"] = event.nanoseconds(rtt, "initial_rtt")
+        for name, key in RECOVERY_PARAMETERS.items():
+            if event.data.get(name) is not None:
+                self.recovery[key] = event.integer(event.data[name], name)
+        threshold = event.data.get("time_threshold")
+        if threshold is not None:
+            self.time_threshold = event.fraction(threshold, "time_threshold")
 
     def _see_sent(self, event: Event) -> None:
         if event.space is None:
             return
         assert event.number >= 0
+        self._last_numbers[event.space] = event.number
+        self._see_frames(event)
+        if not event.has_size:
+            self.sizes.see(event)
         self.largest_size = max(self.largest_size, event.size)
+        self.has_ack_frequency |= "ack_frequency" in event.frame_types
         if self.handshake_done is None and "handshake_done" in event.frame_types:
             self.handshake_done = event.index
 
     def _see_received(self, event: Event) -> None:
+        if event.space is None:
+            # A client takes in one Retry at most (RFC 9000, section 17.2.5.2).
+            if event.packet_type == "retry" and self._role == "client" and self.retry is None:
+                self.retry = Retry(event.index, event.place, dict(self._last_numbers))
+            return
+        self._see_frames(event)
         for ack in event.acks:
             event.ranges(ack)
             self._has_ack = True
+            self.has_marks |= bool(ack.get("ce")) and event.integer(ack["ce"], "ce") > 0
         if event.space != "handshake":
             return
         if self.first_handshake_received is None:
@@ -78,8 +178,15 @@ class Survey:
         if self.handshake_done is None and "crypto" in event.frame_types:
             self.last_crypto_before_done = event.index
 
+    def _see_frames(self, event: Event) -> None:
+        if "frames" not in event.data:
+            self._without_frames.add(event.name)
+        elif event.name not in self._with_frames:
+            self._with_frames.add(event.name)
+
     def _see_metrics(self, event: Event) -> None:
         self.has_window = self.has_window or event.has_window
+        self.has_pto_count = self.has_pto_count or event.pto_count() is not None
         if self._has_ack:
             return
         values = event.metrics()
@@ -92,7 +199,8 @@ class Survey:
         """The part of the first window, where no packet was larger; else the largest packet."""
         window = self.first_window or 0
         part, rest = divmod(window, initial_datagrams)
-        if rest == 0 and part >= max(self.largest_size, LEAST_DATAGRAM):
+        greatest = max(self.largest_size, USUAL_DATAGRAM)
+        if rest == 0 and max(self.largest_size, LEAST_DATAGRAM) <= part <= greatest:
             return part, Guess.DATAGRAM_BY_WINDOW
         if self.largest_size < LEAST_DATAGRAM:
             return LEAST_DATAGRAM, Guess.DATAGRAM_LEAST

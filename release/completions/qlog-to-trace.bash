@@ -6,15 +6,15 @@ _qlog_to_trace() {
     case $before in
         --version) words='1 2 3' ;;
         --vantage) words='client server' ;;
-        --dialect) words='quic-go ngtcp2 aioquic quinn neqo quiche mvfst generic' ;;
+        --dialect) words='quic-go quic-go-0.50 quic-go-0.59 ngtcp2 aioquic openssl-3.5 openssl quinn neqo chromium quiche mvfst generic' ;;
         --unit) words='us ns' ;;
         --window) words='newreno reported' ;;
         --loss-by-number) words='must may' ;;
         --window-overshoot | --sample-eliciting-only | --refresh-min-rtt) words='yes no' ;;
-        --timer-late-us | --slack-us | --slack-bytes | --packet-threshold | --timer-early-us) return ;;
+        --connection | --timer-late-us | --slack-us | --slack-bytes | --packet-threshold | --timer-early-us) return ;;
     esac
     if [ -z "$words" ] && [[ $current == -* ]]; then
-        words='--version --vantage --dialect --notes --timer-late-us --refresh-min-rtt --slack-us
+        words='--version --vantage --connection --dialect --notes --timer-late-us --refresh-min-rtt --slack-us
             --slack-bytes --unit --window --window-overshoot --sample-eliciting-only
             --packet-threshold --timer-early-us --loss-by-number --help'
     fi

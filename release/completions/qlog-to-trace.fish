@@ -3,7 +3,8 @@
 complete -c qlog-to-trace -F
 complete -c qlog-to-trace -l version -x -a '1 2 3' -d 'Of the format of traces'
 complete -c qlog-to-trace -l vantage -x -a 'client server' -d 'Which side'
-complete -c qlog-to-trace -l dialect -x -a 'quic-go ngtcp2 aioquic quinn neqo quiche mvfst generic' -d 'The kind of log'
+complete -c qlog-to-trace -l connection -x -d 'Which of several'
+complete -c qlog-to-trace -l dialect -x -a 'quic-go quic-go-0.50 quic-go-0.59 ngtcp2 aioquic openssl-3.5 openssl quinn neqo chromium quiche mvfst generic' -d 'The kind of log'
 complete -c qlog-to-trace -l notes -d 'Count the guesses on standard error'
 complete -c qlog-to-trace -l timer-late-us -x -d 'timer_late_us of the header'
 complete -c qlog-to-trace -l refresh-min-rtt -x -a 'yes no' -d 'refresh_min_rtt of the header'

@@ -1,0 +1,48 @@
+"""Which form a log has, by its first bytes."""
+
+from typing import BinaryIO
+
+from .errors import Unusable
+from .forms import RECORD_SEPARATOR, Document, Form, Sequence
+from .netlog import Netlog, is_netlog
+from .scanner import DECODER
+
+# A first line that is longer is no record of a sequence.
+LONGEST_HEADER = 1 << 20
+MARKS_OF_SEQUENCE = ("trace", "qlog_format", "file_schema", "serialization_format")
+# By their first bytes, files that are no log.
+KINDS_OF_FILE = {
+    b"\x1f\x8b": "compressed by gzip: unpack it first",
+    b"\x28\xb5\x2f\xfd": "compressed by zstd: unpack it first",
+    b"\xfd7zXZ": "compressed by xz: unpack it first",
+    b"BZh": "compressed by bzip2: unpack it first",
+    b"PK\x03\x04": "a zip archive: unpack it first",
+    b"\xef\xbb\xbf": "it begins with a byte order mark, which JSON has not: take it off first",
+    b"\xd4\xc3\xb2\xa1": "a capture of packets and no log",
+    b"\x0a\x0d\x0d\x0a": "a capture of packets and no log",
+}
+
+
+def form_of(file: BinaryIO) -> Form:
+    """The form of a log, by its first bytes."""
+    file.seek(0)
+    first = file.readline(LONGEST_HEADER)
+    if not first:
+        raise Unusable("empty")
+    for mark, kind in KINDS_OF_FILE.items():
+        if first.startswith(mark):
+            raise Unusable(kind)
+    if first.startswith(RECORD_SEPARATOR):
+        return Sequence(file)
+    if is_netlog(first):
+        return Netlog(file)
+    try:
+        header = DECODER.decode(first.decode())
+    except (ValueError, RecursionError):
+        header = None
+    if not isinstance(header, dict):
+        return Document(file)
+    if header.get("event") == "header":
+        raise Unusable("this is a trace already, as qaudit reads it, and no log")
+    is_sequence = "traces" not in header and any(mark in header for mark in MARKS_OF_SEQUENCE)
+    return Sequence(file) if is_sequence else Document(file)

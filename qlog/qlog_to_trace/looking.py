@@ -1,0 +1,257 @@
+"""What the first reading finds by counting: in which order a log is, and how fine its clock is."""
+
+from collections import Counter
+from dataclasses import dataclass, replace
+from enum import Enum
+
+from .dialects import Absent, Dialect
+from .errors import Unusable
+from .events import NANOSECONDS, Event
+from .flight import Flight
+from .lines import RTTS
+
+# Of how many events the order is found. All of a log would take long and say no more.
+EVENTS_LOOKED_AT = 5_000
+# How many reports or losses there have to be for a finding, how many where a dialect says another,
+# and how many times as many as there are against it.
+LEAST = 2
+LEAST_AGAINST_DIALECT = 5
+MANY = 2
+# A log with more reports that agree with no order than this part was likely misread.
+PART_APART = 0.5
+# By how many bytes stacks round what they report.
+ROUNDING_OF_BYTES = 64
+# How many values a clock is judged by, and how far off reports and timers are by one of whole ms.
+LEAST_VALUES = 8
+SLACK_OF_MILLISECONDS = 2_000
+EARLY_OF_MILLISECONDS = 3_000
+
+
+class Order(Enum):
+    """Where losses and reports stand beside the packet that came and caused them."""
+
+    BEHIND = "losses and metrics stand behind the packet_received that caused them"
+    LOSSES_BEFORE = "losses stand before the packet_received that shows them, metrics behind it"
+    BEFORE = "losses and metrics stand before the packet_received that caused them"
+
+
+def order_of(dialect: Dialect) -> Order:
+    """The order that a dialect takes."""
+    if dialect.received_stands_last:
+        return Order.BEFORE
+    return Order.LOSSES_BEFORE if dialect.losses_stand_before else Order.BEHIND
+
+
+def in_order(dialect: Dialect, order: Order) -> Dialect:
+    """The dialect with another order."""
+    return replace(
+        dialect,
+        received_stands_last=order is Order.BEFORE,
+        losses_stand_before=order is Order.LOSSES_BEFORE,
+    )
+
+
+def against(ones: int, others: int, least: int) -> bool | None:
+    """Whether it is the ones and not the others, if there are enough of either."""
+    if ones >= max(least, MANY * others):
+        return True
+    return False if others >= max(least, MANY * ones) else None
+
+
+class Tracker:
+    """Whether the bytes in flight that are reported change as those of the packets do."""
+
+    def __init__(self) -> None:
+        self._before = self._last = (0, 0)
+
+    def agrees(self, reported: int, counted: int) -> bool:
+        """Whether both changed alike since the report before."""
+        self._before, self._last = self._last, (reported, counted)
+        return self._is_alike()
+
+    def amend(self, counted: int) -> None:
+        """Counts the packet behind the last report too, if that one was of it."""
+        kept = self._last
+        if not self._is_alike():
+            self._last = (kept[0], counted)
+            if not self._is_alike():
+                self._last = kept
+
+    def _is_alike(self) -> bool:
+        reported = self._last[0] - self._before[0]
+        counted = self._last[1] - self._before[1]
+        return abs(reported - counted) <= ROUNDING_OF_BYTES
+
+
+@dataclass
+class Counts:
+    """What was counted."""
+
+    # Acknowledgments with a report beside them; the reports that agree behind, and before.
+    acknowledgments: int = 0
+    behind: int = 0
+    before: int = 0
+    # Losses nearer to the packet before them, and nearer to the one behind.
+    losses_behind: int = 0
+    losses_before: int = 0
+    # Reports that say 0 bytes in flight, and that leave it out where nothing is in flight any more.
+    zeros: int = 0
+    zeros_left_out: int = 0
+
+
+class Looking:
+    """Looks at the first events of a log."""
+
+    def __init__(self) -> None:
+        self.counts = Counts()
+        self._left = EVENTS_LOOKED_AT
+        self._flight = Flight()
+        self._behind, self._before = Tracker(), Tracker()
+        # The last report, as long as no packet came behind it, and the bytes in flight at it.
+        self._report: tuple[int, int] | None = None
+        # Whether an acknowledgment awaits its report, and whether it had one before it.
+        self._is_awaited = self._is_counted = False
+        self._bytes_reported = 0
+        # The last packet with an acknowledgment, and the largest number in it.
+        self._received: tuple[Event, int] | None = None
+        self._lost: list[Event] = []
+        # How often values were whole milliseconds, and how often not.
+        self._whole: Counter[str] = Counter()
+        self._parts: Counter[str] = Counter()
+
+    def see(self, event: Event) -> None:
+        """Looks at the next event."""
+        if self._left == 0:
+            return
+        self._left -= 1
+        if event.name == "metrics_updated":
+            self._see_metrics(event)
+        elif event.name == "packet_sent" and event.space:
+            is_reported = self._report is not None
+            self._settle()
+            self._is_awaited, self._received, self._lost = False, None, []
+            if event.is_in_flight:
+                self._flight.add(event.space, event.number, event.size, event.time)
+                if is_reported:
+                    self._behind.amend(self._flight.bytes)
+                    self._before.amend(self._flight.bytes)
+        elif event.name == "packet_received" and event.space:
+            self._see_received(event, event.space)
+        elif event.name == "packet_lost" and event.space and not event.repeats:
+            self._flight.take(event.space, [event.number])
+            self._lost.append(event)
+        elif event.retires_keys and event.key_space():
+            self._flight.clear(str(event.key_space()))
+
+    def _settle(self) -> None:
+        """A report that no packet follows is of the time at which it stands."""
+        if self._report:
+            self._before.agrees(*self._report)
+        self._report = None
+
+    def _see_metrics(self, event: Event) -> None:
+        try:
+            values = event.metrics()
+        except Unusable:
+            # The second reading tells of it, in its place.
+            return
+        for key in RTTS:
+            if values.get(key):
+                (self._parts if values[key] % NANOSECONDS["ms"] else self._whole)[key] += 1
+        reported = values.get("bytes_in_flight")
+        if reported is None:
+            is_left_out = bool(values and self._bytes_reported and not self._flight.bytes)
+            self.counts.zeros_left_out += is_left_out
+            return
+        self._settle()
+        self._bytes_reported = reported
+        self.counts.zeros += reported == 0
+        is_alike = self._behind.agrees(reported, self._flight.bytes)
+        if self._is_awaited:
+            self.counts.acknowledgments += not self._is_counted
+            self.counts.behind += is_alike
+        self._is_awaited = False
+        self._report = reported, self._flight.bytes
+
+    def _see_received(self, event: Event, space: str) -> None:
+        ranges = [pair for ack in event.acks for pair in event.ranges(ack)]
+        held = self._flight.bytes
+        self._flight.take(space, self._flight.named(space, ranges))
+        if self._flight.bytes != held:
+            self._is_awaited, self._is_counted = True, bool(self._report)
+            if self._report:
+                self.counts.acknowledgments += 1
+                self.counts.before += self._before.agrees(self._report[0], self._flight.bytes)
+                self._report = None
+        if ranges:
+            top = max(high for _, high in ranges)
+            self._see_losses(event, top)
+            self._received = (event, top)
+        self._lost = []
+
+    def _see_losses(self, event: Event, top: int) -> None:
+        """To which of two packets the losses between them are nearer, unless a timer found them."""
+        for lost in self._lost:
+            distances = [NANOSECONDS["ms"]] * 2
+            for place, found in enumerate((self._received, (event, top))):
+                if found is None:
+                    continue
+                packet, highest = found
+                if packet.space == lost.space and lost.number < highest:
+                    distances[place] = abs(packet.time - lost.time)
+            self.counts.losses_behind += distances[0] < distances[1]
+            self.counts.losses_before += distances[1] < distances[0]
+
+    # What was found.
+
+    def _order(self, taken: Order, least: int) -> Order:
+        """The order of the log, or the one that is taken, where too little of it says another."""
+        counts = self.counts
+        reports = against(counts.before, counts.behind, least)
+        losses = against(counts.losses_before, counts.losses_behind, least)
+        if reports is None:
+            reports = taken is Order.BEFORE
+        if losses is None:
+            losses = taken is Order.LOSSES_BEFORE
+        if reports:
+            return Order.BEFORE
+        return Order.LOSSES_BEFORE if losses else Order.BEHIND
+
+    @property
+    def is_apart(self) -> bool:
+        """Whether most reports agree with no order."""
+        counts = self.counts
+        agree = max(counts.behind, counts.before)
+        most = counts.acknowledgments * PART_APART
+        return counts.acknowledgments >= LEAST_AGAINST_DIALECT and agree < most
+
+    def corrected(self, dialect: Dialect) -> Dialect:
+        """A dialect that the log names, in the order of the log."""
+        taken = order_of(dialect)
+        found = self._order(taken, LEAST_AGAINST_DIALECT)
+        return dialect if found is taken else in_order(dialect, found)
+
+    def dialect(self, generic: Dialect, has_milliseconds: bool) -> Dialect:
+        """The dialect of a log that names none."""
+        found = in_order(generic, self._order(order_of(generic), LEAST))
+        if self.counts.zeros_left_out and not self.counts.zeros:
+            found = replace(found, absent=Absent.SAME_OR_ZERO)
+        has_whole = sum(self._whole.values()) >= LEAST_VALUES and not self._parts
+        if has_whole or (has_milliseconds and self._parts["latest_rtt"]):
+            found = replace(found, slack_us=SLACK_OF_MILLISECONDS)
+        if has_milliseconds and found.slack_us == SLACK_OF_MILLISECONDS:
+            found = replace(found, timer_early_us=EARLY_OF_MILLISECONDS)
+        return found
+
+    def told(self, dialect: Dialect, has_milliseconds: bool) -> list[str]:
+        """What was found, for people."""
+        counts = self.counts
+        told = [
+            f"{order_of(dialect).value} (acknowledgments with a report: {counts.acknowledgments},"
+            f" of which agree behind {counts.behind}, before {counts.before};"
+            f" losses behind {counts.losses_behind}, before {counts.losses_before})",
+            f"a value that metrics leave out: {dialect.absent.value}",
+        ]
+        times = "whole milliseconds" if has_milliseconds else "finer than milliseconds"
+        told.append(f"its times are {times}; reports may be off by {dialect.slack_us} microseconds")
+        return told

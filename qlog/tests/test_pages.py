@@ -1,0 +1,55 @@
+"""The manual page, the completions, logs of real stacks and the example of a logger."""
+
+import json
+import subprocess
+import sys
+import unittest
+
+from qlog_to_trace.command import arguments
+from qlog_to_trace.dialects import DIALECTS
+
+from .made import TOP, End
+
+REAL = TOP / "conformance" / "real" / "traces"
+
+
+class Pages(unittest.TestCase):
+    """The manual page and the completions have each option and each kind of log."""
+
+    def test_options(self) -> None:
+        completions = sorted((TOP / "release" / "completions").glob("*qlog-to-trace*"))
+        self.assertEqual(len(completions), 3)
+        options = [it for action in arguments()._actions for it in action.option_strings]
+        for path in (TOP / "docs" / "qlog-to-trace.1", *completions):
+            text = path.read_text()
+            for option in options:
+                if option == "-h" or (option == "--help" and path.suffix == ".1"):
+                    continue
+                word = {".1": f"Fl {option[1:]}", ".fish": f"-l {option[2:]} "}.get(path.suffix)
+                self.assertIn(word or option, text, path.name)
+            for dialect in DIALECTS if path.suffix != ".1" else ():
+                self.assertIn(dialect.name, text, path.name)
+
+
+class Real(unittest.TestCase):
+    """Each log of conformance/real/traces gives the trace beside it."""
+
+    def test_real(self) -> None:
+        paths = [*sorted(REAL.glob("*.qlog")), *sorted(REAL.glob("*.netlog"))]
+        self.assertTrue(paths)
+        for path in paths:
+            with self.subTest(path.name):
+                expected = path.with_suffix(".trace").read_text()
+                version = json.loads(expected.partition("\n")[0])["version"]
+                words = ("--version", str(version))
+                self.assertEqual(End(path.read_bytes(), *words).text, expected)
+
+
+class Example(unittest.TestCase):
+    """The example of a logger in Python."""
+
+    def test_it_writes_a_trace(self) -> None:
+        logger = TOP / "examples" / "logger.py"
+        end = subprocess.run([sys.executable, logger], capture_output=True, text=True, check=True)
+        kinds = [json.loads(line)["event"] for line in end.stdout.splitlines()]
+        self.assertEqual(kinds, ["header", *["sent"] * 4, "ack", "lost", "metrics"])
