@@ -185,8 +185,8 @@ impl Session {
         self.ranges = ranges.emptied(alloc);
     }
 
-    /// Says that nothing follows, and returns how far it is then: it is finished, or out of memory. A
-    /// verdict that was fixed stays, and so does it that there is no memory.
+    /// Says that nothing follows, and returns how far it is then: it is finished, or out of memory.
+    /// A verdict that was fixed stays, and a session that was out of memory stays so.
     pub fn finish(&mut self) -> Phase
         ensures phase { result ≡ phase_of self.new }
         ensures over { self.new.finished ≡ true }
