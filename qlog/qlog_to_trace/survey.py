@@ -64,17 +64,14 @@ class Survey:
         # By how many bits a delay on the wire is shifted.
         self.delay_exponent = DEFAULT_DELAY_EXPONENT
         # Whether the log counts probe timeouts, and whether it names as lost what probes repeat.
-        self.has_pto_count = False
-        self.has_repeats = False
+        self.has_pto_count = self.has_repeats = False
         # The spaces of whose discard the log tells.
         self.retired: set[str] = set()
         self.has_timers = False
         # Whether a congestion window is logged, and whether a time is no whole microsecond.
-        self.has_window = False
-        self.has_nanoseconds = False
+        self.has_window = self.has_nanoseconds = False
         # Whether packets were marked by CE, and whether the peer was asked for another delay.
-        self.has_marks = False
-        self.has_ack_frequency = False
+        self.has_marks = self.has_ack_frequency = False
         # Places of events.
         self.first_handshake_received: int | None = None
         self.handshake_done: int | None = None
@@ -85,6 +82,10 @@ class Survey:
         self._without_frames: set[str] = set()
         for event in events:
             self._see(event)
+        self._check(dialect)
+
+    def _check(self, dialect: Dialect) -> None:
+        """Whether a trace can be made of the log."""
         if self.largest_size == 0:
             raise Unusable("no packet_sent of a QUIC packet with a size")
         for name, why in WHY_FRAMES.items():
