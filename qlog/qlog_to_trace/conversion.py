@@ -508,7 +508,7 @@ class Conversion:
             self._notes.omit(Omission.OTHER_TIMER)
         elif kind == "loss" and has_losses and not lost:
             self._notes.omit(Omission.BARE_TIMER)
-        elif not lost and (kind == "loss" or (self._survey.has_pto_count and not is_counted)):
+        elif not lost and (kind == "loss" or (self._survey.counts_at_timers and not is_counted)):
             self._notes.omit(Omission.IDLE_TIMER)
         else:
             if lost:

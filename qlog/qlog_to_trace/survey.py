@@ -63,18 +63,16 @@ class Survey:
         self.time_threshold: Fraction | None = None
         # By how many bits a delay on the wire is shifted.
         self.delay_exponent = DEFAULT_DELAY_EXPONENT
-        # Whether the log counts probe timeouts, and whether it names as lost what probes repeat.
-        self.has_pto_count = False
-        self.has_repeats = False
+        # Whether the count of probe timeouts follows a timer at once, and whether the log names as
+        # lost what probes repeat.
+        self.counts_at_timers = self._is_after_timer = self.has_repeats = False
         # The spaces of whose discard the log tells.
         self.retired: set[str] = set()
         self.has_timers = False
         # Whether a congestion window is logged, and whether a time is no whole microsecond.
-        self.has_window = False
-        self.has_nanoseconds = False
+        self.has_window = self.has_nanoseconds = False
         # Whether packets were marked by CE, and whether the peer was asked for another delay.
-        self.has_marks = False
-        self.has_ack_frequency = False
+        self.has_marks = self.has_ack_frequency = False
         # Places of events.
         self.first_handshake_received: int | None = None
         self.handshake_done: int | None = None
@@ -85,6 +83,10 @@ class Survey:
         self._without_frames: set[str] = set()
         for event in events:
             self._see(event)
+        self._check(dialect)
+
+    def _check(self, dialect: Dialect) -> None:
+        """Whether a trace can be made of the log."""
         if self.largest_size == 0:
             raise Unusable("no packet_sent of a QUIC packet with a size")
         for name, why in WHY_FRAMES.items():
@@ -112,7 +114,7 @@ class Survey:
         elif event.retires_keys:
             self.retired.add(event.key_space() or "")
         elif event.has_expired:
-            self.has_timers = True
+            self.has_timers = self._is_after_timer = True
         self.looking.see(event)
 
     def _see_lost(self, event: Event) -> None:
@@ -148,6 +150,7 @@ class Survey:
             self.time_threshold = event.fraction(threshold, "time_threshold")
 
     def _see_sent(self, event: Event) -> None:
+        self._is_after_timer = False
         if event.space is None:
             return
         assert event.number >= 0
@@ -161,6 +164,7 @@ class Survey:
             self.handshake_done = event.index
 
     def _see_received(self, event: Event) -> None:
+        self._is_after_timer = False
         if event.space is None:
             # A client takes in one Retry at most (RFC 9000, section 17.2.5.2).
             if event.packet_type == "retry" and self._role == "client" and self.retry is None:
@@ -186,7 +190,8 @@ class Survey:
 
     def _see_metrics(self, event: Event) -> None:
         self.has_window = self.has_window or event.has_window
-        self.has_pto_count = self.has_pto_count or event.pto_count() is not None
+        if self._is_after_timer and event.pto_count() is not None:
+            self.counts_at_timers = True
         if self._has_ack:
             return
         values = event.metrics()

@@ -51,6 +51,11 @@ class TimersWithoutASpace(unittest.TestCase):
             is_told = "left out 1: a timer of another kind" in end.errors
             self.assertEqual(is_told, "timer" not in kinds)
 
+    def test_a_timer_whose_count_comes_later_is_one(self) -> None:
+        later = [expired(300, "pto"), sent(300, 1, "initial"), metrics(300, pto_count=1)]
+        kinds = converted([*FIRST, *later], name="something").kinds
+        self.assertEqual(kinds[-2:], ["timer", "sent"])
+
     def test_a_timer_that_had_been_moved_is_none(self) -> None:
         counted = [*FIRST, expired(300, "pto"), metrics(300, pto_count=1)]
         for timer, more in (("ack", [sent(310, 1)]), ("pto", [sent(310, 1)])):
