@@ -23,14 +23,16 @@ program_without_memory := crates/without_memory/out/without_memory
 # The library for C: what `rt lib` makes of its crate, with the heap of the kit, which stands over malloc.
 library := bin/libqaudit.a
 library_shared := bin/libqaudit.so
-example := examples/ten-packets.trace
+examples := examples/ten-packets.trace examples/eleven-packets.trace
 # The tests of the programs of conformance/, which mostly wait for one another's processes.
 runner_tests := test_run test_trials test_mutations test_rows test_departures test_simulate test_links test_made_up \
-	test_contracts test_crates test_edits
+	test_contracts test_crates test_edits test_unproved
+# The tests and checks that need no proof, the longest first.
+tests_in_python := test_page test_qlog $(runner_tests) test_release links made_up contracts crates
 
 # All programs in Python, by the places where their names are unlike each other.
 python := $(addprefix conformance/,allocations contracts crates cuts failing large library links made_up malicious memory mutations reasons \
-	refusals run simulate) \
+	refusals run simulate unproved) \
 	conformance/fuzz/instrument conformance/lines/make.py $(wildcard conformance/*.py)
 python_of_fuzz := conformance/fuzz/run
 # The pages, and what measures and tests them.
@@ -39,7 +41,7 @@ python_of_page_tests := page/measure $(wildcard page/*.py page/tests/*.py)
 python_of_qlog := qlog/qlog-to-trace $(wildcard qlog/qlog_to_trace/*.py qlog/tests/*.py)
 # captures/transfer.py runs where aioquic is, and is checked for style alone.
 python_of_captures := captures/audit.py captures/causes.py captures/run captures/stacks.py captures/table captures/test_causes.py examples/delay.py examples/logger.py
-python_of_release := release/edits
+python_of_release := $(addprefix release/,edits minutes prove unproved) $(wildcard release/*.py)
 python_of_bindings := $(wildcard bindings/python/*.py)
 python_of_bench := $(addprefix bench/,instructions library peers run trace) $(wildcard bench/*.py) bench/programs/read.py
 
@@ -51,12 +53,14 @@ conformance := conformance-cuts conformance-failing conformance-refusals conform
 # What is handed to the library for C, in each language.
 bindings := conformance-library bindings-rust bindings-go bindings-python
 
-.PHONY: help build run lib one_byte lines test test_library gate conformance $(bindings) $(conformance) links made_up contracts crates $(runner_tests) test_qlog test_captures test_page lint \
-	edits tried bench install dist clean
+.PHONY: help run build quick lib one_byte lines test test_library gate conformance $(bindings) $(conformance) \
+	links made_up contracts crates unproved $(runner_tests) test_qlog test_captures test_release test_page lint edits tried bench install dist clean
 
 help:
-	@echo 'make build     proves the programs and builds $(built) and $(built_why)'
-	@echo 'make run       builds it and audits $(example)'
+	@echo 'make run       audits $(examples)'
+	@echo '               without a proof, in about a minute'
+	@echo 'make build     proves the programs and leaves $(built) and $(built_why)'
+	@echo 'make quick     runs the tests that need no proof, in a few minutes'
 	@echo 'make lib       proves and builds the library for C, $(library)'
 	@echo 'make test      runs the merge gate, and then the program over conformance/'
 	@echo 'make test_library  builds the library for C and runs it over conformance/, in each language that is there'
@@ -72,19 +76,16 @@ help:
 	@echo 'make dist      builds it and packs dist/$(release).tar.gz, which needs no kit, after `make edits`'
 	@echo 'make clean     removes what was built'
 
-# Proving both programs at once leaves the first too.
+# The first thing to try in a clone. It proves nothing.
+run:
+	@release/unproved $(examples)
+
 build: $(built_why)
 
-# What the first program stands on, and what the second does.
+# What the programs are made of.
 crates_of_qaudit := $(shell find crates/qa_*/src crates/qa_*/specs crates/qa_*/proofs crates/qaudit/src)
-$(built): crates.txt HANDLES $(crates_of_qaudit)
-	release/prove bin qaudit
-
-$(built_why): crates.txt HANDLES $(crates_of_qaudit) $(shell find crates/qaudit_why/src)
-	release/prove bin qaudit qaudit_why
-
-run: $(built)
-	@$(built) check < $(example)
+$(built) $(built_why) &: crates.txt HANDLES $(crates_of_qaudit) $(shell find crates/qaudit_why/src)
+	@release/prove $(PROVE_OPTIONS) bin
 
 lib: $(library_shared)
 
@@ -103,11 +104,23 @@ lines:
 # The tests of the runners and the checks of pages and sources need no program of ours, so they run beside the gate,
 # in its first minutes.
 test:
-	$(MAKE) --no-print-directory -j 2 gate links made_up contracts crates $(runner_tests) test_qlog test_captures
+	@echo 'make test proves all crates and tries their must-fail edits, and runs the tests in Python beside that;'
+	@echo 'then it runs the programs over conformance/, and last the tests of the pages:'
+	@release/minutes --say test
+	$(MAKE) --no-print-directory -j 2 gate links made_up contracts crates $(runner_tests) test_qlog test_captures test_release
 	$(MAKE) --no-print-directory -j 4 --output-sync=target $(conformance)
 	QAUDIT_WHY='$(abspath $(program_why))' $(MAKE) --no-print-directory test_page
 	if [ -f $(library) ]; then $(MAKE) --no-print-directory test_library; else \
 		echo '$(library) is not built, so what C is handed is not tried: `make test_library` builds it first'; fi
+
+# For whoever changes a page or the converter, or has not proved a change yet.
+quick:
+	@echo "make quick runs the tests that need no proof, and \`qaudit check\` over the corpus, unproved:"
+	@release/minutes --say quick
+	@$(MAKE) --no-print-directory -j $(shell nproc) --output-sync=target unproved $(tests_in_python)
+
+unproved:
+	conformance/unproved
 
 # The gate proves the library for C and leaves none, and to build it proves the crates below it once more: so `make test` tries
 # it only where it was built before.
@@ -117,7 +130,7 @@ test_library: $(bindings)
 gate:
 	rt ci
 
-conformance: $(conformance) links made_up contracts crates $(runner_tests) test_qlog test_captures
+conformance: $(conformance) links made_up contracts crates $(runner_tests) test_qlog test_captures test_release
 
 conformance-cuts:
 	conformance/cuts $(program)
@@ -221,6 +234,10 @@ test_qlog:
 test_captures:
 	python3 captures/test_causes.py
 
+# What proves the programs, and what says how long it takes.
+test_release:
+	python3 release/test_release.py
+
 # Pages: their columns, their HTML, and in a headless Chromium what a person does. It wants Debian's libjs-dygraphs, and
 # chromium-driver and python3-selenium, and says what it leaves out. QAUDIT_WHY names a program that was proved; without one
 # page/stand_in.py stands in.
@@ -235,7 +252,7 @@ lint:
 	mypy $(python_of_bench)
 	MYPYPATH=qlog mypy $(python_of_qlog)
 	mypy $(python_of_bindings)
-	mypy $(python_of_release)
+	MYPYPATH=release mypy $(python_of_release)
 	mypy $(python_of_captures)
 	MYPYPATH=page mypy $(python_of_page)
 	MYPYPATH=page mypy $(python_of_page_tests)

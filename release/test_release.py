@@ -1,0 +1,288 @@
+#!/usr/bin/env python3
+"""Shows what `prove`, `unproved` and `minutes` make of the answers of a kit.
+
+Each test has a small repository in a temporary folder, and a stand-in for `rt`.
+"""
+
+import json
+import os
+import shutil
+import subprocess
+import sys
+import time
+import unittest
+from pathlib import Path
+
+HERE = Path(__file__).resolve().parent
+sys.path.append(str(HERE.parent / "conformance"))
+
+from testing import new_folder, script, write_program  # noqa: E402
+
+from crates import Crate, Stopped, crates_of, elapsed, processor_seconds  # noqa: E402
+from watching import Watch  # noqa: E402
+
+LISTED = """\
+# What is below
+low: thiserror
+middle: low json
+# Programs
+the_program: middle
+other: low   # and no more
+"""
+# It proves each crate of crates.txt, but one that says it is wrong, and builds each.
+RT = """\
+import pathlib, sys
+words = sys.argv[1:]
+print("said", *words)
+if words == ["ci"]:
+    names = [line.split(":")[0] for line in open("crates.txt")]
+    assert "#" not in open("crates.txt").read()
+    crates = [pathlib.Path("crates") / name for name in names]
+else:
+    crates = [pathlib.Path()]
+failed = 0
+for crate in crates:
+    if "wrong" in (crate / "src/lib.rt").read_text():
+        print(f"rt: {crate.name} NOT PROVED")
+        failed += 1
+        continue
+    print(f"== {crate.name}\\nrt: {crate.name} proved")
+    (crate / "out").mkdir(exist_ok=True)
+    (crate / "out" / pathlib.Path(crate).absolute().name).write_text("a program")
+print(f"{len(crates) - failed} passed, {failed} failed")
+sys.exit(1 if failed else 0)
+"""
+TRY = """\
+import sys
+print(*sys.argv[1:])
+print({last!r}, file=sys.stderr)
+sys.exit({status})
+"""
+PAGE = """\
+Before.
+<!-- release/minutes puts what follows here -->
+<!-- up to here -->
+After.
+"""
+
+
+class Repository(unittest.TestCase):
+    """A repository of four crates, and a stand-in for `rt` on the path."""
+
+    def setUp(self) -> None:
+        self.top = new_folder(self)
+        self.write("crates.txt", LISTED)
+        self.write("HANDLES", "Handles allowed: none.\n")
+        for name in ("low", "middle", "the_program", "other"):
+            self.write(f"crates/{name}/src/lib.rt", 10 * "text\n")
+        for path in HERE.iterdir():
+            if path.is_file():
+                shutil.copy(path, self.top / self.folder("release"))
+        write_program(self.top / self.folder("kit") / "rt", RT)
+
+    def folder(self, name: str) -> str:
+        """Makes a folder."""
+        (self.top / name).mkdir(parents=True, exist_ok=True)
+        return name
+
+    def write(self, name: str, text: str) -> None:
+        """Writes a file."""
+        (self.top / name).parent.mkdir(parents=True, exist_ok=True)
+        (self.top / name).write_text(text)
+
+    def run_program(self, *words: str) -> tuple[int, str, str]:
+        """Runs a program of the repository: its status, and what it writes on both streams."""
+        path = f"{self.top / 'kit'}:{os.environ['PATH']}"
+        ended = subprocess.run(
+            [sys.executable, *words],
+            cwd=self.top,
+            env={**os.environ, "PATH": path},
+            capture_output=True,
+            text=True,
+            check=False,
+        )
+        return ended.returncode, ended.stdout, ended.stderr
+
+
+class Proving(Repository):
+    """`prove` in that repository."""
+
+    def test_from_nothing(self) -> None:
+        status, out, _ = self.run_program("release/prove", "bin", "the_program")
+        self.assertEqual(status, 0)
+        first, *proved, last = out.splitlines()
+        self.assertRegex(first, r"proving 3 crates from nothing with \d+ processors?, about 1 min")
+        names = ("low", "middle", "the_program")
+        wanted = [f"{place} of 3: {name} proved in" for place, name in enumerate(names, 1)]
+        self.assertEqual([line.partition(" 0 s, so far 0:0")[0] for line in proved], wanted)
+        self.assertEqual(last, "bin/the-program")
+        self.assertEqual((self.top / "bin/the-program").read_text(), "a program")
+        self.assertTrue(os.access(self.top / "bin/the-program", os.X_OK))
+        # The proof was of a copy.
+        self.assertFalse((self.top / "crates/low/out").exists())
+
+    def test_what_is_not_proved(self) -> None:
+        self.write("crates/middle/src/lib.rt", "wrong\n")
+        status, out, error = self.run_program("release/prove", "bin", "the_program")
+        self.assertEqual(status, 1)
+        self.assertIn("1 of 3: low proved", out)
+        self.assertIn("rt: middle NOT PROVED\n", error)
+        self.assertIn("release/prove: ", error)
+        self.assertFalse((self.top / "bin").exists())
+
+    def test_over_what_earlier_checks_left(self) -> None:
+        self.folder("crates/qa_base/out/incremental")
+        status, out, _ = self.run_program("release/prove", "bin", "the_program", "other")
+        self.assertEqual(status, 0)
+        self.assertIn("4 crates, of which only what changed", out)
+        self.assertEqual((self.top / "bin/other").read_text(), "a program")
+        self.write("crates/other/src/lib.rt", "wrong\n")
+        status, _, error = self.run_program("release/prove", "bin", "the_program", "other")
+        self.assertEqual(status, 1)
+        self.assertIn("said all check --jobs", error)
+
+    def test_a_status_that_is_not_wanted(self) -> None:
+        self.folder("crates/qa_base/out/incremental")
+        self.write("crates/other/status", "2\n")
+        status, _, error = self.run_program("release/prove", "bin", "other")
+        self.assertEqual(status, 1)
+        self.assertIn("other ended with status 0, and not 2", error)
+
+    def test_wrong_arguments(self) -> None:
+        self.assertEqual(self.run_program("release/prove")[0], os.EX_USAGE)
+        status, _, error = self.run_program("release/prove", "bin", "another")
+        self.assertEqual((status, error), (1, "release/prove: crates.txt does not list another\n"))
+
+    def test_seconds_are_written(self) -> None:
+        words = ("release/prove", "--write-seconds", "seconds", "bin", "other")
+        self.assertEqual(self.run_program(*words)[0], 0)
+        self.assertIsInstance(json.loads((self.top / "seconds").read_text()), dict)
+
+
+class Estimates(Repository):
+    """How long proofs take."""
+
+    def test_which_crates(self) -> None:
+        found = crates_of(["the_program"], self.top)
+        self.assertEqual([crate.name for crate in found], ["low", "middle", "the_program"])
+        self.assertEqual(found[1], Crate("middle", "middle: low json", ("low",)))
+        self.write("crates.txt", "one: two\ntwo: one\n")
+        with self.assertRaises(Stopped):
+            crates_of(["one"], self.top)
+
+    def test_elapsed(self) -> None:
+        crates = crates_of(["the_program", "other"], self.top)
+        seconds = {"low": 10.0, "middle": 20.0, "the_program": 5.0, "other": 7.0}
+        # One after another; and with two processors, `other` beside `middle`.
+        self.assertEqual(elapsed(crates, seconds, 1), 42)
+        self.assertEqual(elapsed(crates, seconds, 2), 35)
+        seconds["other"] = 30.0
+        self.assertEqual(elapsed(crates, seconds, 2), 40)
+
+    def test_seconds_by_lines(self) -> None:
+        # Ten lines a crate, of which one was measured, and one has twice as many.
+        self.write("release/seconds.json", '{"low": 30, "gone": 1000}')
+        self.write("crates/middle/proofs/one.antt", 10 * "text\n")
+        found = processor_seconds(crates_of(["the_program"], self.top), self.top)
+        self.assertEqual(found, {"low": 30, "middle": 60, "the_program": 30})
+
+
+class Watching(unittest.TestCase):
+    """Which crates are being proved, by the processes."""
+
+    def test_processes_below_this_one(self) -> None:
+        text = "import time; time.sleep(60)"
+        words = [sys.executable, "-c", text, "check", "--crate-name", "qa_thing", "src/lib.rt"]
+        watch = Watch()
+        with subprocess.Popen(words) as running:
+            limit = time.monotonic() + 30
+            while not watch.running and time.monotonic() < limit:
+                watch.look(os.getpid(), 5.0)
+            self.assertEqual(watch.running, ["qa_thing"])
+            self.assertEqual(watch.began, {"qa_thing": 5.0})
+            self.assertEqual([*watch.processor_seconds()], ["qa_thing"])
+            # It is not below itself's child.
+            other = Watch()
+            with subprocess.Popen([sys.executable, "-c", text]) as beside:
+                other.look(beside.pid, 6.0)
+                beside.kill()
+            self.assertEqual(other.running, [])
+            running.kill()
+        watch.look(os.getpid(), 9.0)
+        self.assertEqual(watch.running, [])
+
+    def test_lines_while_it_is_quiet(self) -> None:
+        program = script(HERE / "prove")
+        said: list[str] = []
+        progress = program.Progress(3, 100.0)
+        progress.say = lambda text, now: said.append(text)
+        watch = Watch({"low": 110.0, "middle": 105.0}, {}, ["low", "middle"])
+        progress.quiet(watch, 129.9)
+        self.assertEqual(said, [])
+        progress.quiet(watch, 130.0)
+        self.assertEqual(said.pop(), "  proving low (20 s), middle (25 s)")
+        progress.crate_proved("low", watch, 131.0)
+        self.assertEqual(said.pop(), "1 of 3: low proved in 21 s")
+        progress.quiet(watch, 161.0)
+        self.assertEqual(said.pop(), "  proving middle (56 s)")
+
+
+class Unproved(Repository):
+    """`unproved` in a repository."""
+
+    def setUp(self) -> None:
+        super().setUp()
+        self.write("crates.txt", "qaudit: low\nqaudit_why: low\nlow: \n")
+        self.write("crates/qaudit/src/lib.rt", "text\n")
+        self.write("one.trace", "text\n")
+
+    def tried(self, last: str, status: int) -> tuple[int, str, str]:
+        """Runs it with a kit that ends so."""
+        write_program(self.top / "kit/rt", TRY.format(last=last, status=status))
+        return self.run_program("release/unproved", "one.trace")
+
+    def test_reports_of_each_verdict(self) -> None:
+        for verdict in range(3):
+            last = f"checked: more\nrun=ended status={verdict} runners=1 proved=no"
+            status, out, error = self.tried(last, verdict)
+            self.assertEqual((status, error), (0, ""))
+            self.assertTrue(out.startswith("no proof yet: about a minute; `make build` proves"))
+            self.assertIn(f"--data one.trace={self.top}/one.trace -- check one.trace\n", out)
+            self.assertIn("without a proof", out.partition("one.trace")[2])
+
+    def test_what_did_not_run(self) -> None:
+        for last, code in (("error\nrun=none proved=no", 1), ("run=ended status=3 x", 3)):
+            status, out, error = self.tried(last, code)
+            self.assertEqual(status, 1)
+            self.assertIn(last, error)
+            self.assertNotIn("without a proof", out)
+
+
+class Minutes(unittest.TestCase):
+    """The table of minutes."""
+
+    def setUp(self) -> None:
+        self.minutes = script(HERE / "minutes")
+
+    def test_rows(self) -> None:
+        made = self.minutes.Measured("build", 1475, 3600, 4, 0.25, "abcd")
+        page = self.minutes.with_row(PAGE, made)
+        self.assertIn("| `make build` | 24:35 | 60:00 | 4 | 0.2 | ", page)
+        page = self.minutes.with_row(page, self.minutes.Measured("run", 44, 61, 4, 0, "abcd"))
+        page = self.minutes.with_row(page, self.minutes.Measured("build", 59.6, 70, 1, 0, "abce"))
+        rows = [line for line in page.splitlines() if line.startswith("| `")]
+        starts = ["| `make run` | 0:44 |", "| `make build` | 1:00"]
+        self.assertEqual([row[:21] for row in rows], starts)
+        self.assertTrue(page.startswith("Before.\n"))
+        self.assertTrue(page.endswith("\nAfter.\n"))
+        self.assertIn("about 1 minute, as measured on ", self.minutes.said_of("build", page))
+        self.assertIn(" with 1 processor", self.minutes.said_of("build", page))
+        self.assertEqual(self.minutes.said_of("quick", page), "which was not measured")
+
+    def test_a_page_without_a_place(self) -> None:
+        with self.assertRaisesRegex(Exception, "has no place for the table"):
+            self.minutes.said_of("run", "Before.\n")
+
+
+if __name__ == "__main__":
+    unittest.main()

@@ -1,0 +1,116 @@
+"""Runs a command, and says which crates its processes work on."""
+
+import os
+import queue
+import subprocess
+import threading
+import time
+from collections.abc import Iterator
+from dataclasses import dataclass, field
+from pathlib import Path
+
+PROC = Path("/proc")
+TICKS = os.sysconf("SC_CLK_TCK")
+# The prover has this before the name of the crate among its arguments.
+NAME = b"--crate-name"
+# Places in /proc/PID/stat, counted from the one after the name in brackets.
+PARENT, USER_TICKS, SYSTEM_TICKS = 1, 11, 12
+
+
+@dataclass(frozen=True)
+class Process:
+    """A process as /proc shows it: its parent, its seconds of processor time, and its crate."""
+
+    parent: int
+    seconds: float
+    crate: str
+
+
+def crate_in(arguments: list[bytes]) -> str:
+    """The crate that a command line names; none if it is not the prover's."""
+    named = NAME in arguments[:-1]
+    return arguments[arguments.index(NAME) + 1].decode() if named else ""
+
+
+def processes() -> dict[int, Process]:
+    """The processes that run, by their numbers."""
+    found = {}
+    for folder in PROC.glob("[0-9]*"):
+        try:
+            stat = (folder / "stat").read_text().rpartition(")")[2].split()
+            arguments = (folder / "cmdline").read_bytes().split(b"\0")
+        except OSError:
+            # It has ended.
+            continue
+        seconds = (int(stat[USER_TICKS]) + int(stat[SYSTEM_TICKS])) / TICKS
+        found[int(folder.name)] = Process(int(stat[PARENT]), seconds, crate_in(arguments))
+    return found
+
+
+def is_below(number: int, ancestor: int, all_of_them: dict[int, Process]) -> bool:
+    """Whether a process was started by another, or by one that this one started."""
+    while number in all_of_them and number != ancestor:
+        number = all_of_them[number].parent
+    return number == ancestor
+
+
+@dataclass
+class Watch:
+    """What was seen of the processes of a command: of each crate when its first one began, its
+    seconds of processor time, and which run now."""
+
+    began: dict[str, float] = field(default_factory=dict)
+    seconds: dict[tuple[str, int], float] = field(default_factory=dict)
+    running: list[str] = field(default_factory=list)
+
+    def look(self, ancestor: int, now: float) -> None:
+        """Looks at the processes below one."""
+        found = processes()
+        self.running = []
+        for number, process in found.items():
+            if process.crate and is_below(number, ancestor, found):
+                self.began.setdefault(process.crate, now)
+                self.seconds[process.crate, number] = process.seconds
+                if process.crate not in self.running:
+                    self.running.append(process.crate)
+
+    def processor_seconds(self) -> dict[str, float]:
+        """The seconds of processor time of each crate, as far as they were seen."""
+        totals: dict[str, float] = {}
+        for (crate, _), seconds in self.seconds.items():
+            totals[crate] = totals.get(crate, 0.0) + seconds
+        return totals
+
+
+class Command:
+    """A command whose lines are read while its processes are watched."""
+
+    def __init__(self, words: list[str], folder: Path) -> None:
+        self.watch = Watch()
+        self.process = subprocess.Popen(
+            words, cwd=folder, stdout=subprocess.PIPE, stderr=subprocess.STDOUT, text=True
+        )
+
+    def lines(self, interval: float) -> Iterator[str | None]:
+        """The lines that it writes, as they come, and None after each interval without one."""
+        said: queue.Queue[str | None] = queue.Queue()
+        threading.Thread(target=self.read_into, args=(said,), daemon=True).start()
+        while True:
+            self.watch.look(self.process.pid, time.monotonic())
+            try:
+                line = said.get(timeout=interval)
+            except queue.Empty:
+                yield None
+                continue
+            if line is None:
+                break
+            yield line
+        self.process.wait()
+
+    def read_into(self, said: "queue.Queue[str | None]") -> None:
+        """Puts each line into a queue, and None behind the last one."""
+        assert self.process.stdout is not None
+        with self.process.stdout as output:
+            for line in output:
+                said.put(line)
+        said.put(None)
