@@ -7,6 +7,7 @@ Each test has a small repository in a temporary folder, and a stand-in for `rt`.
 import json
 import os
 import shutil
+import signal
 import subprocess
 import sys
 import time
@@ -51,6 +52,14 @@ for crate in crates:
     (crate / "out" / pathlib.Path(crate).absolute().name).write_text("a program")
 print(f"{len(crates) - failed} passed, {failed} failed")
 sys.exit(1 if failed else 0)
+"""
+# It writes its number at the top of the repository, beside `kit/`, and does not end.
+SLOW = """\
+import os, pathlib, time
+place = pathlib.Path(__file__).parents[1] / "number"
+place.with_suffix(".new").write_text(str(os.getpid()))
+place.with_suffix(".new").rename(place)
+time.sleep(60)
 """
 TRY = """\
 import sys
@@ -147,6 +156,19 @@ class Proving(Repository):
         status, _, error = self.run_program("release/prove", "bin", "other")
         self.assertEqual(status, 1)
         self.assertIn("other ended with status 0, and not 2", error)
+
+    def test_an_interrupt_ends_the_kit_too(self) -> None:
+        write_program(self.top / "kit/rt", SLOW)
+        path = f"{self.top / 'kit'}:{os.environ['PATH']}"
+        command = [sys.executable, "release/prove", "bin", "other"]
+        with subprocess.Popen(command, cwd=self.top, env={**os.environ, "PATH": path}) as running:
+            limit = time.monotonic() + 30
+            while not (self.top / "number").exists() and time.monotonic() < limit:
+                time.sleep(0.05)
+            running.send_signal(signal.SIGINT)
+            self.assertEqual(running.wait(30), 130)
+        kit = Path("/proc") / (self.top / "number").read_text()
+        self.assertFalse(kit.exists())
 
     def test_wrong_arguments(self) -> None:
         self.assertEqual(self.run_program("release/prove")[0], os.EX_USAGE)

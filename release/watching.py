@@ -13,6 +13,8 @@ PROC = Path("/proc")
 TICKS = os.sysconf("SC_CLK_TCK")
 # The prover has this before the name of the crate among its arguments.
 NAME = b"--crate-name"
+# No line is empty.
+END = ""
 # Places in /proc/PID/stat, counted from the one after the name in brackets.
 PARENT, USER_TICKS, SYSTEM_TICKS = 1, 11, 12
 
@@ -93,24 +95,30 @@ class Command:
 
     def lines(self, interval: float) -> Iterator[str | None]:
         """The lines that it writes, as they come, and None after each interval without one."""
-        said: queue.Queue[str | None] = queue.Queue()
+        said: queue.Queue[str] = queue.Queue()
         threading.Thread(target=self.read_into, args=(said,), daemon=True).start()
-        while True:
-            self.watch.look(self.process.pid, time.monotonic())
-            try:
-                line = said.get(timeout=interval)
-            except queue.Empty:
-                yield None
-                continue
-            if line is None:
-                break
-            yield line
-        self.process.wait()
+        try:
+            while (line := self.next_line(said, interval)) != END:
+                yield line
+        except BaseException:
+            # An interrupt, after which the command would run on.
+            self.process.terminate()
+            raise
+        finally:
+            self.process.wait()
 
-    def read_into(self, said: "queue.Queue[str | None]") -> None:
-        """Puts each line into a queue, and None behind the last one."""
+    def next_line(self, said: "queue.Queue[str]", interval: float) -> str | None:
+        """Looks at the processes, and returns the next line; None if there is none for a while."""
+        self.watch.look(self.process.pid, time.monotonic())
+        try:
+            return said.get(timeout=interval)
+        except queue.Empty:
+            return None
+
+    def read_into(self, said: "queue.Queue[str]") -> None:
+        """Puts each line into a queue, and END after the last one."""
         assert self.process.stdout is not None
         with self.process.stdout as output:
             for line in output:
                 said.put(line)
-        said.put(None)
+        said.put(END)
