@@ -1,14 +1,16 @@
 """The command qaudit-page."""
 
 import argparse
+import os
 import sys
 from pathlib import Path
 from typing import NoReturn
 
 from .failure import Failure, Status
-from .files import write
+from .files import STANDARD_INPUT, STDIN, write
 from .page import Wanted, page_of
 from .texts import visible
+from .version import version
 
 DESCRIPTION = """\
 Makes a page of a trace: one HTML file that says the verdict of qaudit and shows the run. It opens
@@ -41,6 +43,9 @@ def add_shared(parser: argparse.ArgumentParser) -> None:
     parser.add_argument("--dygraphs", type=Path, metavar="FILE", help=text)
     text = "the program qaudit-why; without it the one on the path, or beside this command"
     parser.add_argument("--program", type=Path, metavar="FILE", help=text)
+    told = f"%(prog)s {version()}"
+    text = "prints the version and ends"
+    parser.add_argument("--version", action="version", version=told, help=text)
 
 
 def arguments() -> argparse.Namespace:
@@ -55,7 +60,7 @@ def arguments() -> argparse.Namespace:
     text = "where the page is written; without it on standard output"
     parser.add_argument("--output", type=Path, metavar="FILE", help=text)
     add_shared(parser)
-    text = "the trace; without it standard input"
+    text = "the trace, also compressed by gzip, xz or zstd; without it standard input"
     parser.add_argument("trace", type=Path, metavar="TRACE", nargs="?", help=text)
     return parser.parse_args()
 
@@ -63,6 +68,8 @@ def arguments() -> argparse.Namespace:
 def main() -> Status:
     """Writes the page."""
     given = arguments()
+    if given.trace is None and os.isatty(STDIN):
+        print(f"qaudit-page: reading {STANDARD_INPUT}", file=sys.stderr)
     wanted = Wanted(
         given.trace, given.program, given.dygraphs, given.title, given.first, given.last
     )

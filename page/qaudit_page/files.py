@@ -4,30 +4,54 @@ import os
 import sys
 import tempfile
 from pathlib import Path
+from typing import IO
 
+from .compressed import unpacked
 from .failure import Failure, Status
 
 MAX_INPUT = 2**30
+STANDARD_INPUT = "standard input"
+STDIN = 0
 
 
 def name_of(path: Path | None) -> str:
     """The name of a file without its folder, as text."""
-    name = "standard input" if path is None else path.name
+    return STANDARD_INPUT if path is None else as_text(Path(path.name))
+
+
+def as_text(path: Path | None) -> str:
+    """A path as text, as it was given."""
+    name = STANDARD_INPUT if path is None else str(path)
     return os.fsencode(name).decode("utf-8", "backslashreplace")
 
 
-def read(path: Path | None) -> bytes:
-    """The bytes of a file, or of standard input."""
+def reason_of(fault: OSError) -> str:
+    """Why a file could not be used."""
+    if isinstance(fault, FileNotFoundError):
+        return "no such file"
+    text = fault.strerror or str(fault)
+    return text[:1].lower() + text[1:]
+
+
+def opened(path: Path | None) -> IO[bytes]:
+    """A file to be read, or standard input."""
     try:
-        if path is None:
-            data = sys.stdin.buffer.read(MAX_INPUT + 1)
-        else:
-            with path.open("rb") as file:
-                data = file.read(MAX_INPUT + 1)
+        return os.fdopen(os.dup(STDIN), "rb") if path is None else path.open("rb")
     except OSError as fault:
-        raise Failure(f"cannot read {name_of(path)}: {fault.strerror}") from fault
+        raise Failure(f"cannot open {as_text(path)}: {reason_of(fault)}") from fault
+
+
+def read(path: Path | None) -> bytes:
+    """The bytes of a file, or of standard input, decompressed if they are compressed."""
+    name = as_text(path)
+    with opened(path) as file:
+        try:
+            data = file.read(MAX_INPUT + 1)
+        except OSError as fault:
+            raise Failure(f"cannot read {name}: {reason_of(fault)}") from fault
+    data = unpacked(data, MAX_INPUT + 1, name)
     if len(data) > MAX_INPUT:
-        text = f"{name_of(path)} has more than {MAX_INPUT:,} bytes: cut it into parts"
+        text = f"{name} has more than {MAX_INPUT:,} bytes: cut it into parts"
         raise Failure(text, Status.UNSHOWN)
     return data
 
@@ -45,8 +69,8 @@ def write(path: Path | None, text: str) -> None:
         if path is None:
             # What is left would be written, and would fail, once more at the end.
             os.dup2(os.open(os.devnull, os.O_WRONLY), sys.stdout.fileno())
-        where = "standard output" if path is None else name_of(path)
-        raise Failure(f"cannot write {where}: {fault.strerror}") from fault
+        where = "standard output" if path is None else as_text(path)
+        raise Failure(f"cannot write {where}: {reason_of(fault)}") from fault
 
 
 def replace(path: Path, data: bytes) -> None:

@@ -10,8 +10,9 @@ from pathlib import Path
 from typing import Any
 from urllib.parse import quote
 
+from .compressed import ENDINGS
 from .failure import Failure
-from .files import name_of, read, write
+from .files import as_text, name_of, read, write
 from .library import resource
 from .page import MARKS, Wanted, filled, page_of, policy
 from .program import find, verdict_of
@@ -89,11 +90,17 @@ def traces_of(given: Iterable[Path]) -> Iterator[tuple[Path, str]]:
     """The traces that are named and those in directories, each with its key."""
     for path in given:
         if not path.is_dir():
-            yield path, name_of(path).removesuffix(ENDING)
+            yield path, key_of(name_of(path))
             continue
-        for file in sorted(path.rglob(f"*{ENDING}")):
-            below = os.fsencode(file.relative_to(path)).decode("utf-8", "backslashreplace")
-            yield file, below.removesuffix(ENDING)
+        names = (f"*{ENDING}{packed}" for packed in ("", *ENDINGS))
+        for file in sorted(file for name in names for file in path.rglob(name)):
+            yield file, key_of(as_text(file.relative_to(path)))
+
+
+def key_of(name: str) -> str:
+    """The name of a trace without its ending."""
+    plain = next((name.removesuffix(it) for it in ENDINGS if name.endswith(it)), name)
+    return plain.removesuffix(ENDING)
 
 
 def pattern(text: str) -> re.Pattern[str]:
@@ -167,7 +174,7 @@ def told_before(path: Path) -> dict[str, str]:
         fields = ("key", "kind", "line", "rule", "name")
         results = [Result(**{name: it[name] for name in fields}) for it in said["traces"]]
     except (ValueError, KeyError, TypeError) as fault:
-        text = f"{name_of(path)} is not what qaudit-matrix --json writes: {fault}"
+        text = f"{as_text(path)} is not what qaudit-matrix --json writes: {fault}"
         raise Failure(text) from fault
     return {result.key: result.told for result in results}
 

@@ -13,7 +13,7 @@ from typing import NoReturn
 
 from .command import Parser, add_shared
 from .failure import Failure, Status
-from .files import write
+from .files import as_text, reason_of, write
 from .library import dygraphs
 from .matrix import (
     FAILED,
@@ -33,7 +33,8 @@ from .texts import visible
 
 DESCRIPTION = """\
 Audits many traces and writes a table of their verdicts, an HTML page, to standard output. What is
-found in a directory is each file in it, and below it, that ends in .trace."""
+found in a directory is each file in it, and below it, that ends in .trace, or in .trace.gz,
+.trace.xz or .trace.zst."""
 ENDING = """\
 The exit status is 0 where all are accepted, 1 where one is refused, 2 where one cannot be read, 3
 where a file or a program is missing or failed, and 64 where the arguments are wrong. With --against
@@ -113,7 +114,7 @@ def results_of(given: argparse.Namespace) -> list[Result]:
         try:
             given.pages.mkdir(parents=True, exist_ok=True)
         except OSError as fault:
-            text = f"cannot make {given.pages}: {fault.strerror}"
+            text = f"cannot make {as_text(given.pages)}: {reason_of(fault)}"
             raise Failure(text) from fault
     jobs = jobs_of(given)
     if not jobs:

@@ -1,6 +1,8 @@
 """The table of many traces."""
 
+import gzip
 import json
+import lzma
 import os
 import pty
 import shutil
@@ -197,7 +199,17 @@ class Tables(unittest.TestCase):
         self.assertEqual(self.run_command().returncode, 2)
         (self.traces / "gone.trace").symlink_to("/nowhere")
         self.assertEqual(self.run_command().returncode, 3)
-        self.assertIn("cannot read gone.trace", Page(self.table.read_text()).by_id["table"])
+        told = f"cannot open {self.traces}/gone.trace: no such file"
+        self.assertIn(told, Page(self.table.read_text()).by_id["table"])
+
+    def test_compressed_traces(self) -> None:
+        (self.traces / "one.trace.gz").write_bytes(gzip.compress(BAD))
+        (self.traces / "two.trace.xz").write_bytes(lzma.compress(GOOD))
+        (self.traces / "three.qlog.gz").write_bytes(gzip.compress(GOOD))
+        self.assertEqual(self.run_command("--json", self.json).returncode, 1)
+        listed = json.loads(self.json.read_text())["traces"]
+        found = {it["key"]: it["kind"] for it in listed if "_" not in it["key"]}
+        self.assertEqual(found, {"one": "refused", "two": "accepted"})
 
     def test_nothing_and_wrong_arguments(self) -> None:
         empty = self.folder / "empty"

@@ -511,9 +511,11 @@ class Commands(unittest.TestCase):
         trace = TRACES / "timer-late.trace"
         self.fails(3, "there is no program /nowhere", trace, program="/nowhere")
         self.fails(3, "no program /no\\u{a}\\u{1b}where", trace, program="/no\n\x1bwhere")
-        self.fails(3, "cannot read missing.trace", "--output", self.page, "missing.trace")
+        gone = "no/such.trace"
+        self.fails(3, f"cannot open {gone}: no such file\n", "--output", self.page, gone)
         self.fails(3, "libjs-dygraphs", "--dygraphs", "/nowhere.js", trace)
-        self.fails(3, "cannot write page.html", "--output", "/nowhere/page.html", trace)
+        gone = "/nowhere/page.html"
+        self.fails(3, f"cannot write {gone}: no such file\n", "--output", gone, trace)
         self.fails(2, "there is no line from 100", "--from", 100, trace)
 
     def test_more_than_a_page_takes(self) -> None:

@@ -1,0 +1,200 @@
+"""What the commands read and say of it: compressed traces, a terminal, paths, their version."""
+
+import gzip
+import lzma
+import os
+import pty
+import resource
+import shutil
+import subprocess
+import sys
+import tempfile
+import unittest
+import zipapp
+import zlib
+from pathlib import Path
+
+from tests.made import HEADER, NO_LIBRARY, PAGE, PROGRAM, PROJECT, Page, joined, sent
+
+from qaudit_page import compressed, files
+from qaudit_page.failure import Failure, Status
+
+VERSION = (PROJECT / "VERSION").read_text().strip()
+TRACE = joined(HEADER, *(sent(number) for number in range(10)))
+PACKED = {"trace.gz": gzip.compress(TRACE), "trace.xz": lzma.compress(TRACE)}
+NO_ZSTD = "" if shutil.which("zstd") else "zstd is not installed"
+MANY = 100_000
+# How the format writes it, but for a byte.
+FOUR_GIBIBYTES = 40
+
+
+def zstd(data: bytes) -> bytes:
+    """Data as the program zstd compresses it."""
+    command = ["zstd", "--quiet", "--stdout"]
+    return subprocess.run(command, input=data, capture_output=True, check=True).stdout
+
+
+class Compressed(unittest.TestCase):
+    """Files that are compressed."""
+
+    def setUp(self) -> None:
+        self.folder = Path(self.enterContext(tempfile.TemporaryDirectory()))
+
+    def file(self, name: str, data: bytes) -> Path:
+        """A file with these bytes."""
+        path = self.folder / name
+        path.write_bytes(data)
+        return path
+
+    def failure(self, path: Path) -> Failure:
+        """Why a file is not read."""
+        with self.assertRaises(Failure) as raised:
+            files.read(path)
+        return raised.exception
+
+    def test_forms(self) -> None:
+        for name, data in PACKED.items():
+            self.assertEqual(files.read(self.file(name, data)), TRACE)
+            # The bytes count, and not the name.
+            self.assertEqual(files.read(self.file("plain.trace", data)), TRACE)
+            self.assertEqual(files.read(self.file("two", data + data)), TRACE + TRACE)
+        self.assertEqual(files.read(self.file("plain.trace.gz", TRACE)), TRACE)
+
+    @unittest.skipIf(NO_ZSTD, NO_ZSTD)
+    def test_zstd(self) -> None:
+        data = zstd(TRACE)
+        self.assertEqual(files.read(self.file("trace.zst", data)), TRACE)
+        failure = self.failure(self.file("part.zst", data[:-4]))
+        wanted = f"{self.folder}/part.zst is broken or not whole, as zstd data"
+        self.assertEqual(str(failure), wanted)
+
+    def test_zstd_without_its_program(self) -> None:
+        path = self.file("trace.zst", b"\x28\xb5\x2f\xfd")
+        before = os.environ["PATH"]
+        self.addCleanup(os.environ.update, {"PATH": before})
+        os.environ["PATH"] = "/nowhere"
+        failure = self.failure(path)
+        self.assertEqual(failure.status, Status.FAULT)
+        self.assertIn("only if the program zstd is installed", str(failure))
+
+    def test_what_is_broken(self) -> None:
+        for name, data in PACKED.items():
+            middle = len(data) // 2
+            for part in (data[:-4], data[:middle], data[:8] + b"\xff" * 8 + data[16:]):
+                failure = self.failure(self.file(name, part))
+                self.assertEqual(failure.status, Status.UNSHOWN)
+                self.assertIn(f"{self.folder}/{name} is broken or not whole", str(failure))
+
+    def test_no_more_is_unpacked_than_is_taken(self) -> None:
+        zeros = bytes(MANY)
+        for data in (gzip.compress(zeros), lzma.compress(zeros)):
+            self.assertEqual(len(compressed.unpacked(data, 100, "zeros")), 100)
+        if not NO_ZSTD:
+            self.assertEqual(len(compressed.unpacked(zstd(zeros), 100, "zeros")), 100)
+
+    def test_what_takes_too_much_memory(self) -> None:
+        """A dictionary of xz may be larger than memory."""
+        data = bytearray(lzma.compress(b"\n"))
+        # The head of the only block: 12 bytes, of which the fifth is the size of the dictionary,
+        # and the last four are the checksum of the others.
+        data[16] = FOUR_GIBIBYTES
+        data[20:24] = zlib.crc32(data[12:20]).to_bytes(4, "little")
+        path = self.file("trace.xz", bytes(data))
+        text = "import sys; from pathlib import Path; from qaudit_page import failure, files\n"
+        text += "try: files.read(Path(sys.argv[1]))\n"
+        text += "except failure.Failure as fault: print(fault)"
+        limit = 2**31
+
+        def limited() -> None:
+            resource.setrlimit(resource.RLIMIT_AS, (limit, limit))
+
+        ended = subprocess.run(
+            [sys.executable, "-c", text, path],
+            cwd=PAGE,
+            preexec_fn=limited,
+            capture_output=True,
+            text=True,
+            check=False,
+        )
+        wanted = f"{path} takes more memory than there is, as xz data\n"
+        self.assertEqual((ended.stdout, ended.stderr), (wanted, ""))
+
+
+@unittest.skipIf(NO_LIBRARY, NO_LIBRARY)
+class Commands(unittest.TestCase):
+    """The commands."""
+
+    def setUp(self) -> None:
+        self.folder = Path(self.enterContext(tempfile.TemporaryDirectory()))
+
+    def test_pages_of_compressed_traces(self) -> None:
+        for name, data in PACKED.items():
+            trace = self.folder / name
+            trace.write_bytes(data)
+            ways: list[tuple[list[Path], bytes]] = [([trace], b""), ([], data)]
+            for words, given in ways:
+                command = [sys.executable, PAGE / "qaudit-page", "--program", PROGRAM, *words]
+                ended = subprocess.run(
+                    list(map(str, command)), input=given, capture_output=True, check=False
+                )
+                self.assertEqual((ended.returncode, ended.stderr), (0, b""))
+                page = Page(ended.stdout.decode())
+                self.assertEqual(page.lines(), TRACE.decode().splitlines())
+                self.assertEqual(page.by_id["h1"], name if words else "standard input")
+
+    def test_a_terminal_is_told_what_is_awaited(self) -> None:
+        main, other = pty.openpty()
+        command = [sys.executable, PAGE / "qaudit-page", "--program", PROGRAM]
+        with subprocess.Popen(
+            list(map(str, command)), stdin=other, stdout=subprocess.DEVNULL, stderr=subprocess.PIPE
+        ) as running:
+            assert running.stderr is not None
+            self.assertEqual(running.stderr.readline(), b"qaudit-page: reading standard input\n")
+            os.write(main, HEADER.encode() + b"\n\x04")
+            self.assertEqual(running.wait(60), 0)
+            self.assertEqual(running.stderr.read(), b"")
+        os.close(main)
+        os.close(other)
+
+    def test_standard_input_that_is_closed(self) -> None:
+        command = f"'{sys.executable}' '{PAGE}/qaudit-page' --program '{PROGRAM}' <&-"
+        ended = subprocess.run(["sh", "-c", command], capture_output=True, text=True, check=False)
+        self.assertEqual(ended.returncode, 3)
+        wanted = "qaudit-page: cannot open standard input: bad file descriptor\n"
+        self.assertEqual(ended.stderr, wanted)
+
+    def test_a_folder_is_no_trace(self) -> None:
+        command = [sys.executable, PAGE / "qaudit-page", "--program", PROGRAM, self.folder]
+        ended = subprocess.run(
+            list(map(str, command)), capture_output=True, text=True, check=False
+        )
+        wanted = f"qaudit-page: cannot open {self.folder}: is a directory\n"
+        self.assertEqual((ended.returncode, ended.stderr), (3, wanted))
+
+
+class Versions(unittest.TestCase):
+    """The version of the commands."""
+
+    def said_by(self, command: Path) -> str:
+        """What a command says with --version."""
+        words = [sys.executable, str(command), "--version"]
+        ended = subprocess.run(words, capture_output=True, text=True, cwd="/", check=False)
+        self.assertEqual((ended.returncode, ended.stderr), (0, ""))
+        return ended.stdout
+
+    def test_in_the_repository(self) -> None:
+        for name in ("qaudit-page", "qaudit-matrix"):
+            self.assertEqual(self.said_by(PAGE / name), f"{name} {VERSION}\n")
+
+    def test_in_an_archive(self) -> None:
+        """As release/pack makes it."""
+        folder = Path(self.enterContext(tempfile.TemporaryDirectory()))
+        shutil.copytree(PAGE / "qaudit_page", folder / "modules" / "qaudit_page")
+        (folder / "modules" / "qaudit_page" / "VERSION").write_text("1.2.3\n")
+        target = folder / "qaudit-page"
+        zipapp.create_archive(folder / "modules", target, main="qaudit_page.command:program")
+        self.assertEqual(self.said_by(target), "qaudit-page 1.2.3\n")
+
+
+if __name__ == "__main__":
+    unittest.main()
