@@ -299,7 +299,8 @@ class Minutes(unittest.TestCase):
         self.assertTrue(page.endswith("\nAfter.\n"))
         self.assertIn("about 1 minute, as measured on ", self.minutes.said_of("build", page))
         self.assertIn(" with 1 processor", self.minutes.said_of("build", page))
-        self.assertEqual(self.minutes.said_of("quick", page), "which was not measured")
+        wanted = "how long it takes was not measured"
+        self.assertEqual(self.minutes.said_of("quick", page), wanted)
 
     def test_a_page_without_a_place(self) -> None:
         with self.assertRaisesRegex(Exception, "has no place for the table"):
