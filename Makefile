@@ -28,7 +28,7 @@ examples := examples/ten-packets.trace examples/eleven-packets.trace
 runner_tests := test_run test_trials test_mutations test_rows test_departures test_simulate test_links test_made_up \
 	test_contracts test_crates test_edits test_unproved
 # The tests and checks that need no proof, the longest first.
-tests_in_python := test_page test_qlog $(runner_tests) test_release links made_up contracts crates
+tests_in_python := test_page test_qlog test_captures $(runner_tests) test_release links made_up contracts crates
 
 # All programs in Python, by the places where their names are unlike each other.
 python := $(addprefix conformance/,allocations contracts crates cuts failing large library links made_up malicious memory mutations reasons \
