@@ -30,6 +30,7 @@ NAMED = {
     "quic-go-latest": LESS_THE_DELAY,
     "quic-go-cubic-latest": LESS_THE_DELAY,
     "aioquic-latest": LESS_THE_DELAY,
+    "neqo-153-latest": LESS_THE_DELAY,
     "aioquic-rttvar": FROM_THE_MINIMUM,
     "aioquic-minimum": FROM_THE_MINIMUM,
     "aioquic-crypto-lost": HANDSHAKE,
