@@ -226,10 +226,16 @@ class Looking:
         return counts.acknowledgments >= LEAST_AGAINST_DIALECT and agree < most
 
     def corrected(self, dialect: Dialect) -> Dialect:
-        """A dialect that the log names, in the order of the log."""
+        """A dialect that the log names, in the order of the log where its reports say another.
+
+        Losses by themselves do not: in the tick of a clock they are often as near to the one packet
+        as to the other.
+        """
         taken = order_of(dialect)
-        found = self._order(taken, LEAST_AGAINST_DIALECT)
-        return dialect if found is taken else in_order(dialect, found)
+        reports = against(self.counts.before, self.counts.behind, LEAST_AGAINST_DIALECT)
+        if reports is None or reports is (taken is Order.BEFORE):
+            return dialect
+        return in_order(dialect, self._order(taken, LEAST_AGAINST_DIALECT))
 
     def dialect(self, generic: Dialect, has_milliseconds: bool) -> Dialect:
         """The dialect of a log that names none."""

@@ -97,6 +97,18 @@ class OtherOrders(unittest.TestCase):
         self.assertIn("its order is not that of quic-go: losses and metrics stand before", note)
         self.assertEqual(end.errors, f"qlog-to-trace: LOG: {note}\n")
 
+    def test_a_dialect_of_the_new_order_too(self) -> None:
+        expected = converted(round_trips(6, "before"), name="quic-go", schema="0.3")
+        self.assertEqual(expected.errors, "")
+        for order in ("behind", "losses before"):
+            end = converted(round_trips(6, order), name="quic-go", schema="0.3")
+            self.assertEqual(end.lines[1:], expected.lines[1:])
+            self.assertIn("its order is not that of quic-go-0.50", end.errors)
+
+    def test_losses_alone_do_not_say_that_a_dialect_is_wrong(self) -> None:
+        end = converted(round_trips(6, "behind"), name="ngtcp2")
+        self.assertNotIn("x_note", end.lines[0])
+
     def test_reports_that_agree_with_no_order(self) -> None:
         events = round_trips(6, "behind")
         for number, event in enumerate(events):
