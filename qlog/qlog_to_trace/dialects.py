@@ -190,8 +190,6 @@ DIALECTS = (
         unit="us",
         timer_early_us=1_000,
     ),
-    # 3.5: packets that are not ack-eliciting are not kept.
-    replace(OPENSSL, name="openssl-3.5", marks=("openssl/3.5",), sample_eliciting_only=True),
     OPENSSL,
     # As Firefox 153 runs it: JSON-SEQ, 0.3, times with six decimals, those of the loop that handles
     # events. recovery:parameters_set has the initial RTT. Metrics have what changed. A size leaves
