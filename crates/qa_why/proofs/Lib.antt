@@ -3,4 +3,3 @@ mod Judged
 pub mod Told
 mod Found
 pub mod suggest_lemmas
-pub mod json_rows_lemmas
