@@ -2,7 +2,7 @@
 use Rattle.std.proofs.Common.{◌≡◌, ◌∙◌, ◌<◌, ◌⊎◌, inl, inr, ℕ, List, [], ◌∷◌, ◌++◌, length, Option, Some, None, Result, Ok, Err, append_assoc, length-append, refl, sym, ap, arith}
 use Rattle.std.proofs.lemmas.List.{append-nil}
 use Rattle.std.specs.Io.KnownBytes.{Consumes, IsAtEnd}
-use Rattle.qa_format.specs.format.Lines.{line_limit, cut, ended_lines, unended, last_line, IsShortLine}
+use Rattle.qa_format.specs.format.Lines.{line_limit, cut, ended_lines, unended, IsShortLine}
 use Rattle.qa_format.specs.verdicts.Explain.{Telling, told_of, told}
 use Rattle.qa_format.specs.verdicts.Verdict.{Judging, first_stop, AreGood, AreDecided, IsFixed}
 use Rattle.qa_format.proofs.verdicts.Cuts.{Cut, prepend, cut_append}
@@ -15,10 +15,11 @@ use Rattle.qa_check.specs.declared.auditing.AuditFault.{AuditFault}
 use Rattle.qa_check.specs.declared.auditor.Progress.{Progress}
 use Rattle.qa_check.specs.declared.auditor.Progress.TheVariants.{Open, Fixed}
 use Rattle.qa_check.specs.Auditor.{BringsTo}
-use Rattle.qa_check.specs.Standing.{by, Held, Judges}
-use Rattle.qa_check.specs.Writing.{Begins, Shown, Shows, told_ended}
-use Rattle.qa_check.proofs.Following.{follow_open}
-use Rattle.qa_check.proofs.Writing.{told_begin_at}
+use Rattle.qa_check.specs.Following.{Follows}
+use Rattle.qa_check.specs.Standing.{by, Held, Judges, StandsFor}
+use Rattle.qa_check.specs.Walking.{Covered, Walked}
+use Rattle.qa_check.specs.Writing.{told_ended}
+use Rattle.qa_check.proofs.Following.{follow_as, follow_open}
 
 -- ---- bytes behind bytes
 
@@ -89,48 +90,39 @@ told_all judging tell None new read bytes tells consumes enough = cc
 
 -- ---- what was fed
 
--- the beginning of what is told so far is one of what is told of more bytes
-pub begins_on : (judging : Judging) (tell : Telling) (start now : Option (List ℕ)) (f g : List ℕ) → Begins start now (told_ended judging tell f) → Begins start now (told_ended judging tell (f ++ g))
-begins_on judging tell start now f g begun = told_begin_at judging tell start now (ended_lines f) _ _ (ended_append f g) begun
-
--- and of all that is told
-pub begins_told : (judging : Judging) (tell : Telling) (start now : Option (List ℕ)) (bytes : List ℕ) → Begins start now (told_ended judging tell bytes) → Begins start now (told tell judging bytes)
-begins_told judging tell start now bytes begun = told_begin_at judging tell start now (ended_lines bytes) (last_line (unended bytes)) _ refl begun
-
 -- an audit that is over stays as it is
-pub brings_on : {L : Type 0} (judges : Judges L) (tell : Telling) (progress : Result Progress AuditFault) (stream : Stream) (held : Held L) (start now : Option (List ℕ)) (f g : List ℕ)
-    → (progress ≡ Ok Open → ⊥) → BringsTo judges tell progress stream held start now f → BringsTo judges tell progress stream held start now (f ++ g)
-brings_on judges tell (Ok Open) stream held start now f g over brings = absurd (over refl)
-brings_on judges tell (Ok (Fixed v)) stream held start now f g over brings =
-    (fixed_on (by judges) f g brings.0, brings.1 ∙ sym (fixed_stays (by judges) f g brings.0), rw (told_on (by judges) tell f g brings.0) brings.2)
-brings_on judges tell (Err fault) stream held start now f g over brings = begins_on (by judges) tell start now f g brings
+pub brings_on : {L : Type 0} (judges : Judges L) (progress : Result Progress AuditFault) (stream : Stream) (held : Held L) (f g : List ℕ)
+    → (progress ≡ Ok Open → ⊥) → BringsTo judges progress stream held f → BringsTo judges progress stream held (f ++ g)
+brings_on judges (Ok Open) stream held f g over brings = absurd (over refl)
+brings_on judges (Ok (Fixed v)) stream held f g over brings = (fixed_on (by judges) f g brings.0, brings.1 ∙ sym (fixed_stays (by judges) f g brings.0))
+brings_on judges (Err fault) stream held f g over brings = tt
 
 -- ---- an audit by its progress
 
-pub brings_open : {L : Type 0} (judges : Judges L) (tell : Telling) (progress : Result Progress AuditFault) (stream : Stream) (held : Held L) (start now : Option (List ℕ)) (bytes : List ℕ)
-    → progress ≡ Ok Open → BringsTo judges tell progress stream held start now bytes → BringsTo judges tell (Ok Open) stream held start now bytes
-brings_open judges tell (Ok Open) stream held start now bytes is brings = brings
-brings_open judges tell (Ok (Fixed v)) stream held start now bytes is brings = cc
-brings_open judges tell (Err fault) stream held start now bytes is brings = cc
-
-pub brings_fixed : {L : Type 0} (judges : Judges L) (tell : Telling) (progress : Result Progress AuditFault) (stream : Stream) (held : Held L) (start now : Option (List ℕ)) (bytes : List ℕ) (v : Verdict)
-    → progress ≡ Ok (Fixed v) → BringsTo judges tell progress stream held start now bytes → BringsTo judges tell (Ok (Fixed v)) stream held start now bytes
-brings_fixed judges tell (Ok Open) stream held start now bytes v is brings = cc
-brings_fixed judges tell (Ok (Fixed w)) stream held start now bytes v is brings = let same : w ≡ v = cc in rw same at brings
-brings_fixed judges tell (Err fault) stream held start now bytes v is brings = cc
+pub brings_open : {L : Type 0} (judges : Judges L) (progress : Result Progress AuditFault) (stream : Stream) (held : Held L) (bytes : List ℕ)
+    → progress ≡ Ok Open → BringsTo judges progress stream held bytes → BringsTo judges (Ok Open) stream held bytes
+brings_open judges (Ok Open) stream held bytes is brings = brings
+brings_open judges (Ok (Fixed v)) stream held bytes is brings = cc
+brings_open judges (Err fault) stream held bytes is brings = cc
 
 -- all that stood ready was taken
-pub open_from : {L : Type 0} (judges : Judges L) (tell : Telling) (stream : Stream) (held : Held L) (start now : Option (List ℕ)) (bytes : List ℕ)
-    → IsShortLine stream.bytes → Shown judges tell stream.bytes held start now bytes → BringsTo judges tell (Ok Open) stream held start now bytes
-open_from judges tell stream held start now bytes short shown = (follow_open (by judges) (Shows judges tell held start now) stream.bytes bytes shown short, short, shown)
-
-pub brings_failed : {L : Type 0} (judges : Judges L) (tell : Telling) (progress : Result Progress AuditFault) (stream : Stream) (held : Held L) (start now : Option (List ℕ)) (bytes : List ℕ) (fault : AuditFault)
-    → progress ≡ Err fault → BringsTo judges tell progress stream held start now bytes → Begins start now (told_ended (by judges) tell bytes)
-brings_failed judges tell (Ok p) stream held start now bytes fault is brings = cc
-brings_failed judges tell (Err f) stream held start now bytes fault is brings = brings
+pub open_from : {L : Type 0} (judges : Judges L) (stream : Stream) (held : Held L) (bytes : List ℕ)
+    → IsShortLine stream.bytes → Follows judges stream.bytes held bytes → BringsTo judges (Ok Open) stream held bytes
+open_from judges stream held bytes short follows = (follow_open (by judges) (StandsFor judges held) stream.bytes bytes follows short, short, follows)
 
 pub fixed_is_over : (progress : Result Progress AuditFault) (v : Verdict) → progress ≡ Ok (Fixed v) → progress ≡ Ok Open → ⊥
 fixed_is_over progress v fixed is = cc
 
 pub failed_is_over : (progress : Result Progress AuditFault) (fault : AuditFault) → progress ≡ Err fault → progress ≡ Ok Open → ⊥
 failed_is_over progress fault failed is = cc
+
+-- ---- lines that nobody visits
+
+-- a checker that follows the bytes is one that was led past nobody
+pub unvisited : {L V : Type 0} (judges : Judges L) (covers : V → List (List ℕ) → Type 0) (visitor : V) (rest : List ℕ) (held : Held L) (bytes : List ℕ)
+    → ((ls : List (List ℕ)) → covers visitor ls) → Follows judges rest held bytes → Walked judges covers rest held visitor bytes
+unvisited judges covers visitor rest held bytes all follows = follow_as (by judges) (StandsFor judges held) (Covered judges covers held visitor) rest bytes (λ ls stands. (stands, all ls)) follows
+
+pub of_unvisited : {L V : Type 0} (judges : Judges L) (covers : V → List (List ℕ) → Type 0) (visitor : V) (rest : List ℕ) (held : Held L) (bytes : List ℕ)
+    → Walked judges covers rest held visitor bytes → Follows judges rest held bytes
+of_unvisited judges covers visitor rest held bytes walked = follow_as (by judges) (Covered judges covers held visitor) (StandsFor judges held) rest bytes (λ ls covered. covered.0) walked

@@ -7,9 +7,7 @@ use Rattle.qa_format.specs.format.Lines.{has_lf, line_limit, cut, ended_lines, u
 use Rattle.qa_format.specs.verdicts.Verdict.{Judging, first_stop, verdict_of, AreGood, AreDecided, IsFixed}
 use Rattle.qa_format.proofs.verdicts.Cuts.{Cut, cut_without_lf, cut_ended, first_line, first_line_is_long, short_snoc, ended_snoc, lines_at_end, lines_at_lf, lf_inside, length-ended}
 use Rattle.qa_format.proofs.verdicts.Fixed.{fixed_by_line, fixed_by_length}
-use Rattle.qa_format.proofs.verdicts.Rows.{told_by}
 use Rattle.qa_format.proofs.verdicts.Stops.{good_are_few}
-use Rattle.qa_format.specs.verdicts.Explain.{told_of}
 use Rattle.qa_read.specs.Stream.{Stream, IsFirstLine, IsLastLine, BeginsTooLong}
 use Rattle.qa_check.specs.Following.{FollowsBy, AnswersBy}
 
@@ -47,7 +45,7 @@ decide_line judging P Q rest rest' l closed is_line t h adds bytes f =
     let taken = taken_open rest l rest' closed t h in
     let q = adds f.0 f.1 in
     let fixed = fixed_by_line judging (f.0 ++ l ∷ []) rest' bytes (short_snoc f.0 l f.3 is_line) q.1 (ended_snoc f.0 l rest' bytes (f.4 ∙ ap (λ k. ended f.0 ++ k) taken)) in
-    (fixed.0, (f.0 ++ l ∷ [], q.0, fixed.1, λ tell. told_by tell judging (f.0 ++ l ∷ []) bytes q.1 fixed))
+    (fixed.0, (f.0 ++ l ∷ [], q.0, fixed.1))
 
 -- a line that is too long
 pub decide_long : (judging : Judging) (P Q : List (List ℕ) → Type 0) (rest : List ℕ) → BeginsTooLong rest
@@ -57,7 +55,7 @@ decide_long judging P Q rest b adds bytes f =
     let l = first_line b.0 (cut b.1) in
     let q = adds l (first_line_is_long b.0 (cut b.1) b.3) f.0 f.1 in
     let fixed = fixed_by_length judging f.0 b.0 b.1 rest bytes f.3 f.4 b.4 b.2 b.3 q.1 in
-    (fixed.0, (f.0 ++ l ∷ [], q.0, fixed.1, λ tell. told_by tell judging (f.0 ++ l ∷ []) bytes q.1 fixed))
+    (fixed.0, (f.0 ++ l ∷ [], q.0, fixed.1))
 
 -- what is short enough for a line does not begin with more than a line may have
 pub short_not_long : (bytes : List ℕ) → IsShortLine bytes → BeginsTooLong bytes → ⊥
@@ -78,13 +76,17 @@ answer_line judging P Q rest rest' l closed is_line t h adds bytes f =
     let last = taken_last rest l rest' closed t h in
     let q = adds f.0 f.1 in
     let all : lines bytes ≡ f.0 ++ l ∷ [] = lines_at_end f.0 l bytes f.3 (f.4 ∙ ap (λ k. ended f.0 ++ k) last.1) is_line.0 last.0 in
-    (f.0 ++ l ∷ [], q, ap (verdict_of judging) (sym all), λ tell. ap (told_of tell judging) (sym all))
+    (f.0 ++ l ∷ [], q, ap (verdict_of judging) (sym all))
 
 -- nothing stands behind the last LF
 pub answer_none : (judging : Judging) (P : List (List ℕ) → Type 0) (rest : List ℕ) → rest ≡ [] → (bytes : List ℕ) → FollowsBy judging P rest bytes → AnswersBy judging P bytes
 answer_none judging P rest h bytes f =
     let all : lines bytes ≡ f.0 = lines_at_lf f.0 rest bytes f.3 f.4 h in
-    (f.0, f.1, ap (verdict_of judging) (sym all), λ tell. ap (told_of tell judging) (sym all))
+    (f.0, f.1, ap (verdict_of judging) (sym all))
+
+-- what is known more of the lines
+pub follow_as : (judging : Judging) (P Q : List (List ℕ) → Type 0) (rest bytes : List ℕ) → ((ls : List (List ℕ)) → P ls → Q ls) → FollowsBy judging P rest bytes → FollowsBy judging Q rest bytes
+follow_as judging P Q rest bytes more f = (f.0, more f.0 f.1, f.2, f.3, f.4)
 
 -- ---- a piece
 

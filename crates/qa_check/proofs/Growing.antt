@@ -40,6 +40,13 @@ undecided a b same test is fails = sym (ap (λ held. held.verdict) same) ∙ non
     none_of None h = refl
     none_of (Some v) h = cc
 
+pub not_undecided : {L : Type 0} (a b : Held L) → a ≡ b → (test : Bool) → test ≡ is_some a.verdict → test ≡ true → b.verdict ≡ None → ⊥
+not_undecided a b same test is holds none = no_verdict b.verdict (ap (λ held. is_some held.verdict) (sym same) ∙ (sym is ∙ holds)) none
+  where
+    no_verdict : (v : Option Verdict) → is_some v ≡ true → v ≡ None → ⊥
+    no_verdict None some none = cc
+    no_verdict (Some v) some none = cc
+
 pub headed : {L : Type 0} (a b : Held L) → a ≡ b → (test : Bool) → test ≡ is_some a.ledger → test ≡ true → is_some b.ledger ≡ true
 headed a b same test is holds = ap (λ held. is_some held.ledger) (sym same) ∙ (sym is ∙ holds)
 

@@ -1,10 +1,13 @@
 pub mod Appends
 pub mod Faults
 pub mod Growing
+pub mod Pushing
 pub mod Following
+pub mod Judged
+pub mod Ends
 pub mod Reading
 pub mod Writing
-pub mod LinesTaken
+pub mod Tells
 pub mod Fed
-pub mod Pushed
+pub mod SaidLines
 pub mod names_lemmas

@@ -1,10 +1,8 @@
 -- What an auditor holds, and which bytes were fed to it.
 use Rattle.std.specs.Prelude.{◌≡◌, ◌==◌, ℕ, Bool, false, List, length, Option, None, Result, Ok}
 use Rattle.std.specs.Prelude.{Err}
-use Rattle.std.specs.Io.KnownBytes.{Appends}
 use Rattle.qa_format.specs.declared.verdict.Verdict.{Verdict}
 use Rattle.qa_format.specs.format.Lines.{IsShortLine}
-use Rattle.qa_format.specs.verdicts.Explain.{Telling, told, told_nothing}
 use Rattle.qa_format.specs.verdicts.Verdict.{verdict, IsFixed}
 use Rattle.qa_read.specs.Stream.{Stream, HasNoLine}
 use Rattle.qa_check.specs.declared.auditing.AuditFault.{AuditFault}
@@ -13,9 +11,8 @@ use Rattle.qa_check.specs.declared.auditor.Progress.{Progress}
 use Rattle.qa_check.specs.declared.auditor.Progress.TheVariants.{Open, Fixed}
 use Rattle.qa_check.specs.declared.checker.Stop.{Stop}
 use Rattle.qa_check.specs.declared.checker.Stop.TheVariants.{Decided, OutOfMemory}
-use Rattle.qa_check.specs.Following.{Answers, IsReady}
+use Rattle.qa_check.specs.Following.{Answers, Follows, IsReady}
 use Rattle.qa_check.specs.Standing.{Held, Judges, by}
-use Rattle.qa_check.specs.Writing.{Begins, Shown, told_ended}
 
 -- the bytes of the unfinished line, what is held of the lines before it, and how far the audit is,
 -- or why it has failed
@@ -34,29 +31,20 @@ pub record TakesMore {L : Type 0} (stream : Stream) (held : Held L) : Type 0 whe
   pub empty : HasNoLine stream
   pub whole : held.failed ≡ false
 
--- these bytes bring an audit so far, and its observer from the first text to the second. While it
--- is open they do not fix the verdict, and all was shown that is told of the lines that an LF ends;
--- once it is fixed all of them; and where the audit failed the beginning
-abbrev pub BringsTo : {L : Type 0} → Judges L → Telling → Result Progress AuditFault → Stream
-    → Held L → Option (List ℕ) → Option (List ℕ) → List ℕ → Type 0
-BringsTo judges tell (Ok Open) stream held start now bytes =
+-- these bytes bring an audit so far: while it is open they do not fix the verdict, and once it is
+-- fixed they do, and it is theirs
+abbrev pub BringsTo : {L : Type 0} → Judges L → Result Progress AuditFault → Stream → Held L
+    → List ℕ → Type 0
+BringsTo judges (Ok Open) stream held bytes =
     (IsFixed (by judges) bytes → ⊥) × IsShortLine stream.bytes
-    × Shown judges tell stream.bytes held start now bytes
-BringsTo judges tell (Ok (Fixed v)) stream held start now bytes =
+    × Follows judges stream.bytes held bytes
+BringsTo judges (Ok (Fixed v)) stream held bytes =
     IsFixed (by judges) bytes × (v ≡ verdict (by judges) bytes)
-    × Appends start now (told tell (by judges) bytes)
-BringsTo judges tell (Err f) stream held start now bytes =
-    Begins start now (told_ended (by judges) tell bytes)
+BringsTo judges (Err f) stream held bytes = Unit {0}
 
--- these bytes were fed to it, since its observer had the first text, which has the second now
-abbrev pub Observes : {L : Type 0} → Judges L → Telling → Audit L → Option (List ℕ)
-    → Option (List ℕ) → List ℕ → Type 0
-Observes judges tell audit start now bytes =
-    BringsTo judges tell audit.progress audit.stream audit.held start now bytes
-
--- these bytes were fed to it, and nothing is told
+-- these bytes were fed to it
 abbrev pub Audits : {L : Type 0} → Judges L → Audit L → List ℕ → Type 0
-Audits judges audit bytes = Observes judges told_nothing audit None None bytes
+Audits judges audit bytes = BringsTo judges audit.progress audit.stream audit.held bytes
 
 -- so far comes an audit whose checker holds this and has stopped so: to the verdict of the lines,
 -- or it is out of memory

@@ -2,7 +2,6 @@
 use Rattle.std.specs.Prelude.{◌≡◌, ◌++◌, ℕ, false, List, None}
 use Rattle.std.specs.List.{AllByRecursion}
 use Rattle.qa_format.specs.format.Lines.{ended, IsShortLine}
-use Rattle.qa_format.specs.verdicts.Explain.{Telling, told_of, told}
 use Rattle.qa_format.specs.verdicts.Verdict.{Judging, verdict, verdict_of, AreGood}
 use Rattle.qa_read.specs.Stream.{Stream}
 use Rattle.qa_check.specs.Standing.{Held, Judges, by, StandsFor}
@@ -17,11 +16,10 @@ FollowsBy judging Stand rest bytes =
 abbrev pub Follows : {L : Type 0} → Judges L → List ℕ → Held L → List ℕ → Type 0
 Follows judges rest held bytes = FollowsBy (by judges) (StandsFor judges held) rest bytes
 
--- the checker stands for lines that have the verdict of the bytes, and of which the same is told
+-- the checker stands for lines that have the verdict of the bytes
 abbrev pub AnswersBy : Judging → (List (List ℕ) → Type 0) → List ℕ → Type 0
 AnswersBy judging Stand bytes =
     (ls : List (List ℕ)) × Stand ls × (verdict_of judging ls ≡ verdict judging bytes)
-    × ((tell : Telling) → told_of tell judging ls ≡ told tell judging bytes)
 
 abbrev pub Answers : {L : Type 0} → Judges L → Held L → List ℕ → Type 0
 Answers judges held bytes =

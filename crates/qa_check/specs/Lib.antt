@@ -4,4 +4,10 @@ pub mod Following
 pub mod Audit
 pub mod Writing
 pub mod Auditor
+pub mod Places
+pub mod Visiting
+pub mod Walking
+pub mod Checking
+pub mod Taking
+pub mod Telling
 pub mod names

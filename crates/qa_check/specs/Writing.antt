@@ -8,8 +8,6 @@ use Rattle.qa_format.specs.verdicts.Verdict.{Judging, strict, verdict, IsFixed}
 use Rattle.qa_format.specs.declared.verdict.Verdict.{Verdict}
 use Rattle.qa_check.specs.declared.auditing.Outcome.{Outcome}
 use Rattle.qa_check.specs.Audit.{outcome_of, IsReadNoFurtherBy, ReadsEnoughBy}
-use Rattle.qa_check.specs.Following.{FollowsBy}
-use Rattle.qa_check.specs.Standing.{Held, Judges, by, StandsFor}
 
 -- ---- what was written
 
@@ -65,17 +63,3 @@ abbrev pub JudgesShown : Judging → Telling → Option (List ℕ) → Option (L
 JudgesShown judging tell old new last held held' v =
     (bytes : List ℕ) × ReadsEnoughBy judging old new last bytes × (v ≡ verdict judging bytes)
     × Appends held held' (told tell judging bytes)
-
--- ---- what a checker stands for of which all was written that is told
-
--- the checker stands for the lines, and since the start all was written that is told of them
-abbrev pub Shows : {L : Type 0} → Judges L → Telling → Held L → Option (List ℕ) → Option (List ℕ)
-    → List (List ℕ) → Type 0
-Shows judges tell held start now ls =
-    StandsFor judges held ls × Appends start now (told_of tell (by judges) ls)
-
--- the lines are those that an LF ends in the bytes, all good, and this rest is behind them
-abbrev pub Shown : {L : Type 0} → Judges L → Telling → List ℕ → Held L → Option (List ℕ)
-    → Option (List ℕ) → List ℕ → Type 0
-Shown judges tell rest held start now bytes =
-    FollowsBy (by judges) (Shows judges tell held start now) rest bytes

@@ -4,22 +4,19 @@ ghost use Rattle.std.specs.Prelude.{take};
 ghost use Rattle.std.specs.Io.KnownBytes.{Appends};
 ghost use Rattle.qa_format.specs.format.Reading.{reading};
 ghost use Rattle.qa_format.specs.verdicts.Report as text;
-ghost use Rattle.qa_format.specs.verdicts.Explain as explanation;
-ghost use Rattle.qa_format.specs.verdicts.Verdict.{verdict};
-ghost use Rattle.qa_check.specs.Audit.{outcome_of, Reads, ReadsBy, ReadsEnough, Reports};
+ghost use Rattle.qa_format.specs.verdicts.Verdict.{strict, verdict};
+ghost use Rattle.qa_check.specs.Audit.{outcome_of, Reads, ReadsEnough, Reports};
 ghost use Rattle.qa_check.specs.Audit.{BeginsReport, is_read_fault, is_write_fault};
-ghost use Rattle.qa_check.specs.Standing.{by};
+ghost use Rattle.qa_check.specs.Telling.{memory_or_read_of};
 ghost use Rattle.qa_check.specs.Failures.{failures_after};
-ghost use Rattle.qa_check.specs.Writing.{BeginsToldRead, JudgesShown, ShowsToldRead};
 
-use crate::auditor::{Auditor, Progress};
-use crate::judges::Judge;
-use crate::observer::{LineText, NoText, Observer, Unobserved};
 use crate::streams::{Sink, Source};
 use crate::text::report;
+use crate::visitor::Unvisited;
+use crate::walking::{WalkFault, walk};
 use qa_format::Verdict;
 use qa_ledger::Ledger;
-use std::alloc::Global;
+use std::alloc::{AllocError, Global};
 use thiserror::Error;
 
 /// The kind of verdict that an audit came to.
@@ -56,9 +53,6 @@ pub enum AuditFault {
     #[error("out of memory")]
     OutOfMemory,
 }
-
-/// The most bytes that one read asks for.
-const PIECE: usize = 4096;
 
 /// Reads a trace and writes its report: for every sequence of bytes that a reader returns, however
 /// its reads are cut.
@@ -105,52 +99,34 @@ pub fn audit<L: Ledger + Drop, R: Source, W: Sink>(
     ensures write_failures { W.write_failures writer.new
         ≡ failures_after (is_write_fault result) (W.write_failures writer.old) }
 {
-    let verdict = judge::<L, NoText, R, Unobserved>(alloc, reader, &mut Unobserved)?;
+    let verdict = judge::<L, R>(alloc, reader)?;
     write_report(alloc, writer, &verdict)
 }
 
-/// The verdict of what is read, once the observer was shown its lines: those of each piece before
-/// the next is asked for.
-pub fn judge<L: Judge + Drop, T: LineText<L>, R: Source, O: Observer>(
-    alloc: Global,
-    reader: &mut R,
-    observer: &mut O,
-) -> Result<Verdict, AuditFault>
-    ensures verdict { IfOk result
-        (JudgesShown (by L.judges) T.text (R.left reader.old) (R.left reader.new)
-        (R.last_read reader.new) (O.shown observer.old) (O.shown observer.new)) }
-    ensures reads { ReadsBy (by L.judges) (R.left reader.old) (R.left reader.new)
-        (R.last_read reader.new) }
-    ensures rows { result ≡ Err AuditFault.Read
-        → ShowsToldRead (by L.judges) T.text (R.left reader.old) (R.left reader.new)
-        (O.shown observer.old) (O.shown observer.new) }
-    ensures begun { is_read_fault result ≡ false → OnErr result
-        (BeginsToldRead (by L.judges) T.text (R.left reader.old) (R.left reader.new)
-        (R.last_read reader.new) (O.shown observer.old) (O.shown observer.new)
-        (explanation.told T.text (by L.judges))) }
+/// The verdict of what is read, which nobody visits.
+fn judge<L: Ledger + Drop, R: Source>(alloc: Global, reader: &mut R) -> Result<Verdict, AuditFault>
+    ensures verdict { IfOk result (λ v. (bytes : List ℕ)
+        × ReadsEnough (R.left reader.old) (R.left reader.new) (R.last_read reader.new) bytes
+        × (v ≡ verdict (strict reading) bytes)) }
+    ensures reads { Reads (R.left reader.old) (R.left reader.new) (R.last_read reader.new) }
     ensures read_failures { R.read_failures reader.new
         ≡ failures_after (is_read_fault result) (R.read_failures reader.old) }
-    ensures failures { O.failures observer.new
-        ≡ failures_after (is_write_fault result) (O.failures observer.old) }
+    ensures unwritten { is_write_fault result ≡ false }
 {
-    let mut auditor = Auditor::<L>::new(alloc);
-    let mut piece = [0u8; PIECE];
-    'pieces: for _i in 0..u64::MAX {
-        let Ok(n) = reader.read_piece(&mut piece) else {
-            return Err(AuditFault::Read);
-        };
-        if n == 0 {
-            return auditor.finish_to::<T, O>(observer);
-        }
-        match auditor.feed_to::<T, O>(&piece[..n], observer) {
-            Ok(Progress::Open) => {}
-            Ok(Progress::Fixed(verdict)) => return Ok(verdict),
-            Err(fault) => return Err(fault),
-        }
+    match walk::<L, Unvisited, R>(alloc, false, reader, &mut Unvisited) {
+        Ok(ended) => Ok(ended.verdict),
+        Err(fault) => Err(memory_or_read(fault)),
     }
-    // A line more than a trace may have is not good, so that a reader without end is not read to
-    // here.
-    unreachable!()
+}
+
+/// The fault of a walk whose visitor fails by memory alone.
+pub fn memory_or_read(fault: WalkFault<AllocError>) -> AuditFault
+    ensures { result ≡ memory_or_read_of fault }
+{
+    match fault {
+        WalkFault::Read => AuditFault::Read,
+        WalkFault::OutOfMemory | WalkFault::Visitor(_) => AuditFault::OutOfMemory,
+    }
 }
 
 /// Writes the report of a verdict, and returns its kind.

@@ -1,25 +1,21 @@
 //! An audit of bytes that are handed in, piece by piece.
 ghost use Rattle.std.specs.Prelude.{◌≡◌, ◌≢◌, ◌++◌, [], ℕ, List, Option, None, true, false, Ok};
 ghost use Rattle.std.specs.Prelude.{OnErr, IfOk, IfErr};
-ghost use Rattle.std.specs.Io.KnownBytes.{Appends};
 ghost use Rattle.qa_format.specs.format.Lines.{with_lf};
 ghost use Rattle.qa_format.specs.format.Reading.{reading};
 ghost use Rattle.qa_format.specs.format.Written.{line_fits};
-ghost use Rattle.qa_format.specs.verdicts.Explain as explanation;
-ghost use Rattle.qa_format.specs.verdicts.Explain.{Telling, told_nothing};
 ghost use Rattle.qa_format.specs.verdicts.Verdict.{verdict};
 ghost use Rattle.qa_read.specs.Stream.{Stream, HasNoLine};
-ghost use Rattle.qa_check.specs.Audit.{CountsFailure};
 ghost use Rattle.qa_check.specs.Auditor.{BringsTo, Settles, TakesMore};
-ghost use Rattle.qa_check.specs.Following.{Answers, IsReady};
+ghost use Rattle.qa_check.specs.Following.{Answers, Follows, IsReady};
 ghost use Rattle.qa_check.specs.Standing.{IsLineOf, by};
-ghost use Rattle.qa_check.specs.Writing.{Begins, Shown};
 
 use crate::auditing::AuditFault;
 use crate::checker::{Checker, Stop};
 use crate::judges::Judge;
-use crate::observer::{LineText, NoText, Observer, Unobserved};
-use crate::taking::{Lines, take_last, take_lines};
+use crate::taking::{Taken, take_last};
+use crate::visitor::Unvisited;
+use crate::walking::take_piece;
 use qa_format::{Line, Verdict};
 use qa_read::Splitter;
 use std::alloc::Global;
@@ -36,9 +32,8 @@ pub enum Progress {
 
 /// An audit of bytes that are handed in, piece by piece, over any ledger.
 ///
-/// It serves callers with a loop of their own, where `audit` and `explain` read from a `Source`.
-/// However the bytes are cut, the verdict is that of all of them. An observer may be shown the
-/// lines as they are taken: the same one at each call.
+/// It serves callers with a loop of their own, where `walk` reads from a `Source`. However the
+/// bytes are cut, the verdict is that of all of them.
 #[derive(Drop)]
 pub struct Auditor<L: Judge> {
     alloc: Global,
@@ -61,13 +56,12 @@ impl<L: Judge> Model for Auditor<L> {
 
 impl<L: Judge + Drop> Auditor<L> {
     ghost use Rattle.std.specs.Prelude.{◌≢◌};
-    ghost use Rattle.qa_check.specs.Auditor.{Audits, Observes, is_between, progress_of};
+    ghost use Rattle.qa_check.specs.Auditor.{Audits, is_between, progress_of};
 
     /// An auditor that was fed no bytes. Takes no memory.
     pub fn new(alloc: Global) -> Auditor<L>
         ensures open { result.progress ≡ Ok Progress.Open }
-        ensures fed { (tell : Telling) (text : Option (List ℕ))
-            → Observes L.judges tell result text text [] }
+        ensures fed { Audits L.judges result [] }
     {
         Auditor {
             alloc,
@@ -90,35 +84,9 @@ impl<L: Judge + Drop> Auditor<L> {
         ensures memory { self.old.progress ≡ Ok Progress.Open
             → IfErr result (λ fault. fault ≡ AuditFault.OutOfMemory) }
     {
-        self.feed_to::<NoText, Unobserved>(piece, &mut Unobserved)
-    }
-
-    /// Takes the next bytes as `feed` does, and shows the observer each line that they end.
-    ///
-    /// A fault of the observer comes where it failed, and from then on.
-    pub fn feed_to<T: LineText<L>, O: Observer>(
-        &mut self,
-        piece: &[u8],
-        observer: &mut O,
-    ) -> Result<Progress, AuditFault>
-        ensures progress { result ≡ self.new.progress }
-        ensures fed { (start : Option (List ℕ)) (bytes : List ℕ)
-            → Observes L.judges T.text self.old start (O.shown observer.old) bytes
-            → Observes L.judges T.text self.new start (O.shown observer.new) (bytes ++ piece.now) }
-        ensures kept { self.old.progress ≢ Ok Progress.Open
-            → (self.new ≡ self.old) × (observer.new ≡ observer.old) }
-        ensures failures { self.old.progress ≡ Ok Progress.Open
-            → CountsFailure (O.failures observer.old) (O.failures observer.new) result }
-    {
         match self.progress {
             Ok(Progress::Open) => {
-                let progress = take_piece::<L, T, O>(
-                    self.alloc,
-                    &mut self.splitter,
-                    &mut self.checker,
-                    observer,
-                    piece,
-                );
+                let progress = feed::<L>(self.alloc, &mut self.splitter, &mut self.checker, piece);
                 self.progress = progress;
                 progress
             }
@@ -147,9 +115,9 @@ impl<L: Judge + Drop> Auditor<L> {
     /// then.
     ///
     /// It is judged as each line that says this would be, with its LF. Asks for an auditor whose
-    /// next byte begins a line (`is_between_lines`), and for an event that fits (`Event::fits`). No
-    /// observer is shown the line. Once the verdict is fixed, and after `finish`, it changes
-    /// nothing and returns the verdict. `AuditFault::OutOfMemory` comes where it is out of memory,
+    /// next byte begins a line (`is_between_lines`), and for an event that fits (`Event::fits`).
+    /// Once the verdict is fixed, and after `finish`, it changes nothing and returns the verdict.
+    /// `AuditFault::OutOfMemory` comes where it is out of memory,
     /// and from then on.
     pub fn push_said(&mut self, line: &Line) -> Result<Progress, AuditFault>
         requires fitting { line_fits line.now ≡ true }
@@ -201,38 +169,9 @@ impl<L: Judge + Drop> Auditor<L> {
         ensures memory { self.old.progress ≡ Ok Progress.Open
             → IfErr result (λ fault. fault ≡ AuditFault.OutOfMemory) }
     {
-        self.finish_to::<NoText, Unobserved>(&mut Unobserved)
-    }
-
-    /// The verdict of all bytes that were fed, as `finish` returns it, once the observer was shown
-    /// the line that no LF ends.
-    ///
-    /// A fault of the observer comes where it failed, here or before.
-    pub fn finish_to<T: LineText<L>, O: Observer>(
-        &mut self,
-        observer: &mut O,
-    ) -> Result<Verdict, AuditFault>
-        ensures finished { self.new.progress ≡ progress_of result }
-        ensures verdict { IfOk result (λ v. (start : Option (List ℕ)) (bytes : List ℕ)
-            → Observes L.judges T.text self.old start (O.shown observer.old) bytes
-            → (v ≡ verdict (by L.judges) bytes)
-            × Appends start (O.shown observer.new) (explanation.told T.text (by L.judges) bytes)) }
-        ensures begun { OnErr result ((start : Option (List ℕ)) (bytes : List ℕ)
-            → Observes L.judges T.text self.old start (O.shown observer.old) bytes
-            → Begins start (O.shown observer.new) (explanation.told T.text (by L.judges) bytes)) }
-        ensures kept { self.old.progress ≢ Ok Progress.Open
-            → (self.new ≡ self.old) × (observer.new ≡ observer.old) }
-        ensures failures { self.old.progress ≡ Ok Progress.Open
-            → CountsFailure (O.failures observer.old) (O.failures observer.new) result }
-    {
         match self.progress {
             Ok(Progress::Open) => {
-                let ended = conclude::<L, T, O>(
-                    self.alloc,
-                    &mut self.splitter,
-                    &mut self.checker,
-                    observer,
-                );
+                let ended = conclude::<L>(self.alloc, &mut self.splitter, &mut self.checker);
                 self.progress = ended.map(Progress::Fixed);
                 ended
             }
@@ -243,33 +182,26 @@ impl<L: Judge + Drop> Auditor<L> {
 }
 
 /// Takes the next piece, and returns how far the audit is then.
-fn take_piece<L: Judge + Drop, T: LineText<L>, O: Observer>(
+fn feed<L: Judge + Drop>(
     alloc: Global,
     splitter: &mut Splitter,
     checker: &mut Checker<L>,
-    observer: &mut O,
     piece: &[u8],
 ) -> Result<Progress, AuditFault>
     requires ready { IsReady splitter.old }
     requires whole { checker.old.failed ≡ false }
     ensures more { result ≡ Ok Progress.Open → TakesMore splitter.new checker.new }
-    ensures fed { (start : Option (List ℕ)) (bytes : List ℕ)
-        → Shown L.judges T.text splitter.old.bytes checker.old start (O.shown observer.old) bytes
-        → BringsTo L.judges T.text result splitter.new checker.new start (O.shown observer.new)
-        (bytes
-        ++ piece.now) }
-    ensures failures { CountsFailure (O.failures observer.old) (O.failures observer.new) result }
+    ensures fed { (bytes : List ℕ) → Follows L.judges splitter.old.bytes checker.old bytes
+        → BringsTo L.judges result splitter.new checker.new (bytes ++ piece.now) }
+    ensures memory { IfErr result (λ fault. fault ≡ AuditFault.OutOfMemory) }
 {
-    let Ok(()) = splitter.feed(piece) else {
-        return Err(AuditFault::OutOfMemory);
-    };
-    match take_lines::<L, T, O>(alloc, splitter, checker, observer) {
-        Ok(Lines::Good) => Ok(Progress::Open),
-        Ok(Lines::Bad) => match verdict_of(checker) {
+    match take_piece::<L, Unvisited>(alloc, false, splitter, checker, &mut Unvisited, piece) {
+        Ok(Taken::Good) => Ok(Progress::Open),
+        Ok(Taken::Bad(_)) => match verdict_of(checker) {
             Ok(verdict) => Ok(Progress::Fixed(verdict)),
             Err(fault) => Err(fault),
         },
-        Err(fault) => Err(fault),
+        Err(_) => Err(AuditFault::OutOfMemory),
     }
 }
 
@@ -287,9 +219,8 @@ fn take_said<L: Judge + Drop>(
     ensures over { result ≡ false → progress.new ≢ Ok Progress.Open }
     ensures whole { progress.new ≡ Ok Progress.Open → checker.new.failed ≡ false }
     ensures fed { (stream : Stream) (bytes : List ℕ) (l : List ℕ) → stream.bytes ≡ []
-        → IsLineOf line.now l → Shown L.judges told_nothing [] checker.old None None bytes
-        → BringsTo L.judges told_nothing progress.new stream checker.new None None
-        (bytes ++ with_lf l) }
+        → IsLineOf line.now l → Follows L.judges [] checker.old bytes
+        → BringsTo L.judges progress.new stream checker.new (bytes ++ with_lf l) }
     ensures memory { IfErr progress.new (λ fault. fault ≡ AuditFault.OutOfMemory) }
 {
     match checker.push_said(line) {
@@ -329,27 +260,21 @@ fn settled<L: Judge + Drop>(checker: &Checker<L>, stop: Stop) -> Result<Progress
 }
 
 /// The verdict where nothing more comes.
-fn conclude<L: Judge + Drop, T: LineText<L>, O: Observer>(
+fn conclude<L: Judge + Drop>(
     alloc: Global,
     splitter: &mut Splitter,
     checker: &mut Checker<L>,
-    observer: &mut O,
 ) -> Result<Verdict, AuditFault>
     requires ready { IsReady splitter.old }
     requires empty { HasNoLine splitter.old }
     requires whole { checker.old.failed ≡ false }
-    ensures ok { IfOk result (λ v. (start : Option (List ℕ)) (bytes : List ℕ)
-        → Shown L.judges T.text splitter.old.bytes checker.old start (O.shown observer.old) bytes
-        → (v ≡ verdict (by L.judges) bytes)
-        × Appends start (O.shown observer.new) (explanation.told T.text (by L.judges) bytes)) }
-    ensures begun { OnErr result ((start : Option (List ℕ)) (bytes : List ℕ)
-        → Shown L.judges T.text splitter.old.bytes checker.old start (O.shown observer.old) bytes
-        → Begins start (O.shown observer.new) (explanation.told T.text (by L.judges) bytes)) }
-    ensures failures { CountsFailure (O.failures observer.old) (O.failures observer.new) result }
+    ensures ok { IfOk result (λ v. (bytes : List ℕ)
+        → Follows L.judges splitter.old.bytes checker.old bytes → v ≡ verdict (by L.judges) bytes) }
+    ensures memory { IfErr result (λ fault. fault ≡ AuditFault.OutOfMemory) }
 {
-    match take_last::<L, T, O>(alloc, splitter, checker, observer) {
+    match take_last::<L, Unvisited>(alloc, false, splitter, checker, &mut Unvisited) {
         Ok(_) => verdict_of(checker),
-        Err(fault) => Err(fault),
+        Err(_) => Err(AuditFault::OutOfMemory),
     }
 }
 

@@ -15,6 +15,9 @@ ghost use Rattle.qa_format.specs.verdicts.Verdict as verdicts;
 ghost use Rattle.qa_read.specs.Gives.{Gives};
 ghost use Rattle.qa_check.specs.Standing.{StandsFor, by, HoldsRun, AddsGood, AddsBad, IsLineOf};
 ghost use Rattle.qa_check.specs.Standing.{TakesIn, StopsAt};
+ghost use Rattle.qa_check.specs.Checking.{IsPushed, Pushes};
+ghost use Rattle.std.specs.Result.{result_ok};
+ghost use Rattle.qa_format.specs.verdicts.Verdict.{said};
 
 use crate::judges::Judge;
 use qa_base::limits::{MAX_LINE_LENGTH, MAX_LINES};
@@ -34,6 +37,18 @@ pub enum Stop {
     Decided,
     /// Out of memory: the checker has failed.
     #[error("out of memory")]
+    OutOfMemory,
+}
+
+/// What a checker made of a line, and what the line says.
+#[derive(Drop)]
+pub enum Pushed {
+    /// The line is good, and says this.
+    Good(Line),
+    /// The line is not good, or an earlier one was not, and the verdict is fixed. It says this, or
+    /// nothing was read of it.
+    Bad(Option<Line>),
+    /// Out of memory: the checker has failed.
     OutOfMemory,
 }
 
@@ -107,25 +122,17 @@ impl<L: Judge + Drop> Checker<L> {
         self.take_read(&read)
     }
 
-    /// Takes the next line as `push_line` does, and returns what it says.
-    pub fn push_line_said(&mut self, bytes: &[u8]) -> Result<Line, Stop>
-        ensures said { IfOk result
-            (λ said. (reading bytes.now ≡ Ok said) × (line_fits said ≡ true)) }
-        ensures failed { self.old.failed ≡ true → result ≡ Err Stop.OutOfMemory }
-        ensures fails { (result ≡ Err Stop.OutOfMemory) → self.new.failed ≡ true }
-        ensures good { OnOk result (AddsGood L.judges self.old self.new bytes.now) }
-        ensures decided { (result ≡ Err Stop.Decided)
-            → AddsBad L.judges self.old self.new bytes.now }
-        ensures kept { (result ≡ Err Stop.Decided) → self.new.ledger ≡ self.old.ledger }
+    /// Takes the next line as `push_line` does, and returns what was read of it, good or not.
+    pub fn push_line_said(&mut self, bytes: &[u8]) -> Pushed
+        ensures failed { self.old.failed ≡ true → result ≡ Pushed.OutOfMemory }
+        ensures pushed { Pushes L.judges self.old self.new bytes.now result }
     {
         if let Err(stop) = self.expect_bytes(bytes) {
-            return Err(stop);
+            return unread(stop);
         }
         let read = read_line(self.alloc, bytes);
-        match self.take_read(&read) {
-            Ok(()) => said_by(read),
-            Err(stop) => Err(stop),
-        }
+        let taken = self.take_read(&read);
+        answer_of(taken, read)
     }
 
     /// Takes the next line by what it says, as `push_line` takes each line that is read as this.
@@ -190,6 +197,16 @@ impl<L: Judge + Drop> Checker<L> {
         }
     }
 
+    /// The ledger after the good lines, as `ledger`, and nothing else of the checker.
+    pub fn into_ledger(self) -> Option<L>
+        ensures ledger { result ≡ self.ledger }
+        ensures works { self.failed ≡ false
+            → ForSome self.ledger (λ l. L.has_failed l ≡ false) }
+    {
+        let Checker { ledger, .. } = self;
+        ledger
+    }
+
     /// How many lines were good.
     pub fn line_count(&self) -> u64
         ensures { result ≡ self.now.lines }
@@ -227,6 +244,8 @@ impl<L: Judge + Drop> Checker<L> {
             × (self.new.verdict ≡ None) × (self.new.lines < max_lines)) }
         ensures decided { (result ≡ Err Stop.Decided) → (l : List ℕ)
             → AddsBad L.judges self.old self.new l }
+        ensures unread { (result ≡ Err Stop.Decided) → self.old.verdict ≡ None → (l : List ℕ)
+            → result_ok (said reading self.old.lines l) ≡ None }
         ensures kept { (result ≡ Err Stop.Decided) → self.new.ledger ≡ self.old.ledger }
     {
         if self.failed {
@@ -253,6 +272,8 @@ impl<L: Judge + Drop> Checker<L> {
             × (length bytes.now ≤ line_limit)) }
         ensures decided { (result ≡ Err Stop.Decided)
             → AddsBad L.judges self.old self.new bytes.now }
+        ensures unread { (result ≡ Err Stop.Decided) → self.old.verdict ≡ None
+            → result_ok (said reading self.old.lines bytes.now) ≡ None }
         ensures kept { (result ≡ Err Stop.Decided) → self.new.ledger ≡ self.old.ledger }
     {
         if let Err(stop) = self.expect_line() {
@@ -271,6 +292,7 @@ impl<L: Judge + Drop> Checker<L> {
         requires few { self.old.lines < max_lines }
         requires fitting { IfOk read.now (λ line. line_fits line ≡ true) }
         ensures said { OnOk result (IsOk read.now) }
+        ensures memory { read.now ≡ Err LineFault.OutOfMemory → result ≡ Err Stop.OutOfMemory }
         ensures fails { (result ≡ Err Stop.OutOfMemory) → self.new.failed ≡ true }
         ensures good { OnOk result ((l : List ℕ) → length l ≤ line_limit
             → Gives (λ line. line) read.now (reading l)
@@ -389,14 +411,28 @@ impl<L: Judge + Drop> Checker<L> {
     }
 }
 
-/// What a line says that was read.
-fn said_by(read: Result<Line, LineFault>) -> Result<Line, Stop>
-    requires read { IsOk read }
-    ensures said { IfOk result (λ said. read ≡ Ok said) }
-    ensures ok { IsOk result }
+/// What a checker answers of a line that it did not read.
+fn unread(stop: Stop) -> Pushed
+    ensures decided { stop ≡ Stop.Decided → result ≡ Pushed.Bad None }
+    ensures out_of_memory { stop ≡ Stop.OutOfMemory → result ≡ Pushed.OutOfMemory }
 {
-    match read {
-        Ok(line) => Ok(line),
-        Err(_) => unreachable!(),
+    match stop {
+        Stop::Decided => Pushed::Bad(None),
+        Stop::OutOfMemory => Pushed::OutOfMemory,
+    }
+}
+
+/// What a checker answers of a line that it read.
+fn answer_of(taken: Result<(), Stop>, read: Result<Line, LineFault>) -> Pushed
+    requires read { OnOk taken (IsOk read) }
+    ensures { IsPushed taken read result }
+{
+    match taken {
+        Ok(()) => match read {
+            Ok(line) => Pushed::Good(line),
+            Err(_) => unreachable!(),
+        },
+        Err(Stop::Decided) => Pushed::Bad(read.ok()),
+        Err(Stop::OutOfMemory) => Pushed::OutOfMemory,
     }
 }

@@ -1,187 +1,215 @@
-//! How the lines of pieces are taken: each goes to the checker, and a good one to the observer.
-ghost use Rattle.std.specs.Prelude.{◌≡◌, ◌++◌, ℕ, List, [], ◌∷◌, Option, false, true, Ok, Err};
-ghost use Rattle.std.specs.Prelude.{OnOk, OnErr, IfErr, IsOk};
-ghost use Rattle.std.specs.Io.KnownBytes.{Appends};
-ghost use Rattle.qa_base.specs.declared.event.Event.{Event as AnEvent};
-ghost use Rattle.qa_base.specs.values.Settings.{Settings};
+//! How the lines of pieces are taken: each goes to the checker, and a good one to the visitor.
+ghost use Rattle.std.specs.Prelude.{◌≡◌, ◌++◌, ℕ, List, [], ◌∷◌, None, Option, Some, false, true, Ok};
+ghost use Rattle.std.specs.Prelude.{Err, IfOk, IfErr, OnOk};
+ghost use Rattle.qa_format.specs.format.Lines.{ended_lines, lines};
 ghost use Rattle.qa_format.specs.format.Reading.{reading};
 ghost use Rattle.qa_format.specs.format.Written.{line_fits};
-ghost use Rattle.qa_format.specs.verdicts.Explain as explanation;
-ghost use Rattle.qa_format.specs.verdicts.Verdict.{IsFixed, AreGood, AreDecided};
+ghost use Rattle.qa_format.specs.verdicts.Verdict.{AreGood, IsFixed};
 ghost use Rattle.qa_read.specs.Stream.{HasNoLine};
-ghost use Rattle.qa_check.specs.Audit.{CountsFailure};
 ghost use Rattle.qa_check.specs.Auditor.{TakesMore};
-ghost use Rattle.qa_check.specs.Following.{AnswersBy, IsReady};
-ghost use Rattle.qa_check.specs.Standing.{HoldsRun, by};
-ghost use Rattle.qa_check.specs.Writing.{Begins, Shows, Shown, told_ended};
+ghost use Rattle.qa_check.specs.Following.{IsReady};
+ghost use Rattle.qa_check.specs.Standing.{StandsFor, by};
+ghost use Rattle.qa_check.specs.Walking.{Covered, Ends, HaltsAt, HaltsIn, VisitsGood, Walked};
+ghost use Rattle.qa_check.specs.Taking.{IsKept, IsUnseen, TakesBad};
+ghost use Rattle.qa_check.specs.declared.taking.LastLine.{LastLine as ALast};
 
-use crate::auditing::AuditFault;
-use crate::checker::{Checker, Stop};
+use crate::checker::{Checker, Pushed, Stop};
 use crate::judges::Judge;
-use crate::observer::{LineText, Observer};
+use crate::visitor::Visitor;
 use qa_format::Line;
 use qa_read::{SplitFault, Splitter};
-use std::alloc::Global;
+use std::alloc::{AllocError, Global};
 
-/// What lines are that were taken.
-#[derive(Clone, Copy)]
-pub enum Lines {
-    /// All were good.
-    Good,
-    /// One was not, and fixes the verdict.
-    Bad,
+/// The line that ended a walk, which is not good.
+#[derive(Drop)]
+pub struct LastLine {
+    /// Its bytes, without LF.
+    pub bytes: Vec<u8>,
+    /// What it says; None where it could not be read, or stands behind too many.
+    pub said: Option<Line>,
 }
 
-/// Takes each line that stands ready.
-pub fn take_lines<L: Judge + Drop, T: LineText<L>, O: Observer>(
+/// What lines are that were taken.
+#[derive(Drop)]
+pub enum Taken {
+    /// All were good.
+    Good,
+    /// One was not, and fixes the verdict: this one, where lines are kept and it is not too long.
+    Bad(Option<LastLine>),
+}
+
+/// Why lines were halted that were good so far.
+#[derive(Debug, Drop)]
+pub enum Halt<F> {
+    /// Out of memory.
+    OutOfMemory,
+    /// The visitor failed.
+    Visitor(F),
+}
+
+/// Takes each line that stands ready. Where lines are kept, the one that is not good is handed out.
+pub fn take_lines<J: Judge + Drop, V: Visitor<J>>(
     alloc: Global,
+    keeps: bool,
     splitter: &mut Splitter,
-    checker: &mut Checker<L>,
-    observer: &mut O,
-) -> Result<Lines, AuditFault>
+    checker: &mut Checker<J>,
+    visitor: &mut V,
+) -> Result<Taken, Halt<V::Fault>>
     requires ready { IsReady splitter.old }
     requires whole { checker.old.failed ≡ false }
-    ensures more { result ≡ Ok Lines.Good → TakesMore splitter.new checker.new }
-    ensures good { result ≡ Ok Lines.Good → (start : Option (List ℕ)) (bytes : List ℕ)
-        → Shown L.judges T.text splitter.old.bytes checker.old start (O.shown observer.old) bytes
-        → Shown L.judges T.text splitter.new.bytes checker.new start (O.shown observer.new) bytes }
-    ensures bad { result ≡ Ok Lines.Bad
-        → (checker.new.failed ≡ false) × ((start : Option (List ℕ)) (bytes : List ℕ)
-        → Shown L.judges T.text splitter.old.bytes checker.old start (O.shown observer.old) bytes
-        → IsFixed (by L.judges) bytes
-        × AnswersBy (by L.judges)
-        (Shows L.judges T.text checker.new start (O.shown observer.new)) bytes) }
-    ensures begun { OnErr result ((start : Option (List ℕ)) (bytes : List ℕ)
-        → Shown L.judges T.text splitter.old.bytes checker.old start (O.shown observer.old) bytes
-        → Begins start (O.shown observer.new) (told_ended (by L.judges) T.text bytes)) }
-    ensures failures { CountsFailure (O.failures observer.old) (O.failures observer.new) result }
+    ensures more { result ≡ Ok Taken.Good → TakesMore splitter.new checker.new }
+    ensures good { result ≡ Ok Taken.Good → (begun : V) (bytes : List ℕ)
+        → Walked J.judges (V.covers begun) splitter.old.bytes checker.old visitor.old bytes
+        → Walked J.judges (V.covers begun) splitter.new.bytes checker.new visitor.new bytes }
+    ensures whole { IfOk result (λ taken. checker.new.failed ≡ false) }
+    ensures bad { (last : Option ALast) → result ≡ Ok (Taken.Bad last) → (begun : V)
+        (bytes : List ℕ)
+        → Walked J.judges (V.covers begun) splitter.old.bytes checker.old visitor.old bytes
+        → IsFixed (by J.judges) bytes
+        × Ends J.judges (V.covers begun) keeps checker.new visitor.new last bytes }
+    ensures halted { IfErr result (λ halt. (begun : V) (bytes : List ℕ)
+        → Walked J.judges (V.covers begun) splitter.old.bytes checker.old visitor.old bytes
+        → HaltsIn (V.covers begun) (V.fails begun) visitor.new halt (ended_lines bytes)) }
 {
     'lines: loop {
         match splitter.next_line() {
-            Ok(Some(line)) => match take_line::<L, T, O>(alloc, checker, observer, line) {
-                Ok(Lines::Good) => {}
-                Ok(Lines::Bad) => return Ok(Lines::Bad),
-                Err(fault) => return Err(fault),
+            Ok(Some(line)) => match take_line::<J, V>(alloc, keeps, checker, visitor, line) {
+                Ok(Taken::Good) => {}
+                Ok(Taken::Bad(last)) => return Ok(Taken::Bad(last)),
+                Err(halt) => return Err(halt),
             },
-            Ok(None) => return Ok(Lines::Good),
-            Err(SplitFault::TooLong) => return stopped(checker.too_long()),
-            Err(SplitFault::OutOfMemory) => return Err(AuditFault::OutOfMemory),
+            Ok(None) => return Ok(Taken::Good),
+            Err(SplitFault::TooLong) => match checker.too_long() {
+                Stop::Decided => return Ok(Taken::Bad(None)),
+                Stop::OutOfMemory => return Err(Halt::OutOfMemory),
+            },
+            Err(SplitFault::OutOfMemory) => return Err(Halt::OutOfMemory),
         }
     }
 }
 
-/// Takes what stands after the last LF, where nothing more comes.
-pub fn take_last<L: Judge + Drop, T: LineText<L>, O: Observer>(
+/// Takes what stands after the last LF, where nothing more comes, and hands out the line that is
+/// not good, where lines are kept.
+pub fn take_last<J: Judge + Drop, V: Visitor<J>>(
     alloc: Global,
+    keeps: bool,
     splitter: &mut Splitter,
-    checker: &mut Checker<L>,
-    observer: &mut O,
-) -> Result<Lines, AuditFault>
+    checker: &mut Checker<J>,
+    visitor: &mut V,
+) -> Result<Option<LastLine>, Halt<V::Fault>>
     requires ready { IsReady splitter.old }
     requires empty { HasNoLine splitter.old }
     requires whole { checker.old.failed ≡ false }
-    ensures ok { OnOk result ((checker.new.failed ≡ false)
-        × ((start : Option (List ℕ)) (bytes : List ℕ)
-        → Shown L.judges T.text splitter.old.bytes checker.old start (O.shown observer.old) bytes
-        → AnswersBy (by L.judges)
-        (Shows L.judges T.text checker.new start (O.shown observer.new)) bytes)) }
-    ensures begun { OnErr result ((start : Option (List ℕ)) (bytes : List ℕ)
-        → Shown L.judges T.text splitter.old.bytes checker.old start (O.shown observer.old) bytes
-        → Begins start (O.shown observer.new) (explanation.told T.text (by L.judges) bytes)) }
-    ensures failures { CountsFailure (O.failures observer.old) (O.failures observer.new) result }
+    ensures whole { IfOk result (λ last. checker.new.failed ≡ false) }
+    ensures ends { IfOk result (λ last. (begun : V) (bytes : List ℕ)
+        → Walked J.judges (V.covers begun) splitter.old.bytes checker.old visitor.old bytes
+        → Ends J.judges (V.covers begun) keeps checker.new visitor.new last bytes) }
+    ensures halted { IfErr result (λ halt. (begun : V) (bytes : List ℕ)
+        → Walked J.judges (V.covers begun) splitter.old.bytes checker.old visitor.old bytes
+        → HaltsIn (V.covers begun) (V.fails begun) visitor.new halt (lines bytes)) }
 {
     splitter.close();
     match splitter.next_line() {
-        Ok(Some(line)) => take_line::<L, T, O>(alloc, checker, observer, line),
-        Ok(None) => Ok(Lines::Good),
-        Err(SplitFault::TooLong) => stopped(checker.too_long()),
-        Err(SplitFault::OutOfMemory) => Err(AuditFault::OutOfMemory),
+        Ok(Some(line)) => match take_line::<J, V>(alloc, keeps, checker, visitor, line) {
+            Ok(Taken::Good) => Ok(None),
+            Ok(Taken::Bad(last)) => Ok(last),
+            Err(halt) => Err(halt),
+        },
+        Ok(None) => Ok(None),
+        Err(_) => Err(Halt::OutOfMemory),
     }
 }
 
 /// Hands the checker the next line, and shows it where it is good.
-fn take_line<L: Judge + Drop, T: LineText<L>, O: Observer>(
+fn take_line<J: Judge + Drop, V: Visitor<J>>(
     alloc: Global,
-    checker: &mut Checker<L>,
-    observer: &mut O,
+    keeps: bool,
+    checker: &mut Checker<J>,
+    visitor: &mut V,
     line: &[u8],
-) -> Result<Lines, AuditFault>
-    ensures whole { OnOk result (checker.new.failed ≡ false) }
-    ensures good { result ≡ Ok Lines.Good → (start : Option (List ℕ)) (ls : List (List ℕ))
-        → Shows L.judges T.text checker.old start (O.shown observer.old) ls
-        → Shows L.judges T.text checker.new start (O.shown observer.new) (ls ++ line.now ∷ [])
-        × AreGood (by L.judges) (ls ++ line.now ∷ []) }
-    ensures bad { result ≡ Ok Lines.Bad → (start : Option (List ℕ)) (ls : List (List ℕ))
-        → Shows L.judges T.text checker.old start (O.shown observer.old) ls
-        → Shows L.judges T.text checker.new start (O.shown observer.new) (ls ++ line.now ∷ [])
-        × AreDecided (by L.judges) (ls ++ line.now ∷ []) }
-    ensures begun { OnErr result ((start : Option (List ℕ)) (ls : List (List ℕ))
-        → Shows L.judges T.text checker.old start (O.shown observer.old) ls
-        → Begins start (O.shown observer.new)
-        (explanation.told_of T.text (by L.judges) (ls ++ line.now ∷ []))) }
-    ensures failures { CountsFailure (O.failures observer.old) (O.failures observer.new) result }
+) -> Result<Taken, Halt<V::Fault>>
+    ensures whole { IfOk result (λ taken. checker.new.failed ≡ false) }
+    ensures good { result ≡ Ok Taken.Good → (begun : V)
+        → VisitsGood J.judges (V.covers begun) checker.old checker.new visitor.old visitor.new
+        line.now }
+    ensures bad { (last : Option ALast) → result ≡ Ok (Taken.Bad last)
+        → TakesBad J.judges keeps checker.old checker.new line.now last
+        × (visitor.new ≡ visitor.old) }
+    ensures halted { IfErr result (λ halt. (begun : V) (ls : List (List ℕ))
+        → Covered J.judges (V.covers begun) checker.old visitor.old ls
+        → HaltsIn (V.covers begun) (V.fails begun) visitor.new halt (ls ++ line.now ∷ [])) }
 {
-    if !observer.looks() {
-        return taken(checker.push_line(line));
+    if !keeps && !visitor.looks() {
+        return unseen::<V::Fault>(checker.push_line(line));
     }
-    let said = match checker.push_line_said(line) {
-        Ok(said) => said,
-        Err(stop) => return stopped(stop),
-    };
-    match show_line::<L, T, O>(alloc, checker, observer, &said) {
-        Ok(()) => Ok(Lines::Good),
-        Err(fault) => Err(fault),
+    match checker.push_line_said(line) {
+        Pushed::Good(said) => show_line::<J, V>(checker, visitor, line, &said),
+        Pushed::Bad(said) => last_line::<V::Fault>(alloc, keeps, line, said),
+        Pushed::OutOfMemory => Err(Halt::OutOfMemory),
     }
 }
 
-/// Shows the line that says this and that the checker took last, where a header was read.
-fn show_line<L: Judge + Drop, T: LineText<L>, O: Observer>(
-    alloc: Global,
-    checker: &Checker<L>,
-    observer: &mut O,
+/// Shows the visitor the good line that the checker took last and that says this.
+fn show_line<J: Judge + Drop, V: Visitor<J>>(
+    checker: &Checker<J>,
+    visitor: &mut V,
+    line: &[u8],
     said: &Line,
-) -> Result<(), AuditFault>
-    requires fitting { line_fits said.now ≡ true }
+) -> Result<Taken, Halt<V::Fault>>
     requires whole { checker.now.failed ≡ false }
-    ensures ok { OnOk result ((header : Option Settings) (h : List AnEvent)
-        → HoldsRun L.judges checker.now.ledger header h
-        → Appends (O.shown observer.old) (O.shown observer.new)
-        (explanation.told_said T.text checker.now.lines (Ok said.now) header h)) }
-    ensures begun { OnErr result ((header : Option Settings) (h : List AnEvent)
-        → HoldsRun L.judges checker.now.ledger header h
-        → Begins (O.shown observer.old) (O.shown observer.new)
-        (explanation.told_said T.text checker.now.lines (Ok said.now) header h)) }
-    ensures failures { CountsFailure (O.failures observer.old) (O.failures observer.new) result }
+    requires says { reading line.now ≡ Ok said.now }
+    requires fitting { line_fits said.now ≡ true }
+    ensures shown { IfOk result (λ taken. (taken ≡ Taken.Good) × ((begun : V)
+        (ls : List (List ℕ)) → V.covers begun visitor.old ls
+        → StandsFor J.judges checker.now (ls ++ line.now ∷ [])
+        → AreGood (by J.judges) (ls ++ line.now ∷ [])
+        → V.covers begun visitor.new (ls ++ line.now ∷ []))) }
+    ensures halted { IfErr result (λ halt. (begun : V) (ls : List (List ℕ))
+        → V.covers begun visitor.old ls → StandsFor J.judges checker.now (ls ++ line.now ∷ [])
+        → AreGood (by J.judges) (ls ++ line.now ∷ [])
+        → HaltsAt (V.covers begun) (V.fails begun) visitor.new halt (ls ++ line.now ∷ [])) }
 {
-    if said.kind().is_none() {
-        return Ok(());
+    match visitor.visit(checker.line_count(), line, said, checker.ledger()) {
+        Ok(()) => Ok(Taken::Good),
+        Err(fault) => Err(Halt::Visitor(fault)),
     }
-    let Some(ledger) = checker.ledger() else {
-        return Ok(());
-    };
-    observer.see::<L, T>(alloc, checker.line_count(), said, ledger)
 }
 
-/// What a checker says of a line that nobody looks at.
-fn taken(pushed: Result<(), Stop>) -> Result<Lines, AuditFault>
-    ensures good { result ≡ Ok Lines.Good → IsOk pushed }
-    ensures bad { result ≡ Ok Lines.Bad → pushed ≡ Err Stop.Decided }
-    ensures memory { IfErr result (λ fault. (fault ≡ AuditFault.OutOfMemory)
-        × (pushed ≡ Err Stop.OutOfMemory)) }
+/// What a line is that nobody looks at.
+fn unseen<F>(pushed: Result<(), Stop>) -> Result<Taken, Halt<F>>
+    ensures { IsUnseen pushed result }
 {
     match pushed {
-        Ok(()) => Ok(Lines::Good),
-        Err(stop) => stopped(stop),
+        Ok(()) => Ok(Taken::Good),
+        Err(Stop::Decided) => Ok(Taken::Bad(None)),
+        Err(Stop::OutOfMemory) => Err(Halt::OutOfMemory),
     }
 }
 
-/// What a checker's stop says of the lines.
-fn stopped(stop: Stop) -> Result<Lines, AuditFault>
-    ensures decided { stop ≡ Stop.Decided → result ≡ Ok Lines.Bad }
-    ensures out_of_memory { stop ≡ Stop.OutOfMemory → result ≡ Err AuditFault.OutOfMemory }
+/// The line that is not good, and what was read of it, where lines are kept.
+fn last_line<F>(
+    alloc: Global,
+    keeps: bool,
+    line: &[u8],
+    said: Option<Line>,
+) -> Result<Taken, Halt<F>>
+    ensures bad { IfOk result (λ taken. IsKept keeps line.now said taken) }
+    ensures memory { IfErr result (λ halt. halt ≡ Halt.OutOfMemory) }
 {
-    match stop {
-        Stop::Decided => Ok(Lines::Bad),
-        Stop::OutOfMemory => Err(AuditFault::OutOfMemory),
+    if !keeps {
+        return Ok(Taken::Bad(None));
     }
+    match copied(alloc, line) {
+        Ok(bytes) => Ok(Taken::Bad(Some(LastLine { bytes, said }))),
+        Err(_) => Err(Halt::OutOfMemory),
+    }
+}
+
+/// The bytes of a line, of their own.
+fn copied(alloc: Global, line: &[u8]) -> Result<Vec<u8>, AllocError>
+    ensures { IfOk result (λ bytes. bytes.items ≡ line.now) }
+{
+    let mut bytes = Vec::new(alloc);
+    bytes.extend_from_slice(line)?;
+    Ok(bytes)
 }

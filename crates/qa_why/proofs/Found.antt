@@ -1,120 +1,188 @@
--- What is told of lines that are taken off bytes, with notes of the good ones.
-use Rattle.std.proofs.Common.{◌≡◌, ◌∙◌, ℕ, List, [], ◌∷◌, ◌++◌, ◌<◌, length, Bool, false, Option, Some, None, Result, Ok, Err, IfOk, sym, ap, subst}
-use Rattle.std.proofs.lemmas.List.{append-nil}
-use Rattle.std.specs.Prelude.{IfSome}
-use Rattle.qa_base.specs.machine.Packets.{history_of}
-use Rattle.qa_check.proofs.Following.{Taken, taken_last, taken_open}
-use Rattle.qa_check.specs.Audit.{outcome_of}
-use Rattle.qa_check.specs.declared.auditing.Outcome.{Outcome}
-use Rattle.qa_check.specs.Standing.{AddsBad, Held, HoldsRun, Judges, StandsFor, by}
-use Rattle.qa_format.proofs.verdicts.Cuts.{ended_snoc, first_line, first_line_is_long, lines_at_end, lines_at_lf, short_snoc}
-use Rattle.qa_format.proofs.verdicts.Fixed.{fixed_by_line}
-use Rattle.qa_format.specs.format.Lines.{cut, ended, has_lf, line_limit, lines, IsShortLine}
-use Rattle.qa_format.specs.format.Reading.{reading}
-use Rattle.qa_format.specs.verdicts.Verdict.{events_in, header_in, verdict, verdict_of, IsFixed}
+-- What is told of a walk that ended.
+use Rattle.std.proofs.Common.{◌≡◌, ◌∙◌, ◌+◌, ℕ, List, [], ◌∷◌, ◌++◌, ◌<◌, length, Bool, true, false, cond, Option, Some, None, Result, Ok, Err, is_some, refl, sym, ap}
+use Rattle.std.specs.Option.{option_or}
+use Rattle.std.specs.Prelude.{IfSome, IsSome, if◌then◌else◌, nat_le, nat_lt, unwrap_or}
+use Rattle.std.specs.Result.{result_ok}
 use Rattle.qa_base.specs.declared.event.Event.{Event}
+use Rattle.qa_base.specs.declared.rule.Rule.{Rule}
+use Rattle.qa_base.specs.declared.totals.Totals.{Totals}
+use Rattle.qa_base.specs.machine.Packets.{history_of}
 use Rattle.qa_base.specs.values.Settings.{Settings}
-use Rattle.qa_read.specs.Stream.{BeginsTooLong}
-use Rattle.qa_why.specs.Noting.{Follows, IsOutcome, IsText, Noted, NotesGood, TellsBad, TellsNoted}
+use Rattle.qa_check.specs.declared.taking.LastLine.{LastLine}
+use Rattle.qa_check.specs.declared.walking.Ended.{Ended}
+use Rattle.qa_check.specs.Places.{good_lines, judged_at}
+use Rattle.qa_check.specs.Standing.{HoldsRun, Judges, by}
+use Rattle.qa_check.specs.Walking.{HandsOut, HoldsGood, IsEnd}
+use Rattle.qa_format.specs.declared.fault.Fault.{Fault}
+use Rattle.qa_format.specs.declared.fault.Fault.TheVariants.{LineTooLong, TooManyLines}
 use Rattle.qa_format.specs.declared.form.Form.{Form}
-use Rattle.qa_why.proofs.Told.{good_at_end, good_at_line, holds_of_good, why_at_end, why_at_line, why_at_long}
+use Rattle.qa_format.specs.declared.line.Line.{Line}
+use Rattle.qa_format.specs.declared.line.Line.TheVariants as line
+use Rattle.qa_format.specs.declared.verdict.Verdict.{Verdict}
+use Rattle.qa_format.specs.declared.verdict.Verdict.TheVariants.{Accepted, Refused, Unreadable}
+use Rattle.qa_format.specs.format.Lines.{line_limit, lines}
+use Rattle.qa_format.specs.format.Reading.{reading}
+use Rattle.qa_format.specs.verdicts.Verdict.{Breaking, Judging, end_at, end_of, event_said, events_in, first_stop, header_in, said, stop_after, stop_at, unreadable, verdict, verdict_of}
+use Rattle.qa_check.proofs.Judged.{judged_good}
+use Rattle.qa_why.proofs.Told.{hidden_stop, same_hidden}
+use Rattle.qa_why.specs.Ending.{CanRefuse, IsEvent, event_of, told_of_end}
+use Rattle.qa_why.specs.Why.{event_text, told, told_at, why_by}
 
--- what holds of what is found holds of it in other words
-pub tell : {A E : Type 0} (r : Result (Option A) E) (s : Result A E) (P Q R : A → Type 0) → IfOk r (λ found. IfSome found (λ x. s ≡ Ok x)) → IfOk s P → IfOk s Q → ((x : A) → P x → Q x → R x)
-    → IfOk r (λ found. IfSome found R)
-tell (Ok (Some x)) s P Q R same p q more = more x (subst (λ t. IfOk t P) same p) (subst (λ t. IfOk t Q) same q)
-tell (Ok None) s P Q R same p q more = tt
-tell (Err e) s P Q R same p q more = tt
+-- ---- the verdict of a place
 
-pub if_both : {A E : Type 0} (s : Result A E) (P Q R : A → Type 0) → IfOk s P → IfOk s Q → ((x : A) → P x → Q x → R x) → IfOk s R
-if_both (Ok x) P Q R p q more = more x p q
-if_both (Err e) P Q R p q more = tt
+abbrev pub Place : Type 0
+Place = List (List ℕ) × Option (List ℕ)
 
--- ---- before the end
+-- at the line that is not good
+abbrev pub StopsThere : Judging → Place → Option Verdict → Type 0
+StopsThere judging (before, Some l) v = (stop_after judging before l ≡ v) × IsSome v
+StopsThere judging (before, None) v = v ≡ None
 
--- a line that is not good
-pub told_line : {L N : Type 0} (judges : Judges L) (covers : N → List (List ℕ) → Type 0) (old new : Held L) (notes : N) (form : Form) (name rest rest' l text : List ℕ) (outcome : Outcome) (closed : Bool)
-    → IsShortLine l → Taken rest l rest' closed → closed ≡ false → TellsBad judges old new form name l outcome text
-    → (bytes : List ℕ) → Follows judges covers rest old notes bytes → IsFixed (by judges) bytes × TellsNoted (by judges) covers form name outcome text notes bytes
-told_line {L = L} judges covers old new notes form name rest rest' l text outcome closed is_line t open_yet bad bytes f =
-    let q = bad.0.1 f.0 f.1.0 in
-    let fixed = fixed_by_line (by judges) (f.0 ++ l ∷ []) rest' bytes (short_snoc f.0 l f.3 is_line) q.1 (ended_snoc f.0 l rest' bytes (f.4 ∙ ap (λ k. ended f.0 ++ k) (taken_open rest l rest' closed t open_yet))) in
-    let h = history_of (events_in reading f.0) in
-    let held = subst (λ (ledger : Option L). HoldsRun judges ledger (header_in reading f.0) h) (sym bad.1) (holds_of_good judges old f.0 f.1.0 f.2) in
-    let there = good_at_line (by judges) bytes f.0 fixed.2 l f.2 q.1 fixed.3 in (
-      fixed.0,
-      (
-        (bad.3 (f.0 ++ l ∷ []) (header_in reading f.0) h q.0 held ∙ sym (why_at_line (by judges) form name bytes f.0 fixed.2 l f.2 q.1 fixed.3 fixed.1), bad.2 (f.0 ++ l ∷ []) q.0 ∙ ap outcome_of fixed.1),
-        subst (λ (ls : List (List ℕ)). covers notes ls) (sym there) f.1.1,
-      ),
-    )
+pub stop_of_place : (judging : Judging) (before ls : List (List ℕ)) → StopsThere judging (judged_at judging before ls) (first_stop judging before ls)
+stop_of_place judging before [] = refl
+stop_of_place judging before (m ∷ ls) = either (stop_after judging before m) refl (stop_of_place judging (before ++ m ∷ []) ls)
+  where
+    either : (o : Option Verdict) → stop_after judging before m ≡ o → StopsThere judging (judged_at judging (before ++ m ∷ []) ls) (first_stop judging (before ++ m ∷ []) ls)
+        → StopsThere judging (if is_some o then (before, Some m) else judged_at judging (before ++ m ∷ []) ls) (option_or o (first_stop judging (before ++ m ∷ []) ls))
+    either None is later = later
+    either (Some v) is later = (is, refl)
 
--- a line that is too long
-pub told_too_long : {L N : Type 0} (judges : Judges L) (covers : N → List (List ℕ) → Type 0) (old new : Held L) (notes : N) (form : Form) (name rest text : List ℕ) (outcome : Outcome) (b : BeginsTooLong rest)
-    → ((l : List ℕ) → line_limit < length l → AddsBad judges old new l) → new.ledger ≡ old.ledger → IsOutcome judges new outcome → IsText judges new form name None text
-    → (bytes : List ℕ) → Follows judges covers rest old notes bytes → IsFixed (by judges) bytes × TellsNoted (by judges) covers form name outcome text notes bytes
-told_too_long {L = L} judges covers old new notes form name rest text outcome b bad kept is_outcome is_text bytes f =
-    let l = first_line b.0 (cut b.1) in
-    let q = (bad l (first_line_is_long b.0 (cut b.1) b.3)).1 f.0 f.1.0 in
-    let there = why_at_long (by judges) form name bytes rest f.0 b f.3 f.2 f.4 q.1 in
-    let h = history_of (events_in reading f.0) in
-    let held = subst (λ (ledger : Option L). HoldsRun judges ledger (header_in reading f.0) h) (sym kept) (holds_of_good judges old f.0 f.1.0 f.2) in (
-      there.0,
-      (
-        (is_text (f.0 ++ l ∷ []) (header_in reading f.0) h q.0 held ∙ sym there.2, is_outcome (f.0 ++ l ∷ []) q.0 ∙ ap outcome_of there.1),
-        subst (λ (ls : List (List ℕ)). covers notes ls) (sym there.3) f.1.1,
-      ),
-    )
+-- ---- a refusal
 
--- ---- at the end
+-- what is refused at a line is an event behind a header
+refused_there : (breaks : Breaking) (n k : ℕ) (r : Rule) (t : Totals) (header : Option Settings) (h : List Event) (says : Result Line Fault) → stop_at breaks k header h says ≡ Some (Refused n r t)
+    → IsSome header × IfSome (result_ok says) IsEvent × IsSome (result_ok says)
+refused_there breaks n k r t header h (Err f) is = cc
+refused_there breaks n k r t header h (Ok line.Blank) is = cc
+refused_there breaks n k r t None h (Ok (line.Header c)) is = cc
+refused_there breaks n k r t (Some d) h (Ok (line.Header c)) is = cc
+refused_there breaks n k r t None h (Ok (line.Event e)) is = cc
+refused_there breaks n k r t (Some c) h (Ok (line.Event e)) is = (refl, tt, refl)
 
--- the last line, which no LF ends, is not good
-pub told_last_bad : {L N : Type 0} (judges : Judges L) (covers : N → List (List ℕ) → Type 0) (old new : Held L) (notes : N) (form : Form) (name rest rest' l text : List ℕ) (outcome : Outcome) (closed : Bool)
-    → IsShortLine l → Taken rest l rest' closed → has_lf rest ≡ false → TellsBad judges old new form name l outcome text
-    → (bytes : List ℕ) → Follows judges covers rest old notes bytes → TellsNoted (by judges) covers form name outcome text notes bytes
-told_last_bad {L = L} judges covers old new notes form name rest rest' l text outcome closed is_line t none bad bytes f =
-    let last = taken_last rest l rest' closed t none in
-    let q = bad.0.1 f.0 f.1.0 in
-    let all : lines bytes ≡ f.0 ++ l ∷ [] = lines_at_end f.0 l bytes f.3 (f.4 ∙ ap (λ k. ended f.0 ++ k) last.1) is_line.0 last.0 in
-    let same : verdict_of (by judges) (f.0 ++ l ∷ []) ≡ verdict (by judges) bytes = ap (verdict_of (by judges)) (sym all) in
-    let h = history_of (events_in reading f.0) in
-    let held = subst (λ (ledger : Option L). HoldsRun judges ledger (header_in reading f.0) h) (sym bad.1) (holds_of_good judges old f.0 f.1.0 f.2) in
-    let are = all ∙ sym (append-nil (f.0 ++ l ∷ [])) in
-    let there = good_at_line (by judges) bytes f.0 [] l f.2 q.1 are in (
-      (
-        bad.3 (f.0 ++ l ∷ []) (header_in reading f.0) h q.0 held ∙ sym (why_at_line (by judges) form name bytes f.0 [] l f.2 q.1 are same),
-        bad.2 (f.0 ++ l ∷ []) q.0 ∙ ap outcome_of same,
-      ),
-      subst (λ (ls : List (List ℕ)). covers notes ls) (sym there) f.1.1,
-    )
+refused_after : (judging : Judging) (before : List (List ℕ)) (l : List ℕ) (n : ℕ) (r : Rule) (t : Totals) → stop_after judging before l ≡ Some (Refused n r t)
+    → IsSome (header_in judging.says before) × IfSome (result_ok (said judging.says (length before) l)) IsEvent × IsSome (result_ok (said judging.says (length before) l))
+unfolding stop_after
+refused_after judging before l n r t is = refused_there judging.breaks n (length before + 1) r t (header_in judging.says before) (history_of (events_in judging.says before)) (said judging.says (length before) l) is
 
--- it is good
-pub told_last_good : {L N : Type 0} (judges : Judges L) (covers : N → List (List ℕ) → Type 0) (old new : Held L) (notes notes' : N) (form : Form) (name rest rest' l text : List ℕ) (outcome : Outcome) (closed : Bool)
-    → IsShortLine l → Taken rest l rest' closed → has_lf rest ≡ false → NotesGood judges covers old new notes notes' l → IsOutcome judges new outcome → IsText judges new form name None text
-    → (bytes : List ℕ) → Follows judges covers rest old notes bytes → TellsNoted (by judges) covers form name outcome text notes' bytes
-told_last_good judges covers old new notes notes' form name rest rest' l text outcome closed is_line t none good is_outcome is_text bytes f =
-    let last = taken_last rest l rest' closed t none in
-    let q = good f.0 f.1 in
-    let ls = f.0 ++ l ∷ [] in
-    let all : lines bytes ≡ f.0 ++ l ∷ [] = lines_at_end f.0 l bytes f.3 (f.4 ∙ ap (λ k. ended f.0 ++ k) last.1) is_line.0 last.0 in
-    let there = good_at_end (by judges) bytes ls q.1 all in (
-      (
-        is_text ls _ _ q.0.0 (holds_of_good judges new ls q.0.0 q.1) ∙ sym (why_at_end (by judges) form name bytes ls q.1 all),
-        is_outcome ls q.0.0 ∙ ap (λ (k : List (List ℕ)). outcome_of (verdict_of (by judges) k)) (sym all),
-      ),
-      subst (λ (k : List (List ℕ)). covers notes' k) (sym there) q.0.1,
-    )
+-- the end is refused behind a header
+refused_at_end : (n last m : ℕ) (r : Rule) (t : Totals) (header : Option Settings) (h : List Event) → end_at n last header h ≡ Refused m r t → IsSome header
+refused_at_end n last m r t None h is = cc
+refused_at_end n last m r t (Some c) h is = refl
 
--- nothing stands behind the last LF
-pub told_at_end : {L N : Type 0} (judges : Judges L) (covers : N → List (List ℕ) → Type 0) (held : Held L) (notes : N) (form : Form) (name rest text : List ℕ) (outcome : Outcome) → rest ≡ []
-    → IsOutcome judges held outcome → IsText judges held form name None text
-    → (bytes : List ℕ) → Follows judges covers rest held notes bytes → TellsNoted (by judges) covers form name outcome text notes bytes
-told_at_end judges covers held notes form name rest text outcome none is_outcome is_text bytes f =
-    let all : lines bytes ≡ f.0 = lines_at_lf f.0 rest bytes f.3 f.4 none in
-    let there = good_at_end (by judges) bytes f.0 f.2 all in (
-      (
-        is_text f.0 _ _ f.1.0 (holds_of_good judges held f.0 f.1.0 f.2) ∙ sym (why_at_end (by judges) form name bytes f.0 f.2 all),
-        is_outcome f.0 f.1.0 ∙ ap (λ (k : List (List ℕ)). outcome_of (verdict_of (by judges) k)) (sym all),
-      ),
-      subst (λ (ls : List (List ℕ)). covers notes ls) (sym there) f.1.1,
-    )
+-- without a judge there is no header
+judged : {J : Type 0} (judges : Judges J) (judge : Option J) (header : Option Settings) (h : List Event) → HoldsRun judges judge header h → IsSome header → IsSome judge
+judged judges None header h holds some = cc
+judged judges (Some j) header h holds some = refl
+
+-- where the verdict is that an event or the end is refused there is a judge, and the line that is handed out says an event
+refuse_at : {J : Type 0} (judges : Judges J) (judge : Option J) (last : Option LastLine) (ls : List (List ℕ)) (place : Place) (first : Option Verdict) (n : ℕ) (r : Rule) (t : Totals)
+    → StopsThere (by judges) place first → unwrap_or first (end_of reading ls) ≡ Refused n r t → (first ≡ None → place.0 ≡ ls)
+    → HoldsRun judges judge (header_in reading place.0) (history_of (events_in reading place.0)) → HandsOut last place
+    → IsSome judge × IfSome last (λ x. IfSome x.said IsEvent × IsSome x.said)
+refuse_at judges judge (Some x) ls (before, Some l) None n r t there is all holds hands = cc
+refuse_at judges judge (Some x) ls (before, Some l) (Some w) n r t there is all holds hands =
+    let same : l ≡ x.bytes.items = cc in
+    let refused = refused_after (by judges) before l n r t (there.0 ∙ ap Some is) in
+    let says : x.said ≡ result_ok (said reading (length before) l) = hands.1.1 ∙ ap (λ (m : List ℕ). result_ok (said reading (length before) m)) (sym same) in
+    (judged judges judge (header_in reading before) (history_of (events_in reading before)) holds refused.0, rw says (refused.1, refused.2))
+refuse_at judges judge None ls (before, Some l) None n r t there is all holds hands = cc
+refuse_at judges judge None ls (before, Some l) (Some w) n r t there is all holds hands =
+    let hidden = hidden_stop (by judges) before l hands in
+    absurd (readable n r t _ _ _ _ (sym is ∙ some_of (sym there.0 ∙ hidden.1)))
+  where
+    some_of : {A : Type 0} {x y : A} → ◌≡◌ {A = Option A} (Some x) (Some y) → x ≡ y
+    some_of same = cc
+
+    readable : (n : ℕ) (r : Rule) (t : Totals) (m : ℕ) (header : Option Settings) (h : List Event) (f : Fault) → Refused n r t ≡ unreadable m header h f → ⊥
+    readable n r t m header h f same = cc
+refuse_at judges judge (Some x) ls (before, None) first n r t there is all holds hands = cc
+refuse_at judges judge None ls (before, None) first n r t there is all holds hands =
+    let end : end_of reading ls ≡ Refused n r t = rw there at is in
+    let some = refused_at_end _ _ n r t (header_in reading ls) (history_of (events_in reading ls)) end in
+    let same = all there in
+    (judged judges judge (header_in reading before) (history_of (events_in reading before)) holds (rw same some), tt)
+
+all_good : (judging : Judging) (ls : List (List ℕ)) → first_stop judging [] ls ≡ None → (judged_at judging [] ls).0 ≡ ls
+all_good judging ls good = ap (λ (p : Place). p.0) (judged_good judging [] ls good)
+
+can_refuse_by : {J : Type 0} (judges : Judges J) (judge : Option J) (last : Option LastLine) (v : Verdict) (bytes : List ℕ) → v ≡ verdict (by judges) bytes → HoldsGood judges judge bytes
+    → HandsOut last (judged_at (by judges) [] (lines bytes)) → CanRefuse v judge last
+unfolding verdict_of
+can_refuse_by judges judge last (Accepted t) bytes is holds hands = tt
+can_refuse_by judges judge last (Refused n r t) bytes is holds hands =
+    refuse_at judges judge last (lines bytes) (judged_at (by judges) [] (lines bytes)) (first_stop (by judges) [] (lines bytes)) n r t (stop_of_place (by judges) [] (lines bytes)) (sym is)
+    (all_good (by judges) (lines bytes)) holds hands
+can_refuse_by judges judge last (Unreadable n f t) bytes is holds hands = tt
+
+pub can_refuse : {J : Type 0} (judges : Judges J) (ended : Ended J) (bytes : List ℕ) → IsEnd judges true ended bytes → CanRefuse ended.verdict ended.judge ended.line
+can_refuse judges ended bytes end = can_refuse_by judges ended.judge ended.line ended.verdict bytes end.0 end.1 (end.2 refl)
+
+-- ---- what is told of what is handed out
+
+some_of : {A : Type 0} {x y : A} → ◌≡◌ {A = Option A} (Some x) (Some y) → x ≡ y
+some_of same = cc
+
+-- the event that is read of a line is the one that it says
+event_read : (many long : Bool) (f k : Fault) (r : Result Line Fault) → IsSome (result_ok (cond {A = Result Line Fault} many (Err f) (cond {A = Result Line Fault} long (Err k) r)))
+    → event_of (result_ok (cond {A = Result Line Fault} many (Err f) (cond {A = Result Line Fault} long (Err k) r))) ≡ event_said r
+event_read true long f k r some = cc
+event_read false true f k r some = cc
+event_read false false f k (Err e) some = cc
+event_read false false f k (Ok line.Blank) some = refl
+event_read false false f k (Ok (line.Header c)) some = refl
+event_read false false f k (Ok (line.Event e)) some = refl
+
+event_of_said : (n : ℕ) (l : List ℕ) → IsSome (result_ok (said reading n l)) → event_of (result_ok (said reading n l)) ≡ event_said (reading l)
+unfolding said
+event_of_said n l some = event_read (nat_le 4294967295 n) (nat_lt 65536 (length l)) TooManyLines LineTooLong (reading l) some
+
+-- at the line that is handed out
+told_shown : {J : Type 0} (judges : Judges J) (form : Form) (name : List ℕ) (x : LastLine) (before : List (List ℕ)) (v : Verdict) → stop_after (by judges) before x.bytes.items ≡ Some v
+    → x.said ≡ result_ok (said reading (length before) x.bytes.items)
+    → told_of_end form name v (header_in reading before) (history_of (events_in reading before)) (Some x) ≡ told form name v (header_in reading before) (history_of (events_in reading before)) (Some x.bytes.items)
+told_shown judges form name x before (Accepted t) stop read = refl
+told_shown judges form name x before (Refused n r t) stop read =
+    let refused = refused_after (by judges) before x.bytes.items n r t stop in
+    let says : event_of x.said ≡ event_said (reading x.bytes.items) = ap event_of read ∙ event_of_said (length before) x.bytes.items refused.2 in
+    ap (λ e. event_text form name n r (header_in reading before) (history_of (events_in reading before)) e x.bytes.items) says
+told_shown judges form name x before (Unreadable n f t) stop read = refl
+
+-- at a line that is too long
+told_hidden : {J : Type 0} (judges : Judges J) (form : Form) (name : List ℕ) (before : List (List ℕ)) (l : List ℕ) (v : Verdict) → stop_after (by judges) before l ≡ Some v → line_limit < length l
+    → told_of_end form name v (header_in reading before) (history_of (events_in reading before)) None ≡ told form name v (header_in reading before) (history_of (events_in reading before)) (Some l)
+told_hidden judges form name before l v stop long =
+    let hidden = hidden_stop (by judges) before l long in
+    let is : v ≡ unreadable (length before + 1) (header_in reading before) (history_of (events_in reading before)) hidden.0 = some_of (sym stop ∙ hidden.1) in
+    rw is (sym (same_hidden form name (length before + 1) hidden.0 _ (Some l) hidden.2))
+
+told_none : (form : Form) (name : List ℕ) (v : Verdict) (header : Option Settings) (h : List Event) → told_of_end form name v header h None ≡ told form name v header h None
+told_none form name (Accepted t) header h = refl
+told_none form name (Refused n r t) header h = refl
+told_none form name (Unreadable n f t) header h = refl
+
+told_there : {J : Type 0} (judges : Judges J) (form : Form) (name : List ℕ) (last : Option LastLine) (all : Verdict) (place : Place) (first : Option Verdict) (v : Verdict)
+    → StopsThere (by judges) place first → unwrap_or first all ≡ v → HandsOut last place
+    → told_of_end form name v (header_in reading place.0) (history_of (events_in reading place.0)) last ≡ told form name v (header_in reading place.0) (history_of (events_in reading place.0)) place.1
+told_there judges form name (Some x) all (before, Some l) None v there is hands = cc
+told_there judges form name (Some x) all (before, Some l) (Some w) v there is hands =
+    let same : l ≡ x.bytes.items = cc in
+    let stop : stop_after (by judges) before l ≡ Some v = there.0 ∙ ap Some is in
+    rw same (told_shown judges form name x before v (rw same at stop) hands.1.1)
+told_there judges form name None all (before, Some l) None v there is hands = cc
+told_there judges form name None all (before, Some l) (Some w) v there is hands = told_hidden judges form name before l v (there.0 ∙ ap Some is) hands
+told_there judges form name (Some x) all (before, None) first v there is hands = cc
+told_there judges form name None all (before, None) first v there is hands = told_none form name v _ _
+
+told_by : {J : Type 0} (judges : Judges J) (form : Form) (name : List ℕ) (last : Option LastLine) (v : Verdict) (bytes : List ℕ) → v ≡ verdict (by judges) bytes
+    → HandsOut last (judged_at (by judges) [] (lines bytes))
+    → told_of_end form name v (header_in reading (good_lines (by judges) bytes)) (history_of (events_in reading (good_lines (by judges) bytes))) last ≡ told_at (by judges) form name v (judged_at (by judges) [] (lines bytes))
+unfolding verdict_of
+told_by judges form name last v bytes is hands =
+    told_there judges form name last (end_of reading (lines bytes)) (judged_at (by judges) [] (lines bytes)) (first_stop (by judges) [] (lines bytes)) v (stop_of_place (by judges) [] (lines bytes)) (sym is) hands
+
+-- what is told of a walk that ended is told of the bytes
+pub ended_tells : {J : Type 0} (judges : Judges J) (form : Form) (name : List ℕ) (ended : Ended J) (bytes : List ℕ) → IsEnd judges true ended bytes
+    → told_of_end form name ended.verdict (header_in reading (good_lines (by judges) bytes)) (history_of (events_in reading (good_lines (by judges) bytes))) ended.line ≡ why_by (by judges) form name bytes
+unfolding why_by
+ended_tells judges form name ended bytes end =
+    told_by judges form name ended.line ended.verdict bytes end.0 (end.2 refl) ∙ ap (λ v. told_at (by judges) form name v (judged_at (by judges) [] (lines bytes))) end.0

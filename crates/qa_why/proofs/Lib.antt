@@ -1,5 +1,4 @@
 mod Among
-mod Judged
 pub mod Told
-mod Found
+pub mod Found
 pub mod suggest_lemmas

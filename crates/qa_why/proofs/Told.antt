@@ -3,72 +3,31 @@ use Rattle.std.proofs.Common.{◌≡◌, ◌∙◌, ◌+◌, ◌<◌, inl, inr, 
 use Rattle.std.proofs.lemmas.Bool.{lt-ltb}
 use Rattle.std.proofs.lemmas.List.{append-nil}
 use Rattle.std.specs.List.{AllByRecursion}
-use Rattle.std.specs.Prelude.{IsSome, nat_le, nat_lt, option_map}
+use Rattle.std.specs.Prelude.{nat_le, nat_lt, option_map}
 use Rattle.qa_base.specs.declared.event.Event.{Event}
 use Rattle.qa_base.specs.machine.Packets.{history_of}
 use Rattle.qa_base.specs.machine.State.{totals}
 use Rattle.qa_base.specs.values.Settings.{Settings}
 use Rattle.qa_check.specs.Audit.{ReadsEnoughBy}
-use Rattle.qa_check.specs.Standing.{Held, HoldsRun, Judges, StandsBy, StandsFor, by}
 use Rattle.qa_format.specs.declared.fault.Fault.{Fault}
 use Rattle.qa_format.specs.declared.fault.Fault.TheVariants.{LineTooLong, TooManyLines}
 use Rattle.qa_format.specs.declared.line.Line.{Line}
-use Rattle.qa_format.specs.declared.verdict.Verdict.{Verdict}
 use Rattle.qa_format.specs.format.Lines.{line_limit, cut, ended_lines, unended, last_line, lines, ended, IsShortLine}
 use Rattle.qa_format.specs.format.Reading.{reading}
-use Rattle.qa_format.specs.verdicts.Verdict.{Judging, Reading, strict, header_in, events_in, said, stop_after, first_stop, verdict_of, verdict, unreadable, AreGood, AreDecided, IsFixed}
+use Rattle.qa_format.specs.verdicts.Verdict.{Judging, Reading, header_in, events_in, said, stop_after, first_stop, verdict_of, verdict, unreadable, AreGood, AreDecided, IsFixed}
 use Rattle.qa_format.proofs.verdicts.Cuts.{lines_append, last_line_at, first_line, first_line_is_long, first_line_stands}
 use Rattle.qa_format.proofs.verdicts.Fixed.{fixed_by_length, fixed_stays}
 use Rattle.qa_format.proofs.verdicts.Stops.{first_stop-snoc, no_stop_or_stop, verdict_at_stop, verdict_stays}
 use Rattle.qa_read.specs.Stream.{BeginsTooLong}
 use Rattle.qa_why.specs.Texts.{seen, unreadable_text}
-use Rattle.qa_why.specs.Why.{good_lines, judged_at, told, told_at, unreadable_in, why_by}
+use Rattle.qa_check.specs.Places.{good_lines, judged_at}
+use Rattle.qa_why.specs.Why.{told, told_at, unreadable_in, why_by}
 use Rattle.qa_format.specs.declared.form.Form.{Form}
 use Rattle.qa_format.specs.declared.form.Form.TheVariants as forms
-use Rattle.qa_why.proofs.Judged.{Place, judged_bad, judged_good, judged_stays}
-
--- ---- what a checker of good lines holds
-
-not_both : (o : Option Verdict) → o ≡ None → IsSome o → ⊥
-not_both None none some = cc
-not_both (Some v) none some = cc
-
-open_by : {L : Type 0} (judges : Judges L) (v : Option Verdict) (ledger : Option L) (count last : ℕ) (ls : List (List ℕ)) → StandsBy judges v ledger count last ls → AreGood (by judges) ls
-    → HoldsRun judges ledger (header_in reading ls) (history_of (events_in reading ls))
-open_by judges None ledger count last ls is good = is.1
-open_by judges (Some v) ledger count last ls is good = absurd (not_both (first_stop (by judges) [] ls) good is.0)
-
--- the ledger of their events
-pub holds_of_good : {L : Type 0} (judges : Judges L) (held : Held L) (ls : List (List ℕ)) → StandsFor judges held ls → AreGood (by judges) ls
-    → HoldsRun judges held.ledger (header_in reading ls) (history_of (events_in reading ls))
-holds_of_good judges held ls is good = open_by judges held.verdict held.ledger held.lines held.last_event ls is good
-
-lines_by : {L : Type 0} (judges : Judges L) (v : Option Verdict) (ledger : Option L) (count last : ℕ) (ls : List (List ℕ)) → StandsBy judges v ledger count last ls → AreGood (by judges) ls → count ≡ length ls
-lines_by judges None ledger count last ls is good = is.2
-lines_by judges (Some v) ledger count last ls is good = absurd (not_both (first_stop (by judges) [] ls) good is.0)
-
--- how many they are
-pub lines_of_good : {L : Type 0} (judges : Judges L) (held : Held L) (ls : List (List ℕ)) → StandsFor judges held ls → AreGood (by judges) ls → held.lines ≡ length ls
-lines_of_good judges held ls is good = lines_by judges held.verdict held.ledger held.lines held.last_event ls is good
+use Rattle.qa_check.proofs.Judged.{judged_stays, place_at_end, place_at_line}
+pub use Rattle.qa_check.proofs.Judged.{good_at_end, good_at_line, good_stays, told_alike, told_good, told_verdict}
 
 -- ---- at a line, and at the end
-
-stop_behind : (judging : Judging) (ls : List (List ℕ)) (l : List ℕ) → AreGood judging ls → AreDecided judging (ls ++ l ∷ []) → is_some (stop_after judging ls l) ≡ true
-stop_behind judging ls l good bad = ap is_some (sym (first_stop-snoc judging [] ls l good)) ∙ bad
-
--- the good lines of bytes in which one is not good
-pub good_at_line : (judging : Judging) (bytes : List ℕ) (ls more : List (List ℕ)) (l : List ℕ) → AreGood judging ls → AreDecided judging (ls ++ l ∷ []) → lines bytes ≡ (ls ++ l ∷ []) ++ more
-    → good_lines judging bytes ≡ ls
-good_at_line judging bytes ls more l good bad are =
-    let place : judged_at judging [] (lines bytes) ≡ (ls, Some l) =
-    ap (judged_at judging []) (are ∙ append_assoc ls (l ∷ []) more) ∙ judged_bad judging [] ls more l good (stop_behind judging ls l good bad) in
-    ap (λ (p : Place). p.0) place
-
--- and of bytes in which all are
-pub good_at_end : (judging : Judging) (bytes : List ℕ) (ls : List (List ℕ)) → AreGood judging ls → lines bytes ≡ ls → good_lines judging bytes ≡ ls
-good_at_end judging bytes ls good are =
-    let place : judged_at judging [] (lines bytes) ≡ (ls, None) = ap (judged_at judging []) are ∙ judged_good judging [] ls good in
-    ap (λ (p : Place). p.0) place
 
 -- a line that is not good, behind good ones
 pub why_at_line : (judging : Judging) (form : Form) (name bytes : List ℕ) (ls more : List (List ℕ)) (l : List ℕ) → AreGood judging ls → AreDecided judging (ls ++ l ∷ []) → lines bytes ≡ (ls ++ l ∷ []) ++ more
@@ -76,8 +35,7 @@ pub why_at_line : (judging : Judging) (form : Form) (name bytes : List ℕ) (ls 
     → why_by judging form name bytes ≡ told form name (verdict_of judging (ls ++ l ∷ [])) (header_in judging.says ls) (history_of (events_in judging.says ls)) (Some l)
 unfolding why_by
 why_at_line judging form name bytes ls more l good bad are same =
-    let place : judged_at judging [] (lines bytes) ≡ (ls, Some l) =
-    ap (judged_at judging []) (are ∙ append_assoc ls (l ∷ []) more) ∙ judged_bad judging [] ls more l good (stop_behind judging ls l good bad) in
+    let place = place_at_line judging bytes ls more l good bad are in
     ap (told_at judging form name (verdict judging bytes)) place ∙ ap (λ v. told form name v (header_in judging.says ls) (history_of (events_in judging.says ls)) (Some l)) (sym same)
 
 -- good lines are all
@@ -85,7 +43,7 @@ pub why_at_end : (judging : Judging) (form : Form) (name bytes : List ℕ) (ls :
     → why_by judging form name bytes ≡ told form name (verdict_of judging ls) (header_in judging.says ls) (history_of (events_in judging.says ls)) None
 unfolding why_by
 why_at_end judging form name bytes ls good are =
-    let place : judged_at judging [] (lines bytes) ≡ (ls, None) = ap (judged_at judging []) are ∙ judged_good judging [] ls good in
+    let place = place_at_end judging bytes ls good are in
     ap (told_at judging form name (verdict judging bytes)) place ∙ ap (λ (all : List (List ℕ)). told form name (verdict_of judging all) (header_in judging.says ls) (history_of (events_in judging.says ls)) None) are
 
 -- ---- lines that are too long
@@ -101,12 +59,12 @@ hidden_said reading n l long =
     let is : nat_lt 65536 (length l) ≡ true = lt-ltb 65536 (length l) long in
     rw is (hidden_either (nat_le 4294967295 n))
 
-hidden_stop : (judging : Judging) (ls : List (List ℕ)) (l : List ℕ) → line_limit < length l
+pub hidden_stop : (judging : Judging) (ls : List (List ℕ)) (l : List ℕ) → line_limit < length l
     → (f : Fault) × (stop_after judging ls l ≡ Some (unreadable (length ls + 1) (header_in judging.says ls) (history_of (events_in judging.says ls)) f)) × ((line : Option (List ℕ)) → seen f line ≡ None)
 unfolding stop_after
 hidden_stop judging ls l long = let said_so = hidden_said judging.says (length ls) l long in (said_so.0, rw said_so.1 refl, said_so.2)
 
-same_hidden : (form : Form) (name : List ℕ) (n : ℕ) (f : Fault) (headed : Bool) (line : Option (List ℕ)) → ((line : Option (List ℕ)) → seen f line ≡ None)
+pub same_hidden : (form : Form) (name : List ℕ) (n : ℕ) (f : Fault) (headed : Bool) (line : Option (List ℕ)) → ((line : Option (List ℕ)) → seen f line ≡ None)
     → unreadable_in form name n f headed line ≡ unreadable_in form name n f headed None
 unfolding unreadable_text
 same_hidden forms.Text name n f headed line hides = rw (hides line, hides None) refl
@@ -190,67 +148,10 @@ stays judging form name f g fixed by = elim by [
 pub why_stays : (judging : Judging) (form : Form) (name f g : List ℕ) → IsFixed judging f → why_by judging form name (f ++ g) ≡ why_by judging form name f
 why_stays judging form name f g fixed = stays judging form name f g fixed fixed
 
--- ---- good lines behind those that fix the verdict
-
-good_stays_by_line : (judging : Judging) (f g : List ℕ) → AreDecided judging (ended_lines f) → good_lines judging (f ++ g) ≡ good_lines judging f
-good_stays_by_line judging f g bad =
-    let more = ap (judged_at judging []) (lines_append f g) ∙ judged_stays judging [] (ended_lines f) _ bad in
-    let own = judged_stays judging [] (ended_lines f) (last_line (unended f)) bad in
-    ap (λ (p : Place). p.0) (more ∙ sym own)
-
--- behind good lines one is too long
-decided_by_long : (judging : Judging) (ls : List (List ℕ)) (l : List ℕ) → AreGood judging ls → line_limit < length l → AreDecided judging (ls ++ l ∷ [])
-decided_by_long judging ls l good long =
-    let stop = hidden_stop judging ls l long in
-    let bad : first_stop judging [] (ls ++ l ∷ []) ≡ Some (unreadable (length ls + 1) (header_in judging.says ls) (history_of (events_in judging.says ls)) stop.0) = first_stop-snoc judging [] ls l good ∙ stop.1 in
-    rw bad refl
-
-good_stays_by_length : (judging : Judging) (f g : List ℕ) → line_limit < length (unended f) → AreGood judging (ended_lines f) → good_lines judging (f ++ g) ≡ good_lines judging f
-good_stays_by_length judging f g long good =
-    let ls = ended_lines f in
-    let next = first_line_stands (unended f) (cut g) long in
-    let l = first_line (unended f) (cut g) in
-    let longer : lines (f ++ g) ≡ (ls ++ l ∷ []) ++ next.0 = lines_append f g ∙ (ap (λ k. ls ++ k) next.1 ∙ sym (append_assoc ls (l ∷ []) next.0)) in
-    let own : lines f ≡ (ls ++ unended f ∷ []) ++ [] = ap (λ k. ls ++ k) (last_line_at (unended f) (omega arith)) ∙ sym (append-nil (ls ++ unended f ∷ [])) in
-    good_at_line judging (f ++ g) ls next.0 l good (decided_by_long judging ls l good (first_line_is_long (unended f) (cut g) long)) longer
-    ∙ sym (good_at_line judging f ls [] (unended f) good (decided_by_long judging ls (unended f) good long) own)
-
--- they stay, whatever follows
-pub good_stays : (judging : Judging) (f g : List ℕ) → IsFixed judging f → good_lines judging (f ++ g) ≡ good_lines judging f
-good_stays judging f g fixed = elim fixed [
-  | inl bad ↦ good_stays_by_line judging f g bad
-  | inr long ↦ elim (no_stop_or_stop (first_stop judging [] (ended_lines f))) [
-    | inl good ↦ good_stays_by_length judging f g long good
-    | inr bad ↦ good_stays_by_line judging f g bad
-  ]
-]
-
 -- ---- what was read, and all the bytes that a reader tells
-
--- what no byte changes that follows
-pub told_alike : {A : Type 0} {last : ℕ} (judging : Judging) (of : List ℕ → A) → ((f g : List ℕ) → IsFixed judging f → of (f ++ g) ≡ of f)
-    → (old new : Option (List ℕ)) (read bytes : List ℕ) → old ≡ Some bytes → ReadsEnoughBy judging old new last read → of bytes ≡ of read
-told_alike judging of stays (Some xs) (Some ys) read bytes tells enough =
-    let all : bytes ≡ read ++ ys = cc in
-    elim enough.1 [
-      | inl end ↦ ap of (all ∙ (ap (λ k. read ++ k) end ∙ append-nil read))
-      | inr fixed ↦ ap of all ∙ stays read ys fixed
-    ]
-told_alike judging of stays (Some xs) None read bytes tells enough = elim enough.0 [ ]
-told_alike judging of stays None new read bytes tells enough = absurd cc
 
 -- what is told of them
 pub told_why : {last : ℕ} (judging : Judging) (form : Form) (name : List ℕ) (old new : Option (List ℕ)) (read bytes : List ℕ) → old ≡ Some bytes → ReadsEnoughBy judging old new last read
     → why_by judging form name bytes ≡ why_by judging form name read
 told_why judging form name old new read bytes tells enough =
     told_alike judging (why_by judging form name) (why_stays judging form name) old new read bytes tells enough
-
--- their good lines
-pub told_good : {last : ℕ} (judging : Judging) (old new : Option (List ℕ)) (read bytes : List ℕ) → old ≡ Some bytes → ReadsEnoughBy judging old new last read
-    → good_lines judging bytes ≡ good_lines judging read
-told_good judging old new read bytes tells enough = told_alike judging (good_lines judging) (good_stays judging) old new read bytes tells enough
-
--- and their verdict
-pub told_verdict : {last : ℕ} (judging : Judging) (old new : Option (List ℕ)) (read bytes : List ℕ) → old ≡ Some bytes → ReadsEnoughBy judging old new last read
-    → verdict judging bytes ≡ verdict judging read
-told_verdict judging old new read bytes tells enough = told_alike judging (verdict judging) (fixed_stays judging) old new read bytes tells enough

@@ -6,6 +6,7 @@ pub mod Meant
 pub mod Texts
 pub mod Objects
 pub mod Why
+pub mod Ending
 pub mod Noting
 pub mod suggest
 pub mod json_rows

@@ -1,7 +1,6 @@
 -- What is written of the bytes of a trace: why they are refused or cannot be read, or that they are
 -- accepted.
-use Rattle.std.specs.Prelude.{◌≡◌, ℕ, Bool, true, is_some, List, [], ◌∷◌, ◌++◌, Option, Some, None}
-use Rattle.std.specs.Prelude.{if◌then◌else◌}
+use Rattle.std.specs.Prelude.{◌≡◌, ℕ, Bool, true, is_some, List, [], Option, Some, None}
 use Rattle.std.specs.Io.KnownBytes.{Appends}
 use Rattle.qa_base.specs.declared.event.Event.{Event}
 use Rattle.qa_base.specs.declared.rule.Rule.{Rule}
@@ -13,6 +12,7 @@ use Rattle.qa_ledger.specs.causes.Causes.{cause_of, owed_now}
 use Rattle.qa_ledger.specs.declared.causes.cause.Cause.{Cause}
 use Rattle.qa_ledger.specs.declared.causes.cause.Owed.{Owed}
 use Rattle.qa_check.specs.Audit.{outcome_of}
+pub use Rattle.qa_check.specs.Places.{good_lines, judged_at}
 use Rattle.qa_check.specs.declared.auditing.Outcome.{Outcome}
 use Rattle.qa_check.specs.declared.auditing.Outcome.TheVariants as outcomes
 use Rattle.qa_format.specs.declared.fault.Fault.{Fault}
@@ -20,7 +20,7 @@ use Rattle.qa_format.specs.declared.verdict.Verdict.{Verdict}
 use Rattle.qa_format.specs.declared.verdict.Verdict.TheVariants.{Accepted, Refused, Unreadable}
 use Rattle.qa_format.specs.format.Lines.{lines}
 use Rattle.qa_format.specs.format.Reading.{reading}
-use Rattle.qa_format.specs.verdicts.Verdict.{Judging, event_said, events_in, header_in, stop_after}
+use Rattle.qa_format.specs.verdicts.Verdict.{Judging, event_said, events_in, header_in}
 use Rattle.qa_format.specs.verdicts.Verdict.{strict, verdict}
 use Rattle.qa_why.specs.Objects.{accepted_members, object_line, owed_at_end_members}
 use Rattle.qa_why.specs.Objects.{refused_members, unreadable_members}
@@ -75,17 +75,6 @@ told form name (Refused n r t) header h line = refusal_text form name n r header
 told form name (Unreadable n f t) header h line = unreadable_in form name n f (is_some t) line
 
 -- ---- where lines are judged
-
--- the lines before the first that is not good, and that line; or all of them
-abbrev pub judged_at : Judging → List (List ℕ) → List (List ℕ) → List (List ℕ) × Option (List ℕ)
-judged_at judging before [] = (before, None)
-judged_at judging before (l ∷ ls) =
-    if is_some (stop_after judging before l) then (before, Some l) else judged_at judging
-    (before ++ l ∷ []) ls
-
--- the lines before the first that is not good, or all
-abbrev pub good_lines : Judging → List ℕ → List (List ℕ)
-good_lines judging bytes = (judged_at judging [] (lines bytes)).0
 
 abbrev pub told_at : Judging → Form → List ℕ → Verdict → List (List ℕ) × Option (List ℕ) → List ℕ
 told_at judging form name v place =

@@ -1,12 +1,13 @@
 //! What is told of a verdict, by the judge of the events before.
-ghost use Rattle.std.specs.Prelude.{◌≡◌, List, ℕ, false, Some, Option, IfOk, IfErr};
-ghost use Rattle.std.specs.Option.{option_copied};
+ghost use Rattle.std.specs.Prelude.{◌≡◌, List, ℕ, false, true, Some, Option, IfOk, IfErr, IfSome};
+ghost use Rattle.std.specs.Prelude.{IsSome, option_map};
+ghost use Rattle.std.specs.Option.{ForSome, option_copied};
 ghost use Rattle.qa_base.specs.declared.event.Event.{Event as AnEvent};
 ghost use Rattle.qa_base.specs.values.Settings.{Settings};
-ghost use Rattle.qa_check.specs.Audit.{outcome_of};
-ghost use Rattle.qa_check.specs.Standing.{HoldsRun, StandsFor, by};
-ghost use Rattle.qa_format.specs.format.Reading.{reading};
-ghost use Rattle.qa_format.specs.verdicts.Verdict.{event_said, verdict_of};
+ghost use Rattle.qa_check.specs.Standing.{HoldsRun, by};
+ghost use Rattle.qa_check.specs.Walking.{IsEnd};
+ghost use Rattle.qa_why.specs.Ending.{CanRefuse, IsEvent, event_of, refusal_of, told_of_end};
+ghost use Rattle.qa_why.specs.Why.{TellsBy};
 ghost use Rattle.qa_why.specs.Objects.{object_line as object_line_of};
 ghost use Rattle.qa_why.specs.Why as defined;
 
@@ -16,9 +17,8 @@ use crate::objects::{
 use crate::reasons::Reasons;
 use crate::texts::{accepted, broken, owed_at_end, unreadable};
 use qa_base::{Event, Rule, Totals};
-use qa_check::{AuditFault, Checker, Outcome};
+use qa_check::{AuditFault, Ended, LastLine, Outcome};
 use qa_format::{Fault, Form, Line, Verdict};
-use qa_read::read_line;
 use std::alloc::{AllocError, Global};
 
 /// What is told of a trace, and the kind of its verdict.
@@ -88,17 +88,19 @@ fn of_line<J: Reasons + Drop>(
     ledger: &J,
     n: u64,
     rule: Rule,
-    line: &[u8],
+    line: &LastLine,
 ) -> Result<Vec<u8>, AllocError>
+    requires event { IfSome line.now.said IsEvent × IsSome line.now.said }
     ensures { J.has_failed ledger.now ≡ false → IfOk result (λ text. (c : Settings)
         (h : List AnEvent) → J.judges.stands ledger.now c h
         → text.items ≡ defined.event_text form name.now n rule (Some c) h
-        (event_said (reading line.now)) line.now) }
+        (event_of line.now.said) line.now.bytes.items) }
 {
-    let read = read_line(alloc, line);
-    match &read {
-        Ok(Line::Event(event)) => of_event(alloc, form, name, ledger, n, rule, event, line),
-        _ => Err(AllocError),
+    match &line.said {
+        Some(Line::Event(event)) => {
+            of_event(alloc, form, name, ledger, n, rule, event, &line.bytes)
+        }
+        _ => unreachable!(),
     }
 }
 
@@ -121,46 +123,26 @@ fn of_end<J: Reasons + Drop>(
     }
 }
 
-/// Why the event of this line is refused, or the end of the trace.
+/// Why the event of the line is refused that ended the walk, or the end of the trace.
 fn of_refusal<J: Reasons + Drop>(
     alloc: Global,
     form: Form,
     name: &str,
-    ledger: &J,
+    ended: &Ended<J>,
     n: u64,
     rule: Rule,
-    line: Option<&[u8]>,
 ) -> Result<Vec<u8>, AllocError>
-    ensures { J.has_failed ledger.now ≡ false → IfOk result (λ text. (c : Settings)
-        (h : List AnEvent) → J.judges.stands ledger.now c h
-        → text.items ≡ defined.refusal_text form name.now n rule (Some c) h
-        (option_copied line.entry)) }
-{
-    match line {
-        Some(line) => of_line(alloc, form, name, ledger, n, rule, line),
-        None => of_end(alloc, form, name, ledger, n),
-    }
-}
-
-/// The same by the ledger of a checker, which has one where it refuses an event.
-fn of_held_refusal<J: Reasons + Drop>(
-    alloc: Global,
-    form: Form,
-    name: &str,
-    checker: &Checker<J>,
-    n: u64,
-    rule: Rule,
-    line: Option<&[u8]>,
-) -> Result<Vec<u8>, AllocError>
-    requires whole { checker.now.failed ≡ false }
+    requires works { ForSome ended.now.judge (λ j. J.has_failed j ≡ false) }
+    requires judged { IsSome ended.now.judge }
+    requires event { IfSome ended.now.line (λ line. IfSome line.said IsEvent × IsSome line.said) }
     ensures { IfOk result (λ text. (header : Option Settings) (h : List AnEvent)
-        → HoldsRun J.judges checker.now.ledger header h
-        → text.items ≡ defined.refusal_text form name.now n rule header h
-        (option_copied line.entry)) }
+        → HoldsRun J.judges ended.now.judge header h
+        → text.items ≡ refusal_of form name.now n rule header h ended.now.line) }
 {
-    match checker.ledger() {
-        Some(ledger) => of_refusal(alloc, form, name, ledger, n, rule, line),
-        None => Err(AllocError),
+    match (&ended.judge, &ended.line) {
+        (Some(ledger), Some(line)) => of_line(alloc, form, name, ledger, n, rule, line),
+        (Some(ledger), None) => of_end(alloc, form, name, ledger, n),
+        (None, _) => unreachable!(),
     }
 }
 
@@ -198,58 +180,62 @@ fn of_fault(
     }
 }
 
-/// What is told of this verdict, which is that of the line, or else of the end.
+/// The bytes of the line that ended the walk.
+fn line_of<J>(ended: &Ended<J>) -> Option<&[u8]>
+    ensures { option_copied result ≡ option_map (λ line. line.bytes.items) ended.now.line }
+{
+    match &ended.line {
+        Some(line) => Some(&line.bytes),
+        None => None,
+    }
+}
+
+/// What is told of the verdict that the walk has come to.
 fn of_verdict<J: Reasons + Drop>(
     alloc: Global,
     form: Form,
     name: &str,
-    checker: &Checker<J>,
-    verdict: &Verdict,
-    line: Option<&[u8]>,
+    ended: &Ended<J>,
 ) -> Result<Vec<u8>, AllocError>
-    requires whole { checker.now.failed ≡ false }
+    requires works { ForSome ended.now.judge (λ j. J.has_failed j ≡ false) }
+    requires refusal { CanRefuse ended.now.verdict ended.now.judge ended.now.line }
     ensures { IfOk result (λ text. (header : Option Settings) (h : List AnEvent)
-        → HoldsRun J.judges checker.now.ledger header h
-        → text.items ≡ defined.told form name.now verdict.now header h (option_copied line.entry)) }
+        → HoldsRun J.judges ended.now.judge header h
+        → text.items ≡ told_of_end form name.now ended.now.verdict header h ended.now.line) }
 {
-    match verdict {
+    match &ended.verdict {
         Verdict::Accepted(totals) => of_accepted(alloc, form, name, totals),
-        Verdict::Refused(n, rule, _) => of_held_refusal(
-            alloc, form, name, checker, *n, *rule, line,
+        Verdict::Refused(n, rule, _) => of_refusal(alloc, form, name, ended, *n, *rule),
+        Verdict::Unreadable(n, fault, totals) => of_fault(
+            alloc,
+            form,
+            name,
+            *n,
+            *fault,
+            totals.is_some(),
+            line_of(ended),
         ),
-        Verdict::Unreadable(n, fault, totals) => {
-            of_fault(alloc, form, name, *n, *fault, totals.is_some(), line)
-        }
     }
 }
 
-/// What is told of the verdict that the checker has come to: at this line, which is not good, or
-/// else at the end, or at a line that is too long.
+/// What is told of the verdict that a walk has come to, which kept the line that ended it.
 ///
 /// `AuditFault::OutOfMemory` comes where it is out of memory.
 pub fn why_of<J: Reasons + Drop>(
     alloc: Global,
     form: Form,
     name: &str,
-    checker: &Checker<J>,
-    line: Option<&[u8]>,
+    ended: &Ended<J>,
 ) -> Result<Why, AuditFault>
-    requires whole { checker.now.failed ≡ false }
-    ensures outcome { IfOk result (λ why. (ls : List (List ℕ)) → StandsFor J.judges checker.now ls
-        → why.outcome ≡ outcome_of (verdict_of (by J.judges) ls)) }
-    ensures text { IfOk result (λ why. (ls : List (List ℕ)) (header : Option Settings)
-        (h : List AnEvent) → StandsFor J.judges checker.now ls
-        → HoldsRun J.judges checker.now.ledger header h
-        → why.text.items ≡ defined.told form name.now (verdict_of (by J.judges) ls) header h
-        (option_copied line.entry)) }
+    requires works { ForSome ended.now.judge (λ j. J.has_failed j ≡ false) }
+    requires end { (bytes : List ℕ) × IsEnd J.judges true ended.now bytes }
+    ensures told { IfOk result (λ why. (bytes : List ℕ) → IsEnd J.judges true ended.now bytes
+        → TellsBy (by J.judges) form name.now why.outcome why.text.items bytes) }
     ensures memory { IfErr result (λ fault. fault ≡ AuditFault.OutOfMemory) }
 {
-    let Some(verdict) = checker.verdict() else {
+    let Ok(text) = of_verdict(alloc, form, name, ended) else {
         return Err(AuditFault::OutOfMemory);
     };
-    let Ok(text) = of_verdict(alloc, form, name, checker, &verdict, line) else {
-        return Err(AuditFault::OutOfMemory);
-    };
-    let outcome = Outcome::of(&verdict);
+    let outcome = Outcome::of(&ended.verdict);
     Ok(Why { outcome, text })
 }

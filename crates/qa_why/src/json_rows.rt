@@ -8,4 +8,4 @@ mod state;
 mod trace;
 
 pub use line::{object, row};
-pub use trace::{JsonRow, rows};
+pub use trace::rows;

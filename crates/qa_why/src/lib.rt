@@ -20,7 +20,7 @@ mod texts;
 mod values;
 
 pub use causes::{Why, whole, why_of};
-pub use json_rows::{JsonRow, object, row, rows};
+pub use json_rows::{object, row, rows};
 pub use lines::{extend, first_bytes, printed};
 pub use notes::{Both, NoNotes, Notes};
 pub use objects::{push_rule, refused_members};

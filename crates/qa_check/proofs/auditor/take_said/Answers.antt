@@ -1,5 +1,5 @@
 use Rattle.std.proofs.Common.{◌∙◌, Err, ap}
-use Rattle.qa_check.proofs.Pushed.{pushed_good, pushed_settled, settled_fails, settled_is_over}
+use Rattle.qa_check.proofs.SaidLines.{pushed_good, pushed_settled, settled_fails, settled_is_over}
 use Rattle.qa_check.proofs.auditor.take_said.Goals as goal
 
 pub returns-in-Ok : goal.returns-in-Ok

@@ -32,10 +32,10 @@ pub returns-in_err-verdict-clause-beginning : goal.returns-in_err-verdict-clause
 returns-in_err-verdict-clause-beginning g c = λ is.
     let passed = err_from_is_err_and c.from_residual.result c.from_residual.ensures.1 in
     let fault : c.in_err-verdict.field-0.0 ≡ Write = fault_is c.from_residual.result _ _ passed.1 passed.2 is in
-    rows_explain _ _ _ _ (c.in_err-verdict.ensures.begun (rw fault refl))
+    rows_explain _ _ _ _ (c.in_err-verdict.ensures.unwritten (rw fault refl))
 
 pub returns-in_err-verdict-clause-told_beginning : goal.returns-in_err-verdict-clause-told_beginning
 returns-in_err-verdict-clause-told_beginning g c = λ bytes tells is.
     let passed = err_from_is_err_and c.from_residual.result c.from_residual.ensures.1 in
     let fault : c.in_err-verdict.field-0.0 ≡ Write = fault_is c.from_residual.result _ _ passed.1 passed.2 is in
-    told_begins _ _ _ _ bytes tells (rows_explain _ _ _ _ (c.in_err-verdict.ensures.begun (rw fault refl)))
+    told_begins _ _ _ _ bytes tells (rows_explain _ _ _ _ (c.in_err-verdict.ensures.unwritten (rw fault refl)))

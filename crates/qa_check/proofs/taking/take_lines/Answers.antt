@@ -1,44 +1,9 @@
-use Rattle.std.proofs.Common.{◌∙◌, refl}
+use Rattle.std.proofs.Common.{◌≡◌, ◌∙◌, None}
 use Rattle.qa_check.specs.Standing.{by}
-use Rattle.qa_check.specs.Writing.{Shows}
-use Rattle.qa_check.proofs.Faults.{err_is_no_ok}
-use Rattle.qa_check.proofs.LinesTaken.{StoppedAs, bad_is_not_good, good_is_not_bad, stopped_is_not_good, stopped_decided, stopped_counts}
-use Rattle.qa_check.proofs.Following.{follow_line, decide_line, decide_long}
-use Rattle.qa_check.proofs.Writing.{on_err_of, show_bad, begin_line, begin_follows}
+use Rattle.qa_check.specs.Walking.{Covered}
+use Rattle.qa_check.proofs.Ends.{ends_line, ends_too_long, halts_line, halts_open}
+use Rattle.qa_check.proofs.Following.{follow_line}
 use Rattle.qa_check.proofs.taking.take_lines.Goals as goal
-
-pub lines-init : goal.lines-init
-lines-init g c = record { ready = c.requires.ready; whole = c.requires.whole; unfailed = refl; shown = λ start bytes f. f }
-
-pub returns-in-Ok-Bad : goal.returns-in-Ok-Bad
-returns-in-Ok-Bad g c =
-    let t = rw (c.in-Ok-Some.is, c.in-Ok-Some.field-0-is) at c.next_line.follows.holds-at-none.line in
-    let is = rw c.in-Ok-Bad.field-0-is at c.in-Ok-Bad.is in
-    record {
-      more = λ is_good. absurd (bad_is_not_good is_good);
-      good = λ is_good. absurd (bad_is_not_good is_good);
-      bad = λ h. (
-        c.in-Ok-Bad.ensures.whole,
-        λ start bytes f.
-            decide_line (by g.L.Judge.judges) (Shows g.L.Judge.judges g.T.LineText.text c.lines.checker start (g.O.Observer.shown c.lines.observer)) (Shows g.L.Judge.judges g.T.LineText.text c.take_line.new.checker start (g.O.Observer.shown c.take_line.new.observer)) _ _ _ _
-            t.is_line t.taken c.lines.invariant.ready.0 (λ ls s. c.take_line.ensures.bad is start ls s) bytes (c.lines.invariant.shown start bytes f),
-      );
-      begun = tt;
-      failures = rw c.lines.invariant.unfailed at c.in-Ok-Bad.ensures.failures;
-    }
-
-pub returns-in-Err : goal.returns-in-Err
-returns-in-Err g c =
-    let t = rw (c.in-Ok-Some.is, c.in-Ok-Some.field-0-is) at c.next_line.follows.holds-at-none.line in
-    record {
-      more = λ is. absurd (err_is_no_ok is);
-      good = λ is. absurd (err_is_no_ok is);
-      bad = λ is. absurd (err_is_no_ok is);
-      begun = λ start bytes f.
-          begin_line (by g.L.Judge.judges) g.T.LineText.text (Shows g.L.Judge.judges g.T.LineText.text c.lines.checker start (g.O.Observer.shown c.lines.observer)) start (g.O.Observer.shown c.take_line.new.observer) _ _ _ _
-          t.is_line t.taken c.lines.invariant.ready.0 (λ ls s. c.in-Err.ensures.begun start ls s) bytes (c.lines.invariant.shown start bytes f);
-      failures = rw c.lines.invariant.unfailed at c.in-Err.ensures.failures;
-    }
 
 pub lines-preserved : goal.lines-preserved
 lines-preserved g c =
@@ -47,10 +12,39 @@ lines-preserved g c =
     record {
       ready = (t.closed ∙ c.lines.invariant.ready.0, t.whole);
       whole = c.in-Ok-Good.ensures.whole;
-      unfailed = c.in-Ok-Good.ensures.failures.1 ∙ c.lines.invariant.unfailed;
-      shown = λ start bytes f.
-          follow_line (by g.L.Judge.judges) (Shows g.L.Judge.judges g.T.LineText.text c.lines.checker start (g.O.Observer.shown c.lines.observer)) (Shows g.L.Judge.judges g.T.LineText.text c.take_line.new.checker start (g.O.Observer.shown c.take_line.new.observer)) _ _ _ _
-          t.is_line t.taken c.lines.invariant.ready.0 (λ ls s. c.take_line.ensures.good is start ls s) bytes (c.lines.invariant.shown start bytes f);
+      walked = λ begun bytes f.
+          follow_line (by g.J.Judge.judges) (Covered g.J.Judge.judges (g.V.Visitor.covers begun) c.lines.checker c.lines.visitor)
+          (Covered g.J.Judge.judges (g.V.Visitor.covers begun) c.take_line.new.checker c.take_line.new.visitor) _ _ _ _ t.is_line t.taken c.lines.invariant.ready.0 (c.take_line.ensures.good is begun) bytes
+          (c.lines.invariant.walked begun bytes f);
+    }
+
+pub returns-in-Ok-Bad : goal.returns-in-Ok-Bad
+returns-in-Ok-Bad g c =
+    let t = rw (c.in-Ok-Some.is, c.in-Ok-Some.field-0-is) at c.next_line.follows.holds-at-none.line in
+    let is = rw c.in-Ok-Bad.field-0-is at c.in-Ok-Bad.is in
+    record {
+      more = λ good. cc;
+      good = λ good. cc;
+      whole = c.in-Ok-Bad.ensures.whole;
+      bad = λ last same begun bytes f.
+          let bad = c.take_line.ensures.bad last (is ∙ same) in
+          rw bad.1
+          (ends_line g.J.Judge.judges (g.V.Visitor.covers begun) c.args.keeps c.lines.checker c.take_line.new.checker c.lines.visitor last _ _ _ _ t.is_line t.taken c.lines.invariant.ready.0 bad.0 bytes
+          (c.lines.invariant.walked begun bytes f));
+      halted = tt;
+    }
+
+pub returns-in-Err : goal.returns-in-Err
+returns-in-Err g c =
+    let t = rw (c.in-Ok-Some.is, c.in-Ok-Some.field-0-is) at c.next_line.follows.holds-at-none.line in
+    record {
+      more = λ good. cc;
+      good = λ good. cc;
+      whole = tt;
+      bad = λ last same. cc;
+      halted = λ begun bytes f.
+          halts_line g.J.Judge.judges (g.V.Visitor.covers begun) (g.V.Visitor.fails begun) c.lines.checker c.lines.visitor c.take_line.new.visitor _ _ _ _ _ t.is_line t.taken c.lines.invariant.ready.0
+          (c.in-Err.ensures.halted begun) bytes (c.lines.invariant.walked begun bytes f);
     }
 
 pub returns-in-Ok-None : goal.returns-in-Ok-None
@@ -58,37 +52,41 @@ returns-in-Ok-None g c =
     let n = rw (c.in-Ok-None.is, c.in-Ok-None.field-0-is) at c.next_line.follows.holds-at-none.none in
     record {
       more = λ is. record { ready = rw n.1 c.lines.invariant.ready; empty = rw n.1 n.0; whole = c.lines.invariant.whole };
-      good = λ is start bytes f. rw n.1 (c.lines.invariant.shown start bytes f);
-      bad = λ is. absurd (good_is_not_bad is);
-      begun = tt;
-      failures = (refl, c.lines.invariant.unfailed);
+      good = λ is begun bytes f. rw n.1 (c.lines.invariant.walked begun bytes f);
+      whole = c.lines.invariant.whole;
+      bad = λ last same. cc;
+      halted = tt;
     }
 
-pub returns-in-Err-TooLong : goal.returns-in-Err-TooLong
-returns-in-Err-TooLong g c =
+pub returns-in-Decided : goal.returns-in-Decided
+returns-in-Decided g c =
     let long = c.next_line.ensures.too_long c.lines.invariant.ready.1 (rw c.in-Err-TooLong.field-0-is at c.in-Err-TooLong.is) in
-    let stop = c.too_long.result in
-    let of_stop : StoppedAs stop c.stopped.result = record { decided = c.stopped.ensures.decided; out_of_memory = c.stopped.ensures.out_of_memory } in
-    let counts = stopped_counts (g.O.Observer.failures c.args.observer.now) stop c.stopped.result of_stop in
+    let bad = c.too_long.ensures.decided c.in-Decided.is in
     record {
-      more = λ is. absurd (stopped_is_not_good stop c.stopped.result of_stop is);
-      good = λ is. absurd (stopped_is_not_good stop c.stopped.result of_stop is);
-      bad = λ is.
-          let decided = stopped_decided stop c.stopped.result of_stop is in (
-            (c.too_long.ensures.decided decided _ long.3).0,
-            λ start bytes f.
-                decide_long (by g.L.Judge.judges) (Shows g.L.Judge.judges g.T.LineText.text c.lines.checker start (g.O.Observer.shown c.lines.observer)) (Shows g.L.Judge.judges g.T.LineText.text c.too_long.new.self start (g.O.Observer.shown c.lines.observer)) _ long
-                (λ l over ls s. show_bad g.L.Judge.judges g.T.LineText.text c.lines.checker c.too_long.new.self start _ l (c.too_long.ensures.decided decided l over) ls s) bytes (c.lines.invariant.shown start bytes f),
-          );
-      begun = on_err_of c.stopped.result (λ start bytes f. begin_follows g.L.Judge.judges g.T.LineText.text c.lines.checker start _ _ bytes (c.lines.invariant.shown start bytes f));
-      failures = (counts.0, c.lines.invariant.unfailed ∙ counts.1);
+      more = λ good. cc;
+      good = λ good. cc;
+      whole = (bad _ long.3).0;
+      bad = λ last same begun bytes f.
+          let none : None ≡ last = cc in
+          rw (← none) (ends_too_long g.J.Judge.judges (g.V.Visitor.covers begun) c.args.keeps c.lines.checker c.too_long.new.self c.lines.visitor _ long bad (c.too_long.ensures.kept c.in-Decided.is) bytes
+          (c.lines.invariant.walked begun bytes f));
+      halted = tt;
     }
+
+pub returns-in-OutOfMemory : goal.returns-in-OutOfMemory
+returns-in-OutOfMemory g c = record {
+  more = λ good. cc;
+  good = λ good. cc;
+  whole = tt;
+  bad = λ last same. cc;
+  halted = λ begun bytes f. halts_open g.J.Judge.judges (g.V.Visitor.covers begun) (g.V.Visitor.fails begun) c.lines.checker c.lines.visitor _ bytes (c.lines.invariant.walked begun bytes f);
+}
 
 pub returns-in-Err-OutOfMemory : goal.returns-in-Err-OutOfMemory
 returns-in-Err-OutOfMemory g c = record {
-  more = λ is. absurd (err_is_no_ok is);
-  good = λ is. absurd (err_is_no_ok is);
-  bad = λ is. absurd (err_is_no_ok is);
-  begun = λ start bytes f. begin_follows g.L.Judge.judges g.T.LineText.text c.lines.checker start _ _ bytes (c.lines.invariant.shown start bytes f);
-  failures = (refl, c.lines.invariant.unfailed);
+  more = λ good. cc;
+  good = λ good. cc;
+  whole = tt;
+  bad = λ last same. cc;
+  halted = λ begun bytes f. halts_open g.J.Judge.judges (g.V.Visitor.covers begun) (g.V.Visitor.fails begun) c.lines.checker c.lines.visitor _ bytes (c.lines.invariant.walked begun bytes f);
 }

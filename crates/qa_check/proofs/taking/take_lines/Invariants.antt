@@ -1,15 +1,13 @@
-use Rattle.std.proofs.Common.{◌≡◌, ℕ, List, length, false, Option}
-use Rattle.qa_check.specs.Writing.{Shown}
+use Rattle.std.proofs.Common.{◌≡◌, ℕ, List, length, false}
 use Rattle.qa_check.specs.Following.{IsReady}
+use Rattle.qa_check.specs.Walking.{Walked}
 use Rattle.qa_check.proofs.taking.take_lines.Given as goal
 
 abbrev pub invariant-lines : goal.invariant-lines
 invariant-lines g l = record {
   ready : IsReady l.splitter;
   whole : l.checker.failed ≡ false;
-  unfailed : g.O.Observer.failures l.observer ≡ g.O.Observer.failures l.fn.observer;
-  shown : (start : Option (List ℕ)) (bytes : List ℕ) → Shown g.L.Judge.judges g.T.LineText.text l.fn.splitter.bytes l.fn.checker start (g.O.Observer.shown l.fn.observer) bytes
-      → Shown g.L.Judge.judges g.T.LineText.text l.splitter.bytes l.checker start (g.O.Observer.shown l.observer) bytes;
+  walked : (begun : _) (bytes : List ℕ) → Walked g.J.Judge.judges (g.V.Visitor.covers begun) l.fn.splitter.bytes l.fn.checker l.fn.visitor bytes → Walked g.J.Judge.judges (g.V.Visitor.covers begun) l.splitter.bytes l.checker l.visitor bytes;
 }
 
 abbrev pub decreases-lines : goal.decreases-lines

@@ -1,4 +1,5 @@
 use Rattle.std.proofs.Common.{◌∙◌, Err, false, sym, ap, arith}
+use Rattle.std.specs.Result.{result_ok}
 use Rattle.std.proofs.lemmas.Bool.{false≢true}
 use Rattle.qa_check.proofs.Faults.{error_of, stops_differ}
 use Rattle.qa_check.proofs.Growing.{whole_of, unread_adds, too_long}
@@ -12,6 +13,7 @@ returns-in-Err g c =
       fails = λ is. expected.fails (c.in-Err.is ∙ ap Err (error_of is));
       ok = tt;
       decided = λ is. expected.decided (c.in-Err.is ∙ ap Err (error_of is)) c.args.bytes.now;
+      unread = λ is none. expected.unread (c.in-Err.is ∙ ap Err (error_of is)) none c.args.bytes.now;
       kept = λ is. expected.kept (c.in-Err.is ∙ ap Err (error_of is));
     }
 
@@ -26,6 +28,7 @@ returns-then-bytes-gt-MAX_LINE_LENGTH g c =
       decided = λ is.
           rw (← open_yet.0)
           (unread_adds _ c.expect_line.new.self c.stop.new.self _ _ stop.whole stop.decided stop.verdict open_yet.2 (too_long _ _ open_yet.3 (omega (arith, c.if-bytes-gt-MAX_LINE_LENGTH.true))));
+      unread = λ is none. rw (← open_yet.0) (ap result_ok (too_long c.expect_line.new.self.lines c.args.bytes.now open_yet.3 (omega (arith, c.if-bytes-gt-MAX_LINE_LENGTH.true))));
       kept = λ is. stop.kept ∙ ap (λ k. k.ledger) open_yet.0;
     }
 
@@ -37,5 +40,6 @@ returns g c =
       fails = λ is. cc;
       ok = (open_yet.0, open_yet.1, open_yet.2, open_yet.3, omega (arith, c.if-bytes-gt-MAX_LINE_LENGTH.false));
       decided = λ is. cc;
+      unread = λ is. cc;
       kept = λ is. cc;
     }

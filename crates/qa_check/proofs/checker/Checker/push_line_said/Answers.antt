@@ -1,55 +1,29 @@
-use Rattle.std.proofs.Common.{◌≡◌, ◌∙◌, Result, Ok, Err, IfOk, IsOk, OnOk, false, true, sym, ap}
+use Rattle.std.proofs.Common.{◌≡◌, ◌∙◌, Err, false, sym, ap}
 use Rattle.std.proofs.lemmas.Bool.{false≢true}
-use Rattle.qa_format.specs.declared.fault.Fault.{Fault}
-use Rattle.qa_format.specs.declared.line.Line.{Line}
-use Rattle.qa_format.specs.format.Written.{line_fits}
-use Rattle.qa_read.specs.Gives.{Gives}
-use Rattle.qa_read.specs.declared.fault.LineFault.{LineFault}
-use Rattle.qa_check.specs.declared.checker.Stop.{Stop}
 use Rattle.qa_check.proofs.Faults.{error_of}
 use Rattle.qa_check.proofs.Growing.{whole_of}
+use Rattle.qa_check.proofs.Pushing.{read_pushes, unread_pushes}
 use Rattle.qa_check.proofs.checker.Checker.push_line_said.Goals as goal
-
-ok_is_no_err : (r : Result Line Stop) (stop : Stop) → IsOk r → r ≡ Err stop → ⊥
-ok_is_no_err (Ok line) stop ok is = cc
-ok_is_no_err (Err s) stop ok is = absurd (false≢true ok)
-
-on_ok : (P : Type 0) (r : Result Line Stop) → P → OnOk r P
-on_ok P (Ok line) p = p
-on_ok P (Err s) p = tt
-
--- what was read says what is returned
-says : (read : Result Line LineFault) (gives : Result Line Fault) (r : Result Line Stop) → Gives (λ line. line) read gives → IfOk read (λ line. line_fits line ≡ true)
-    → IfOk r (λ said. read ≡ Ok said) → IfOk r (λ said. (gives ≡ Ok said) × (line_fits said ≡ true))
-says (Ok line) gives (Ok said) is fits same =
-    let e : line ≡ said = cc in
-    let both : (gives ≡ Ok line) × (line_fits line ≡ true) = (is, fits) in
-    rw e at both
-says (Err fault) gives (Ok said) is fits same = cc
-says read gives (Err s) is fits same = tt
 
 pub returns-in-Err : goal.returns-in-Err
 returns-in-Err g c =
     let expected = c.expect_bytes.ensures in
+    let unread = c.unread.ensures in
     record {
-      said = tt;
-      failed = λ is. ap Err (error_of (sym c.in-Err.is ∙ expected.failed is));
-      fails = λ is. (expected.fails (c.in-Err.is ∙ ap Err (error_of is))).1;
-      good = tt;
-      decided = λ is. expected.decided (c.in-Err.is ∙ ap Err (error_of is));
-      kept = λ is. expected.kept (c.in-Err.is ∙ ap Err (error_of is));
+      failed = λ is. unread.out_of_memory (error_of (sym c.in-Err.is ∙ expected.failed is));
+      pushed = unread_pushes g.L.Judge.judges c.args.self.now c.expect_bytes.new.self c.args.bytes.now c.in-Err.stop c.unread.result unread.decided unread.out_of_memory
+          (λ is. let stopped = c.in-Err.is ∙ ap Err is in (expected.decided stopped, expected.kept stopped, λ none. expected.unread stopped none))
+          (λ is. (expected.fails (c.in-Err.is ∙ ap Err is)).1);
     }
 
-pub returns-in-Ok : goal.returns-in-Ok
-returns-in-Ok g c =
+pub returns : goal.returns
+returns g c =
     let open_yet = c.in_default.ensures.ok in
     let read = c.read_line-read.ensures in
-    let ok = c.said_by.ensures.ok in
+    let taken = c.take_read-taken.ensures in
     record {
-      said = says c.read_line-read.result _ c.said_by.result read.read read.fitting c.said_by.ensures.said;
       failed = λ is. absurd (false≢true (sym (whole_of _ _ open_yet.0 false open_yet.1) ∙ is));
-      fails = λ is. absurd (ok_is_no_err _ _ ok is);
-      good = on_ok _ c.said_by.result (rw open_yet.0 at (c.in-Ok.ensures.good c.args.bytes.now open_yet.4 read.read));
-      decided = λ is. absurd (ok_is_no_err _ _ ok is);
-      kept = λ is. absurd (ok_is_no_err _ _ ok is);
+      pushed = rw open_yet.0 at (read_pushes g.L.Judge.judges c.expect_bytes.new.self c.take_read-taken.new.self c.args.bytes.now c.take_read-taken.result c.read_line-read.result c.answer_of.result
+          c.answer_of.ensures taken.said taken.memory open_yet.3 open_yet.4 read.read read.fitting
+          (λ ok. taken.good) (λ is. (taken.decided is c.args.bytes.now open_yet.4 read.read, taken.kept is)) taken.fails);
     }

@@ -13,6 +13,7 @@ take-requires g c = record { whole = c.requires.whole; undecided = c.requires.un
 pub returns-in-Ok : goal.returns-in-Ok
 returns-in-Ok g c = record {
   said = on_ok_weaker c.take.result (λ taken. rw c.in-Ok.is refl) c.take.ensures.ok;
+  memory = λ is. let no = sym c.in-Ok.is ∙ is in cc;
   fails = c.take.ensures.failed;
   good = on_ok_weaker c.take.result
       (λ taken l short gives.
@@ -34,6 +35,7 @@ returns-in-Err-Fault g c =
     let stop = c.stop.ensures in
     record {
       said = tt;
+      memory = λ is. let is_fault : c.args.read.now ≡ Err (Fault c.in-Err-Fault.fault) = search rules in let no = sym is_fault ∙ is in cc;
       fails = λ is. absurd (stops_differ (sym stop.result ∙ error_of is));
       good = tt;
       decided = λ is l short gives.
@@ -44,4 +46,4 @@ returns-in-Err-Fault g c =
     }
 
 pub returns-in-Err-OutOfMemory : goal.returns-in-Err-OutOfMemory
-returns-in-Err-OutOfMemory g c = record { said = tt; fails = λ is. refl; good = tt; decided = λ is. absurd (memory_is_not_decided is); kept = λ is. absurd (memory_is_not_decided is) }
+returns-in-Err-OutOfMemory g c = record { said = tt; memory = λ is. refl; fails = λ is. refl; good = tt; decided = λ is. absurd (memory_is_not_decided is); kept = λ is. absurd (memory_is_not_decided is) }

@@ -4,7 +4,7 @@ use Rattle.qa_check.proofs.Fed.{told_all}
 use Rattle.qa_format.specs.verdicts.Verdict.{verdict}
 use Rattle.qa_violations.specs.all.All.{past_sender_rules}
 use Rattle.qa_why.specs.json_rows.Rows.{row_of}
-use Rattle.qa_why.proofs.Told.{told_verdict}
+use Rattle.qa_check.proofs.Judged.{told_verdict}
 use Rattle.qa_violations.proofs.all.rows.rows_all.Goals as goal
 
 pub returns-in-Ok : goal.returns-in-Ok
