@@ -12,7 +12,6 @@ from constants import (
     K_MINIMUM_WINDOW,
     METRICS,
     METRICS_IN_BYTES,
-    OF_THE_CONTROLLER,
     Rule,
 )
 from sender import Deadline, Event, Ranges, Sender
@@ -83,8 +82,7 @@ def refused(verdict: Verdict, lines: list[bytes]) -> Object:
 
 def broken(facts: "Facts", event: Event, what: str) -> Object:
     """A rule that an event breaks, as a report names it, the event, and the facts before it."""
-    rule, field = rule_of(what)
-    return named(what) | facts.of_event(event) | facts.of_rule(event, rule, field)
+    return named(what) | facts.of_event(event) | facts.of_rule(event, rule_of(what)[0])
 
 
 def owed_at_end(facts: "Facts") -> Object:
@@ -123,7 +121,7 @@ class Facts:
         found |= {key: event[key] for key in ("kind", "space", "number") if key in event}
         return found | ({"size_bytes": event["size"]} if "size" in event else {})
 
-    def of_rule(self, event: Event, rule: Rule, field: str) -> Object:
+    def of_rule(self, event: Event, rule: Rule) -> Object:
         """The facts of a rule."""
         match rule:
             case Rule.TIME_BACK:
@@ -145,7 +143,7 @@ class Facts:
             case Rule.PROBE_OWED:
                 return {"probe_space": self.sender.probe_due}
             case Rule.METRIC:
-                return {"differences": list(self.of_report(event, field))}
+                return {"differences": list(self.of_report(event))}
             case Rule.TIMER_LATE:
                 return self.of_late(event, packets_due_of(self.sender))
             case Rule.COLLAPSE_MISSING:
@@ -230,13 +228,12 @@ class Facts:
         off_by = self.times(late=late, allowed=sender.settings.timer_late)
         return self.of_due(due) | self.times(set_since=sender.due_since) | off_by
 
-    def of_report(self, event: Event, first: str) -> Iterable[Object]:
-        """Each reported value that differs; those of the controller only where one is the first."""
+    def of_report(self, event: Event) -> Iterable[Object]:
+        """Each reported value that is compared and differs."""
         sender = self.sender
         for name in METRICS:
-            is_looked_at = name not in OF_THE_CONTROLLER or first in OF_THE_CONTROLLER
             value = event.get(name)
-            if is_looked_at and value is not None and sender.differs(name, value):
+            if value is not None and sender.is_compared(name) and sender.differs(name, value):
                 unit = "bytes" if name in METRICS_IN_BYTES else self.unit
                 held = sender.total(name)
                 yield {

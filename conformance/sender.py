@@ -404,10 +404,14 @@ class Sender:
     def broken_by_metrics(self, event: Event) -> Iterator[str]:
         """The reported values that are not the sender's."""
         for name in METRICS:
-            is_chosen = self.settings.is_window_reported and name in OF_THE_CONTROLLER
-            is_compared = event.get(name) is not None and not is_chosen
-            if is_compared and self.differs(name, event[name]):
+            value = event.get(name)
+            if value is not None and self.is_compared(name) and self.differs(name, value):
                 yield f"{Rule.METRIC} {name}"
+
+    def is_compared(self, name: str) -> bool:
+        """Whether a reported value is compared: not a window that the sender reports, nor its
+        ssthresh."""
+        return not (self.settings.is_window_reported and name in OF_THE_CONTROLLER)
 
     def differs(self, name: str, reported: int) -> bool:
         """Whether a reported value differs from the sender's by more than the header allows."""

@@ -13,7 +13,6 @@ from constants import (
     K_MINIMUM_WINDOW,
     MAX_LINE_LENGTH,
     METRICS,
-    OF_THE_CONTROLLER,
     Rule,
 )
 from names import shown_name
@@ -321,7 +320,7 @@ def breaks(sender: Sender, event: Event, what: str, line: bytes) -> bytes:
     rule, field = rule_of(what)
     front = f"{subject_of(event)} {deed_of(sender, event, rule, field)}\n"
     source = VALUE_SOURCES[field] if rule == Rule.METRIC else SOURCES[rule]
-    facts_and_source = facts_of(sender, event, rule, field) + f"  {source}\n"
+    facts_and_source = facts_of(sender, event, rule) + f"  {source}\n"
     return front.encode() + line + facts_and_source.encode()
 
 
@@ -383,15 +382,15 @@ def deed_of(sender: Sender, event: Event, rule: Rule, field: str) -> str:
     return DEEDS[rule].format(time=time)
 
 
-def facts_of(sender: Sender, event: Event, rule: Rule, field: str) -> str:
+def facts_of(sender: Sender, event: Event, rule: Rule) -> str:
     """The facts of a rule, a line each."""
-    lines = "".join(f"  {it}\n" for it in facts(sender, event, rule, field))
+    lines = "".join(f"  {it}\n" for it in facts(sender, event, rule))
     if rule in (Rule.LOSS_NOT_OWED, Rule.LOSS_SET):
         return owed_of(sender) + free_of(sender) + lines
     return owed_of(sender) + lines if rule == Rule.LOSS_OWED else lines
 
 
-def facts(sender: Sender, event: Event, rule: Rule, field: str) -> Iterable[str]:
+def facts(sender: Sender, event: Event, rule: Rule) -> Iterable[str]:
     """The facts of a rule beside what is owed."""
     match rule:
         case Rule.LOSS_SET:
@@ -416,7 +415,7 @@ def facts(sender: Sender, event: Event, rule: Rule, field: str) -> Iterable[str]
             times = f"since {sender.due_since}; limit {limit}; this event at {event['time']}"
             yield f"set: {set_for(due)}, {times}"
         case Rule.METRIC:
-            yield from reported(sender, event, field)
+            yield from reported(sender, event)
         case Rule.COLLAPSE_MISSING:
             yield collapse_of(sender, event)
 
@@ -573,13 +572,11 @@ def rtt_of(sender: Sender, delay: int) -> str:
 # Reported values.
 
 
-def reported(sender: Sender, event: Event, first: str) -> Iterable[str]:
-    """A line of each reported value that differs; those of the controller only where one is the
-    first."""
+def reported(sender: Sender, event: Event) -> Iterable[str]:
+    """A line of each reported value that is compared and differs."""
     for name in METRICS:
-        is_looked_at = name not in OF_THE_CONTROLLER or first in OF_THE_CONTROLLER
         value = event.get(name)
-        if not is_looked_at or value is None or not sender.differs(name, value):
+        if value is None or not sender.is_compared(name) or not sender.differs(name, value):
             continue
         held, slack = sender.total(name), sender.settings.slack_of(name)
         if held is None:

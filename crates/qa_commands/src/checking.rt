@@ -2,6 +2,7 @@
 ghost use Rattle.std.specs.Prelude.{◌≡◌, ◌⊎◌, [], List, Result, OnOk, IfErr, is_err, length};
 ghost use Rattle.std.specs.Prelude.{nat_lt};
 ghost use Rattle.std.specs.Io.KnownBytes.{Appends};
+ghost use Rattle.qa_check.specs.Audit.{Reads};
 ghost use Rattle.qa_check.specs.Failures.{failures_after};
 ghost use Rattle.qa_check.specs.Writing.{Begins};
 ghost use Rattle.qa_commands.specs.Checking as checking;
@@ -21,7 +22,8 @@ use std::rt::Files;
 /// statuses. Before the report of one of several files stands a line with its name.
 ///
 /// Each failure is told on standard error. All but a failed write leave the files behind it to be
-/// audited. Where there are files, nothing is read from standard input.
+/// audited. Where there are files, nothing is read from standard input, and else nothing once the
+/// verdict is fixed.
 pub fn check<R: Files, I: Source, O: Sink, E: Sink>(
     rt: &R,
     alloc: Global,
@@ -36,6 +38,8 @@ pub fn check<R: Files, I: Source, O: Sink, E: Sink>(
         ≡ failures_after (any_stops endings) (O.write_failures output.old))
         × Ends endings result (E.held error.old) (E.held error.new)
         (E.write_failures error.old) (E.write_failures error.new) }
+    ensures reads { files.now ≡ []
+        → Reads (I.left input.old) (I.left input.new) (I.last_read input.new) }
     ensures unread { (files.now ≡ []) ⊎ (input.new ≡ input.old) }
 {
     if files.is_empty() {
@@ -126,6 +130,7 @@ fn audited<'a, I: Source, O: Sink>(
 ) -> Result<Outcome, Failure<'a>>
     ensures written { Audited (I.left input.old) origin.entry result (O.held output.old)
         (O.held output.new) }
+    ensures reads { Reads (I.left input.old) (I.left input.new) (I.last_read input.new) }
     ensures failures { O.write_failures output.new
         ≡ failures_after (checking.stops result) (O.write_failures output.old) }
 {

@@ -1,6 +1,7 @@
 //! The whole command: what its arguments ask for.
-ghost use Rattle.std.specs.Prelude.{◌≡◌, ◌∷◌, false, [], List, Result, Err, map, string_bytes};
+ghost use Rattle.std.specs.Prelude.{◌≡◌, ◌⊎◌, ◌∷◌, true, false, [], List, Result, Err, map, string_bytes};
 ghost use Rattle.qa_arguments.specs.Arguments.{asked};
+ghost use Rattle.qa_check.specs.Audit.{Reads};
 ghost use Rattle.qa_check.specs.Failures.{failures_after};
 ghost use Rattle.qa_commands.specs.Checking.{any_stops};
 ghost use Rattle.qa_commands.specs.Commands.{Commands, asks_for_input, refusal_of};
@@ -18,7 +19,8 @@ use std::rt::Files;
 ///
 /// Reports go to the output and the lines of failures to the error stream, whose own failure
 /// changes nothing: it gets the beginning of these lines up to where it failed. Files are opened by
-/// the runtime. Standard input is read only where the arguments name no file.
+/// the runtime. Standard input is read only where the arguments name no file, and not once the
+/// verdict is fixed.
 pub fn command<R: Files, I: Source, O: Sink, E: Sink>(
     rt: &R,
     alloc: Global,
@@ -34,6 +36,9 @@ pub fn command<R: Files, I: Source, O: Sink, E: Sink>(
         ≡ failures_after (any_stops endings) (O.write_failures output.old))
         × Ends endings result (E.held error.old) (E.held error.new)
         (E.write_failures error.old) (E.write_failures error.new) }
+    ensures reads { asks_for_input (asked (map string_bytes arguments.now)) ≡ true
+        → (input.new ≡ input.old)
+        ⊎ Reads (I.left input.old) (I.left input.new) (I.last_read input.new) }
     ensures unread { asks_for_input (asked (map string_bytes arguments.now)) ≡ false
         → input.new ≡ input.old }
 {

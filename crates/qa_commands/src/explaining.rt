@@ -1,5 +1,6 @@
 //! The subcommand `explain`.
 ghost use Rattle.std.specs.Prelude.{◌≡◌, ◌⊎◌, ◌∷◌, [], None, Result};
+ghost use Rattle.qa_check.specs.Audit.{Reads};
 ghost use Rattle.qa_check.specs.Failures.{failures_after};
 ghost use Rattle.qa_commands.specs.Checking.{stops};
 ghost use Rattle.qa_commands.specs.Ending.{Ends};
@@ -14,7 +15,8 @@ use std::rt::Files;
 
 /// Writes a row for each line of the file that the machine admits, or of standard input where no
 /// file is named, and then the report, and returns the exit status. A failure is told on standard
-/// error. Where a file is named, nothing is read from standard input.
+/// error. Where a file is named, nothing is read from standard input, and else nothing once the
+/// verdict is fixed.
 pub fn explain<R: Files, I: Source, O: Sink, E: Sink>(
     rt: &R,
     alloc: Global,
@@ -29,6 +31,8 @@ pub fn explain<R: Files, I: Source, O: Sink, E: Sink>(
         ≡ failures_after (stops ended) (O.write_failures output.old))
         × Ends (ended ∷ []) result (E.held error.old) (E.held error.new)
         (E.write_failures error.old) (E.write_failures error.new) }
+    ensures reads { file.entry ≡ None
+        → Reads (I.left input.old) (I.left input.new) (I.last_read input.new) }
     ensures unread { (file.entry ≡ None) ⊎ (input.new ≡ input.old) }
 {
     let ended = match file {
@@ -65,6 +69,7 @@ fn explained<'a, I: Source, O: Sink>(
 ) -> Result<Outcome, Failure<'a>>
     ensures written { Explained (I.left input.old) origin.entry result (O.held output.old)
         (O.held output.new) }
+    ensures reads { Reads (I.left input.old) (I.left input.new) (I.last_read input.new) }
     ensures failures { O.write_failures output.new
         ≡ failures_after (stops result) (O.write_failures output.old) }
 {

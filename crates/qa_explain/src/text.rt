@@ -15,7 +15,7 @@ pub use deadlines::due_time;
 pub use facts::push_facts;
 pub use pieces::{push_name, push_number, push_wide, push_words};
 pub use predicates::push_predicate;
-pub use reports::{differs, is_of_controller};
+pub use reports::differs;
 pub use runs::push_owed;
 pub use sources::source;
 pub use subjects::push_subject;

@@ -11,7 +11,9 @@ mod tolerates;
 mod untolerated;
 mod violating;
 
-pub use causes::{Basis, Cause, Explains, Facts, Free, Oldest, Owed, Ranges, cause_of, owed_of};
+pub use causes::{
+    Basis, Cause, Comparison, Explains, Facts, Free, Oldest, Owed, Ranges, cause_of, owed_of,
+};
 pub use ledger::{Ledger, LedgerFault};
 pub use metrics::totals_by;
 pub use rules::{first_broken, other_window};

@@ -2,3 +2,4 @@ pub mod Sums
 pub mod Sets
 pub mod Accepted
 pub mod Breaking
+pub mod Agreement

@@ -57,7 +57,7 @@ rule_members r =
 -- why line n is refused, which says an event that breaks a rule
 unfoldable pub refused_members : TimeUnit → ℕ → Rule → Event → Cause → List ℕ
 refused_members u n r e k =
-    text_of_all (head (codes "refused") n ++ rule_members r ++ subject u e ++ facts u e r k)
+    text_of_all (head (codes "refused") n ++ rule_members r ++ subject u e ++ facts u e k)
 
 -- V17
 unfoldable pub owed_at_end_members : ℕ → Owed → List ℕ

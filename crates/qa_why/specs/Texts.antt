@@ -47,7 +47,7 @@ refused_sentence r e k = subject e ++ predicate e r k ++ codes "\n"
 
 -- the facts, and where the rule stands
 unfoldable pub grounds : Rule → Event → Cause → List ℕ
-grounds r e k = facts_text e r k ++ source r
+grounds r e k = facts_text e k ++ source r
 
 -- of line n, which says an event that breaks a rule, with a word for what follows from that
 unfoldable pub broken_text : List ℕ → List ℕ → ℕ → Rule → Event → Cause → List ℕ → List ℕ

@@ -95,7 +95,7 @@ pub fn refused_members(
     let mut object = headed_by(alloc, "refused", n)?;
     push_rule(alloc, &mut object, rule)?;
     push_subject(&mut object, unit, event)?;
-    push_facts(&mut object, unit, event, rule, cause)?;
+    push_facts(&mut object, unit, event, cause)?;
     Ok(object.into_bytes())
 }
 

@@ -89,7 +89,7 @@ fn grounds(alloc: Global, rule: Rule, event: &Event, cause: &Cause) -> Result<St
         ≡ text.grounds rule event.now cause.now) }
 {
     let mut grounds = String::new(alloc);
-    push_facts(&mut grounds, event, rule, cause)?;
+    push_facts(&mut grounds, event, cause)?;
     push_words(&mut grounds, source(rule))?;
     Ok(grounds)
 }

@@ -7,16 +7,16 @@ use Rattle.qa_format.specs.verdicts.Verdict.{Judging}
 use Rattle.qa_why_command.specs.warnings.Keeping.{Covers}
 use Rattle.qa_why_command.specs.warnings.Warnings.{warnings}
 use Rattle.qa_why_command.specs.declared.warnings.warnings.Warnings.{Warnings}
-use Rattle.qa_why_command.specs.Streams.{Stream, WasTold}
+use Rattle.qa_why_command.specs.Streams.{Input, Stream, WasTold}
 use Rattle.qa_why_command.specs.Telling.{Counts, CountsFaults, StoppedText}
 use Rattle.qa_why.specs.Why.{good_lines}
 
 -- a text was written, and these are notes of the good lines; or it failed
 abbrev pub Notes : {N : Type 0} → Judging → (List ℕ → List ℕ) → (List ℕ → Outcome)
     → (N → List (List ℕ) → Type 0)
-    → Result (Outcome × N) AuditFault → Stream → Stream → Stream → Stream → Type 0
+    → Result (Outcome × N) AuditFault → Input → Input → Stream → Stream → Type 0
 Notes judging text outcome covers (Ok known) input input' output output' =
-    Counts judging input.0 input'.0
+    Counts judging input input'
     (λ bytes. (Appends output.0 output'.0 (text bytes) × (known.0 ≡ outcome bytes))
     × covers known.1 (good_lines judging bytes))
 Notes judging text outcome covers (Err fault) input input' output output' =
@@ -24,7 +24,7 @@ Notes judging text outcome covers (Err fault) input input' output output' =
 
 abbrev pub TellsNoted : {N : Type 0} → Judging → (List ℕ → List ℕ) → (List ℕ → Outcome)
     → (N → List (List ℕ) → Type 0)
-    → Result (Outcome × N) AuditFault → Stream → Stream → Stream → Stream → Type 0
+    → Result (Outcome × N) AuditFault → Input → Input → Stream → Stream → Type 0
 TellsNoted judging text outcome covers result input input' output output' =
     Notes judging text outcome covers result input input' output output'
     × CountsFaults result input input' output output'

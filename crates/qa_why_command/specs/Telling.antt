@@ -20,7 +20,7 @@ use Rattle.qa_why_command.specs.warnings.Warnings.{warnings}
 use Rattle.qa_arguments.specs.why.Asked.{Wanted}
 use Rattle.qa_arguments.specs.declared.why.arguments.Told.{Told}
 use Rattle.qa_arguments.specs.declared.why.arguments.Told.TheVariants.{All, AllRows, Rows, Why}
-use Rattle.qa_why_command.specs.Streams.{Stream, Streams, WasTold}
+use Rattle.qa_why_command.specs.Streams.{Input, Stream, Streams, WasTold}
 use Rattle.qa_why.specs.Why.{good_lines}
 use Rattle.qa_format.specs.declared.form.Form.{Form}
 
@@ -65,13 +65,19 @@ Warns false judging name bytes old new = new ≡ old
 
 -- ---- of a reader
 
+-- bytes were read, and none by the last read that did not count
+abbrev pub ReadsFrom : Judging → Input → Input → Type 0
+ReadsFrom judging input input' = ReadsBy judging input.0 input'.0 input'.1
+
+-- these bytes were read, which are all that counts, and none by the last read that did not
+abbrev pub ReadsAllOf : Judging → Input → Input → List ℕ → Type 0
+ReadsAllOf judging input input' bytes = ReadsEnoughBy judging input.0 input'.0 input'.1 bytes
+
 -- it holds of bytes that were read, which are all that counts, and of all that the reader had left,
 -- where it tells them
-pub record Counts (judging : Judging) (left left' : Option (List ℕ))
-    (P : List ℕ → Type 0) : Type 0 where
-  pub of_read : (bytes : List ℕ) × (last : ℕ) × ReadsEnoughBy judging left left' last bytes
-      × P bytes
-  pub of_all : (bytes : List ℕ) → left ≡ Some bytes → P bytes
+pub record Counts (judging : Judging) (input input' : Input) (P : List ℕ → Type 0) : Type 0 where
+  pub of_read : (bytes : List ℕ) × ReadsAllOf judging input input' bytes × P bytes
+  pub of_all : (bytes : List ℕ) → input.0 ≡ Some bytes → P bytes
 
 -- the bytes were told, and this is the kind of their verdict
 abbrev pub TellsOf : Told → Wanted → List ℕ → Outcome → List ℕ → Streams → Streams → Type 0
@@ -81,26 +87,26 @@ TellsOf told w name outcome bytes before after =
     × Warns (not (are_rows told) && w.warn) (judging_of told) name bytes before.error after.error
 
 -- what stands written where a text failed: after a failed write a beginning of it, and else nothing
-abbrev pub StoppedText : Judging → (List ℕ → List ℕ) → AuditFault → Stream → Stream → Stream
-    → Stream → Type 0
+abbrev pub StoppedText : Judging → (List ℕ → List ℕ) → AuditFault → Input → Input → Stream → Stream
+    → Type 0
 StoppedText judging text faults.Read input input' output output' =
-    (last : ℕ) × ReadsBy judging input.0 input'.0 last × (output'.0 ≡ output.0)
+    ReadsFrom judging input input' × (output'.0 ≡ output.0)
 StoppedText judging text faults.Write input input' output output' =
-    (bytes : List ℕ) × (last : ℕ) × ReadsEnoughBy judging input.0 input'.0 last bytes
+    (bytes : List ℕ) × ReadsAllOf judging input input' bytes
     × Begins output.0 output'.0 (text bytes)
 StoppedText judging text faults.OutOfMemory input input' output output' =
-    (last : ℕ) × ReadsBy judging input.0 input'.0 last × (output'.0 ≡ output.0)
+    ReadsFrom judging input input' × (output'.0 ≡ output.0)
 
 -- and where rows failed: after a failed read those of all lines that an LF ended in what was read,
 -- and else a beginning
-abbrev pub StoppedRows : Judging → AuditFault → Stream → Stream → Stream → Stream → Type 0
+abbrev pub StoppedRows : Judging → AuditFault → Input → Input → Stream → Stream → Type 0
 StoppedRows judging faults.Read input input' output output' =
     ShowsToldRead judging row_of input.0 input'.0 output.0 output'.0
 StoppedRows judging faults.Write input input' output output' =
-    (last : ℕ) × BeginsToldRead judging row_of input.0 input'.0 last output.0 output'.0
+    BeginsToldRead judging row_of input.0 input'.0 input'.1 output.0 output'.0
     (told row_of judging)
 StoppedRows judging faults.OutOfMemory input input' output output' =
-    (last : ℕ) × BeginsToldRead judging row_of input.0 input'.0 last output.0 output'.0
+    BeginsToldRead judging row_of input.0 input'.0 input'.1 output.0 output'.0
     (told row_of judging)
 
 abbrev pub Stopped : Told → Wanted → List ℕ → AuditFault → Streams → Streams → Type 0
@@ -113,16 +119,16 @@ Stopped told w name fault before after =
 -- what was told of the input, by which this is known of it
 abbrev pub Tells : Told → Wanted → List ℕ → Result Outcome AuditFault → Streams → Streams → Type 0
 Tells told w name (Ok outcome) before after =
-    Counts (judging_of told) before.input.0 after.input.0
+    Counts (judging_of told) before.input after.input
     (λ bytes. TellsOf told w name outcome bytes before after)
 Tells told w name (Err fault) before after =
     Stopped told w name fault before after × (after.error ≡ before.error)
 
 -- a fault of the input or the output is known exactly where that failed, once
-abbrev pub CountsFaults : {A : Type 0} → Result A AuditFault → Stream → Stream → Stream → Stream
+abbrev pub CountsFaults : {A : Type 0} → Result A AuditFault → Input → Input → Stream → Stream
     → Type 0
 CountsFaults result input input' output output' =
-    (input'.1 ≡ failures_after (is_read_fault result) input.1)
+    (input'.2 ≡ failures_after (is_read_fault result) input.2)
     × (output'.1 ≡ failures_after (is_write_fault result) output.1)
 
 abbrev pub TellsRead : Told → Wanted → List ℕ → Result Outcome AuditFault → Streams → Streams

@@ -14,7 +14,7 @@ use Rattle.qa_arguments.specs.why.Asked.{Wanted}
 use Rattle.qa_arguments.specs.declared.why.arguments.Told.{Told}
 use Rattle.qa_arguments.specs.declared.why.arguments.Told.TheVariants as told
 use Rattle.qa_why_command.specs.Ending.{Ended, TellsFailure, ended_by, stops}
-use Rattle.qa_why_command.specs.Streams.{Stream, Streams}
+use Rattle.qa_why_command.specs.Streams.{Input, Stream, Streams}
 use Rattle.qa_why_command.specs.Tally.{tally_line, tally_of}
 use Rattle.qa_why_command.specs.Telling.{TellsRead}
 use Rattle.qa_why_command.specs.declared.ending.Failure.{Failure}
@@ -38,7 +38,7 @@ TellsInput w name ended before after =
 abbrev pub TellsFile : Wanted → List ℕ → Ended → Streams → Streams → Type 0
 TellsFile w name ended before after =
     ((ended ≡ Err Open) × (after ≡ before))
-    ⊎ ((file : Stream) × (file' : Stream) × (after.input ≡ before.input)
+    ⊎ ((file : Input) × (file' : Input) × (after.input ≡ before.input)
     × TellsInput w name ended (record before { input = file }) (record after { input = file' }))
 
 abbrev pub TellsBefore : Wanted → List ℕ → Ended → Streams → Streams → Type 0

@@ -33,10 +33,10 @@ pub fn command<R: Files, I: Source, O: Sink, E: Sink>(
     error: &mut E,
 ) -> u8
     ensures told { Commands (map string_bytes arguments.now) result
-        (streams (I.left input.old, I.read_failures input.old)
+        (streams (I.left input.old, I.last_read input.old, I.read_failures input.old)
         (O.held output.old, O.write_failures output.old)
         (E.held error.old, E.write_failures error.old))
-        (streams (I.left input.new, I.read_failures input.new)
+        (streams (I.left input.new, I.last_read input.new, I.read_failures input.new)
         (O.held output.new, O.write_failures output.new)
         (E.held error.new, E.write_failures error.new)) }
     ensures unread { asks_for_input (asked (map string_bytes arguments.now)) ≡ false

@@ -27,10 +27,10 @@ pub fn tell_read<R: Source, O: Sink, E: Sink>(
     error: &mut E,
 ) -> Result<Outcome, AuditFault>
     ensures { TellsRead inquiry.now.told (wanted inquiry.now) name.now result
-        (streams (R.left reader.old, R.read_failures reader.old)
+        (streams (R.left reader.old, R.last_read reader.old, R.read_failures reader.old)
         (O.held output.old, O.write_failures output.old)
         (E.held error.old, E.write_failures error.old))
-        (streams (R.left reader.new, R.read_failures reader.new)
+        (streams (R.left reader.new, R.last_read reader.new, R.read_failures reader.new)
         (O.held output.new, O.write_failures output.new)
         (E.held error.new, E.write_failures error.new)) }
 {
@@ -64,10 +64,10 @@ fn tell_why<R: Source, O: Sink, E: Sink>(
     error: &mut E,
 ) -> Result<Outcome, AuditFault>
     ensures { TellsRead (Why form) (wanted inquiry.now) name.now result
-        (streams (R.left reader.old, R.read_failures reader.old)
+        (streams (R.left reader.old, R.last_read reader.old, R.read_failures reader.old)
         (O.held output.old, O.write_failures output.old)
         (E.held error.old, E.write_failures error.old))
-        (streams (R.left reader.new, R.read_failures reader.new)
+        (streams (R.left reader.new, R.last_read reader.new, R.read_failures reader.new)
         (O.held output.new, O.write_failures output.new)
         (E.held error.new, E.write_failures error.new)) }
 {
@@ -94,10 +94,10 @@ fn tell_all<R: Source, O: Sink, E: Sink>(
     error: &mut E,
 ) -> Result<Outcome, AuditFault>
     ensures { TellsRead (All form) (wanted inquiry.now) name.now result
-        (streams (R.left reader.old, R.read_failures reader.old)
+        (streams (R.left reader.old, R.last_read reader.old, R.read_failures reader.old)
         (O.held output.old, O.write_failures output.old)
         (E.held error.old, E.write_failures error.old))
-        (streams (R.left reader.new, R.read_failures reader.new)
+        (streams (R.left reader.new, R.last_read reader.new, R.read_failures reader.new)
         (O.held output.new, O.write_failures output.new)
         (E.held error.new, E.write_failures error.new)) }
 {

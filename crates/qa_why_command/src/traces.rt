@@ -35,10 +35,10 @@ pub fn tell<R: Files, I: Source, O: Sink, E: Sink>(
     error: &mut E,
 ) -> u8
     ensures told { defined.TellsAll (wanted inquiry.now) result
-        (streams (I.left input.old, I.read_failures input.old)
+        (streams (I.left input.old, I.last_read input.old, I.read_failures input.old)
         (O.held output.old, O.write_failures output.old)
         (E.held error.old, E.write_failures error.old))
-        (streams (I.left input.new, I.read_failures input.new)
+        (streams (I.left input.new, I.last_read input.new, I.read_failures input.new)
         (O.held output.new, O.write_failures output.new)
         (E.held error.new, E.write_failures error.new)) }
     ensures unread { list_any defined.is_input (defined.names_of (wanted inquiry.now).files) ≡ false
@@ -77,10 +77,10 @@ fn tell_traces<R: Files, I: Source, O: Sink, E: Sink>(
 ) -> (Tally, bool)
     ensures told { (ended : List Ended)
         × defined.TellsEach (wanted inquiry.now) (defined.names_of (wanted inquiry.now).files) ended
-        (streams (I.left input.old, I.read_failures input.old)
+        (streams (I.left input.old, I.last_read input.old, I.read_failures input.old)
         (O.held output.old, O.write_failures output.old)
         (E.held error.old, E.write_failures error.old))
-        (streams (I.left input.new, I.read_failures input.new)
+        (streams (I.left input.new, I.last_read input.new, I.read_failures input.new)
         (O.held output.new, O.write_failures output.new)
         (E.held error.new, E.write_failures error.new))
         × (result.0 ≡ tally_of ended) × (result.1 ≡ list_any endings.stops ended) }
@@ -105,10 +105,10 @@ fn tell_each<R: Files, I: Source, O: Sink, E: Sink>(
 ) -> (Tally, bool)
     ensures told { (ended : List Ended)
         × defined.TellsEach (wanted inquiry.now) (map (λ name. name.now) names.now) ended
-        (streams (I.left input.old, I.read_failures input.old)
+        (streams (I.left input.old, I.last_read input.old, I.read_failures input.old)
         (O.held output.old, O.write_failures output.old)
         (E.held error.old, E.write_failures error.old))
-        (streams (I.left input.new, I.read_failures input.new)
+        (streams (I.left input.new, I.last_read input.new, I.read_failures input.new)
         (O.held output.new, O.write_failures output.new)
         (E.held error.new, E.write_failures error.new))
         × (result.0 ≡ tally_of ended) × (result.1 ≡ list_any endings.stops ended) }
@@ -137,10 +137,10 @@ fn tell_trace<R: Files, I: Source, O: Sink, E: Sink>(
     error: &mut E,
 ) -> Result<Outcome, Failure>
     ensures told { defined.TellsTrace (wanted inquiry.now) name.now result
-        (streams (I.left input.old, I.read_failures input.old)
+        (streams (I.left input.old, I.last_read input.old, I.read_failures input.old)
         (O.held output.old, O.write_failures output.old)
         (E.held error.old, E.write_failures error.old))
-        (streams (I.left input.new, I.read_failures input.new)
+        (streams (I.left input.new, I.last_read input.new, I.read_failures input.new)
         (O.held output.new, O.write_failures output.new)
         (E.held error.new, E.write_failures error.new)) }
     ensures unread { defined.is_input name.now ≡ false → input.new ≡ input.old }
@@ -165,10 +165,10 @@ fn tell_of<R: Files, I: Source, O: Sink, E: Sink>(
     error: &mut E,
 ) -> Result<Outcome, Failure>
     ensures told { defined.TellsBefore (wanted inquiry.now) name.now result
-        (streams (I.left input.old, I.read_failures input.old)
+        (streams (I.left input.old, I.last_read input.old, I.read_failures input.old)
         (O.held output.old, O.write_failures output.old)
         (E.held error.old, E.write_failures error.old))
-        (streams (I.left input.new, I.read_failures input.new)
+        (streams (I.left input.new, I.last_read input.new, I.read_failures input.new)
         (O.held output.new, O.write_failures output.new)
         (E.held error.new, E.write_failures error.new)) }
     ensures unread { defined.is_input name.now ≡ false → input.new ≡ input.old }

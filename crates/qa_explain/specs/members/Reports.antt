@@ -11,10 +11,11 @@ use Rattle.qa_base.specs.declared.totals.Totals.{Totals}
 use Rattle.qa_base.specs.machine.Metrics.{differs}
 use Rattle.qa_base.specs.machine.Rtt.{distance}
 use Rattle.qa_base.specs.values.Names.{field_name, unit_name}
+use Rattle.qa_base.specs.values.Settings.{is_reported}
+use Rattle.qa_ledger.specs.declared.causes.cause.Comparison.{Comparison}
 use Rattle.qa_explain.specs.members.Object.{amount_at, closed, list_begin, list_end, opened}
 use Rattle.qa_explain.specs.members.Object.{some_amount_at, string_at}
 use Rattle.qa_explain.specs.members.Sending.{bytes_at}
-use Rattle.qa_explain.specs.text.Reports.{is_of_controller}
 
 -- ---- V16
 
@@ -50,12 +51,12 @@ of_controller slack values held =
     differing field.Window bytes slack values.window (Some held.window)
     ++ differing field.Ssthresh bytes slack values.ssthresh held.ssthresh
 
--- those of the controller where the first that differs is one of them, since else they do not, or
--- are not compared
-unfoldable pub of_bytes : Field → ℕ → MetricValues → Totals → List Token
-of_bytes first slack values held =
-    (if is_of_controller first then of_controller slack values held else [])
-    ++ differing field.BytesInFlight bytes slack values.bytes_in_flight (Some held.bytes_in_flight)
+-- a window that is reported is not compared, nor is its ssthresh
+unfoldable pub of_bytes : Comparison → MetricValues → Totals → List Token
+of_bytes by values held =
+    (if is_reported by.controller then [] else of_controller by.slack_bytes values held)
+    ++ differing field.BytesInFlight bytes by.slack_bytes values.bytes_in_flight
+    (Some held.bytes_in_flight)
 
 unfoldable pub of_samples : List ℕ → ℕ → MetricValues → Totals → List Token
 of_samples unit slack values held =
@@ -67,21 +68,15 @@ of_estimates unit slack values held =
     differing field.SmoothedRtt unit slack values.smoothed_rtt (Some held.smoothed_rtt)
     ++ differing field.Rttvar unit slack values.rttvar (Some held.rttvar)
 
-unfoldable pub differences : TimeUnit → Field → ℕ → ℕ → MetricValues → Totals → List Token
-differences u first slack_bytes slack_time values held =
-    list_begin (codes "differences") ++ of_bytes first slack_bytes values held
-    ++ of_samples (unit_name u) slack_time values held
-    ++ of_estimates (unit_name u) slack_time values held ++ list_end
+unfoldable pub differences : TimeUnit → Comparison → MetricValues → Totals → List Token
+differences u by values held =
+    list_begin (codes "differences") ++ of_bytes by values held
+    ++ of_samples (unit_name u) by.slack_time values held
+    ++ of_estimates (unit_name u) by.slack_time values held ++ list_end
 
-abbrev pub differences_in : TimeUnit → Field → Event → Totals → ℕ → ℕ → List Token
-differences_in u first (Metrics time values) held slack_bytes slack_time =
-    differences u first slack_bytes slack_time values held
-differences_in u first _ held slack_bytes slack_time = []
-
-abbrev pub metric_facts : TimeUnit → Option Field → Event → Totals → ℕ → ℕ → List Token
-metric_facts u None e held slack_bytes slack_time = []
-metric_facts u (Some first) e held slack_bytes slack_time =
-    differences_in u first e held slack_bytes slack_time
+abbrev pub metric_facts : TimeUnit → Event → Totals → Comparison → List Token
+metric_facts u (Metrics time values) held by = differences u by values held
+metric_facts u _ held by = []
 
 -- ---- V19
 

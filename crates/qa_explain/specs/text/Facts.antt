@@ -1,10 +1,6 @@
 -- The facts of a cause, a line each.
-use Rattle.std.specs.Prelude.{ℕ, List, [], ◌++◌, Option, Some, None}
+use Rattle.std.specs.Prelude.{ℕ, List, [], ◌++◌}
 use Rattle.qa_base.specs.declared.event.Event.{Event}
-use Rattle.qa_base.specs.declared.rule.Field.{Field}
-use Rattle.qa_base.specs.declared.rule.Rule.{Rule}
-use Rattle.qa_base.specs.declared.totals.Totals.{Totals}
-use Rattle.qa_base.specs.values.Names.{field_of}
 use Rattle.qa_ledger.specs.declared.causes.cause.Cause.{Cause}
 use Rattle.qa_ledger.specs.declared.causes.cause.Cause.TheVariants as cause
 use Rattle.qa_explain.specs.text.Deadlines.{early_text, late_text, set_text}
@@ -13,31 +9,26 @@ use Rattle.qa_explain.specs.text.Runs.{differing_text, nameable_text, owed_text}
 use Rattle.qa_explain.specs.text.Sending.{due_probe_text, greatest_text, probe_text, recovery_text}
 use Rattle.qa_explain.specs.text.Sending.{unsent_text, window_text}
 
-abbrev pub metric_text : Option Field → Event → Totals → ℕ → ℕ → List ℕ
-metric_text None e held slack_bytes slack_time = []
-metric_text (Some f) e held slack_bytes slack_time = metrics_text f e held slack_bytes slack_time
-
-unfoldable pub facts_text : Event → Rule → Cause → List ℕ
-facts_text e r (cause.TimeBack before) = []
-facts_text e r (cause.LossOwed o) = owed_text o
-facts_text e r (cause.LossNotOwed o f) = nameable_text o f
-facts_text e r (cause.LossSet o f unnamed unowed) =
+unfoldable pub facts_text : Event → Cause → List ℕ
+facts_text e (cause.TimeBack before) = []
+facts_text e (cause.LossOwed o) = owed_text o
+facts_text e (cause.LossNotOwed o f) = nameable_text o f
+facts_text e (cause.LossSet o f unnamed unowed) =
     nameable_text o f ++ differing_text unnamed unowed
-facts_text e r cause.SpaceGone = []
-facts_text e r (cause.NumberNotHigher greatest) = greatest_text e greatest
-facts_text e r (cause.PastWindow in_flight window overshoot) =
+facts_text e cause.SpaceGone = []
+facts_text e (cause.NumberNotHigher greatest) = greatest_text e greatest
+facts_text e (cause.PastWindow in_flight window overshoot) =
     window_text e in_flight window overshoot
-facts_text e r (cause.PastProbe allowance spent) = probe_text e allowance spent
-facts_text e r (cause.PastRecovery spent) = recovery_text spent
-facts_text e r (cause.AckUnsent unsent) = unsent_text e unsent
-facts_text e r cause.TimerNotSet = []
-facts_text e r (cause.TimerOther due) = set_text due
-facts_text e r (cause.TimerEarly due b early) = early_text due b
-facts_text e r (cause.ProbeOwed s) = due_probe_text s
-facts_text e r cause.NotConfirmed = []
-facts_text e r (cause.Metric held slack_bytes slack_time) =
-    metric_text (field_of r) e held slack_bytes slack_time
-facts_text e r (cause.OwedAtEnd o) = owed_text o
-facts_text e r (cause.TimerLate due since limit) = late_text e due since limit
-facts_text e r (cause.CollapseMissing least acknowledged slack reported) =
+facts_text e (cause.PastProbe allowance spent) = probe_text e allowance spent
+facts_text e (cause.PastRecovery spent) = recovery_text spent
+facts_text e (cause.AckUnsent unsent) = unsent_text e unsent
+facts_text e cause.TimerNotSet = []
+facts_text e (cause.TimerOther due) = set_text due
+facts_text e (cause.TimerEarly due b early) = early_text due b
+facts_text e (cause.ProbeOwed s) = due_probe_text s
+facts_text e cause.NotConfirmed = []
+facts_text e (cause.Metric held by) = metrics_text e held by
+facts_text e (cause.OwedAtEnd o) = owed_text o
+facts_text e (cause.TimerLate due since limit) = late_text e due since limit
+facts_text e (cause.CollapseMissing least acknowledged slack reported) =
     collapse_text least acknowledged slack reported

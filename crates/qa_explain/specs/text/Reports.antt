@@ -1,5 +1,5 @@
 -- What a sender reports, and what the machine has.
-use Rattle.std.specs.Prelude.{ℕ, ◌+◌, Bool, true, false, codes, List, [], ◌++◌, Option, Some, None}
+use Rattle.std.specs.Prelude.{ℕ, ◌+◌, codes, List, [], ◌++◌, Option, Some, None}
 use Rattle.std.specs.Prelude.{if◌then◌else◌}
 use Rattle.qa_base.specs.declared.event.Event.{Event}
 use Rattle.qa_base.specs.declared.event.Event.TheVariants.{Metrics}
@@ -10,6 +10,8 @@ use Rattle.qa_base.specs.declared.totals.Totals.{Totals}
 use Rattle.qa_base.specs.machine.Metrics.{differs}
 use Rattle.qa_base.specs.machine.Rtt.{distance}
 use Rattle.qa_base.specs.values.Names.{field_name}
+use Rattle.qa_base.specs.values.Settings.{is_reported}
+use Rattle.qa_ledger.specs.declared.causes.cause.Comparison.{Comparison}
 use Rattle.qa_explain.specs.text.Pieces.{named, numbered}
 
 -- ---- V16
@@ -35,12 +37,6 @@ differing_text f slack None held = []
 differing_text f slack (Some reported) held =
     if differs slack (Some reported) held then field_line f slack reported held else []
 
--- the value is the congestion controller's
-abbrev pub is_of_controller : Field → Bool
-is_of_controller field.Window = true
-is_of_controller field.Ssthresh = true
-is_of_controller _ = false
-
 unfoldable pub controller_differences : ℕ → MetricValues → Totals → List ℕ
 controller_differences slack values held =
     differing_text field.Window slack values.window (Some held.window)
@@ -53,19 +49,17 @@ time_differences slack values held =
     ++ differing_text field.SmoothedRtt slack values.smoothed_rtt (Some held.smoothed_rtt)
     ++ differing_text field.Rttvar slack values.rttvar (Some held.rttvar)
 
--- each value that differs; those of the controller where the first that differs is one of them,
--- since else they do not, or are not compared
-unfoldable pub differences : Field → ℕ → ℕ → MetricValues → Totals → List ℕ
-differences first slack_bytes slack_time values held =
-    (if is_of_controller first then controller_differences slack_bytes values held else [])
-    ++ differing_text field.BytesInFlight slack_bytes values.bytes_in_flight
+-- each value that differs; a window that is reported is not compared, nor is its ssthresh
+unfoldable pub differences : Comparison → MetricValues → Totals → List ℕ
+differences by values held =
+    (if is_reported by.controller then [] else controller_differences by.slack_bytes values held)
+    ++ differing_text field.BytesInFlight by.slack_bytes values.bytes_in_flight
     (Some held.bytes_in_flight)
-    ++ time_differences slack_time values held
+    ++ time_differences by.slack_time values held
 
-abbrev pub metrics_text : Field → Event → Totals → ℕ → ℕ → List ℕ
-metrics_text first (Metrics time values) held slack_bytes slack_time =
-    differences first slack_bytes slack_time values held
-metrics_text first _ held slack_bytes slack_time = []
+abbrev pub metrics_text : Event → Totals → Comparison → List ℕ
+metrics_text (Metrics time values) held by = differences by values held
+metrics_text _ held by = []
 
 -- ---- V19
 

@@ -5,9 +5,9 @@ ghost use Rattle.qa_explain.specs.members.Facts as text;
 use crate::members::deadlines::{push_due, push_early, push_late};
 use crate::members::losses::{push_nameable, push_other_set, push_owed, push_space};
 use crate::members::object::Object;
-use crate::members::reports::{Slack, push_collapse, push_metric};
+use crate::members::reports::{push_collapse, push_metrics};
 use crate::members::sending::{push_packet_number, push_probe, push_recovery, push_window};
-use qa_base::{Event, Rule, Ticks, TimeUnit};
+use qa_base::{Event, Ticks, TimeUnit};
 use qa_ledger::Cause;
 use std::alloc::AllocError;
 
@@ -24,16 +24,15 @@ fn push_before(out: &mut Object, unit: TimeUnit, before: Option<Ticks>) -> Resul
     }
 }
 
-/// Writes the facts of the cause by which the event breaks the rule; times are in the unit.
+/// Writes the facts of the cause by which the event breaks a rule; times are in the unit.
 #[tactic(auto, unfolding(crate::specs::members::Facts::facts))]
 pub fn push_facts(
     out: &mut Object,
     unit: TimeUnit,
     event: &Event,
-    rule: Rule,
     cause: &Cause,
 ) -> Result<(), AllocError>
-    ensures { OnOk result (out.new ≡ out.old ++ text.facts unit event.now rule cause.now) }
+    ensures { OnOk result (out.new ≡ out.old ++ text.facts unit event.now cause.now) }
 {
     match cause {
         Cause::SpaceGone | Cause::TimerNotSet | Cause::NotConfirmed => Ok(()),
@@ -60,17 +59,7 @@ pub fn push_facts(
             push_early(out, unit, event, due, *basis, *early)
         }
         Cause::ProbeOwed { space } => push_space(out, "probe_space", *space),
-        Cause::Metric {
-            held,
-            slack_bytes,
-            slack_time,
-        } => {
-            let slack = Slack {
-                bytes: *slack_bytes,
-                time: *slack_time,
-            };
-            push_metric(out, unit, rule.field(), event, held, slack)
-        }
+        Cause::Metric { held, by } => push_metrics(out, unit, event, held, *by),
         Cause::TimerLate { due, since, limit } => {
             push_late(out, unit, event, due, *since, *limit)
         }

@@ -4,8 +4,9 @@ ghost use Rattle.qa_explain.specs.members.Reports as text;
 
 use crate::members::object::Object;
 use crate::members::sending::push_bytes;
-use crate::text::{differs, is_of_controller};
+use crate::text::differs;
 use qa_base::{Event, Field, MetricValues, TimeUnit, Totals};
+use qa_ledger::Comparison;
 use std::alloc::AllocError;
 
 /// The unit of a number of bytes, at the end of a key.
@@ -114,15 +115,14 @@ fn push_of_controller(
 #[tactic(auto, unfolding(crate::specs::members::Reports::of_bytes))]
 fn push_of_bytes(
     out: &mut Object,
-    first: Field,
-    slack: u128,
+    by: Comparison,
     values: &MetricValues,
     held: &Totals,
 ) -> Result<(), AllocError>
-    ensures { OnOk result (out.new
-        ≡ out.old ++ text.of_bytes first slack values.now held.now) }
+    ensures { OnOk result (out.new ≡ out.old ++ text.of_bytes by values.now held.now) }
 {
-    if is_of_controller(first) {
+    let slack = u128::from(by.slack_bytes);
+    if !by.controller.is_reported() {
         push_of_controller(out, slack, values, held)?;
     }
     push_differing(
@@ -181,49 +181,35 @@ fn push_of_estimates(
     push_differing(out, Field::Rttvar, unit, slack, values.rttvar, rttvar)
 }
 
-/// By how much reported values may differ, in bytes and in the unit of times.
-#[derive(Clone, Copy)]
-pub(crate) struct Slack {
-    pub bytes: u64,
-    pub time: u128,
-}
-
 #[tactic(auto, unfolding(crate::specs::members::Reports::differences))]
 fn push_differences(
     out: &mut Object,
     unit: TimeUnit,
-    first: Field,
-    slack: Slack,
+    by: Comparison,
     values: &MetricValues,
     held: &Totals,
 ) -> Result<(), AllocError>
-    ensures { OnOk result (out.new
-        ≡ out.old ++ text.differences unit first slack.bytes slack.time values.now held.now) }
+    ensures { OnOk result (out.new ≡ out.old ++ text.differences unit by values.now held.now) }
 {
     out.begin_list("differences")?;
-    push_of_bytes(out, first, u128::from(slack.bytes), values, held)?;
-    push_of_samples(out, unit.name(), slack.time, values, held)?;
-    push_of_estimates(out, unit.name(), slack.time, values, held)?;
+    push_of_bytes(out, by, values, held)?;
+    push_of_samples(out, unit.name(), by.slack_time, values, held)?;
+    push_of_estimates(out, unit.name(), by.slack_time, values, held)?;
     out.end_list()
 }
 
-/// V16: an object of each reported value that differs, of which this is the first.
-pub(crate) fn push_metric(
+/// V16: an object of each reported value that differs.
+pub(crate) fn push_metrics(
     out: &mut Object,
     unit: TimeUnit,
-    first: Option<Field>,
     event: &Event,
     held: &Totals,
-    slack: Slack,
+    by: Comparison,
 ) -> Result<(), AllocError>
-    ensures { OnOk result (out.new
-        ≡ out.old ++ text.metric_facts unit first event.now held.now slack.bytes slack.time) }
+    ensures { OnOk result (out.new ≡ out.old ++ text.metric_facts unit event.now held.now by) }
 {
-    let Some(first) = first else {
-        return Ok(());
-    };
     match event {
-        Event::Metrics { values, .. } => push_differences(out, unit, first, slack, values, held),
+        Event::Metrics { values, .. } => push_differences(out, unit, by, values, held),
         _ => Ok(()),
     }
 }

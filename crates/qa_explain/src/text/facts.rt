@@ -8,38 +8,19 @@ use crate::text::runs::{push_differing, push_nameable, push_owed};
 use crate::text::sending::{
     push_due_probe, push_greatest, push_probe, push_recovery, push_unsent, push_window,
 };
-use qa_base::{Event, Field, Rule, Totals};
+use qa_base::Event;
 use qa_ledger::Cause;
 use std::alloc::AllocError;
 
-fn push_metric(
-    out: &mut String,
-    first: Option<Field>,
-    event: &Event,
-    held: &Totals,
-    slack_bytes: u64,
-    slack_time: u128,
-) -> Result<(), AllocError>
-    ensures { OnOk result (string_bytes out.new
-        ≡ string_bytes out.old
-        ++ text.metric_text first event.now held.now slack_bytes slack_time) }
-{
-    match first {
-        None => Ok(()),
-        Some(first) => push_metrics(out, first, event, held, slack_bytes, slack_time),
-    }
-}
-
-/// Appends the facts of the cause by which the event breaks the rule, a line each.
+/// Appends the facts of the cause by which the event breaks a rule, a line each.
 #[tactic(auto, unfolding(crate::specs::text::Facts::facts_text))]
 pub fn push_facts(
     out: &mut String,
     event: &Event,
-    rule: Rule,
     cause: &Cause,
 ) -> Result<(), AllocError>
     ensures { OnOk result (string_bytes out.new
-        ≡ string_bytes out.old ++ text.facts_text event.now rule cause.now) }
+        ≡ string_bytes out.old ++ text.facts_text event.now cause.now) }
 {
     match cause {
         Cause::TimeBack { .. } | Cause::SpaceGone | Cause::TimerNotSet | Cause::NotConfirmed => {
@@ -68,11 +49,7 @@ pub fn push_facts(
         Cause::TimerOther { due } => push_set(out, *due),
         Cause::TimerEarly { due, basis, .. } => push_early(out, *due, *basis),
         Cause::ProbeOwed { space } => push_due_probe(out, *space),
-        Cause::Metric {
-            held,
-            slack_bytes,
-            slack_time,
-        } => push_metric(out, rule.field(), event, held, *slack_bytes, *slack_time),
+        Cause::Metric { held, by } => push_metrics(out, event, held, *by),
         Cause::TimerLate { due, since, limit } => push_late(out, event, *due, *since, *limit),
         Cause::CollapseMissing {
             least,

@@ -5,6 +5,7 @@ ghost use Rattle.qa_explain.specs.text.Reports as text;
 
 use crate::text::pieces::{push_name, push_number, push_wide, push_words};
 use qa_base::{Event, Field, MetricValues, Totals};
+use qa_ledger::Comparison;
 use std::alloc::AllocError;
 
 // ---- V16
@@ -126,28 +127,18 @@ fn push_time_differences(
     push_differing(out, Field::Rttvar, slack, values.rttvar, rttvar)
 }
 
-/// Whether the value is the congestion controller's.
-pub fn is_of_controller(field: Field) -> bool
-    ensures { result ≡ text.is_of_controller field }
-{
-    matches!(field, Field::Window | Field::Ssthresh)
-}
-
 #[tactic(auto, unfolding(crate::specs::text::Reports::differences))]
 fn push_differences(
     out: &mut String,
-    first: Field,
-    slack_bytes: u64,
-    slack_time: u128,
+    by: Comparison,
     values: &MetricValues,
     held: &Totals,
 ) -> Result<(), AllocError>
     ensures { OnOk result (string_bytes out.new
-        ≡ string_bytes out.old
-        ++ text.differences first slack_bytes slack_time values.now held.now) }
+        ≡ string_bytes out.old ++ text.differences by values.now held.now) }
 {
-    let slack = u128::from(slack_bytes);
-    if is_of_controller(first) {
+    let slack = u128::from(by.slack_bytes);
+    if !by.controller.is_reported() {
         push_controller_differences(out, slack, values, held)?;
     }
     let in_flight = Some(held.bytes_in_flight);
@@ -158,26 +149,21 @@ fn push_differences(
         values.bytes_in_flight,
         in_flight,
     )?;
-    push_time_differences(out, slack_time, values, held)
+    push_time_differences(out, by.slack_time, values, held)
 }
 
-/// V16: a line of each reported value that differs, of which this is the first.
+/// V16: a line of each reported value that differs.
 pub fn push_metrics(
     out: &mut String,
-    first: Field,
     event: &Event,
     held: &Totals,
-    slack_bytes: u64,
-    slack_time: u128,
+    by: Comparison,
 ) -> Result<(), AllocError>
     ensures { OnOk result (string_bytes out.new
-        ≡ string_bytes out.old
-        ++ text.metrics_text first event.now held.now slack_bytes slack_time) }
+        ≡ string_bytes out.old ++ text.metrics_text event.now held.now by) }
 {
     match event {
-        Event::Metrics { values, .. } => {
-            push_differences(out, first, slack_bytes, slack_time, values, held)
-        }
+        Event::Metrics { values, .. } => push_differences(out, by, values, held),
         _ => Ok(()),
     }
 }

@@ -26,6 +26,7 @@ use Rattle.qa_ledger.specs.declared.causes.cause.Basis.{Basis}
 use Rattle.qa_ledger.specs.declared.causes.cause.Basis.TheVariants as basis
 use Rattle.qa_ledger.specs.declared.causes.cause.Cause.{Cause}
 use Rattle.qa_ledger.specs.declared.causes.cause.Cause.TheVariants as cause
+use Rattle.qa_ledger.specs.declared.causes.cause.Comparison.{Comparison}
 use Rattle.qa_ledger.specs.declared.causes.cause.Free.{Free}
 use Rattle.qa_ledger.specs.declared.causes.cause.Oldest.{Oldest}
 use Rattle.qa_ledger.specs.declared.causes.cause.Owed.{Owed}
@@ -141,6 +142,16 @@ since_if_limited (Some limit) since = since
 abbrev pub limited_since : Settings → List Event → ℕ
 limited_since c h = since_if_limited c.options.timer_late (set_since c h)
 
+-- ---- how a report is compared
+
+-- by whose window, and with the slack that the header gives
+abbrev pub comparison : Settings → Comparison
+comparison c = record {
+  controller = c.options.controller;
+  slack_bytes = c.options.report_slack_bytes;
+  slack_time = in_unit c.unit c.options.report_slack_us;
+}
+
 -- ---- the cause
 
 -- the facts of the rule that the event breaks
@@ -167,8 +178,7 @@ cause_of c h e rule.TimerEarly =
 cause_of c h e rule.ProbeOwed = cause.ProbeOwed (probe_due h)
 cause_of c h e rule.NotConfirmed = cause.NotConfirmed
 cause_of c h e (rule.Metric f) =
-    cause.Metric (totals c h) c.options.report_slack_bytes
-    (in_unit c.unit c.options.report_slack_us)
+    cause.Metric (totals c h) (comparison c)
 cause_of c h e rule.OwedAtEnd = cause.OwedAtEnd (owed_now c h)
 cause_of c h e rule.TimerLate =
     cause.TimerLate (packet_deadline c h) (limited_since c h)

@@ -1,5 +1,5 @@
 //! The facts of each rule.
-use qa_base::{Due, PacketNumber, Space, Ticks, Totals};
+use qa_base::{Controller, Due, PacketNumber, Space, Ticks, Totals};
 use qa_packet_numbers::Ranges;
 
 /// The packets that are owed as lost (RFC 9002, section 6.1).
@@ -28,6 +28,18 @@ pub struct Oldest {
     pub number: PacketNumber,
     /// When it was sent.
     pub sent: Ticks,
+}
+
+/// How a report is compared with the machine.
+#[derive(Clone, Copy)]
+pub struct Comparison {
+    /// Whose window packets are judged by. One that the sender reports is compared with nothing, nor
+    /// is its `ssthresh`.
+    pub controller: Controller,
+    /// By how much a reported number of bytes may differ.
+    pub slack_bytes: u64,
+    /// By how much a reported time may differ, in the unit of the trace.
+    pub slack_time: u128,
 }
 
 /// Why a deadline is what it is. Times are in the unit of the trace.
@@ -165,10 +177,8 @@ pub enum Cause {
     Metric {
         /// What the machine holds.
         held: Totals,
-        /// By how much a reported number of bytes may differ.
-        slack_bytes: u64,
-        /// By how much a reported time may differ.
-        slack_time: u128,
+        /// How they are compared.
+        by: Comparison,
     },
     /// V17: a loss is owed at the end of the trace.
     OwedAtEnd {

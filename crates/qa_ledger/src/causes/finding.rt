@@ -5,11 +5,11 @@ ghost use Rattle.qa_base.specs.machine.Loss as loss;
 ghost use Rattle.qa_base.specs.machine.State as states;
 ghost use Rattle.qa_base.specs.machine.Window as windows;
 ghost use Rattle.qa_base.specs.values.Constants.{minimum_window as minimum_window_of};
-ghost use Rattle.qa_base.specs.values.Settings.{Settings, in_unit};
+ghost use Rattle.qa_base.specs.values.Settings.{Settings};
 ghost use Rattle.qa_ledger.specs.causes.Causes as causes;
 ghost use Rattle.qa_packet_numbers.specs.Missing as sets;
 
-use crate::causes::cause::{Cause, Free, Owed};
+use crate::causes::cause::{Cause, Comparison, Free, Owed};
 use crate::causes::deadline::{timer_early, timer_late};
 use crate::causes::facts::Facts;
 use crate::other_window;
@@ -167,18 +167,20 @@ fn past_window<S: Facts>(state: &S) -> Cause
 
 // ---- reported values
 
-/// V16: what the machine holds, and by how much a report may differ from it.
+/// V16: what the machine holds, and how a report is compared with it.
 fn metric<S: Facts>(state: &S) -> Cause
     ensures { (c : Settings) (h : List AnEvent) → S.tells state.now c h
-        → result ≡ Cause.Metric (states.totals c h) c.options.report_slack_bytes
-        (in_unit c.unit c.options.report_slack_us) }
+        → result ≡ Cause.Metric (states.totals c h) (causes.comparison c) }
 {
     let header = state.header();
     let options = header.options();
     Cause::Metric {
         held: state.totals(),
-        slack_bytes: options.report_slack_bytes,
-        slack_time: header.unit().of_microseconds(options.report_slack_us),
+        by: Comparison {
+            controller: options.controller,
+            slack_bytes: options.report_slack_bytes,
+            slack_time: header.unit().of_microseconds(options.report_slack_us),
+        },
     }
 }
 

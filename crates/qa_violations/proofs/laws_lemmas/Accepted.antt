@@ -122,7 +122,7 @@ tolerated_lines before (l ∷ ls) good =
     let parts = or_parts (stop_after (strict reading) before l) (first_stop (strict reading) (before ++ l ∷ []) ls) good in
     ap₂ (λ (o p : Option Verdict). option_or o p) (tolerated_after before l parts.0) (tolerated_lines (before ++ l ∷ []) ls parts.1)
 
-none_violated : (before ls : List (List ℕ)) → first_stop (strict reading) before ls ≡ None → violated_after before ls ≡ []
+pub none_violated : (before ls : List (List ℕ)) → first_stop (strict reading) before ls ≡ None → violated_after before ls ≡ []
 none_violated before [] good = refl
 none_violated before (l ∷ ls) good =
     let parts = or_parts (stop_after (strict reading) before l) (first_stop (strict reading) (before ++ l ∷ []) ls) good in

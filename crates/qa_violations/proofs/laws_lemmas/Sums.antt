@@ -11,10 +11,9 @@ use Rattle.qa_base.specs.machine.Estimates.{rtt}
 use Rattle.qa_base.specs.machine.Handshake.{has_keys, is_confirmed, is_validated}
 use Rattle.qa_base.specs.machine.Packets.{Packet, is_below_largest, largest_acknowledged, packets_of}
 use Rattle.qa_base.specs.machine.Rtt.{loss_delay, pto_base}
-use Rattle.qa_base.specs.machine.Rules.{IsRun}
+use Rattle.qa_base.specs.machine.Violations.{IsToleratedRun}
 use Rattle.qa_base.specs.machine.Timer.{Due, anti_deadlock, awaits_acknowledgment, deadline, earliest_loss, earliest_pto, last_eliciting, last_set, loss_due, packet_deadline, pto_count, pto_due}
 use Rattle.qa_base.specs.values.Settings.{Settings, granularity}
-use Rattle.qa_base.proofs.machine.RunLaws.{tolerated_run_of}
 use Rattle.qa_ledger.specs.causes.Causes.{basis_by, oldest_open, peer_delay}
 use Rattle.qa_ledger.specs.declared.causes.cause.Basis.TheVariants as basis
 use Rattle.qa_ledger.specs.declared.causes.cause.Oldest.{Oldest}
@@ -47,10 +46,10 @@ of_oldest : (c : Settings) (h : List Event) (s : Space) (o : Option Packet) (due
 of_oldest c h s None due at is = cc
 of_oldest c h s (Some p) due at is = of_first c h s p due (is_below_largest p.number (largest_acknowledged h s)) at is
 
-loss_terms : (c : Settings) (h : List Event) → IsRun c h → (s : Space) (due : Due) → loss_due c h s ≡ Some due → HasTerms c h due
+loss_terms : (c : Settings) (h : List Event) → IsToleratedRun c h → (s : Space) (due : Due) → loss_due c h s ≡ Some due → HasTerms c h due
 loss_terms c h run s due is =
     of_oldest c h s (oldest_open c h s) due refl
-    (ap (due_of c h s) (sym (first_sent_is (is_flying c h) (packets_of h s))) ∙ (sym (loss_due_is c h (tolerated_run_of c h run) s) ∙ is))
+    (ap (due_of c h s) (sym (first_sent_is (is_flying c h) (packets_of h s))) ∙ (sym (loss_due_is c h (run) s) ∙ is))
 
 -- ---- probe timeouts
 
@@ -94,7 +93,7 @@ of_ptos c h due by_packets is =
       ]
     ]
 
-of_losses : (c : Settings) (h : List Event) → IsRun c h → (due : Due) → earliest_loss c h ≡ Some due → HasTerms c h due
+of_losses : (c : Settings) (h : List Event) → IsToleratedRun c h → (due : Due) → earliest_loss c h ≡ Some due → HasTerms c h due
 of_losses c h run due is =
     elim (earlier_is _ _ due is) [
       | inl first ↦ loss_terms c h run Initial due first
@@ -127,7 +126,7 @@ of_kept c h s false (Some set_at) due by_itself at is =
 
 -- ---- any
 
-by_parts : (c : Settings) (h : List Event) → IsRun c h → (by_loss by_pto : Option Due) (due : Due) → earliest_loss c h ≡ by_loss → earliest_pto c h ≡ by_pto
+by_parts : (c : Settings) (h : List Event) → IsToleratedRun c h → (by_loss by_pto : Option Due) (due : Due) → earliest_loss c h ≡ by_loss → earliest_pto c h ≡ by_pto
     → option_or by_loss (option_or by_pto (anti_deadlock c h)) ≡ Some due → HasTerms c h due
 by_parts c h run (Some x) by_pto due loss_at pto_at is = of_losses c h run due (loss_at ∙ is)
 by_parts c h run None (Some y) due loss_at pto_at is =
@@ -136,5 +135,5 @@ by_parts c h run None None due loss_at pto_at is =
     of_kept c h (if has_keys h then Handshake else Initial) (is_validated c h) (last_set h) due
     (ap (λ o. is_some (option_or o (earliest_pto c h))) loss_at ∙ ap is_some pto_at) refl is
 
-pub deadline_terms : (c : Settings) (h : List Event) → IsRun c h → (due : Due) → deadline c h ≡ Some due → HasTerms c h due
+pub deadline_terms : (c : Settings) (h : List Event) → IsToleratedRun c h → (due : Due) → deadline c h ≡ Some due → HasTerms c h due
 deadline_terms c h run due is = by_parts c h run (earliest_loss c h) (earliest_pto c h) due refl refl is

@@ -72,7 +72,7 @@ amount e rule.PastWindow (cause.PastWindow in_flight window overshoot) =
 amount e rule.PastProbe (cause.PastProbe allowance spent) =
     past_allowance allowance spent (size_of e)
 amount e rule.TimerEarly (cause.TimerEarly due basis early) = Some (due_time due - time_of e)
-amount e (rule.Metric f) (cause.Metric held slack_bytes slack_time) = metric_amount f e held
+amount e (rule.Metric f) (cause.Metric held by) = metric_amount f e held
 amount e rule.TimerLate (cause.TimerLate due since limit) =
     Some (time_of e - max (due_time due) since)
 amount e rule.CollapseMissing (cause.CollapseMissing least acknowledged slack reported) =

@@ -1,11 +1,16 @@
 //! What is told of a trace in more than one way.
-ghost use Rattle.std.specs.Prelude.{◌≡◌, List, ℕ};
+ghost use Rattle.std.specs.Prelude.{◌≡◌, List, ℕ, Option, true, false};
 ghost use Rattle.qa_violations.specs.all.All.{all_outcome, all_text};
 ghost use Rattle.qa_violations.specs.all.Objects.{members_of_none};
 ghost use Rattle.qa_violations.specs.around.Around.{around_text, around_told};
+ghost use Rattle.qa_violations.specs.laws.Agreement.{ComesFirst, EndsUnviolated};
+ghost use Rattle.qa_violations.specs.laws.Agreement.{goes_on_past, violations_of_trace};
+ghost use Rattle.qa_base.specs.declared.rule.Rule.{Rule};
 ghost use Rattle.qa_base.specs.declared.totals.Totals.{Totals};
 ghost use Rattle.qa_check.specs.declared.auditing.Outcome.TheVariants as outcomes;
-ghost use Rattle.qa_format.specs.declared.verdict.Verdict.TheVariants.{Accepted};
+ghost use Rattle.qa_format.specs.declared.fault.Fault.{Fault};
+ghost use Rattle.qa_format.specs.declared.verdict.Verdict.TheVariants.{Accepted, Refused};
+ghost use Rattle.qa_format.specs.declared.verdict.Verdict.TheVariants.{Unreadable};
 ghost use Rattle.qa_format.specs.format.Reading.{reading};
 ghost use Rattle.qa_format.specs.verdicts.Verdict.{strict, verdict};
 ghost use Rattle.qa_why.specs.Objects.{object_line};
@@ -31,4 +36,27 @@ pub fn accepted_violates_from_nothing()
 pub fn no_lines_before_tell_nothing()
     ensures { (form : Form) (name bytes : List ℕ)
         → around_text 0 form name bytes ≡ why form name bytes }
+{}
+
+/// The verdict of a trace and all its violations agree. A trace is accepted exactly if it has no
+/// violation and is accepted past violations too, with the same totals. If it is refused by a rule
+/// past which the machine goes on, its first violation is on that line, of that rule. If it is
+/// refused by another rule or cannot be read, that is its end past violations too, and no violation
+/// stands before it.
+pub fn verdict_and_violations_agree()
+    ensures accepted { (bytes : List ℕ) (t : Totals) → verdict (strict reading) bytes ≡ Accepted t
+        → EndsUnviolated (Accepted t) bytes }
+    ensures unviolated { (bytes : List ℕ) (t : Totals) → EndsUnviolated (Accepted t) bytes
+        → verdict (strict reading) bytes ≡ Accepted t }
+    ensures outcome { (bytes : List ℕ) → all_outcome bytes ≡ outcomes.Accepted
+        → (t : Totals) × (verdict (strict reading) bytes ≡ Accepted t) }
+    ensures first { (bytes : List ℕ) (n : ℕ) (r : Rule) (t : Totals)
+        → verdict (strict reading) bytes ≡ Refused n r t → goes_on_past r t ≡ true
+        → ComesFirst n r (violations_of_trace bytes) }
+    ensures refused { (bytes : List ℕ) (n : ℕ) (r : Rule) (t : Totals)
+        → verdict (strict reading) bytes ≡ Refused n r t → goes_on_past r t ≡ false
+        → EndsUnviolated (Refused n r t) bytes }
+    ensures unreadable { (bytes : List ℕ) (n : ℕ) (f : Fault) (t : Option Totals)
+        → verdict (strict reading) bytes ≡ Unreadable n f t
+        → EndsUnviolated (Unreadable n f t) bytes }
 {}

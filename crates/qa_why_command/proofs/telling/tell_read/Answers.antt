@@ -10,12 +10,12 @@ pub returns-in-Rows : goal.returns-in-Rows
 returns-in-Rows g c =
     rw c.in-Rows.is
     (rows_read (wanted c.args.inquiry.now) c.args.name.now _ _ _ _ _ _ _
-    (rows_by (strict reading) _ _ _ _ _ _ _ _ _ _ _ _ refl c.rows.ensures.told c.rows.ensures.ok c.rows.ensures.rows c.rows.ensures.begun c.rows.ensures.read_failures
+    (rows_by (strict reading) _ _ _ _ _ _ _ _ _ _ _ _ _ refl c.rows.ensures.told c.rows.ensures.ok c.rows.ensures.rows c.rows.ensures.begun c.rows.ensures.read_failures
     c.rows.ensures.write_failures))
 
 pub returns-in-AllRows : goal.returns-in-AllRows
 returns-in-AllRows g c =
     rw c.in-AllRows.is
     (all_rows_read (wanted c.args.inquiry.now) c.args.name.now _ _ _ _ _ _ _
-    (rows_by past_sender_rules _ _ _ _ _ _ _ _ _ _ _ _ refl c.rows_all.ensures.told c.rows_all.ensures.ok c.rows_all.ensures.rows c.rows_all.ensures.begun
+    (rows_by past_sender_rules _ _ _ _ _ _ _ _ _ _ _ _ _ refl c.rows_all.ensures.told c.rows_all.ensures.ok c.rows_all.ensures.rows c.rows_all.ensures.begun
     c.rows_all.ensures.read_failures c.rows_all.ensures.write_failures))

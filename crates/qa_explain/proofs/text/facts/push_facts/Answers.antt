@@ -39,7 +39,7 @@ returns-in-ProbeOwed c = rw c.in-ProbeOwed.is c.push_due_probe.ensures
 
 pub returns-in-Metric : goal.returns-in-Metric
 unfolding facts_text
-returns-in-Metric c = rw (c.in-Metric.is, ← c.field.ensures) c.push_metric.ensures
+returns-in-Metric c = rw c.in-Metric.is c.push_metrics.ensures
 
 pub returns-in-TimerLate : goal.returns-in-TimerLate
 unfolding facts_text
