@@ -27,28 +27,62 @@ pub struct MetricValues {
     pub rttvar: Option<u64>,
 }
 
+/// A packet that was sent (RFC 9002, A.5), as the sender knew it then.
+#[derive(Clone, Copy, PartialEq, Eq)]
+pub struct SentPacket {
+    /// When it was sent.
+    pub time: Ticks,
+    /// Its packet number space.
+    pub space: Space,
+    /// Its number in that space.
+    pub number: PacketNumber,
+    /// Its size in bytes, 1 to 65527 on a line of a trace.
+    pub size: u64,
+    /// Whether it is ack-eliciting; then it is in flight.
+    pub eliciting: bool,
+    /// Whether it counts toward the bytes in flight (RFC 9002, section 2).
+    pub in_flight: bool,
+    /// By what leave it was sent.
+    pub permission: Permission,
+}
+
+/// An acknowledgment that came (RFC 9002, A.7).
+#[derive(PartialEq, Eq, Drop)]
+pub struct Ack {
+    /// When it came.
+    pub time: Ticks,
+    /// The packet number space that it is of.
+    pub space: Space,
+    /// The packet numbers that it acknowledges, at least one on a line of a trace.
+    pub ranges: Spans,
+    /// Its delay, in the unit of times, as the sender used it before it limited it (section 5.3).
+    pub delay: u64,
+    /// Whether the sender did not use the window that it had (section 7.8).
+    pub app_limited: bool,
+}
+
+impl Ack {
+    /// An equal acknowledgment, in memory of its own. `AllocError` comes where it is out of memory.
+    pub fn duplicate(&self, alloc: Global) -> Result<Ack, AllocError>
+        ensures { IfOk result (λ copy. copy ≡ self.now) }
+    {
+        Ok(Ack {
+            time: self.time,
+            space: self.space,
+            ranges: self.ranges.duplicate(alloc)?,
+            delay: self.delay,
+            app_limited: self.app_limited,
+        })
+    }
+}
+
 /// One thing that a sender did or learned, at a time.
 #[derive(PartialEq, Eq, Drop)]
 pub enum Event {
-    /// A packet was sent (RFC 9002, A.5): `size` bytes, ack-eliciting or not, in flight or not.
-    Sent {
-        time: Ticks,
-        space: Space,
-        number: PacketNumber,
-        size: u64,
-        eliciting: bool,
-        in_flight: bool,
-        permission: Permission,
-    },
-    /// An acknowledgment came (A.7). `delay` is in the unit of times, as the sender used it before
-    /// it limited it; `limited` says that the sender did not use the window it had (7.8).
-    Ack {
-        time: Ticks,
-        space: Space,
-        ranges: Spans,
-        delay: u64,
-        app_limited: bool,
-    },
+    /// A packet was sent (RFC 9002, A.5).
+    Sent(SentPacket),
+    /// An acknowledgment came (A.7).
+    Ack(Ack),
     /// The sender declared packets lost (A.10).
     Lost {
         time: Ticks,
@@ -88,8 +122,8 @@ impl Event {
         ensures range { time_of self.now ≤ max_time }
     {
         let time = match self {
-            Event::Sent { time, .. }
-            | Event::Ack { time, .. }
+            Event::Sent(SentPacket { time, .. })
+            | Event::Ack(Ack { time, .. })
             | Event::Lost { time, .. }
             | Event::Timer { time, .. }
             | Event::Discard { time, .. }
@@ -119,7 +153,7 @@ impl Event {
         ensures { result ≡ is_app_limited self.now }
     {
         match self {
-            Event::Ack { app_limited, .. } => *app_limited,
+            Event::Ack(ack) => ack.app_limited,
             _ => false,
         }
     }
@@ -131,13 +165,14 @@ impl Event {
         ensures { result ≡ fits_of self.now }
     {
         match self {
-            Event::Sent {
-                size,
-                eliciting,
-                in_flight,
-                ..
-            } => 1 <= *size && *size <= MAX_PACKET_SIZE && (!*eliciting || *in_flight),
-            Event::Ack { ranges, .. } | Event::Lost { ranges, .. } => !ranges.as_slice().is_empty(),
+            Event::Sent(packet) => {
+                1 <= packet.size
+                    && packet.size <= MAX_PACKET_SIZE
+                    && (!packet.eliciting || packet.in_flight)
+            }
+            Event::Ack(Ack { ranges, .. }) | Event::Lost { ranges, .. } => {
+                !ranges.as_slice().is_empty()
+            }
             Event::Discard { space, .. } => *space != Space::App,
             Event::Timer { .. }
             | Event::Confirmed { .. }
@@ -151,8 +186,8 @@ impl Event {
         ensures { result ≡ event_kind self.now }
     {
         match self {
-            Event::Sent { .. } => LineKind::Sent,
-            Event::Ack { .. } => LineKind::Ack,
+            Event::Sent(_) => LineKind::Sent,
+            Event::Ack(_) => LineKind::Ack,
             Event::Lost { .. } => LineKind::Lost,
             Event::Timer { .. } => LineKind::Timer,
             Event::Discard { .. } => LineKind::Discard,
@@ -168,36 +203,8 @@ impl Event {
         ensures { IfOk result (λ copy. copy ≡ self.now) }
     {
         Ok(match self {
-            Event::Sent {
-                time,
-                space,
-                number,
-                size,
-                eliciting,
-                in_flight,
-                permission,
-            } => Event::Sent {
-                time: *time,
-                space: *space,
-                number: *number,
-                size: *size,
-                eliciting: *eliciting,
-                in_flight: *in_flight,
-                permission: *permission,
-            },
-            Event::Ack {
-                time,
-                space,
-                ranges,
-                delay,
-                app_limited,
-            } => Event::Ack {
-                time: *time,
-                space: *space,
-                ranges: ranges.duplicate(alloc)?,
-                delay: *delay,
-                app_limited: *app_limited,
-            },
+            Event::Sent(packet) => Event::Sent(*packet),
+            Event::Ack(ack) => Event::Ack(ack.duplicate(alloc)?),
             Event::Lost {
                 time,
                 space,

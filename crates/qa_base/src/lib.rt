@@ -19,7 +19,7 @@ mod space;
 mod totals;
 
 pub use due::Due;
-pub use event::{Event, MetricValues};
+pub use event::{Ack, Event, MetricValues, SentPacket};
 pub use header::{Header, Options, Version};
 pub use key::{Key, RangeFault};
 pub use line_kind::LineKind;

@@ -5,7 +5,7 @@ ghost use Rattle.qa_fast_reader.specs.Found.{SaysLine};
 
 use crate::found::Found;
 use qa_base::limits::MAX_PACKET_SIZE;
-use qa_base::{Event, LineKind, PacketNumber, Permission, Ticks};
+use qa_base::{Ack, Event, LineKind, PacketNumber, Permission, SentPacket, Ticks};
 use qa_format::Line;
 
 /// Whether a packet may have these values: it has bytes, and is in flight if it is ack-eliciting.
@@ -42,7 +42,7 @@ impl Found {
         if !packet_fits(size, eliciting, in_flight) {
             return None;
         }
-        Some(Line::Event(Event::Sent {
+        Some(Line::Event(Event::Sent(SentPacket {
             time,
             space,
             number,
@@ -50,7 +50,7 @@ impl Found {
             eliciting,
             in_flight,
             permission,
-        }))
+        })))
     }
 
     /// An acknowledgment that came, where its keys were found.
@@ -64,13 +64,13 @@ impl Found {
         let delay = self.delay.unwrap_or(0);
         let app_limited = self.app_limited.unwrap_or(false);
         let ranges = self.ranges.take()?;
-        Some(Line::Event(Event::Ack {
+        Some(Line::Event(Event::Ack(Ack {
             time,
             space,
             ranges,
             delay,
             app_limited,
-        }))
+        })))
     }
 
     /// Packets that were declared lost, where their keys were found.

@@ -4,7 +4,8 @@ use Rattle.qa_base.specs.declared.event.Event.{Event}
 use Rattle.qa_base.specs.declared.event.Event.TheVariants.{Sent, Ack, Lost, Timer, Metrics}
 use Rattle.qa_base.specs.declared.space.TimerKind.TheVariants as kind
 use Rattle.qa_base.specs.declared.space.Controller.TheVariants.{Reported}
-use Rattle.qa_base.specs.declared.space.Permission.TheVariants as permission
+use Rattle.qa_base.specs.declared.space.Permission.{Permission}
+use Rattle.qa_base.specs.declared.space.Permission.TheVariants.{Window, Probe, Recovery}
 use Rattle.qa_base.specs.declared.space.LossByNumber.TheVariants.{May}
 use Rattle.qa_base.specs.declared.space.Role.TheVariants as role
 use Rattle.qa_base.specs.declared.space.Space.{Space}
@@ -51,40 +52,55 @@ in_nanoseconds s = record s { unit = Nanoseconds; max_ack_delay = 1000 * s.max_a
 
 -- ---- packets of a space and a number, sent at a time, with a size
 
+-- ack-eliciting or not, in flight or not, by this leave
+abbrev pub packet_sent : Bool → Bool → Permission → Space → ℕ → ℕ → ℕ → Event
+packet_sent eliciting in_flight permission space number time size = Sent (record {
+  time = time;
+  space = space;
+  number = number;
+  size = size;
+  eliciting = eliciting;
+  in_flight = in_flight;
+  permission = permission;
+})
+
 abbrev pub sent : Space → ℕ → ℕ → ℕ → Event
-sent space number time size = Sent time space number size true true permission.Window
+sent = packet_sent true true Window
 
 -- in flight, but not ack-eliciting
 abbrev pub padded : Space → ℕ → ℕ → ℕ → Event
-padded space number time size = Sent time space number size false true permission.Window
+padded = packet_sent false true Window
 
 -- so is this, and marked as a probe
 abbrev pub padded_probe : Space → ℕ → ℕ → ℕ → Event
-padded_probe space number time size = Sent time space number size false true permission.Probe
+padded_probe = packet_sent false true Probe
 
 -- not in flight
 abbrev pub bare : Space → ℕ → ℕ → ℕ → Event
-bare space number time size = Sent time space number size false false permission.Window
+bare = packet_sent false false Window
 
 abbrev pub probe : Space → ℕ → ℕ → ℕ → Event
-probe space number time size = Sent time space number size true true permission.Probe
+probe = packet_sent true true Probe
 
 abbrev pub bare_probe : Space → ℕ → ℕ → ℕ → Event
-bare_probe space number time size = Sent time space number size false false permission.Probe
+bare_probe = packet_sent false false Probe
 
 abbrev pub recovery : Space → ℕ → ℕ → ℕ → Event
-recovery space number time size = Sent time space number size true true permission.Recovery
+recovery = packet_sent true true Recovery
 
 -- ---- acknowledgments and losses of a space, with ranges, at a time
 
+abbrev acknowledged : ℕ → Bool → Space → List (ℕ × ℕ) → ℕ → Event
+acknowledged delay app_limited space ranges time = Ack (record { time = time; space = space; ranges = ranges; delay = delay; app_limited = app_limited })
+
 abbrev pub ack : Space → List (ℕ × ℕ) → ℕ → Event
-ack space ranges time = Ack time space ranges 0 false
+ack = acknowledged 0 false
 
 abbrev pub delayed_ack : Space → List (ℕ × ℕ) → ℕ → ℕ → Event
-delayed_ack space ranges time delay = Ack time space ranges delay false
+delayed_ack space ranges time delay = acknowledged delay false space ranges time
 
 abbrev pub limited_ack : Space → List (ℕ × ℕ) → ℕ → Event
-limited_ack space ranges time = Ack time space ranges 0 true
+limited_ack = acknowledged 0 true
 
 abbrev pub lost : Space → List (ℕ × ℕ) → ℕ → Event
 lost space ranges time = Lost time space ranges

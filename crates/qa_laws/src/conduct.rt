@@ -5,6 +5,7 @@ ghost use Rattle.std.specs.List.{AllByRecursion, list_any};
 ghost use Rattle.qa_base.specs.declared.event.Event.{Event};
 ghost use Rattle.qa_base.specs.declared.event.Event.TheVariants as events;
 ghost use Rattle.qa_base.specs.declared.event.MetricValues.{MetricValues};
+ghost use Rattle.qa_base.specs.declared.event.SentPacket.{SentPacket};
 ghost use Rattle.qa_base.specs.declared.space.TimerKind.TheVariants as kinds;
 ghost use Rattle.qa_base.specs.declared.space.Permission.TheVariants as leaves;
 ghost use Rattle.qa_base.specs.declared.space.Space.{Space};
@@ -25,7 +26,7 @@ ghost use Rattle.qa_base.specs.machine.Rules.{IsRun};
 ghost use Rattle.qa_base.specs.machine.Timer.{Due, deadline};
 ghost use Rattle.qa_base.specs.machine.Window.{acknowledged_since_collapse, window, window_in};
 ghost use Rattle.qa_base.specs.values.Constants.{minimum_window, probe_datagrams};
-ghost use Rattle.qa_base.specs.values.Events.{is_named, time_of};
+ghost use Rattle.qa_base.specs.values.Events.{is_in_flight_by, is_named, time_of};
 ghost use Rattle.qa_format.specs.format.Proper.{IsProperEvent};
 ghost use Rattle.qa_base.specs.values.Settings.{Settings, AreInRange, granularity, is_may};
 ghost use Rattle.qa_base.specs.values.Settings.{is_reported};
@@ -127,17 +128,13 @@ pub fn early_timers_make_no_collapse()
 /// has an entry into recovery before it, and of two such packets an entry stands between (section
 /// 7.3.2).
 pub fn sends_have_permission()
-    ensures within { (c : Settings) (h : List Event) (time : ℕ) (space : Space) (number size : ℕ)
-        (eliciting : Bool)
-        → c.options.window_overshoot ≡ false
-        → IsRun c (events.Sent time space number size eliciting true leaves.Window ∷ h)
-        → bytes_in_flight c (events.Sent time space number size eliciting true leaves.Window ∷ h)
-        ≤ window c (events.Sent time space number size eliciting true leaves.Window ∷ h) }
-    ensures below { (c : Settings) (h : List Event) (time : ℕ) (space : Space) (number size : ℕ)
-        (eliciting : Bool)
-        → c.options.window_overshoot ≡ true
-        → IsRun c (events.Sent time space number size eliciting true leaves.Window ∷ h)
-        → bytes_in_flight c h < window c h }
+    ensures within { (c : Settings) (h : List Event) (packet : SentPacket)
+        → is_in_flight_by leaves.Window packet ≡ true → c.options.window_overshoot ≡ false
+        → IsRun c (events.Sent packet ∷ h)
+        → bytes_in_flight c (events.Sent packet ∷ h) ≤ window c (events.Sent packet ∷ h) }
+    ensures below { (c : Settings) (h : List Event) (packet : SentPacket)
+        → is_in_flight_by leaves.Window packet ≡ true → c.options.window_overshoot ≡ true
+        → IsRun c (events.Sent packet ∷ h) → bytes_in_flight c h < window c h }
     ensures no_probe { (c : Settings) (h : List Event) → IsRun c h → list_any is_pto_event h ≡ false
         → list_any is_probe h ≡ false }
     ensures probes { (c : Settings) (between h : List Event) → IsRun c (between ++ h)

@@ -4,6 +4,7 @@ ghost use Rattle.std.specs.Prelude.{length, ℕ, Bool, true, false, not, Some, N
 ghost use Rattle.std.specs.Prelude.{if◌then◌else◌};
 ghost use Rattle.qa_base.specs.declared.event.Event.{Event};
 ghost use Rattle.qa_base.specs.declared.event.Event.TheVariants as events;
+ghost use Rattle.qa_base.specs.declared.event.SentPacket.{SentPacket};
 ghost use Rattle.qa_base.specs.declared.header.Version.{Version};
 ghost use Rattle.qa_base.specs.declared.header.Version.TheVariants as versions;
 ghost use Rattle.qa_format.specs.declared.line.Line.{Line};
@@ -97,11 +98,10 @@ pub fn prefix_of_run()
 /// Where nothing is owed, a packet that is sent adds its size to the bytes in flight; it adds
 /// nothing where it is not in flight or its space was discarded.
 pub fn sent_adds_its_size()
-    ensures { (c : Settings) (h : List Event) (time : ℕ) (space : Space) (number size : ℕ)
-        (eliciting in_flight : Bool) (permission : Permission)
-        → owed c h ≡ []
-        → bytes_in_flight c (events.Sent time space number size eliciting in_flight permission ∷ h)
-        ≡ bytes_in_flight c h + (if in_flight && not (is_discarded h space) then size else 0) }
+    ensures { (c : Settings) (h : List Event) (packet : SentPacket) → owed c h ≡ []
+        → bytes_in_flight c (events.Sent packet ∷ h)
+        ≡ bytes_in_flight c h
+        + (if packet.in_flight && not (is_discarded h packet.space) then packet.size else 0) }
 {}
 
 /// An event that is no acknowledgment, no timer and no discard, and by which no packet is lost,

@@ -4,7 +4,9 @@ ghost use Rattle.std.specs.Prelude.{Bool, true, false, not, Contains, Option, So
 ghost use Rattle.std.specs.Prelude.{find, length, nat_lt, reverse, sum_by, take_while};
 ghost use Rattle.std.specs.List.{list_any};
 ghost use Rattle.qa_base.specs.declared.event.Event.{Event};
+ghost use Rattle.qa_base.specs.declared.event.Ack.{Ack as Acknowledgment};
 ghost use Rattle.qa_base.specs.declared.event.Event.TheVariants as events;
+ghost use Rattle.qa_base.specs.declared.event.SentPacket.{SentPacket};
 ghost use Rattle.qa_base.specs.declared.space.TimerKind.{TimerKind};
 ghost use Rattle.qa_base.specs.declared.space.Permission.{Permission};
 ghost use Rattle.qa_base.specs.declared.space.Space.{Space};
@@ -236,9 +238,8 @@ pub fn closed_are_of_one_space()
         → detection c h ≡ Some (s, now) → AreOf s (owed c h) }
     ensures sizes { (c : Settings) (h : List Event)
         → sum_by bytes (owed c h) ≡ sum_by (λ p. p.size) (owed c h) }
-    ensures newly { (h : List Event) (time : ℕ) (space : Space) (ranges : List (ℕ
-        × ℕ)) (delay : ℕ) (app_limited : Bool)
-        → AreOf space (newly_acknowledged (events.Ack time space ranges delay app_limited ∷ h)) }
+    ensures newly { (h : List Event) (ack : Acknowledgment)
+        → AreOf ack.space (newly_acknowledged (events.Ack ack ∷ h)) }
     ensures within { (s : Space) (ps : List Packet) → AreOf s ps
         → sum_by (bytes_of s) ps ≡ sum_by bytes ps }
     ensures others { (s t : Space) (ps : List Packet) → is_space s t ≡ false → AreOf t ps
@@ -250,12 +251,11 @@ pub fn closed_are_of_one_space()
 /// B.6 and B.9). Any other event adds the packet that it sends, where it sends one (B.4), and takes
 /// off what was free and what it names.
 pub fn bytes_after_an_event()
-    ensures ack { (c : Settings) (h : List Event) (time : ℕ) (space : Space) (ranges : List (ℕ
-        × ℕ)) (delay : ℕ) (app_limited : Bool)
-        → IsRun c (events.Ack time space ranges delay app_limited ∷ h)
-        → bytes_in_flight c (events.Ack time space ranges delay app_limited ∷ h)
-        + (sum_by bytes (newly_acknowledged (events.Ack time space ranges delay app_limited ∷ h))
-        + sum_by bytes (owed c (events.Ack time space ranges delay app_limited ∷ h)))
+    ensures ack { (c : Settings) (h : List Event) (ack : Acknowledgment)
+        → IsRun c (events.Ack ack ∷ h)
+        → bytes_in_flight c (events.Ack ack ∷ h)
+        + (sum_by bytes (newly_acknowledged (events.Ack ack ∷ h))
+        + sum_by bytes (owed c (events.Ack ack ∷ h)))
         ≡ bytes_in_flight c h }
     ensures timer { (c : Settings) (h : List Event) (time : ℕ) (kind : TimerKind) (space : Space)
         → IsRun c (events.Timer time kind space ∷ h)
@@ -277,11 +277,9 @@ pub fn bytes_after_an_event()
 /// and the last sending time of what is owed is that of the latest.
 pub fn latest_packets_decide()
     ensures sampled { (c : Settings) (h : List Event) → IsRun c h
-        → (time : ℕ) (space : Space) (ranges : List (ℕ × ℕ)) (delay : ℕ) (app_limited : Bool)
-        → find (λ p. p.number == greatest ranges)
-        (newly_acknowledged (events.Ack time space ranges delay app_limited ∷ h))
-        ≡ first_if_numbered (greatest ranges)
-        (newly_acknowledged (events.Ack time space ranges delay app_limited ∷ h)) }
+        → (ack : Acknowledgment)
+        → find (λ p. p.number == greatest ack.ranges) (newly_acknowledged (events.Ack ack ∷ h))
+        ≡ first_if_numbered (greatest ack.ranges) (newly_acknowledged (events.Ack ack ∷ h)) }
     ensures number { (c : Settings) (h : List Event) → IsRun c h → (s : Space) (n : ℕ)
         → has_at_or_above s n h ≡ is_first_at_or_above n (packets_of h s) }
     ensures owed { (c : Settings) (h : List Event) → IsRun c h
@@ -299,11 +297,9 @@ pub fn kept_after_an_event()
     ensures dropped { (c : Settings) (e : Event) (h : List Event) → IsRun c (e ∷ h) → (p : Packet)
         → Contains (packets h) p
         → is_kept c h p ≡ false → is_kept c (e ∷ h) p ≡ false }
-    ensures sent { (c : Settings) (h : List Event) (time : ℕ) (space : Space) (number size : ℕ)
-        (eliciting in_flight : Bool) (permission : Permission)
-        → IsRun c (events.Sent time space number size eliciting in_flight permission ∷ h)
-        → kept_count c (events.Sent time space number size eliciting in_flight permission ∷ h)
-        ≡ kept_count c h + 1 }
+    ensures sent { (c : Settings) (h : List Event) (packet : SentPacket)
+        → IsRun c (events.Sent packet ∷ h)
+        → kept_count c (events.Sent packet ∷ h) ≡ kept_count c h + 1 }
     ensures other { (c : Settings) (e : Event) (h : List Event) → IsRun c (e ∷ h)
         → packet_of (length h) e ≡ []
         → (gone kept : List Packet) → reverse (packets h) ≡ gone ++ kept → AreDropped c h gone
@@ -320,11 +316,10 @@ pub fn kept_after_an_event()
 /// In a run a packet that is sent begins one run of numbers more, unless the number before its own
 /// was sent in its space. No other event changes how many there are, in a run or not.
 pub fn runs_after_an_event()
-    ensures sent { (c : Settings) (h : List Event) (time : ℕ) (space : Space) (number size : ℕ)
-        (eliciting in_flight : Bool) (permission : Permission)
-        → IsRun c (events.Sent time space number size eliciting in_flight permission ∷ h)
-        → runs (events.Sent time space number size eliciting in_flight permission ∷ h)
-        ≡ runs h + runs_begun (numbers_of h space) number }
+    ensures sent { (c : Settings) (h : List Event) (packet : SentPacket)
+        → IsRun c (events.Sent packet ∷ h)
+        → runs (events.Sent packet ∷ h)
+        ≡ runs h + runs_begun (numbers_of h packet.space) packet.number }
     ensures other { (e : Event) (h : List Event) → packet_of (length h) e ≡ []
         → runs (e ∷ h) ≡ runs h }
 {}

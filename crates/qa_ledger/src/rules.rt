@@ -11,7 +11,7 @@ ghost use Rattle.qa_ledger.specs.Tests.{deadline_at as deadline_at_of};
 use crate::metrics::metrics_rule;
 use crate::state::State;
 use qa_base::constants::{PROBE_DATAGRAMS, minimum_window};
-use qa_base::{Due, Event, Permission, Rule, Space, TimerKind};
+use qa_base::{Ack, Due, Event, Permission, Rule, SentPacket, Space, TimerKind};
 
 /// V1: the event is earlier than the one before it.
 pub(crate) fn is_time_back<S: State>(state: &S, event: &Event) -> bool
@@ -64,9 +64,9 @@ pub(crate) fn is_space_gone<S: State>(state: &S, event: &Event) -> bool
         → result ≡ breaches.is_space_gone h event.now }
 {
     match event {
-        Event::Sent { space, .. } | Event::Ack { space, .. } | Event::Discard { space, .. } => {
-            state.is_discarded(*space)
-        }
+        Event::Sent(SentPacket { space, .. })
+        | Event::Ack(Ack { space, .. })
+        | Event::Discard { space, .. } => state.is_discarded(*space),
         _ => false,
     }
 }
@@ -77,7 +77,7 @@ pub(crate) fn is_number_not_higher<S: State>(state: &S, event: &Event) -> bool
         → result ≡ breaches.is_number_not_higher h event.now }
 {
     match event {
-        Event::Sent { space, number, .. } => state.has_at_or_above(*space, *number),
+        Event::Sent(packet) => state.has_at_or_above(packet.space, packet.number),
         _ => false,
     }
 }
@@ -119,12 +119,14 @@ pub(crate) fn is_past_window<S: State>(state: &S, event: &Event) -> bool
         → result ≡ breaches.is_past_window c h event.now }
 {
     match event {
-        Event::Sent {
-            size,
-            in_flight: true,
-            permission: Permission::Window,
-            ..
-        } => is_past(
+        Event::Sent(
+            SentPacket {
+                size,
+                in_flight: true,
+                permission: Permission::Window,
+                ..
+            },
+        ) => is_past(
             state.header().options().window_overshoot,
             state.window(),
             state.bytes_in_flight(),
@@ -140,12 +142,14 @@ pub(crate) fn is_past_probe<S: State>(state: &S, event: &Event) -> bool
         → result ≡ breaches.is_past_probe c h event.now }
 {
     match event {
-        Event::Sent {
-            size,
-            in_flight: true,
-            permission: Permission::Probe,
-            ..
-        } => is_over(
+        Event::Sent(
+            SentPacket {
+                size,
+                in_flight: true,
+                permission: Permission::Probe,
+                ..
+            },
+        ) => is_over(
             PROBE_DATAGRAMS * state.max_datagram_size(),
             *size,
             state.probe_spent(),
@@ -160,11 +164,13 @@ pub(crate) fn is_past_recovery<S: State>(state: &S, event: &Event) -> bool
         → result ≡ breaches.is_past_recovery c h event.now }
 {
     match event {
-        Event::Sent {
-            in_flight: true,
-            permission: Permission::Recovery,
-            ..
-        } => is_over(1, 1, widened(state.recovery_spent())),
+        Event::Sent(
+            SentPacket {
+                in_flight: true,
+                permission: Permission::Recovery,
+                ..
+            },
+        ) => is_over(1, 1, widened(state.recovery_spent())),
         _ => false,
     }
 }
@@ -175,7 +181,7 @@ pub(crate) fn is_ack_unsent<S: State>(state: &S, event: &Event) -> bool
         → result ≡ breaches.is_ack_unsent h event.now }
 {
     match event {
-        Event::Ack { space, ranges, .. } => !state.were_sent(*space, ranges.as_slice()),
+        Event::Ack(ack) => !state.were_sent(ack.space, ack.ranges.as_slice()),
         _ => false,
     }
 }

@@ -6,7 +6,7 @@ use Rattle.std.proofs.lemmas.List.{length-map}
 use Rattle.std.proofs.lemmas.List.Sums.{count_by-le-length}
 use Rattle.qa_base.specs.declared.event.Event.{Event}
 use Rattle.qa_base.specs.declared.event.Event.TheVariants.{Sent, Ack, Lost, Timer, Discard, Confirmed, Keys, Metrics}
-use Rattle.qa_base.specs.declared.space.Permission.{Permission}
+use Rattle.qa_base.specs.declared.event.SentPacket.{SentPacket}
 use Rattle.qa_base.specs.declared.space.Space.{Space}
 use Rattle.qa_base.specs.declared.space.Space.TheVariants.{Initial, Handshake, App}
 use Rattle.qa_base.specs.machine.Breaches.{has_at_or_above, numbers}
@@ -151,13 +151,20 @@ numbers_distinct c h s run = distinct_of s (packets h) (numbers_fall c h run)
 pub runs_are : (c : Settings) (h : List Event) (s : Space) (sets : BySpace) → IsToleratedRun c h → AreSent sets h → AreApart (runs_in sets s) → length (runs_in sets s) ≡ runs_of h s
 runs_are c h s sets run sent apart = counted (runs_in sets s) (numbers_of h s) apart (sent.each s) (numbers_distinct c h s run)
 
+-- there are no more packets than events
+abbrev AtMostEvents : List Event → Type 0
+AtMostEvents h = length (packets_of h Initial) + length (packets_of h Handshake) + length (packets_of h App) ≤ length h
+
+sent_one_more : (packet : SentPacket) (h : List Event) (s : Space) → AtMostEvents h → AtMostEvents (Sent (record packet { space = s }) ∷ h)
+sent_one_more packet h Initial rest = omega arith
+sent_one_more packet h Handshake rest = omega arith
+sent_one_more packet h App rest = omega arith
+
 -- each event sends one packet at most
-sent_at_most : (h : List Event) → length (packets_of h Initial) + length (packets_of h Handshake) + length (packets_of h App) ≤ length h
+sent_at_most : (h : List Event) → AtMostEvents h
 sent_at_most [] = omega arith
-sent_at_most (Sent time Initial number size eliciting in_flight permission ∷ h) = (let rest = sent_at_most h in omega arith)
-sent_at_most (Sent time Handshake number size eliciting in_flight permission ∷ h) = (let rest = sent_at_most h in omega arith)
-sent_at_most (Sent time App number size eliciting in_flight permission ∷ h) = (let rest = sent_at_most h in omega arith)
-sent_at_most (Ack time space ranges delay app_limited ∷ h) = (let rest = sent_at_most h in omega arith)
+sent_at_most (Sent packet ∷ h) = sent_one_more packet h packet.space (sent_at_most h)
+sent_at_most (Ack ack ∷ h) = (let rest = sent_at_most h in omega arith)
 sent_at_most (Lost time space ranges ∷ h) = (let rest = sent_at_most h in omega arith)
 sent_at_most (Timer time kind space ∷ h) = (let rest = sent_at_most h in omega arith)
 sent_at_most (Discard time space ∷ h) = (let rest = sent_at_most h in omega arith)
@@ -176,8 +183,8 @@ runs_at_most h = omega (arith, sent_at_most h, runs_of_at_most h Initial, runs_o
 
 -- an event that sends no packet leaves the numbers as they were
 pub numbers_stay : (e : Event) (h : List Event) (s : Space) → is_sent e ≡ false → numbers_of (e ∷ h) s ≡ numbers_of h s
-numbers_stay (Sent time space number size eliciting in_flight permission) h s quiet = cc
-numbers_stay (Ack time space ranges delay app_limited) h s quiet = refl
+numbers_stay (Sent packet) h s quiet = cc
+numbers_stay (Ack ack) h s quiet = refl
 numbers_stay (Lost time space ranges) h s quiet = refl
 numbers_stay (Timer time kind space) h s quiet = refl
 numbers_stay (Discard time space) h s quiet = refl
@@ -189,24 +196,24 @@ pub sent_stay : (sets : BySpace) (e : Event) (h : List Event) → is_sent e ≡ 
 sent_stay sets e h quiet sent = record { each = λ s. rw (numbers_stay e h s quiet) (sent.each s) }
 
 -- in each space, where the set of one has one number more
-each_more : (sets : BySpace) (new : List (ℕ × ℕ)) (number : ℕ) (h : List Event) (time size : ℕ) (eliciting in_flight : Bool) (permission : Permission) (s : Space)
+each_more : (sets : BySpace) (new : List (ℕ × ℕ)) (number : ℕ) (h : List Event) (packet : SentPacket) (s : Space)
     → ((n : ℕ) → is_named new n ≡ is_named ((number, number) ∷ runs_in sets s) n) → AreSent sets h
-    → (t : Space) → Names (runs_in (with_space s sets new) t) (numbers_of (Sent time s number size eliciting in_flight permission ∷ h) t)
-each_more sets new number h time size eliciting in_flight permission Initial more sent Initial = names_more sets.initial new (numbers_of h Initial) number (sent.each Initial) more
-each_more sets new number h time size eliciting in_flight permission Initial more sent Handshake = sent.each Handshake
-each_more sets new number h time size eliciting in_flight permission Initial more sent App = sent.each App
-each_more sets new number h time size eliciting in_flight permission Handshake more sent Initial = sent.each Initial
-each_more sets new number h time size eliciting in_flight permission Handshake more sent Handshake = names_more sets.handshake new (numbers_of h Handshake) number (sent.each Handshake) more
-each_more sets new number h time size eliciting in_flight permission Handshake more sent App = sent.each App
-each_more sets new number h time size eliciting in_flight permission App more sent Initial = sent.each Initial
-each_more sets new number h time size eliciting in_flight permission App more sent Handshake = sent.each Handshake
-each_more sets new number h time size eliciting in_flight permission App more sent App = names_more sets.app new (numbers_of h App) number (sent.each App) more
+    → (t : Space) → Names (runs_in (with_space s sets new) t) (numbers_of (Sent (record packet { space = s; number = number }) ∷ h) t)
+each_more sets new number h packet Initial more sent Initial = names_more sets.initial new (numbers_of h Initial) number (sent.each Initial) more
+each_more sets new number h packet Initial more sent Handshake = sent.each Handshake
+each_more sets new number h packet Initial more sent App = sent.each App
+each_more sets new number h packet Handshake more sent Initial = sent.each Initial
+each_more sets new number h packet Handshake more sent Handshake = names_more sets.handshake new (numbers_of h Handshake) number (sent.each Handshake) more
+each_more sets new number h packet Handshake more sent App = sent.each App
+each_more sets new number h packet App more sent Initial = sent.each Initial
+each_more sets new number h packet App more sent Handshake = sent.each Handshake
+each_more sets new number h packet App more sent App = names_more sets.app new (numbers_of h App) number (sent.each App) more
 
 -- a packet of a space adds its number to the set of that space
 pub sent_more : (sets : BySpace) (new : List (ℕ × ℕ)) (number : ℕ) (h : List Event) (s : Space)
     → ((n : ℕ) → is_named new n ≡ is_named ((number, number) ∷ runs_in sets s) n) → AreSent sets h → AreSentWith (with_space s sets new) s number h
-sent_more sets new number h s more sent time size eliciting in_flight permission = record {
-  each = each_more sets new number h time size eliciting in_flight permission s more sent;
+sent_more sets new number h s more sent packet = record {
+  each = each_more sets new number h packet s more sent;
 }
 
 -- a set that is put back as it was

@@ -1,8 +1,8 @@
 -- The numbers of the packets that were sent, as a set for each packet number space.
-use Rattle.std.specs.Prelude.{ℕ, Bool, List, ◌∷◌}
+use Rattle.std.specs.Prelude.{ℕ, List, ◌∷◌}
 use Rattle.qa_base.specs.declared.event.Event.{Event}
 use Rattle.qa_base.specs.declared.event.Event.TheVariants as events
-use Rattle.qa_base.specs.declared.space.Permission.{Permission}
+use Rattle.qa_base.specs.declared.event.SentPacket.{SentPacket}
 use Rattle.qa_base.specs.declared.space.Space.{Space}
 use Rattle.qa_base.specs.declared.per_space.PerSpace.{PerSpace}
 use Rattle.qa_base.specs.machine.Kept.{numbers_of}
@@ -23,5 +23,5 @@ pub record AreSent (sets : BySpace) (h : List Event) : Type 0 where
 -- the same once a packet of this number was sent in the space, whatever else is said of it
 abbrev pub AreSentWith : BySpace → Space → ℕ → List Event → Type 0
 AreSentWith sets space number h =
-    (time size : ℕ) (eliciting in_flight : Bool) (permission : Permission)
-    → AreSent sets (events.Sent time space number size eliciting in_flight permission ∷ h)
+    (packet : SentPacket)
+    → AreSent sets (events.Sent (record packet { space = space; number = number }) ∷ h)

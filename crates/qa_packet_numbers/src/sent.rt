@@ -113,7 +113,7 @@ impl SentNumbers {
         ensures memory { OnErr result (is_sent event.now ≡ true) }
     {
         match event {
-            Event::Sent { space, number, .. } => self.insert(*space, *number),
+            Event::Sent(packet) => self.insert(packet.space, packet.number),
             _ => Ok(()),
         }
     }

@@ -10,8 +10,8 @@ use crate::fields;
 use crate::fields::both;
 use crate::ranges::ranges;
 use qa_base::{
-    Controller, Event, Field, Header, Key, LossByNumber, MetricValues, Options, PacketNumber,
-    Permission, RangeFault, Role, Space, Spans, Ticks, TimeUnit, TimerKind, Version,
+    Ack, Controller, Event, Field, Header, Key, LossByNumber, MetricValues, Options, PacketNumber,
+    Permission, RangeFault, Role, SentPacket, Space, Spans, Ticks, TimeUnit, TimerKind, Version,
 };
 use qa_format::Fault;
 use serde_json::Value;
@@ -266,7 +266,7 @@ pub fn sent_of(object: &Value) -> Result<Event, LineFault>
     if eliciting && !in_flight {
         return Err(LineFault::Fault(Fault::FlagsClash));
     }
-    Ok(Event::Sent {
+    Ok(Event::Sent(SentPacket {
         time,
         space,
         number,
@@ -274,7 +274,7 @@ pub fn sent_of(object: &Value) -> Result<Event, LineFault>
         eliciting,
         in_flight,
         permission,
-    })
+    }))
 }
 
 /// What stands at the keys of an ack line, in the order of their table.
@@ -299,13 +299,13 @@ pub fn ack_of(alloc: Global, object: &Value) -> Result<Event, LineFault>
     ensures { Gives (λ event. event) result (tables.ack_of (view object.now)) }
 {
     let (time, (space, (ranges, (delay, app_limited)))) = ack_fields(alloc, object)??;
-    Ok(Event::Ack {
+    Ok(Event::Ack(Ack {
         time,
         space,
         ranges,
         delay,
         app_limited,
-    })
+    }))
 }
 
 /// What stands at the keys of a lost line, in the order of their table.

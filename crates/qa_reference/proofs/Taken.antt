@@ -97,8 +97,8 @@ owed_line c h look seen = owed_is c h ∙ found_line c h look seen
 pub lost_seen : (c : Settings) (h : List Event) (losses : SeenLosses) → AreSeen c h losses → declared c h ≡ lost_in h losses h
 lost_seen c [] losses seen = owed_line c [] losses.look seen.0
 lost_seen c (Lost time space ranges ∷ h) losses seen = lost_line c (sampled c (Lost time space ranges ∷ h)) h losses (Lost time space ranges) seen.0 seen.1
-lost_seen c (Sent time space number size eliciting in_flight permission ∷ h) losses seen = owed_line c (Sent time space number size eliciting in_flight permission ∷ h) losses.look seen.0
-lost_seen c (Ack time space ranges delay app_limited ∷ h) losses seen = owed_line c (Ack time space ranges delay app_limited ∷ h) losses.look seen.0
+lost_seen c (Sent packet ∷ h) losses seen = owed_line c (Sent packet ∷ h) losses.look seen.0
+lost_seen c (Ack ack ∷ h) losses seen = owed_line c (Ack ack ∷ h) losses.look seen.0
 lost_seen c (Timer time kind space ∷ h) losses seen = owed_line c (Timer time kind space ∷ h) losses.look seen.0
 lost_seen c (Discard time space ∷ h) losses seen = owed_line c (Discard time space ∷ h) losses.look seen.0
 lost_seen c (Confirmed time ∷ h) losses seen = owed_line c (Confirmed time ∷ h) losses.look seen.0
@@ -109,8 +109,8 @@ lost_seen c (Metrics time values ∷ h) losses seen = owed_line c (Metrics time 
 pub rtt_seen : (c : Settings) (h : List Event) (losses : SeenLosses) → AreSeen c h losses → losses.look.rtt ≡ sampled c h
 rtt_seen c [] losses seen = seen.0.0
 rtt_seen c (Lost time space ranges ∷ h) losses seen = seen.0.0
-rtt_seen c (Sent time space number size eliciting in_flight permission ∷ h) losses seen = seen.0.0
-rtt_seen c (Ack time space ranges delay app_limited ∷ h) losses seen = seen.0.0
+rtt_seen c (Sent packet ∷ h) losses seen = seen.0.0
+rtt_seen c (Ack ack ∷ h) losses seen = seen.0.0
 rtt_seen c (Timer time kind space ∷ h) losses seen = seen.0.0
 rtt_seen c (Discard time space ∷ h) losses seen = seen.0.0
 rtt_seen c (Confirmed time ∷ h) losses seen = seen.0.0

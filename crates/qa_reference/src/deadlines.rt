@@ -178,7 +178,7 @@ fn sets_timer(before: &[Event], event: &Event) -> bool
     ensures { result ≡ timers.sets_timer (event.now ∷ history_of before.now) }
 {
     match event {
-        Event::Sent { in_flight, .. } => *in_flight,
+        Event::Sent(packet) => packet.in_flight,
         Event::Timer { .. } | Event::Discard { .. } => true,
         _ => acknowledges_new(before, event),
     }

@@ -23,9 +23,7 @@ pub fn acknowledges(event: &Event, in_space: Space, number: PacketNumber) -> boo
     ensures { result ≡ events.acknowledges in_space number event.now }
 {
     match event {
-        Event::Ack { space, ranges, .. } => {
-            in_space == *space && is_named(ranges.as_slice(), number)
-        }
+        Event::Ack(ack) => in_space == ack.space && is_named(ack.ranges.as_slice(), number),
         _ => false,
     }
 }
@@ -57,7 +55,7 @@ pub fn greatest_in(event: &Event, in_space: Space) -> Option<u64>
     ensures { listed result ≡ packets.greatest_in in_space event.now }
 {
     match event {
-        Event::Ack { space, ranges, .. } if in_space == *space => Some(ranges.greatest().get()),
+        Event::Ack(ack) if in_space == ack.space => Some(ack.ranges.greatest().get()),
         _ => None,
     }
 }

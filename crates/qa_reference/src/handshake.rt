@@ -28,7 +28,7 @@ fn acknowledges_handshake(event: &Event) -> bool
     ensures { result ≡ handshake.acknowledges_handshake event.now }
 {
     match event {
-        Event::Ack { space, .. } => *space == Space::Handshake,
+        Event::Ack(ack) => ack.space == Space::Handshake,
         _ => false,
     }
 }
@@ -53,7 +53,7 @@ fn shows_keys(event: &Event) -> bool
 {
     match event {
         Event::Keys { .. } => true,
-        Event::Sent { space, .. } => *space == Space::Handshake,
+        Event::Sent(packet) => packet.space == Space::Handshake,
         Event::Discard { space, .. } => *space == Space::Initial,
         _ => false,
     }

@@ -164,9 +164,9 @@ fn detection_by(header: &Header, before: &[Event], event: &Event, rtt: Rtt) -> O
     ensures { result ≡ detections.detection_by header.now rtt (event.now ∷ history_of before.now) }
 {
     match event {
-        Event::Ack { time, space, .. } => {
+        Event::Ack(ack) => {
             if acknowledges_new(before, event) {
-                Some((*space, time.get()))
+                Some((ack.space, ack.time.get()))
             } else {
                 None
             }

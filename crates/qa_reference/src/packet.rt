@@ -61,23 +61,15 @@ pub fn packet_of(place: usize, event: &Event) -> Option<Packet>
     ensures { listed result ≡ packets.packet_of place event.now }
 {
     match event {
-        Event::Sent {
-            time,
-            space,
-            number,
-            size,
-            eliciting,
-            in_flight,
-            permission,
-        } => Some(Packet {
+        Event::Sent(packet) => Some(Packet {
             place,
-            time: *time,
-            space: *space,
-            number: *number,
-            size: *size,
-            eliciting: *eliciting,
-            in_flight: *in_flight,
-            permission: *permission,
+            time: packet.time,
+            space: packet.space,
+            number: packet.number,
+            size: packet.size,
+            eliciting: packet.eliciting,
+            in_flight: packet.in_flight,
+            permission: packet.permission,
         }),
         _ => None,
     }

@@ -21,7 +21,7 @@ use crate::sampling::start;
 use crate::settled::acknowledges_new;
 use crate::timer::is_discard;
 use crate::window::{last_lost, reno_after};
-use qa_base::{Event, Header, Permission, Space, Ticks};
+use qa_base::{Event, Header, Permission, SentPacket, Space, Ticks};
 use qa_recovery::Reno;
 
 /// The size of the in-flight packet marked as a probe that the event sent.
@@ -29,12 +29,12 @@ fn probe_size(event: &Event) -> u64
     ensures { (h : List Event) → result ≡ leaves.probe_size (event.now ∷ h) }
 {
     match event {
-        Event::Sent {
+        Event::Sent(SentPacket {
             size,
-            in_flight,
+            in_flight: true,
             permission: Permission::Probe,
             ..
-        } => { if *in_flight { *size } else { 0 } }
+        }) => *size,
         _ => 0,
     }
 }
@@ -71,11 +71,7 @@ fn is_probe_of(event: &Event, in_space: Space) -> bool
     ensures { (h : List Event) → result ≡ leaves.is_probe_of in_space (event.now ∷ h) }
 {
     match event {
-        Event::Sent {
-            space,
-            eliciting,
-            ..
-        } => *eliciting && in_space == *space,
+        Event::Sent(packet) => packet.eliciting && in_space == packet.space,
         _ => false,
     }
 }
@@ -160,11 +156,11 @@ fn recovery_mark(event: &Event) -> u64
     ensures one { result ≤ 1 }
 {
     match event {
-        Event::Sent {
+        Event::Sent(SentPacket {
             in_flight: true,
             permission: Permission::Recovery,
             ..
-        } => 1,
+        }) => 1,
         _ => 0,
     }
 }

@@ -105,19 +105,14 @@ pub fn sample_of(header: &Header, before: &[Event], event: &Event) -> Option<Sam
     ensures { result ≡ estimates.sample_of header.now (event.now ∷ history_of before.now) }
 {
     match event {
-        Event::Ack {
-            time,
-            ranges,
-            delay,
-            ..
-        } => {
-            let largest = ranges.greatest().get();
+        Event::Ack(ack) => {
+            let largest = ack.ranges.greatest().get();
             let only = header.options().sample_eliciting_only;
             if !acknowledges_sampled(before, event, only, largest) {
                 return None;
             }
             let packet = newly_numbered(before, event, largest);
-            sample_by(*time, limited_delay(header, before, *delay), packet)
+            sample_by(ack.time, limited_delay(header, before, ack.delay), packet)
         }
         _ => None,
     }

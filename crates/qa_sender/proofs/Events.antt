@@ -5,6 +5,7 @@ use Rattle.std.proofs.lemmas.List.{map_push}
 use Rattle.std.specs.List.{AllByRecursion}
 use Rattle.std.specs.Prelude.{if◌then◌else◌, nat_lt}
 use Rattle.qa_base.specs.declared.event.Event.{Event}
+use Rattle.qa_base.specs.declared.event.Ack.{Ack as Acknowledgment}
 use Rattle.qa_base.specs.declared.event.Event.TheVariants.{Sent, Ack, Lost, Timer, Discard}
 use Rattle.qa_base.specs.declared.space.TimerKind.TheVariants.{Loss}
 use Rattle.qa_base.specs.declared.space.Permission.{Permission}
@@ -26,6 +27,7 @@ use Rattle.qa_base.specs.history.Sequence.{WasSentBefore}
 use Rattle.qa_sender.proofs.Carrying.{dropped_closed, dropped_stay, each_kept, none_held_owed, none_owes, stands_after}
 use Rattle.qa_sender.proofs.Fates.{covered_told, declared_told, discarded_told, fate_after, found_told, new_told, same_told}
 use Rattle.qa_sender.proofs.connection_lemmas.Lists.{each_of_map, each_value, filter_of_map, map_fused, map_same}
+use Rattle.qa_sender.specs.Following.{as_sent}
 use Rattle.qa_sender.specs.Losing.{told}
 use Rattle.qa_sender.specs.Thresholds.{AreThresholdsAt}
 use Rattle.qa_sender.specs.Standing.{StandsFor, replaced}
@@ -76,11 +78,11 @@ fresh_by cov los own gone not_covered not_lost not_owed there = rw (not_covered,
 
 -- in a tolerated run the packet that is sent stands behind all that are held
 pub stands_sent : (c : Settings) (h : List Event) (packet : SentPacket) (permission : Permission) → packet.fate ≡ Open
-    → IsToleratedRun c (Sent packet.time packet.space packet.number packet.size packet.eliciting packet.in_flight permission ∷ h)
+    → IsToleratedRun c (Sent (as_sent packet permission) ∷ h)
     → (old new : Held) → StandsFor old c h → new ≡ record { dropped = old.dropped; packets = old.packets ++ packet ∷ [] }
-    → StandsFor new c (Sent packet.time packet.space packet.number packet.size packet.eliciting packet.in_flight permission ∷ h)
+    → StandsFor new c (Sent (as_sent packet permission) ∷ h)
 stands_sent c h packet permission opened run old new stands is =
-    let e = Sent packet.time packet.space packet.number packet.size packet.eliciting packet.in_flight permission in
+    let e = Sent (as_sent packet permission) in
     let holds = form_holds c h e run.1 in
     let p = packet_after h packet permission in
     let not_covered : covers (e ∷ h) p ≡ false = not_followed (acknowledges packet.space packet.number) h p (omega arith) in
@@ -104,10 +106,10 @@ stands_sent c h packet permission opened run old new stands is =
 
 -- in a tolerated run it was sent after all that are held, and its number is higher than theirs of its space
 pub sent_last : (c : Settings) (h : List Event) (packet : SentPacket) (permission : Permission)
-    → IsToleratedRun c (Sent packet.time packet.space packet.number packet.size packet.eliciting packet.in_flight permission ∷ h)
+    → IsToleratedRun c (Sent (as_sent packet permission) ∷ h)
     → (held : Held) → StandsFor held c h → AllByRecursion (λ q. IsBefore packet q) held.packets
 sent_last c h packet permission run held stands =
-    let e = Sent packet.time packet.space packet.number packet.size packet.eliciting packet.in_flight permission in
+    let e = Sent (as_sent packet permission) in
     let p = packet_after h packet permission in
     let order : AllByRecursion (WasSentBefore p) (packets h) = (in_order c (e ∷ h) run).0 in
     subst (λ (ps : List SentPacket). AllByRecursion (λ q. IsBefore packet q) ps) (sym stands.packets_are)
@@ -118,69 +120,69 @@ sent_last c h packet permission run held stands =
 -- ---- an acknowledgment
 
 -- in a tolerated run the packets held that an acknowledgment names and that are open are those that it newly acknowledges, in the order of sending
-pub newly_stand : (c : Settings) (h : List Event) (time : ℕ) (space : Space) (ranges : List (ℕ × ℕ)) (delay : ℕ) (app_limited : Bool)
-    → IsToleratedRun c (Ack time space ranges delay app_limited ∷ h) → (held : Held) → StandsFor held c h
-    → filter (is_new space ranges) held.packets ≡ map (sent_of c h) (reverse (newly_acknowledged (Ack time space ranges delay app_limited ∷ h)))
-newly_stand c h time space ranges delay app_limited run held stands =
-    let e = Ack time space ranges delay app_limited in
+pub newly_stand : (c : Settings) (h : List Event) (ack : Acknowledgment)
+    → IsToleratedRun c (Ack ack ∷ h) → (held : Held) → StandsFor held c h
+    → filter (is_new ack.space ack.ranges) held.packets ≡ map (sent_of c h) (reverse (newly_acknowledged (Ack ack ∷ h)))
+newly_stand c h ack run held stands =
+    let e = Ack ack in
     let holds = form_holds c h e run.1 in
-    ap (filter (is_new space ranges)) stands.packets_are
-    ∙ (filter_of_map (is_new space ranges) (sent_of c h) (is_newly_acknowledged e h) stands.kept
-    (each_kept (λ p. is_new space ranges (sent_of c h p) ≡ is_newly_acknowledged e h p) held c h stands
-    (λ p has. new_told c h time space ranges delay app_limited holds.space_gone p (none_owes c h holds.loss_owed p has)))
+    ap (filter (is_new ack.space ack.ranges)) stands.packets_are
+    ∙ (filter_of_map (is_new ack.space ack.ranges) (sent_of c h) (is_newly_acknowledged e h) stands.kept
+    (each_kept (λ p. is_new ack.space ack.ranges (sent_of c h p) ≡ is_newly_acknowledged e h p) held c h stands
+    (λ p has. new_told c h ack holds.space_gone p (none_owes c h holds.loss_owed p has)))
     ∙ ap (map (sent_of c h)) (sym (newly_of_kept_in_order c e h run stands.gone stands.kept stands.parts (dropped_closed c h stands.gone stands.forgotten))))
 
 pub some_by_length : (ps : List Packet) → is_some_packet ps ≡ nat_lt 0 (length ps)
 some_by_length [] = refl
 some_by_length (p ∷ ps) = sym (lt-ltb 0 (length (p ∷ ps)) (omega arith))
 
-nothing_found : (c : Settings) (h : List Event) (time : ℕ) (space : Space) (ranges : List (ℕ × ℕ)) (delay : ℕ) (app_limited : Bool)
-    → acknowledges_new (Ack time space ranges delay app_limited ∷ h) ≡ false → (p : Packet) → owes c (Ack time space ranges delay app_limited ∷ h) p ≡ false
-nothing_found c h time space ranges delay app_limited none p =
-    ap (λ b. is_found_at c (sampled c (Ack time space ranges delay app_limited ∷ h)) (Ack time space ranges delay app_limited ∷ h) p (if◌then◌else◌ {A = Option (Space × ℕ)} b (Some (space, time)) None)) none
+nothing_found : (c : Settings) (h : List Event) (ack : Acknowledgment)
+    → acknowledges_new (Ack ack ∷ h) ≡ false → (p : Packet) → owes c (Ack ack ∷ h) p ≡ false
+nothing_found c h ack none p =
+    ap (λ b. is_found_at c (sampled c (Ack ack ∷ h)) (Ack ack ∷ h) p (if◌then◌else◌ {A = Option (Space × ℕ)} b (Some (ack.space, ack.time)) None)) none
 
 between_by : (cov los was own gone : Bool) → was ≡ false → own ≡ false → fate_by cov los false gone ≡ fate_by cov (was || los) own gone
 between_by cov los was own gone not_was not_own = rw (not_was, not_own) refl
 
 -- an acknowledgment of nothing new finds nothing lost
-pub nothing_owed : (c : Settings) (h : List Event) (time : ℕ) (space : Space) (ranges : List (ℕ × ℕ)) (delay : ℕ) (app_limited : Bool)
-    → acknowledges_new (Ack time space ranges delay app_limited ∷ h) ≡ false → owed c (Ack time space ranges delay app_limited ∷ h) ≡ []
-nothing_owed c h time space ranges delay app_limited none =
-    ap (λ b. found_at c (sampled c (Ack time space ranges delay app_limited ∷ h)) (Ack time space ranges delay app_limited ∷ h) (if◌then◌else◌ {A = Option (Space × ℕ)} b (Some (space, time)) None)) none
+pub nothing_owed : (c : Settings) (h : List Event) (ack : Acknowledgment)
+    → acknowledges_new (Ack ack ∷ h) ≡ false → owed c (Ack ack ∷ h) ≡ []
+nothing_owed c h ack none =
+    ap (λ b. found_at c (sampled c (Ack ack ∷ h)) (Ack ack ∷ h) (if◌then◌else◌ {A = Option (Space × ℕ)} b (Some (ack.space, ack.time)) None)) none
 
 -- in a tolerated run, after an acknowledgment of nothing new, the packets that it names are covered, and the packets held stand for the history
-pub stands_covered : (c : Settings) (h : List Event) (time : ℕ) (space : Space) (ranges : List (ℕ × ℕ)) (delay : ℕ) (app_limited : Bool)
-    → IsToleratedRun c (Ack time space ranges delay app_limited ∷ h) → acknowledges_new (Ack time space ranges delay app_limited ∷ h) ≡ false
-    → (old new : Held) → StandsFor old c h → new ≡ replaced (covered_by space ranges) old
-    → StandsFor new c (Ack time space ranges delay app_limited ∷ h)
-stands_covered c h time space ranges delay app_limited run none old new stands is =
-    let e = Ack time space ranges delay app_limited in
+pub stands_covered : (c : Settings) (h : List Event) (ack : Acknowledgment)
+    → IsToleratedRun c (Ack ack ∷ h) → acknowledges_new (Ack ack ∷ h) ≡ false
+    → (old new : Held) → StandsFor old c h → new ≡ replaced (covered_by ack.space ack.ranges) old
+    → StandsFor new c (Ack ack ∷ h)
+stands_covered c h ack run none old new stands is =
+    let e = Ack ack in
     let holds = form_holds c h e run.1 in
-    stands_after c e h run refl (covered_by space ranges) (λ p has.
+    stands_after c e h run refl (covered_by ack.space ack.ranges) (λ p has.
     let not_was = none_owes c h holds.loss_owed p has in
-    covered_told c h time space ranges delay app_limited holds.space_gone p not_was
+    covered_told c h ack holds.space_gone p not_was
     ∙ ap (λ f. told f p) (between_by (acknowledges p.space p.number e || covers h p) (is_declared_lost h p) (owes c h p) (owes c (e ∷ h) p) (is_discarded h p.space)
-    not_was (nothing_found c h time space ranges delay app_limited none p)
+    not_was (nothing_found c h ack none p)
     ∙ sym (fate_after c e h run p has refl))) old new stands (ap (λ (k : Held). k.dropped) is) (ap (λ (k : Held). k.packets) is)
 
 -- in a tolerated run, after an acknowledgment of something new, the packets that it names are covered and those that are late are owed
-pub stands_acknowledged : (c : Settings) (h : List Event) (time : ℕ) (space : Space) (ranges : List (ℕ × ℕ)) (delay : ℕ) (app_limited : Bool)
-    → IsToleratedRun c (Ack time space ranges delay app_limited ∷ h) → acknowledges_new (Ack time space ranges delay app_limited ∷ h) ≡ true
-    → (l : Thresholds) → AreThresholdsAt c (Ack time space ranges delay app_limited ∷ h) space time l
-    → (old middle new : Held) → StandsFor old c h → middle ≡ replaced (covered_by space ranges) old → new ≡ replaced (found_by space l) middle
-    → StandsFor new c (Ack time space ranges delay app_limited ∷ h)
-stands_acknowledged c h time space ranges delay app_limited run some l thresholds old middle new stands covering finding =
-    let e = Ack time space ranges delay app_limited in
+pub stands_acknowledged : (c : Settings) (h : List Event) (ack : Acknowledgment)
+    → IsToleratedRun c (Ack ack ∷ h) → acknowledges_new (Ack ack ∷ h) ≡ true
+    → (l : Thresholds) → AreThresholdsAt c (Ack ack ∷ h) ack.space ack.time l
+    → (old middle new : Held) → StandsFor old c h → middle ≡ replaced (covered_by ack.space ack.ranges) old → new ≡ replaced (found_by ack.space l) middle
+    → StandsFor new c (Ack ack ∷ h)
+stands_acknowledged c h ack run some l thresholds old middle new stands covering finding =
+    let e = Ack ack in
     let holds = form_holds c h e run.1 in
-    let step : SentPacket → SentPacket = λ q. found_by space l (covered_by space ranges q) in
-    let at : detection c (e ∷ h) ≡ Some (space, time) = ap (λ b. if◌then◌else◌ {A = Option (Space × ℕ)} b (Some (space, time)) None) some in
+    let step : SentPacket → SentPacket = λ q. found_by ack.space l (covered_by ack.space ack.ranges q) in
+    let at : detection c (e ∷ h) ≡ Some (ack.space, ack.time) = ap (λ b. if◌then◌else◌ {A = Option (Space × ℕ)} b (Some (ack.space, ack.time)) None) some in
     stands_after c e h run refl step (λ p has.
     let not_was = none_owes c h holds.loss_owed p has in
-    ap (found_by space l) (covered_told c h time space ranges delay app_limited holds.space_gone p not_was)
-    ∙ found_told c e h run space time at refl l thresholds p has not_was refl refl) old new stands
+    ap (found_by ack.space l) (covered_told c h ack holds.space_gone p not_was)
+    ∙ found_told c e h run ack.space ack.time at refl l thresholds p has not_was refl refl) old new stands
     (ap (λ (k : Held). k.dropped) finding ∙ ap (λ (k : Held). k.dropped) covering)
-    (ap (λ (k : Held). k.packets) finding ∙ (ap (λ (k : Held). map (found_by space l) k.packets) covering
-    ∙ map_fused (found_by space l) (covered_by space ranges) step old.packets (each_value (λ q. found_by space l (covered_by space ranges q) ≡ step q) (λ q. refl) old.packets)))
+    (ap (λ (k : Held). k.packets) finding ∙ (ap (λ (k : Held). map (found_by ack.space l) k.packets) covering
+    ∙ map_fused (found_by ack.space l) (covered_by ack.space ack.ranges) step old.packets (each_value (λ q. found_by ack.space l (covered_by ack.space ack.ranges q) ≡ step q) (λ q. refl) old.packets)))
 
 -- ---- a timer
 

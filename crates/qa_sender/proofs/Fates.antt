@@ -3,6 +3,7 @@ use Rattle.std.proofs.Common.{◌≡◌, ◌∙◌, ℕ, List, [], ◌∷◌, Bo
 use Rattle.std.proofs.lemmas.Bool.{and_parts, or_from, or_right}
 use Rattle.std.specs.Prelude.{if◌then◌else◌}
 use Rattle.qa_base.specs.declared.event.Event.{Event}
+use Rattle.qa_base.specs.declared.event.Ack.{Ack as Acknowledgment}
 use Rattle.qa_base.specs.declared.event.Event.TheVariants.{Ack, Lost, Discard}
 use Rattle.qa_base.specs.declared.space.Space.{Space}
 use Rattle.qa_base.specs.declared.space.Space.TheVariants.{Initial, Handshake, App}
@@ -234,12 +235,12 @@ there_of : (h : List Event) (s t : Space) → is_discarded h s ≡ false → is_
 there_of h s t there same = subst (λ (u : Space). is_discarded h u ≡ false) (sym (is_space_is t s same)) there
 
 -- an acknowledgment of a space that is there covers it, where it names it
-pub covered_told : (c : Settings) (h : List Event) (time : ℕ) (space : Space) (ranges : List (ℕ × ℕ)) (delay : ℕ) (app_limited : Bool)
-    → is_discarded h space ≡ false → (p : Packet) → owes c h p ≡ false
-    → covered_by space ranges (sent_of c h p) ≡ told (between c (Ack time space ranges delay app_limited) h p) p
-covered_told c h time space ranges delay app_limited there p not_was =
-    covered_by_tests (is_space space p.space) (is_space p.space space) (is_named ranges p.number) (covers h p) (is_declared_lost h p) (owes c h p) (is_discarded h p.space) p
-    (space_turned space p.space) not_was (there_of h space p.space there)
+pub covered_told : (c : Settings) (h : List Event) (ack : Acknowledgment)
+    → is_discarded h ack.space ≡ false → (p : Packet) → owes c h p ≡ false
+    → covered_by ack.space ack.ranges (sent_of c h p) ≡ told (between c (Ack ack) h p) p
+covered_told c h ack there p not_was =
+    covered_by_tests (is_space ack.space p.space) (is_space p.space ack.space) (is_named ack.ranges p.number) (covers h p) (is_declared_lost h p) (owes c h p) (is_discarded h p.space) p
+    (space_turned ack.space p.space) not_was (there_of h ack.space p.space there)
 
 found_if : (of flies cov los late gone : Bool) (p : Packet) → (of ≡ true → gone ≡ false)
     → (if of && (flies && is_open (fate_by cov los false gone)) && late then with_fate Owed (told (fate_by cov los false gone) p) else told (fate_by cov los false gone) p)
@@ -311,9 +312,9 @@ new_tests : (of back named cov los own gone : Bool) → of ≡ back → own ≡ 
 new_tests of back named cov los own gone same not_own there = rw (same, not_own) (new_if back named cov los gone there)
 
 -- an acknowledgment of a space that is there newly acknowledges it, where it names it and it is open
-pub new_told : (c : Settings) (h : List Event) (time : ℕ) (space : Space) (ranges : List (ℕ × ℕ)) (delay : ℕ) (app_limited : Bool)
-    → is_discarded h space ≡ false → (p : Packet) → owes c h p ≡ false
-    → is_new space ranges (sent_of c h p) ≡ is_newly_acknowledged (Ack time space ranges delay app_limited) h p
-new_told c h time space ranges delay app_limited there p not_was =
-    new_tests (is_space space p.space) (is_space p.space space) (is_named ranges p.number) (covers h p) (is_declared_lost h p) (owes c h p) (is_discarded h p.space)
-    (space_turned space p.space) not_was (there_of h space p.space there)
+pub new_told : (c : Settings) (h : List Event) (ack : Acknowledgment)
+    → is_discarded h ack.space ≡ false → (p : Packet) → owes c h p ≡ false
+    → is_new ack.space ack.ranges (sent_of c h p) ≡ is_newly_acknowledged (Ack ack) h p
+new_told c h ack there p not_was =
+    new_tests (is_space ack.space p.space) (is_space p.space ack.space) (is_named ack.ranges p.number) (covers h p) (is_declared_lost h p) (owes c h p) (is_discarded h p.space)
+    (space_turned ack.space p.space) not_was (there_of h ack.space p.space there)

@@ -11,13 +11,13 @@ use Rattle.qa_base.specs.machine.Violations.{IsToleratedRun}
 use Rattle.qa_base.specs.values.Settings.{Settings}
 use Rattle.qa_sender.proofs.Dropping.{held_are_few}
 use Rattle.qa_sender.proofs.Events.{sent_last, settled_before}
-use Rattle.qa_sender.specs.Following.{IsNext}
+use Rattle.qa_sender.specs.Following.{as_sent, IsNext}
 use Rattle.qa_sent_packets.specs.Held.{Held, IsBefore}
 use Rattle.qa_sent_packets.specs.Owing.{NoneOwed}
 use Rattle.qa_sent_packets.specs.declared.packet.SentPacket.{SentPacket}
 
 pub next_is_last : (held : Held) (e : Event) → IsNext held e → (packet : SentPacket) (permission : Permission)
-    → e ≡ Sent packet.time packet.space packet.number packet.size packet.eliciting packet.in_flight permission → AllByRecursion (λ q. IsBefore packet q) held.packets
+    → e ≡ Sent (as_sent packet permission) → AllByRecursion (λ q. IsBefore packet q) held.packets
 next_is_last held e next packet permission is =
     sent_last next.header next.history packet permission (subst (λ (x : Event). IsToleratedRun next.header (x ∷ next.history)) is next.run.run) held next.stands
 

@@ -20,7 +20,7 @@ ghost use Rattle.qa_sender.specs.connection.Known.{IsProperToleratedRun};
 ghost use Rattle.qa_sender.specs.connection.Steps.{last_sent};
 ghost use Rattle.qa_sender.specs.declared.connection.detection.Detection.{Detection as ADetection};
 ghost use Rattle.qa_packet_numbers.specs.Sent.{AreSent};
-ghost use Rattle.qa_sender.specs.Following.{IsNext, takes_memory};
+ghost use Rattle.qa_sender.specs.Following.{IsNext, as_sent, takes_memory};
 ghost use Rattle.qa_sender.specs.Freeing.{free_of};
 ghost use Rattle.qa_sender.specs.Losing.{HoldsLosses, LosesWhatIsOwed};
 ghost use Rattle.qa_sender.specs.Thresholds.{AreThresholdsAt};
@@ -39,7 +39,7 @@ use crate::answers::open_in;
 use crate::connection::{Connection, Detection, Losses};
 use crate::freeing::free_packets;
 use crate::watch::TimerWatch;
-use qa_base::{Event, Header, MetricValues, Permission, Space, Span, Spans, Ticks, TimerKind};
+use qa_base::{Ack, Event, Header, MetricValues, Permission, Space, Span, Spans, Ticks, TimerKind};
 use qa_packet_numbers::{Ranges, SentNumbers};
 use qa_sent_packets::{Fate, SentPacket, SentPackets, Thresholds, are_falling};
 use std::alloc::{AllocError, Global};
@@ -76,19 +76,16 @@ impl Machine {
     pub(crate) fn on_ack(
         &mut self,
         alloc: Global,
-        time: Ticks,
-        space: Space,
-        ranges: &Spans,
-        delay: u64,
-        app_limited: bool,
+        ack: &Ack,
     ) -> Result<(), AllocError>
         requires { NoneOwed self.old.packets.packets }
-        ensures ok { OnOk result
-            (Follows self.old self.new (events.Ack time space ranges.now delay app_limited)) }
+        ensures ok { OnOk result (Follows self.old self.new (events.Ack ack.now)) }
         ensures err { OnErr result (self.new ≡ self.old) }
     {
-        let largest = ranges.greatest();
-        let ranges = ranges.as_slice();
+        let time = ack.time;
+        let space = ack.space;
+        let largest = ack.ranges.greatest();
+        let ranges = ack.ranges.as_slice();
         let acknowledged = cover(alloc, &mut self.packets, space, ranges)?;
         self.connection.acknowledge(space, largest);
         if acknowledged.is_empty() {
@@ -96,12 +93,13 @@ impl Machine {
             self.finish(time, None);
             return Ok(());
         }
-        self.connection.sample(&acknowledged, largest, delay, time);
+        self.connection
+            .sample(&acknowledged, largest, ack.delay, time);
         let detection = self
             .connection
             .detected(space, time.get(), time, &acknowledged);
         self.find_losses(space, time.get(), time);
-        self.connection.grow(&acknowledged, app_limited);
+        self.connection.grow(&acknowledged, ack.app_limited);
         self.packets.take_back(acknowledged);
         self.connection.restart(time);
         self.finish(time, Some(detection));
@@ -121,9 +119,7 @@ impl Machine {
         requires ordered { AllByRecursion (λ q. IsBefore packet q) self.old.packets.packets }
         requires few { self.old.packets.dropped + length self.old.packets.packets < max_lines }
         ensures ok { OnOk result
-            (Follows self.old self.new
-            (events.Sent packet.time packet.space packet.number packet.size packet.eliciting
-            packet.in_flight permission)) }
+            (Follows self.old self.new (events.Sent (as_sent packet permission))) }
         ensures err { OnErr result (self.new ≡ record self.old { numbers = self.new.numbers }) }
     {
         self.numbers.insert(packet.space, packet.number)?;
@@ -243,33 +239,19 @@ impl Machine {
         ensures memory { OnErr result (takes_memory event.now ≡ true) }
     {
         match event {
-            Event::Sent {
-                time,
-                space,
-                number,
-                size,
-                eliciting,
-                in_flight,
-                permission,
-            } => {
+            Event::Sent(sent) => {
                 let packet = SentPacket {
-                    time: *time,
-                    space: *space,
-                    number: *number,
-                    size: *size,
-                    eliciting: *eliciting,
-                    in_flight: *in_flight,
+                    time: sent.time,
+                    space: sent.space,
+                    number: sent.number,
+                    size: sent.size,
+                    eliciting: sent.eliciting,
+                    in_flight: sent.in_flight,
                     fate: Fate::Open,
                 };
-                self.on_sent(packet, *permission)
+                self.on_sent(packet, sent.permission)
             }
-            Event::Ack {
-                time,
-                space,
-                ranges,
-                delay,
-                app_limited,
-            } => self.on_ack(alloc, *time, *space, ranges, *delay, *app_limited),
+            Event::Ack(ack) => self.on_ack(alloc, ack),
             Event::Timer {
                 time,
                 kind: TimerKind::Loss,

@@ -35,8 +35,8 @@ no_float_in_ranges [] = refl
 no_float_in_ranges (range ∷ ranges) = no_float_in_ranges ranges
 
 event_pairs_none : (e : Event) → HaveNone (event_pairs e)
-event_pairs_none (Sent time space number size eliciting in_flight permission) = record { is = refl }
-event_pairs_none (Ack time space ranges delay app_limited) = record { is = or_from (items_have_float (integer_pairs ranges)) false (no_float_in_ranges ranges) refl }
+event_pairs_none (Sent packet) = record { is = refl }
+event_pairs_none (Ack ack) = record { is = or_from (items_have_float (integer_pairs ack.ranges)) false (no_float_in_ranges ack.ranges) refl }
 event_pairs_none (Lost time space ranges) = record { is = or_from (items_have_float (integer_pairs ranges)) false (no_float_in_ranges ranges) refl }
 event_pairs_none (Timer time kind space) = record { is = refl }
 event_pairs_none (Discard time space) = record { is = refl }

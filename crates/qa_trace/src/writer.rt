@@ -19,8 +19,8 @@ ghost use Rattle.qa_trace.specs.Members.{with, with_settings, with_options, with
 ghost use Rattle.qa_trace.specs.Members.{event_members};
 
 use qa_base::{
-    Event, Field, Header, Key, LineKind, MetricValues, PacketNumber, Permission, Space, Span,
-    Spans, Ticks, TimerKind, Version,
+    Ack, Event, Field, Header, Key, LineKind, MetricValues, SentPacket, Space, Span, Spans, Ticks,
+    TimerKind, Version,
 };
 use qa_format::Line;
 use serde_json::{Map, Value, json};
@@ -186,31 +186,8 @@ fn event_object(alloc: Global, event: &Event) -> Result<Value, AllocError>
     ensures proper { OnOk result (IsProperEvent event.now) }
 {
     match event {
-        Event::Sent {
-            time,
-            space,
-            number,
-            size,
-            eliciting,
-            in_flight,
-            permission,
-        } => {
-            let packet = Packet {
-                number: *number,
-                size: *size,
-                eliciting: *eliciting,
-                in_flight: *in_flight,
-                permission: *permission,
-            };
-            sent_object(alloc, *time, *space, packet)
-        }
-        Event::Ack {
-            time,
-            space,
-            ranges,
-            delay,
-            app_limited,
-        } => ack_object(alloc, *time, *space, ranges, *delay, *app_limited),
+        Event::Sent(packet) => sent_object(alloc, packet),
+        Event::Ack(ack) => ack_object(alloc, ack),
         Event::Lost {
             time,
             space,
@@ -235,58 +212,33 @@ fn event_map(alloc: Global, kind: LineKind, time: Ticks) -> Result<Map<String, V
     Ok(map)
 }
 
-/// What a sent line says of its packet, beside its time and its space.
-#[derive(Clone, Copy)]
-struct Packet {
-    number: PacketNumber,
-    size: u64,
-    eliciting: bool,
-    in_flight: bool,
-    permission: Permission,
-}
-
 /// The object of a packet that was sent.
-fn sent_object(
-    alloc: Global,
-    time: Ticks,
-    space: Space,
-    packet: Packet,
-) -> Result<Value, AllocError>
-    ensures object { IfOk result (λ v. view v
-        ≡ object_of (event_pairs (Event.Sent time space packet.number packet.size
-        packet.eliciting packet.in_flight packet.permission))) }
-    ensures in_time { OnOk result (time ≤ max_time) }
-    ensures in_range { OnOk result (packet.number ≤ max_packet_number) }
+fn sent_object(alloc: Global, packet: &SentPacket) -> Result<Value, AllocError>
+    ensures object { IfOk result (λ v. view v ≡ object_of (event_pairs (Event.Sent packet.now))) }
+    ensures in_time { OnOk result (packet.now.time ≤ max_time) }
+    ensures in_range { OnOk result (packet.now.number ≤ max_packet_number) }
 {
-    let mut map = event_map(alloc, LineKind::Sent, time)?;
+    let mut map = event_map(alloc, LineKind::Sent, packet.time)?;
     put_flag(&mut map, alloc, Key::Eliciting, packet.eliciting)?;
     put_flag(&mut map, alloc, Key::InFlight, packet.in_flight)?;
     put_text(&mut map, alloc, Key::Leave, packet.permission.name())?;
     put_integer(&mut map, alloc, Key::Number, packet.number.get())?;
     put_integer(&mut map, alloc, Key::Size, packet.size)?;
-    put_text(&mut map, alloc, Key::Space, space.name())?;
+    put_text(&mut map, alloc, Key::Space, packet.space.name())?;
     Ok(Value::Object(map))
 }
 
 /// The object of an acknowledgment.
-fn ack_object(
-    alloc: Global,
-    time: Ticks,
-    space: Space,
-    ranges: &Spans,
-    delay: u64,
-    app_limited: bool,
-) -> Result<Value, AllocError>
-    ensures object { IfOk result (λ v. view v
-        ≡ object_of (event_pairs (Event.Ack time space ranges.now delay app_limited))) }
-    ensures in_time { OnOk result (time ≤ max_time) }
-    ensures are_ranges { OnOk result (AllByRecursion IsRange ranges.now) }
+fn ack_object(alloc: Global, ack: &Ack) -> Result<Value, AllocError>
+    ensures object { IfOk result (λ v. view v ≡ object_of (event_pairs (Event.Ack ack.now))) }
+    ensures in_time { OnOk result (ack.now.time ≤ max_time) }
+    ensures are_ranges { OnOk result (AllByRecursion IsRange ack.now.ranges) }
 {
-    let mut map = event_map(alloc, LineKind::Ack, time)?;
-    put_integer(&mut map, alloc, Key::Delay, delay)?;
-    put_flag(&mut map, alloc, Key::Limited, app_limited)?;
-    put_ranges(&mut map, alloc, ranges)?;
-    put_text(&mut map, alloc, Key::Space, space.name())?;
+    let mut map = event_map(alloc, LineKind::Ack, ack.time)?;
+    put_integer(&mut map, alloc, Key::Delay, ack.delay)?;
+    put_flag(&mut map, alloc, Key::Limited, ack.app_limited)?;
+    put_ranges(&mut map, alloc, &ack.ranges)?;
+    put_text(&mut map, alloc, Key::Space, ack.space.name())?;
     Ok(Value::Object(map))
 }
 

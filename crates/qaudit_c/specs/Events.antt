@@ -57,13 +57,25 @@ ranges_of (r ∷ rs) = cons_of (range_said r) (ranges_of rs)
 
 -- ---- events; None where a value is outside its range
 
+-- a packet with these values, where the struct says the others as they are
+abbrev pub sent_event : ℕ → Space → ℕ → Permission → SentPacket → Event
+sent_event time space number permission p = events.Sent (record {
+  time = time;
+  space = space;
+  number = number;
+  size = p.size;
+  eliciting = p.eliciting;
+  in_flight = p.in_flight;
+  permission = permission;
+})
+
 abbrev pub sent_said : SentPacket → Option Event
 sent_said p =
     option_and_then (λ time.
     option_and_then (λ space.
     option_and_then (λ number.
     option_and_then (λ permission.
-    fitting (events.Sent time space number p.size p.eliciting p.in_flight permission))
+    fitting (sent_event time space number permission p))
     (permission_numbered p.permission)) (number_of p.number)) (space_numbered p.space))
     (time_of p.time)
 
@@ -71,7 +83,14 @@ abbrev pub ack_said : Acknowledgment → List PacketRange → Option Event
 ack_said a rs =
     option_and_then (λ time.
     option_and_then (λ space.
-    option_and_then (λ ranges. fitting (events.Ack time space ranges a.delay a.app_limited))
+    option_and_then (λ ranges.
+    fitting (events.Ack (record {
+      time = time;
+      space = space;
+      ranges = ranges;
+      delay = a.delay;
+      app_limited = a.app_limited;
+    })))
     (ranges_of rs)) (space_numbered a.space)) (time_of a.time)
 
 abbrev pub lost_said : ℕ → ℕ → List PacketRange → Option Event

@@ -16,8 +16,7 @@ use std::alloc::AllocError;
 pub fn sent_values(packet: &SentPacket) -> Option<(Ticks, Space, PacketNumber, Permission)>
     ensures none { result ≡ None → said.sent_said packet.now ≡ None }
     ensures some { IfSome result (λ v. said.sent_said packet.now
-        ≡ said.fitting (Event.Sent v.0 v.1 v.2 packet.now.size packet.now.eliciting
-        packet.now.in_flight v.3)) }
+        ≡ said.fitting (said.sent_event v.0 v.1 v.2 v.3 packet.now)) }
 {
     let time = Ticks::new(packet.time)?;
     let space = space_of(packet.space)?;

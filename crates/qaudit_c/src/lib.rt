@@ -104,7 +104,7 @@ pub extern "C" fn qaudit_sent(alloc: Global, qaudit: &mut Qaudit, packet: &SentP
 {
     match sent_values(packet) {
         Some((time, space, number, permission)) => {
-            let event = Event::Sent {
+            let event = Event::Sent(qa_base::SentPacket {
                 time,
                 space,
                 number,
@@ -112,7 +112,7 @@ pub extern "C" fn qaudit_sent(alloc: Global, qaudit: &mut Qaudit, packet: &SentP
                 eliciting: packet.eliciting,
                 in_flight: packet.in_flight,
                 permission,
-            };
+            });
             hand_event(alloc, qaudit, event)
         }
         None => out_of_range(alloc, qaudit),

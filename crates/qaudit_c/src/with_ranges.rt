@@ -7,7 +7,7 @@ ghost use Rattle.qaudit_c.specs.Events as said;
 use crate::calls::{NOT_TAKEN, OUT_OF_RANGE, hand_to, refusal};
 use crate::events::{moment_of, spans_of};
 use crate::structs::{Acknowledgment, PacketRange};
-use qa_base::Event;
+use qa_base::{Ack, Event};
 use qa_check::Line;
 use qa_embed::Session;
 use std::alloc::Global;
@@ -26,7 +26,7 @@ fn hand_and_keep(alloc: Global, session: &mut Session, event: Event) -> u32
     }
     let line = Line::Event(event);
     let status = hand_to(session, &line);
-    if let Line::Event(Event::Ack { ranges, .. } | Event::Lost { ranges, .. }) = line {
+    if let Line::Event(Event::Ack(Ack { ranges, .. }) | Event::Lost { ranges, .. }) = line {
         session.take_back(alloc, ranges);
     }
     status
@@ -48,13 +48,13 @@ pub fn ack_to(
     };
     match spans_of(session.lend_ranges(alloc), ranges) {
         Ok(Some(ranges)) => {
-            let event = Event::Ack {
+            let event = Event::Ack(Ack {
                 time,
                 space,
                 ranges,
                 delay: ack.delay,
                 app_limited: ack.app_limited,
-            };
+            });
             hand_and_keep(alloc, session, event)
         }
         Ok(None) => refusal(session, OUT_OF_RANGE),

@@ -211,15 +211,15 @@ owed_was_flying c e h run p has is = found_was_flying c e h run p has (detection
 
 -- in a tolerated run whatever an event newly acknowledges was open
 pub newly_was_open : (c : Settings) (e : Event) (h : List Event) → IsToleratedRun c (e ∷ h) → (p : Packet) → Contains (packets h) p → is_newly_acknowledged e h p ≡ true → is_open c h p ≡ true
-newly_was_open c (Ack time space ranges delay app_limited) h run p has is =
-    let holds = form_holds c h (Ack time space ranges delay app_limited) run.1 in
-    let parts = and_parts (acknowledges p.space p.number (Ack time space ranges delay app_limited) && not (is_acknowledged h p)) (not (is_declared_lost h p)) is in
-    let more = and_parts (acknowledges p.space p.number (Ack time space ranges delay app_limited)) (not (is_acknowledged h p)) parts.0 in
-    let of_space = (and_parts (is_space p.space space) (is_named ranges p.number) more.0).0 in
+newly_was_open c (Ack ack) h run p has is =
+    let holds = form_holds c h (Ack ack) run.1 in
+    let parts = and_parts (acknowledges p.space p.number (Ack ack) && not (is_acknowledged h p)) (not (is_declared_lost h p)) is in
+    let more = and_parts (acknowledges p.space p.number (Ack ack)) (not (is_acknowledged h p)) parts.0 in
+    let of_space = (and_parts (is_space p.space ack.space) (is_named ack.ranges p.number) more.0).0 in
     opens_from c h p (record {
       unsettled = and_from (not (is_acknowledged h p)) (not (is_declared_lost h p)) more.1 parts.1;
       free = false_from_ne_true (is_owed c h p) (λ owed_then. both_ways (is_some_packet (owed c h)) holds.loss_owed (has_some (owed c h) p (owed_has c h p has owed_then)));
-      there = rw (is_space_is p.space space of_space) holds.space_gone;
+      there = rw (is_space_is p.space ack.space of_space) holds.space_gone;
     })
 newly_was_open c _ h run p has is = cc
 

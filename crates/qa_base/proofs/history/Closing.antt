@@ -5,8 +5,8 @@ use Rattle.std.proofs.lemmas.List.Sums.{sum_by-cons}
 use Rattle.std.specs.List.{AllByRecursion}
 use Rattle.std.specs.Prelude.{if◌then◌else◌}
 use Rattle.qa_base.specs.declared.event.Event.{Event}
+use Rattle.qa_base.specs.declared.event.SentPacket.{SentPacket}
 use Rattle.qa_base.specs.declared.event.Event.TheVariants.{Sent, Ack, Lost, Timer, Discard, Confirmed, Keys, Metrics}
-use Rattle.qa_base.specs.declared.space.Permission.{Permission}
 use Rattle.qa_base.specs.declared.space.Space.{Space}
 use Rattle.qa_base.specs.values.Events.{acknowledges, discards}
 use Rattle.qa_base.specs.machine.Estimates.{sampled}
@@ -115,8 +115,8 @@ found_part c h (Some (s, now)) = part_of_part (is_of s) (is_found c (sampled c h
 
 -- what an event finds lost stands among the packets sent before it
 pub owed_among : (c : Settings) (e : Event) (h : List Event) → filter (is_owed c (e ∷ h)) (packets h) ≡ owed c (e ∷ h)
-owed_among c (Sent time space number size eliciting in_flight permission) h = none_left (λ p. false) (packets h) (of_each (λ p. false ≡ false) (packets h) (λ p has. refl))
-owed_among c (Ack time space ranges delay app_limited) h = found_part c (Ack time space ranges delay app_limited ∷ h) (detection c (Ack time space ranges delay app_limited ∷ h))
+owed_among c (Sent packet) h = none_left (λ p. false) (packets h) (of_each (λ p. false ≡ false) (packets h) (λ p has. refl))
+owed_among c (Ack ack) h = found_part c (Ack ack ∷ h) (detection c (Ack ack ∷ h))
 owed_among c (Lost time space ranges) h = found_part c (Lost time space ranges ∷ h) None
 owed_among c (Timer time kind space) h = found_part c (Timer time kind space ∷ h) (detection c (Timer time kind space ∷ h))
 owed_among c (Discard time space) h = found_part c (Discard time space ∷ h) None
@@ -159,9 +159,9 @@ closed_sum weight c e h run =
     ∙ ap (λ qs. sum_by weight (filter newly ps) + sum_by weight qs) (owed_among c e h))))
 
 -- a packet is open that was just sent, unless its space is gone
-pub sent_is_open : (c : Settings) (h : List Event) (time : ℕ) (space : Space) (number size : ℕ) (eliciting in_flight : Bool) (permission : Permission) (p : Packet)
-    → p.place ≡ length h → p.space ≡ space → is_discarded h space ≡ false → is_open c (Sent time space number size eliciting in_flight permission ∷ h) p ≡ true
-sent_is_open c h time space number size eliciting in_flight permission p place in_space there =
+pub sent_is_open : (c : Settings) (h : List Event) (packet : SentPacket) (p : Packet)
+    → p.place ≡ length h → p.space ≡ packet.space → is_discarded h packet.space ≡ false → is_open c (Sent packet ∷ h) p ≡ true
+sent_is_open c h packet p place in_space there =
     let not_covered : is_acknowledged h p ≡ false = not_followed _ h p (omega (arith, place)) in
     let not_lost : is_declared_lost h p ≡ false = not_followed _ h p (omega (arith, place)) in
     let still : is_discarded h p.space ≡ false = rw in_space there in
@@ -170,20 +170,20 @@ sent_is_open c h time space number size eliciting in_flight permission p place i
 -- the packet that an event sends is open after it
 sum_after : (weight : Packet → ℕ) (c : Settings) (e : Event) (h : List Event) → IsToleratedRun c (e ∷ h)
     → open_sum weight c (e ∷ h) ≡ sum_by weight (packet_of (length h) e) + sum_by (counted (is_open c (e ∷ h)) weight) (packets h)
-sum_after weight c (Sent time space number size eliciting in_flight permission) h run =
-    let e = Sent time space number size eliciting in_flight permission in
+sum_after weight c (Sent packet) h run =
+    let e = Sent packet in
     let p : Packet = record {
       place = length h;
-      time = time;
-      space = space;
-      number = number;
-      size = size;
-      eliciting = eliciting;
-      in_flight = in_flight;
-      permission = permission;
+      time = packet.time;
+      space = packet.space;
+      number = packet.number;
+      size = packet.size;
+      eliciting = packet.eliciting;
+      in_flight = packet.in_flight;
+      permission = packet.permission;
     } in
     let holds = form_holds c h e run.1 in
-    let open_now : is_open c (e ∷ h) p ≡ true = sent_is_open c h time space number size eliciting in_flight permission p refl refl holds.space_gone in
+    let open_now : is_open c (e ∷ h) p ≡ true = sent_is_open c h packet p refl refl holds.space_gone in
     let here : counted (is_open c (e ∷ h)) weight p ≡ weight p = ap (λ b. if b then weight p else 0) open_now in
     let alone : sum_by weight (p ∷ []) ≡ weight p = sum_by-cons weight p [] ∙ add-zero (weight p) in
     sum_by-cons (counted (is_open c (e ∷ h)) weight) p (packets h)

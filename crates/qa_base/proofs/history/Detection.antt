@@ -178,9 +178,9 @@ acknowledged_space true h space s time now at there = rw (same_space space s tim
 acknowledged_space false h space s time now at there = cc
 
 pub space_of_detection : (c : Settings) (e : Event) (h : List Event) → IsToleratedRun c (e ∷ h) → (s : Space) (now : ℕ) → detection c (e ∷ h) ≡ Some (s, now) → is_discarded h s ≡ false
-space_of_detection c (Ack time space ranges delay app_limited) h run s now at =
-    let holds = form_holds c h (Ack time space ranges delay app_limited) run.1 in
-    acknowledged_space (acknowledges_new (Ack time space ranges delay app_limited ∷ h)) h space s time now at holds.space_gone
+space_of_detection c (Ack ack) h run s now at =
+    let holds = form_holds c h (Ack ack) run.1 in
+    acknowledged_space (acknowledges_new (Ack ack ∷ h)) h ack.space s ack.time now at holds.space_gone
 space_of_detection c (Timer time Loss space) h run s now at =
     let there = timer_there c h time space run in
     rw (same_space space s (looks_at (early c) time (old_at c (rtt c h) h space)) now at) at there
@@ -188,7 +188,7 @@ space_of_detection c (Timer time Pto space) h run s now at = cc
 space_of_detection c _ h run s now at = cc
 
 nothing_owed : (c : Settings) (e : Event) (h : List Event) → IsToleratedRun c (e ∷ h) → (s : Space) (now : ℕ) → detection c (e ∷ h) ≡ Some (s, now) → is_some_packet (owed c h) ≡ false
-nothing_owed c (Ack time space ranges delay app_limited) h run s now at = (form_holds c h (Ack time space ranges delay app_limited) run.1).loss_owed
+nothing_owed c (Ack ack) h run s now at = (form_holds c h (Ack ack) run.1).loss_owed
 nothing_owed c (Timer time kind space) h run s now at = (form_holds c h (Timer time kind space) run.1).loss_owed
 nothing_owed c _ h run s now at = cc
 

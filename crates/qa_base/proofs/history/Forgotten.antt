@@ -118,9 +118,9 @@ persistent_if c e h kept gone run same parts none =
 -- in a tolerated run, packets before all others of which an event loses none have no part in whether it establishes persistent congestion
 pub persistent_unless_lost : (c : Settings) (e : Event) (h : List Event) → IsToleratedRun c (e ∷ h) → (kept gone : List Packet) → packets h ≡ kept ++ gone
     → AllByRecursion (λ p. is_lost_now c (e ∷ h) p ≡ false) gone → is_persistent c (e ∷ h) ≡ is_persistent_among c (e ∷ h) kept
-persistent_unless_lost c (Sent time space number size eliciting in_flight permission) h run kept gone parts none =
-    ap (λ found. list_any (λ p. list_any (are_ends_among c (Sent time space number size eliciting in_flight permission ∷ h) kept p) found) found)
-    (lost_of_kept c (Sent time space number size eliciting in_flight permission) h kept gone parts none)
+persistent_unless_lost c (Sent packet) h run kept gone parts none =
+    ap (λ found. list_any (λ p. list_any (are_ends_among c (Sent packet ∷ h) kept p) found) found)
+    (lost_of_kept c (Sent packet) h kept gone parts none)
 persistent_unless_lost c e h run kept gone parts none = persistent_if c e h kept gone run refl parts none
 
 gone_has : (h : List Event) (kept gone : List Packet) (p : Packet) → packets h ≡ kept ++ gone → Contains gone p → Contains (packets h) p

@@ -27,7 +27,7 @@ abbrev StandsBefore : Packet → Packet → Type 0
 StandsBefore p q = q.place < p.place
 
 places_more : (h : List Event) (e : Event) → EachTwo StandsBefore (packets h) → EachTwo StandsBefore (packets (e ∷ h))
-places_more h (Sent time space number size eliciting in_flight permission) two = (placed h, two)
+places_more h (Sent packet) two = (placed h, two)
 places_more h _ two = two
 
 -- of each two packets of a history the one that stands behind stands at a lower place

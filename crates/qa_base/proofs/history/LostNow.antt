@@ -33,7 +33,7 @@ lost_now_part c (e ∷ h) = owed_is c (e ∷ h)
 
 -- among the packets sent before it
 pub lost_now_among : (c : Settings) (e : Event) (h : List Event) → filter (is_lost_now c (e ∷ h)) (packets h) ≡ declared c (e ∷ h)
-lost_now_among c (Sent time space number size eliciting in_flight permission) h = owed_among c (Sent time space number size eliciting in_flight permission) h
+lost_now_among c (Sent packet) h = owed_among c (Sent packet) h
 lost_now_among c e h = sym (lost_now_part c (e ∷ h))
 
 pub declared_has : (c : Settings) (h : List Event) (p : Packet) → Contains (packets h) p → is_lost_now c h p ≡ true → Contains (declared c h) p

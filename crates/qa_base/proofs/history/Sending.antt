@@ -83,8 +83,8 @@ walk_if c e h run gone kept same parts none =
 walk_of_kept : (c : Settings) (e : Event) (h : List Event) → IsToleratedRun c (e ∷ h) → (gone kept : List Packet) → reverse (packets h) ≡ gone ++ kept
     → AllByRecursion (λ p. is_lost_now c (e ∷ h) p ≡ false) gone
     → is_persistent c (e ∷ h) ≡ finds_apart (is_acknowledged (e ∷ h)) (counts_as_end c (e ∷ h)) (persistent_after (granularity c) (sampled c (e ∷ h)) c.max_ack_delay) None kept
-walk_of_kept c (Sent time space number size eliciting in_flight permission) h run gone kept parts none =
-    let e = Sent time space number size eliciting in_flight permission in
+walk_of_kept c (Sent packet) h run gone kept parts none =
+    let e = Sent packet in
     sym (none_found (is_acknowledged (e ∷ h)) (counts_as_end c (e ∷ h)) (persistent_after (granularity c) (sampled c (e ∷ h)) c.max_ack_delay) kept (of_each (λ p. counts_as_end c (e ∷ h) p ≡ false) kept (λ p has. refl)))
 walk_of_kept c e h run gone kept parts none = walk_if c e h run gone kept refl parts none
 
@@ -128,7 +128,7 @@ stay_closed_in_order c e h run gone kept parts closed = of_each (λ p. is_open c
     closed_stays c e h run p inside (at_one (λ q. is_open c h q ≡ false) gone p closed has))
 
 turned_after : (e : Event) (h : List Event) → reverse (packets (e ∷ h)) ≡ reverse (packets h) ++ packet_of (length h) e
-turned_after (Sent time space number size eliciting in_flight permission) h = reverse-append (packet_of (length h) (Sent time space number size eliciting in_flight permission)) (packets h)
+turned_after (Sent packet) h = reverse-append (packet_of (length h) (Sent packet)) (packets h)
 turned_after _ h = sym (append-nil (reverse (packets h)))
 
 -- the packet that the event sends stands last

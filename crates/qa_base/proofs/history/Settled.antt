@@ -44,7 +44,7 @@ largest_if false n rest = refl
 
 -- an acknowledgment of the space raises it
 pub largest_after : (e : Event) (h : List Event) (s : Space) → largest_acknowledged (e ∷ h) s ≡ raised (greatest_in s e) (largest_acknowledged h s)
-largest_after (Ack time space ranges delay app_limited) h s = largest_if (is_space s space) (greatest ranges) (flat_map (greatest_in s) h)
+largest_after (Ack ack) h s = largest_if (is_space s ack.space) (greatest ack.ranges) (flat_map (greatest_in s) h)
 largest_after _ h s = refl
 
 below_raised : (here : List ℕ) (most : Option ℕ) (n : ℕ) → is_below_largest n most ≡ true → is_below_largest n (raised here most) ≡ true

@@ -30,7 +30,7 @@ abbrev pub AreBy : ℕ → List Packet → Type 0
 AreBy t ps = AllByRecursion (λ q. q.time ≤ t) ps
 
 by_more : (h : List Event) (e : Event) → AreBy (time_of e) (packets h) → AreBy (time_of e) (packets (e ∷ h))
-by_more h (Sent time space number size eliciting in_flight permission) by = ((omega arith), by)
+by_more h (Sent packet) by = ((omega arith), by)
 by_more h e by = by
 
 later : (s t : ℕ) → s ≤ t → (ps : List Packet) → AreBy s ps → AreBy t ps
@@ -52,18 +52,18 @@ joined p (q ∷ ps) below by lower =
     (record { place = below.0; time = by.0; number = lower.0 }, joined p ps below.1 by.1 lower.1)
 
 order_more : (c : Settings) (h : List Event) (e : Event) → IsToleratedRun c (e ∷ h) → EachTwo WasSentBefore (packets h) → EachTwo WasSentBefore (packets (e ∷ h))
-order_more c h (Sent time space number size eliciting in_flight permission) run two =
-    let e = Sent time space number size eliciting in_flight permission in
+order_more c h (Sent packet) run two =
+    let e = Sent packet in
     let falls = numbers_fall c (e ∷ h) run in
     let p : Packet = record {
       place = length h;
-      time = time;
-      space = space;
-      number = number;
-      size = size;
-      eliciting = eliciting;
-      in_flight = in_flight;
-      permission = permission;
+      time = packet.time;
+      space = packet.space;
+      number = packet.number;
+      size = packet.size;
+      eliciting = packet.eliciting;
+      in_flight = packet.in_flight;
+      permission = packet.permission;
     } in
     (joined p (packets h) (placed h) (are_by c e h run) falls.0, two)
 order_more c h _ run two = two

@@ -41,7 +41,7 @@ asked_of_rest e h s front rest parts none =
     ∙ (filter-append (is_asked (e ∷ h) s) front rest ∙ ap (λ ps. ps ++ filter (is_asked (e ∷ h) s) rest) (none_left (is_asked (e ∷ h) s) front none))
 
 same_packets : (c : Settings) (e : Event) (h : List Event) (d : Space × ℕ) → detection c (e ∷ h) ≡ Some d → packets (e ∷ h) ≡ packets h
-same_packets c (Sent time space number size eliciting in_flight permission) h d at = cc
+same_packets c (Sent packet) h d at = cc
 same_packets c _ h d at = refl
 
 -- in a tolerated run, where no packet of a front is of the space, open and in flight before the event, the walk may begin behind that front

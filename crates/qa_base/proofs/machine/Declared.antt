@@ -77,8 +77,8 @@ left_refreshed c r h p (Some d) =
 
 detection_refreshed : (c : Settings) (r : Estimate) (h : List Event) → detection_by c (refreshed r) h ≡ detection_by c r h
 detection_refreshed c r [] = refl
-detection_refreshed c r (Sent time space number size eliciting in_flight permission ∷ h) = refl
-detection_refreshed c r (Ack time space ranges delay app_limited ∷ h) = refl
+detection_refreshed c r (Sent packet ∷ h) = refl
+detection_refreshed c r (Ack ack ∷ h) = refl
 detection_refreshed c r (Lost time space ranges ∷ h) = refl
 detection_refreshed c r (Timer time Loss space ∷ h) = refl
 detection_refreshed c r (Timer time Pto space ∷ h) = refl

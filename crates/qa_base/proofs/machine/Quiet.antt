@@ -6,9 +6,9 @@ use Rattle.std.proofs.lemmas.Bool.{le-ltb}
 use Rattle.std.specs.List.{filter, sum_by, count_by, AllByRecursion}
 use Rattle.std.specs.Prelude.{nat_lt, if◌then◌else◌}
 use Rattle.qa_base.specs.declared.event.Event.{Event}
+use Rattle.qa_base.specs.declared.event.SentPacket.{SentPacket}
 use Rattle.qa_base.specs.declared.event.Event.TheVariants.{Sent, Ack, Lost, Timer, Discard, Confirmed, Keys, Metrics}
 use Rattle.qa_base.specs.declared.space.Space.{Space}
-use Rattle.qa_base.specs.declared.space.Permission.{Permission}
 use Rattle.qa_base.specs.values.Events.{is_quiet}
 use Rattle.qa_base.specs.machine.Detection.{is_found, is_found_at, found_at, declared_by, is_persistent_by}
 use Rattle.qa_base.specs.machine.Estimates.{refreshed_by, rtt, sampled}
@@ -28,13 +28,13 @@ none_passes (p ∷ ps) = none_passes ps
 
 -- only an acknowledgment newly acknowledges
 pub newly-quiet : (e : Event) (h : List Event) → is_quiet e ≡ true → newly_acknowledged (e ∷ h) ≡ []
-newly-quiet (Ack time space ranges delay app_limited) h quiet = cc
+newly-quiet (Ack ack) h quiet = cc
 newly-quiet (Timer time kind space) h quiet = cc
 newly-quiet (Discard time space) h quiet = cc
 newly-quiet _ h quiet = none_passes (packets h)
 
 pub owed-quiet : (c : Settings) (e : Event) (h : List Event) → is_quiet e ≡ true → owed c (e ∷ h) ≡ []
-owed-quiet c (Ack time space ranges delay app_limited) h quiet = cc
+owed-quiet c (Ack ack) h quiet = cc
 owed-quiet c (Timer time kind space) h quiet = cc
 owed-quiet c (Discard time space) h quiet = cc
 owed-quiet c _ h quiet = refl
@@ -45,7 +45,7 @@ not_refreshed true c h r none = rw none refl
 not_refreshed false c h r none = refl
 
 pub sampled-quiet : (c : Settings) (e : Event) (h : List Event) → is_quiet e ≡ true → sampled c (e ∷ h) ≡ rtt c h
-sampled-quiet c (Ack time space ranges delay app_limited) h quiet = cc
+sampled-quiet c (Ack ack) h quiet = cc
 sampled-quiet c (Timer time kind space) h quiet = cc
 sampled-quiet c (Discard time space) h quiet = cc
 sampled-quiet c _ h quiet = refl
@@ -77,16 +77,16 @@ pub moves-quiet : (c : Settings) (e : Event) (h : List Event) → is_quiet e ≡
 moves-quiet c e h quiet none = ap (λ ms. moves c h ++ ms) (moves_of_last-quiet c e h quiet none) ∙ append-nil (moves c h)
 
 pub is_pto-quiet : (e : Event) (h : List Event) → is_quiet e ≡ true → is_pto (e ∷ h) ≡ false
-is_pto-quiet (Ack time space ranges delay app_limited) h quiet = cc
+is_pto-quiet (Ack ack) h quiet = cc
 is_pto-quiet (Timer time kind space) h quiet = cc
 is_pto-quiet (Discard time space) h quiet = cc
 is_pto-quiet _ h quiet = refl
 
 pub resets_count-quiet : (c : Settings) (e : Event) (h : List Event) → is_quiet e ≡ true → resets_count c (e ∷ h) ≡ false
-resets_count-quiet c (Ack time space ranges delay app_limited) h quiet = cc
+resets_count-quiet c (Ack ack) h quiet = cc
 resets_count-quiet c (Timer time kind space) h quiet = cc
 resets_count-quiet c (Discard time space) h quiet = cc
-resets_count-quiet c (Sent time space number size eliciting in_flight permission) h quiet = rw none_passes refl
+resets_count-quiet c (Sent packet) h quiet = rw none_passes refl
 resets_count-quiet c (Lost time space ranges) h quiet = rw none_passes refl
 resets_count-quiet c (Confirmed time) h quiet = rw none_passes refl
 resets_count-quiet c (Keys time) h quiet = rw none_passes refl
@@ -159,37 +159,37 @@ still_open : (c : Settings) (h : List Event) (e : Event) (ps : List Packet) → 
 still_open c h e [] free same = tt
 still_open c h e (p ∷ ps) free same = (same p free.0, still_open c h e ps free.1 same)
 
-sent_leaves : (c : Settings) (h : List Event) (time : ℕ) (space : Space) (number size : ℕ) (eliciting in_flight : Bool) (permission : Permission) (p : Packet)
-    → is_owed c h p ≡ false → flight_size c (Sent time space number size eliciting in_flight permission ∷ h) p ≡ flight_size c h p
-sent_leaves c h time space number size eliciting in_flight permission p free = rw free refl
+sent_leaves : (c : Settings) (h : List Event) (packet : SentPacket) (p : Packet)
+    → is_owed c h p ≡ false → flight_size c (Sent packet ∷ h) p ≡ flight_size c h p
+sent_leaves c h packet p free = rw free refl
 
 -- the packet that was just sent is open, unless its space was discarded
-just_sent : (c : Settings) (h : List Event) (time : ℕ) (space : Space) (number size : ℕ) (eliciting in_flight : Bool) (permission : Permission) (p : Packet)
-    → p.place ≡ length h → p.space ≡ space → p.size ≡ size → p.in_flight ≡ in_flight
-    → flight_size c (Sent time space number size eliciting in_flight permission ∷ h) p ≡ (if in_flight && not (is_discarded h space) then size else 0)
-just_sent c h time space number size eliciting in_flight permission p place in_space of_size flies =
+just_sent : (c : Settings) (h : List Event) (packet : SentPacket) (p : Packet)
+    → p.place ≡ length h → p.space ≡ packet.space → p.size ≡ packet.size → p.in_flight ≡ packet.in_flight
+    → flight_size c (Sent packet ∷ h) p ≡ (if packet.in_flight && not (is_discarded h packet.space) then packet.size else 0)
+just_sent c h packet p place in_space of_size flies =
     let not_covered : is_acknowledged h p ≡ false = not_followed _ h p (omega (arith, place)) in
     let not_lost : is_declared_lost h p ≡ false = not_followed _ h p (omega (arith, place)) in
     rw (not_covered, not_lost, flies)
-    (ap (λ s. if in_flight && not (is_discarded h s) then p.size else 0) in_space
-    ∙ ap (λ n. if in_flight && not (is_discarded h space) then n else 0) of_size)
+    (ap (λ s. if packet.in_flight && not (is_discarded h s) then p.size else 0) in_space
+    ∙ ap (λ n. if packet.in_flight && not (is_discarded h packet.space) then n else 0) of_size)
 
 -- a packet that is sent while nothing is owed adds its size to the bytes in flight, or nothing
-pub bytes_in_flight-sent : (c : Settings) (h : List Event) (time : ℕ) (space : Space) (number size : ℕ) (eliciting in_flight : Bool) (permission : Permission) → owed c h ≡ []
-    → bytes_in_flight c (Sent time space number size eliciting in_flight permission ∷ h) ≡ bytes_in_flight c h + (if in_flight && not (is_discarded h space) then size else 0)
-bytes_in_flight-sent c h time space number size eliciting in_flight permission none =
-    let e = Sent time space number size eliciting in_flight permission in
+pub bytes_in_flight-sent : (c : Settings) (h : List Event) (packet : SentPacket) → owed c h ≡ []
+    → bytes_in_flight c (Sent packet ∷ h) ≡ bytes_in_flight c h + (if packet.in_flight && not (is_discarded h packet.space) then packet.size else 0)
+bytes_in_flight-sent c h packet none =
+    let e = Sent packet in
     let p : Packet = record {
       place = length h;
-      time = time;
-      space = space;
-      number = number;
-      size = size;
-      eliciting = eliciting;
-      in_flight = in_flight;
-      permission = permission;
+      time = packet.time;
+      space = packet.space;
+      number = packet.number;
+      size = packet.size;
+      eliciting = packet.eliciting;
+      in_flight = packet.in_flight;
+      permission = packet.permission;
     } in
     let all = sum_by-cons (flight_size c (e ∷ h)) p (packets h) in
-    let rest = same_sum (flight_size c (e ∷ h)) (flight_size c h) (packets h) (still_open c h e (packets h) (not_owed c h none) (sent_leaves c h time space number size eliciting in_flight permission)) in
-    let new = just_sent c h time space number size eliciting in_flight permission p refl refl refl refl in
-    all ∙ (ap (λ n. n + sum_by (flight_size c (e ∷ h)) (packets h)) new ∙ (ap (λ n. (if in_flight && not (is_discarded h space) then size else 0) + n) rest ∙ add_comm _ _))
+    let rest = same_sum (flight_size c (e ∷ h)) (flight_size c h) (packets h) (still_open c h e (packets h) (not_owed c h none) (sent_leaves c h packet)) in
+    let new = just_sent c h packet p refl refl refl refl in
+    all ∙ (ap (λ n. n + sum_by (flight_size c (e ∷ h)) (packets h)) new ∙ (ap (λ n. (if packet.in_flight && not (is_discarded h packet.space) then packet.size else 0) + n) rest ∙ add_comm _ _))

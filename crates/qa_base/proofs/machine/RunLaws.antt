@@ -170,17 +170,17 @@ all_lower p (q ∷ ps) none =
     let more = lower_more p q (filter (is_of p.space) ps) (is_of p.space q) refl none in (more.0, all_lower p ps more.1)
 
 event_falls : (c : Settings) (e : Event) (h : List Event) → first_untolerated c h e ≡ None → NumbersFall (packets h) → NumbersFall (packets (e ∷ h))
-event_falls c (Sent time space number size eliciting in_flight permission) h allowed falls =
-    let holds = form_holds c h (Sent time space number size eliciting in_flight permission) allowed in
+event_falls c (Sent packet) h allowed falls =
+    let holds = form_holds c h (Sent packet) allowed in
     let p : Packet = record {
       place = length h;
-      time = time;
-      space = space;
-      number = number;
-      size = size;
-      eliciting = eliciting;
-      in_flight = in_flight;
-      permission = permission;
+      time = packet.time;
+      space = packet.space;
+      number = packet.number;
+      size = packet.size;
+      eliciting = packet.eliciting;
+      in_flight = packet.in_flight;
+      permission = packet.permission;
     } in
     (all_lower p (packets h) holds.number_not_higher, falls)
 event_falls c _ h allowed falls = falls

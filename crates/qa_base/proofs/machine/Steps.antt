@@ -4,9 +4,9 @@ use Rattle.std.proofs.lemmas.List.Sums.{sum_by-cons, fold-append}
 use Rattle.std.specs.List.{list_any}
 use Rattle.std.specs.Prelude.{if◌then◌else◌}
 use Rattle.qa_base.specs.declared.event.Event.{Event}
+use Rattle.qa_base.specs.declared.event.SentPacket.{SentPacket}
 use Rattle.qa_base.specs.declared.event.Event.TheVariants.{Sent, Ack, Lost, Timer, Discard, Confirmed, Keys, Metrics}
 use Rattle.qa_base.specs.declared.space.TimerKind.TheVariants.{Loss, Pto}
-use Rattle.qa_base.specs.declared.space.Permission.{Permission}
 use Rattle.qa_base.specs.declared.space.Space.{Space}
 use Rattle.qa_base.specs.values.Events.{time_of, is_space}
 use Rattle.qa_base.specs.machine.Permission.{probe_size, probe_spent, is_recovery_packet, recovery_spent, answers_pto, timer_space, last_pto_space, is_unanswered, is_probe_due}
@@ -68,18 +68,18 @@ eliciting_if true false p ps is = rw is refl
 eliciting_if false eliciting p ps is = refl
 
 -- the sending time of the last ack-eliciting packet of a space
-pub last_eliciting_sent : (h : List Event) (s : Space) (time : ℕ) (space : Space) (number size : ℕ) (eliciting in_flight : Bool) (permission : Permission)
-    → last_eliciting (Sent time space number size eliciting in_flight permission ∷ h) s ≡ (if is_space s space && eliciting then Some time else last_eliciting h s)
-last_eliciting_sent h s time space number size eliciting in_flight permission =
-    eliciting_if (is_space s space) eliciting (record {
+pub last_eliciting_sent : (h : List Event) (s : Space) (packet : SentPacket)
+    → last_eliciting (Sent packet ∷ h) s ≡ (if is_space s packet.space && packet.eliciting then Some packet.time else last_eliciting h s)
+last_eliciting_sent h s packet =
+    eliciting_if (is_space s packet.space) packet.eliciting (record {
       place = length h;
-      time = time;
-      space = space;
-      number = number;
-      size = size;
-      eliciting = eliciting;
-      in_flight = in_flight;
-      permission = permission;
+      time = packet.time;
+      space = packet.space;
+      number = packet.number;
+      size = packet.size;
+      eliciting = packet.eliciting;
+      in_flight = packet.in_flight;
+      permission = packet.permission;
     }) (packets_of h s) refl
 
 -- ---- the probe that is due
@@ -101,8 +101,8 @@ due_if e h (Some s) is =
 pub probe_due_after : (e : Event) (h : List Event) → probe_due (e ∷ h) ≡ (if is_pto (e ∷ h) then timer_space (e ∷ h) else unanswered_by (e ∷ h) (probe_due h))
 probe_due_after (Timer time Pto space) h = refl
 probe_due_after (Timer time Loss space) h = due_if (Timer time Loss space) h (last_pto_space h) refl
-probe_due_after (Sent time space number size eliciting in_flight permission) h = due_if (Sent time space number size eliciting in_flight permission) h (last_pto_space h) refl
-probe_due_after (Ack time space ranges delay app_limited) h = due_if (Ack time space ranges delay app_limited) h (last_pto_space h) refl
+probe_due_after (Sent packet) h = due_if (Sent packet) h (last_pto_space h) refl
+probe_due_after (Ack ack) h = due_if (Ack ack) h (last_pto_space h) refl
 probe_due_after (Lost time space ranges) h = due_if (Lost time space ranges) h (last_pto_space h) refl
 probe_due_after (Discard time space) h = due_if (Discard time space) h (last_pto_space h) refl
 probe_due_after (Confirmed time) h = due_if (Confirmed time) h (last_pto_space h) refl

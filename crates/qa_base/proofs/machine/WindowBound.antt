@@ -204,7 +204,7 @@ behind_more n [] all = tt
 behind_more n (p ∷ ps) all = (omega (arith, all.0), behind_more n ps all.1)
 
 placed_one : (e : Event) (n : ℕ) → AllByRecursion (λ (p : Packet). p.place < suc n) (packet_of n e)
-placed_one (Sent time space number size eliciting in_flight permission) n = ((omega arith), tt)
+placed_one (Sent packet) n = ((omega arith), tt)
 placed_one _ n = tt
 
 pub placed : (h : List Event) → AllByRecursion (λ (p : Packet). p.place < length h) (packets h)
@@ -218,10 +218,10 @@ behind_tests n (p ∷ ps) all = ((grind (arith, all.0)), behind_tests n ps all.1
 -- ---- the window of a history
 
 sized_one : (e : Event) (n : ℕ) → Fits e → AllByRecursion IsSized (packet_of n e)
-sized_one (Sent time space number size eliciting in_flight permission) n fit =
-    let parts = and_parts (nat_le 1 size && nat_le size 65527) (not eliciting || in_flight) fit in
-    let both = and_parts (nat_le 1 size) (nat_le size 65527) parts.0 in
-    ((leb-true size 65527 both.1), tt)
+sized_one (Sent packet) n fit =
+    let parts = and_parts (nat_le 1 packet.size && nat_le packet.size 65527) (not packet.eliciting || packet.in_flight) fit in
+    let both = and_parts (nat_le 1 packet.size) (nat_le packet.size 65527) parts.0 in
+    ((leb-true packet.size 65527 both.1), tt)
 sized_one _ n fit = tt
 
 pub sized : (h : List Event) → AllByRecursion Fits h → AllByRecursion IsSized (packets h)
@@ -259,7 +259,7 @@ window_high c h range fit = (between c h range fit).high
 
 pub packets_few : (h : List Event) → length (packets h) ≤ length h
 packets_few [] = omega arith
-packets_few (Sent time space number size eliciting in_flight permission ∷ h) = omega (arith, packets_few h)
+packets_few (Sent packet ∷ h) = omega (arith, packets_few h)
 packets_few (_ ∷ h) = omega (arith, packets_few h)
 
 -- no more are acknowledged than there are events

@@ -11,7 +11,7 @@ use Rattle.qa_base.specs.declared.space.TimerKind.TheVariants.{Pto}
 use Rattle.qa_base.specs.declared.space.Permission.TheVariants.{Window, Probe, Recovery}
 use Rattle.qa_base.specs.declared.space.Space.{Space}
 use Rattle.qa_base.specs.declared.space.Space.TheVariants.{Handshake}
-use Rattle.qa_base.specs.values.Events.{time_of, is_space}
+use Rattle.qa_base.specs.values.Events.{time_of, is_space, is_in_flight_by}
 use Rattle.qa_base.specs.machine.Handshake.{is_confirmed}
 use Rattle.qa_base.specs.machine.Permission.{probe_spent, recovery_spent, is_probe_due}
 use Rattle.qa_base.specs.machine.Loss.{owed, nameable, bytes_in_flight}
@@ -53,8 +53,8 @@ is_other_loss_set c h _ = false
 -- ---- a space
 
 abbrev pub space_of : Event → Option Space
-space_of (Sent time space number size eliciting in_flight permission) = Some space
-space_of (Ack time space ranges delay app_limited) = Some space
+space_of (Sent packet) = Some packet.space
+space_of (Ack ack) = Some ack.space
 space_of (Discard time space) = Some space
 space_of _ = None
 
@@ -74,8 +74,7 @@ has_at_or_above space number h = list_any (λ p. nat_le number p.number) (packet
 
 -- V6: a packet was sent in its space with its number or a higher one (RFC 9002, section 4.2)
 abbrev pub is_number_not_higher : List Event → Event → Bool
-is_number_not_higher h (Sent time space number size eliciting in_flight permission) =
-    has_at_or_above space number h
+is_number_not_higher h (Sent packet) = has_at_or_above packet.space packet.number h
 is_number_not_higher h _ = false
 
 -- so many bytes more are past the window; where the sender may overshoot it, where the bytes fill
@@ -86,8 +85,9 @@ is_past false window bytes size = nat_lt window (bytes + size)
 
 -- V7: it takes the bytes in flight past the congestion window (RFC 9002, section 7)
 abbrev pub is_past_window : Settings → List Event → Event → Bool
-is_past_window c h (Sent time space number size eliciting in_flight Window) =
-    in_flight && is_past c.options.window_overshoot (window c h) (bytes_in_flight c h) size
+is_past_window c h (Sent packet) =
+    is_in_flight_by Window packet
+    && is_past c.options.window_overshoot (window c h) (bytes_in_flight c h) packet.size
 is_past_window c h _ = false
 
 -- more than an allowance with what was spent of it, or there is none
@@ -98,23 +98,23 @@ is_over allowance more (Some spent) = nat_lt allowance (spent + more)
 -- V8: a probe before any probe timeout, or past the datagrams that one allows (RFC 9002, section
 -- 6.2.4)
 abbrev pub is_past_probe : Settings → List Event → Event → Bool
-is_past_probe c h (Sent time space number size eliciting in_flight Probe) =
-    in_flight && is_over (probe_datagrams * c.max_datagram_size) size (probe_spent h)
+is_past_probe c h (Sent packet) =
+    is_in_flight_by Probe packet
+    && is_over (probe_datagrams * c.max_datagram_size) packet.size (probe_spent h)
 is_past_probe c h _ = false
 
 -- V9: the packet of an entry into recovery, which was not or had its packet (RFC 9002, section
 -- 7.3.2)
 abbrev pub is_past_recovery : Settings → List Event → Event → Bool
-is_past_recovery c h (Sent time space number size eliciting in_flight Recovery) =
-    in_flight && is_over 1 1 (recovery_spent c h)
+is_past_recovery c h (Sent packet) =
+    is_in_flight_by Recovery packet && is_over 1 1 (recovery_spent c h)
 is_past_recovery c h _ = false
 
 -- ---- an acknowledgment
 
 -- V10: it covers a number that was never sent in its space
 abbrev pub is_ack_unsent : List Event → Event → Bool
-is_ack_unsent h (Ack time space ranges delay app_limited) =
-    not (has_all (numbers (packets_of h space)) ranges)
+is_ack_unsent h (Ack ack) = not (has_all (numbers (packets_of h ack.space)) ack.ranges)
 is_ack_unsent h _ = false
 
 -- ---- the timer

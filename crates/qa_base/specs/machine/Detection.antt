@@ -81,9 +81,8 @@ old_at c r h s = option_map (λ sent. sent + loss_delay (granularity c) r) (firs
 -- where, and as of when, the last event looks for losses: an acknowledgment of something new, and a
 -- loss timer
 abbrev pub detection_by : Settings → Estimate → List Event → Option (Space × ℕ)
-detection_by c r (Ack time space ranges delay app_limited ∷ before) =
-    if acknowledges_new (Ack time space ranges delay app_limited ∷ before) then Some
-    (space, time) else None
+detection_by c r (Ack ack ∷ before) =
+    if acknowledges_new (Ack ack ∷ before) then Some (ack.space, ack.time) else None
 detection_by c r (Timer time Loss space ∷ before) =
     Some (space, looks_at (early c) time (old_at c r before space))
 detection_by c r _ = None

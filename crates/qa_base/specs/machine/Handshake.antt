@@ -20,7 +20,7 @@ abbrev pub is_confirmed : List Event → Bool
 is_confirmed h = list_any confirms h
 
 abbrev pub acknowledges_handshake : Event → Bool
-acknowledges_handshake (Ack time space ranges delay app_limited) = is_space Handshake space
+acknowledges_handshake (Ack ack) = is_space Handshake ack.space
 acknowledges_handshake _ = false
 
 abbrev pub is_server : Role → Bool
@@ -35,7 +35,7 @@ is_validated c h = is_server c.role || list_any acknowledges_handshake h || is_c
 
 abbrev pub shows_keys : Event → Bool
 shows_keys (Keys time) = true
-shows_keys (Sent time space number size eliciting in_flight permission) = is_space Handshake space
+shows_keys (Sent packet) = is_space Handshake packet.space
 shows_keys (Discard time space) = is_space Initial space
 shows_keys _ = false
 

@@ -32,15 +32,15 @@ pub record Packet : Type 0 where
 
 -- the packet that an event sent, which stands after so many others
 abbrev pub packet_of : ℕ → Event → List Packet
-packet_of place (Sent time space number size eliciting in_flight permission) = record {
+packet_of place (Sent packet) = record {
   place = place;
-  time = time;
-  space = space;
-  number = number;
-  size = size;
-  eliciting = eliciting;
-  in_flight = in_flight;
-  permission = permission;
+  time = packet.time;
+  space = packet.space;
+  number = packet.number;
+  size = packet.size;
+  eliciting = packet.eliciting;
+  in_flight = packet.in_flight;
+  permission = packet.permission;
 } ∷ []
 packet_of place _ = []
 
@@ -104,8 +104,7 @@ greatest (range ∷ ranges) = max range.1 (greatest ranges)
 
 -- the greatest number that the event acknowledges in the space
 abbrev pub greatest_in : Space → Event → List ℕ
-greatest_in s (Ack time space ranges delay app_limited) =
-    if is_space s space then greatest ranges ∷ [] else []
+greatest_in s (Ack ack) = if is_space s ack.space then greatest ack.ranges ∷ [] else []
 greatest_in s _ = []
 
 -- the greatest of some numbers

@@ -8,7 +8,7 @@ use Rattle.qa_base.specs.declared.event.Event.{Event}
 use Rattle.qa_base.specs.declared.event.Event.TheVariants.{Sent, Timer, Discard}
 use Rattle.qa_base.specs.declared.space.Permission.TheVariants.{Probe, Recovery}
 use Rattle.qa_base.specs.declared.space.Space.{Space}
-use Rattle.qa_base.specs.values.Events.{is_space}
+use Rattle.qa_base.specs.values.Events.{is_space, is_in_flight_by}
 use Rattle.qa_base.specs.machine.Moments.{moments, since}
 use Rattle.qa_base.specs.machine.Packets.{acknowledges_new}
 use Rattle.qa_base.specs.machine.Reno.{is_entry}
@@ -19,8 +19,7 @@ use Rattle.qa_base.specs.machine.Timer.{is_pto}
 
 -- the size of the in-flight packet marked as a probe that the last event sent
 abbrev pub probe_size : List Event → ℕ
-probe_size (Sent time space number size eliciting in_flight Probe ∷ before) =
-    if in_flight then size else 0
+probe_size (Sent packet ∷ before) = if is_in_flight_by Probe packet then packet.size else 0
 probe_size _ = 0
 
 -- the bytes of probes since the last probe timeout; none without one
@@ -30,8 +29,7 @@ probe_spent h =
 
 -- the last event sends an ack-eliciting packet of the space
 abbrev pub is_probe_of : Space → List Event → Bool
-is_probe_of s (Sent time space number size eliciting in_flight permission ∷ before) =
-    eliciting && is_space s space
+is_probe_of s (Sent packet ∷ before) = packet.eliciting && is_space s packet.space
 is_probe_of s _ = false
 
 -- the last event makes a probe of the space needless: that packet, an acknowledgment of something
@@ -60,7 +58,7 @@ is_probe_due h = is_unanswered h (last_pto_space h)
 
 -- the last event sends an in-flight packet marked for recovery
 abbrev pub is_recovery_packet : List Event → Bool
-is_recovery_packet (Sent time space number size eliciting in_flight Recovery ∷ before) = in_flight
+is_recovery_packet (Sent packet ∷ before) = is_in_flight_by Recovery packet
 is_recovery_packet _ = false
 
 -- how many such packets there were since the last entry; none without one

@@ -99,7 +99,7 @@ grows new = map (λ p. Grow p.size p.time) (reverse (filter (λ p. p.in_flight) 
 
 -- the sender did not use the window that it had (section 7.8)
 abbrev pub is_app_limited : Event → Bool
-is_app_limited (Ack time space ranges delay app_limited) = app_limited
+is_app_limited (Ack ack) = ack.app_limited
 is_app_limited _ = false
 
 -- the moves of the last event: losses first, at the time of their detection, then growth (A.7)

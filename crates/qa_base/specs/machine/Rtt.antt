@@ -38,11 +38,11 @@ gives_sample only largest p = p.eliciting && (not only || p.number == largest)
 -- the sample of the last event: it acknowledges, and newly both the packet with its largest number
 -- and an ack-eliciting one, which is the same where the sender samples no others
 abbrev pub sample_of : Settings → List Event → Option Sample
-sample_of c (Ack time space ranges delay app_limited ∷ before) =
-    let new = newly_acknowledged (Ack time space ranges delay app_limited ∷ before) in
-    if list_any (gives_sample c.options.sample_eliciting_only (greatest ranges)) new
-    then sample_by time (limited_delay c before delay) (find (λ p. p.number == greatest ranges) new)
-    else None
+sample_of c (Ack ack ∷ before) =
+    let new = newly_acknowledged (Ack ack ∷ before) in
+    if list_any (gives_sample c.options.sample_eliciting_only (greatest ack.ranges)) new
+    then sample_by ack.time (limited_delay c before ack.delay)
+    (find (λ p. p.number == greatest ack.ranges) new) else None
 sample_of c _ = None
 
 -- ---- the estimate (RFC 9002, sections 5.2 and 5.3, A.7)

@@ -105,7 +105,7 @@ earliest_pto c h =
 
 -- the last event sets the timer
 abbrev pub sets_timer : List Event → Bool
-sets_timer (Sent time space number size eliciting in_flight permission ∷ before) = in_flight
+sets_timer (Sent packet ∷ before) = packet.in_flight
 sets_timer (Timer time kind space ∷ before) = true
 sets_timer (Discard time space ∷ before) = true
 sets_timer h = acknowledges_new h

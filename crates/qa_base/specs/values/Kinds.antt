@@ -6,8 +6,8 @@ use Rattle.qa_base.specs.declared.line_kind.LineKind.{LineKind}
 use Rattle.qa_base.specs.declared.line_kind.LineKind.TheVariants as kinds
 
 abbrev pub event_kind : Event → LineKind
-event_kind (Sent time space number size eliciting in_flight permission) = kinds.Sent
-event_kind (Ack time space ranges delay app_limited) = kinds.Ack
+event_kind (Sent packet) = kinds.Sent
+event_kind (Ack ack) = kinds.Ack
 event_kind (Lost time space ranges) = kinds.Lost
 event_kind (Timer time kind space) = kinds.Timer
 event_kind (Discard time space) = kinds.Discard

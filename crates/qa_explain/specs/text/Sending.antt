@@ -8,13 +8,13 @@ use Rattle.qa_explain.specs.text.Pieces.{named, numbered}
 
 -- the bytes of the packet that the event sends
 abbrev pub size_of : Event → ℕ
-size_of (Sent time space number size eliciting in_flight permission) = size
+size_of (Sent packet) = packet.size
 size_of _ = 0
 
 -- the space of a packet or an acknowledgment
 abbrev pub space_of : Event → List ℕ
-space_of (Sent time space number size eliciting in_flight permission) = space_name space
-space_of (Ack time space ranges delay app_limited) = space_name space
+space_of (Sent packet) = space_name packet.space
+space_of (Ack ack) = space_name ack.space
 space_of _ = []
 
 -- V6

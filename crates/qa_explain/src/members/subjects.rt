@@ -3,7 +3,7 @@ ghost use Rattle.std.specs.Prelude.{◌≡◌, ◌++◌, OnOk};
 ghost use Rattle.qa_explain.specs.members.Subjects as text;
 
 use crate::members::object::Object;
-use qa_base::{Event, LineKind, PacketNumber, Space, TimeUnit};
+use qa_base::{Ack, Event, LineKind, SentPacket, TimeUnit};
 use std::alloc::AllocError;
 
 /// The kind of an event, and its time.
@@ -21,17 +21,12 @@ fn push_moment(
 }
 
 #[tactic(auto, unfolding(crate::specs::members::Subjects::packet))]
-fn push_packet(
-    out: &mut Object,
-    space: Space,
-    number: PacketNumber,
-    size: u64,
-) -> Result<(), AllocError>
-    ensures { OnOk result (out.new ≡ out.old ++ text.packet space number size) }
+fn push_packet(out: &mut Object, packet: &SentPacket) -> Result<(), AllocError>
+    ensures { OnOk result (out.new ≡ out.old ++ text.packet packet.now) }
 {
-    out.string("space", space.name())?;
-    out.number("number", u128::from(number.get()))?;
-    out.amount("size", "bytes", u128::from(size))
+    out.string("space", packet.space.name())?;
+    out.number("number", u128::from(packet.number.get()))?;
+    out.amount("size", "bytes", u128::from(packet.size))
 }
 
 /// What the event says beside its kind and its time.
@@ -40,15 +35,10 @@ fn push_object(out: &mut Object, event: &Event) -> Result<(), AllocError>
     ensures { OnOk result (out.new ≡ out.old ++ text.object_of event.now) }
 {
     match event {
-        Event::Sent {
-            space,
-            number,
-            size,
-            ..
-        } => push_packet(out, *space, *number, *size),
-        Event::Ack { space, .. } | Event::Lost { space, .. } | Event::Discard { space, .. } => {
-            out.string("space", space.name())
-        }
+        Event::Sent(packet) => push_packet(out, packet),
+        Event::Ack(Ack { space, .. })
+        | Event::Lost { space, .. }
+        | Event::Discard { space, .. } => out.string("space", space.name()),
         Event::Timer { kind, space, .. } => {
             out.string("kind", kind.name())?;
             out.string("space", space.name())

@@ -11,7 +11,7 @@ pub fn size_of(event: &Event) -> u64
     ensures { result ≡ text.size_of event.now }
 {
     match event {
-        Event::Sent { size, .. } => *size,
+        Event::Sent(packet) => packet.size,
         _ => 0,
     }
 }
@@ -21,7 +21,8 @@ fn space_of(event: &Event) -> &'static str
     ensures { result.now ≡ text.space_of event.now }
 {
     match event {
-        Event::Sent { space, .. } | Event::Ack { space, .. } => space.name(),
+        Event::Sent(packet) => packet.space.name(),
+        Event::Ack(ack) => ack.space.name(),
         _ => "",
     }
 }

@@ -13,11 +13,11 @@ pub fn push_subject(out: &mut String, event: &Event) -> Result<(), AllocError>
         ≡ string_bytes out.old ++ text.subject event.now) }
 {
     match event {
-        Event::Sent { space, number, .. } => {
-            push_number(out, "packet ", number.get())?;
-            push_name(out, " of ", space.name())
+        Event::Sent(packet) => {
+            push_number(out, "packet ", packet.number.get())?;
+            push_name(out, " of ", packet.space.name())
         }
-        Event::Ack { space, .. } => push_name(out, "the acknowledgment of ", space.name()),
+        Event::Ack(ack) => push_name(out, "the acknowledgment of ", ack.space.name()),
         Event::Lost { space, .. } => push_name(out, "the lost line of ", space.name()),
         Event::Timer { kind, space, .. } => {
             push_name(out, "the ", kind.name())?;

@@ -6,6 +6,8 @@ use Rattle.serde_json.specs.Data as json
 use Rattle.serde_json.specs.Data.{Data, object, Members}
 use Rattle.serde_json.specs.Find.{get, get_member, as_null}
 use Rattle.qa_base.specs.declared.event.Event.{Event}
+use Rattle.qa_base.specs.declared.event.SentPacket.{SentPacket}
+use Rattle.qa_base.specs.declared.event.Ack.{Ack as Acknowledgment}
 use Rattle.qa_base.specs.declared.event.Event.TheVariants.{Sent, Ack, Lost, Timer, Discard, Confirmed, Keys, Metrics}
 use Rattle.qa_base.specs.declared.event.MetricValues.{MetricValues}
 use Rattle.qa_format.specs.declared.fault.Fault.{Fault}
@@ -214,57 +216,57 @@ flags_pass true true e h = refl
 flags_pass true false e h = cc
 flags_pass false in_flight e h = refl
 
-pub sent_found : (ms : Members) (t : ℕ) (s : Space) (number size : ℕ) (eliciting in_flight : Bool) (permission : Option Permission)
+pub sent_found : (ms : Members) (packet : SentPacket) (permission : Option Permission)
     → get_member (codes "event") ms ≡ Some (written.string (codes "sent"))
-    → get_member (codes "time") ms ≡ Some (written.integer t)
-    → get_member (codes "space") ms ≡ Some (written.string (space_name s))
-    → get_member (codes "number") ms ≡ Some (written.integer number)
-    → get_member (codes "size") ms ≡ Some (written.integer size)
-    → get_member (codes "eliciting") ms ≡ Some (written.boolean eliciting)
-    → get_member (codes "in_flight") ms ≡ Some (written.boolean in_flight)
+    → get_member (codes "time") ms ≡ Some (written.integer packet.time)
+    → get_member (codes "space") ms ≡ Some (written.string (space_name packet.space))
+    → get_member (codes "number") ms ≡ Some (written.integer packet.number)
+    → get_member (codes "size") ms ≡ Some (written.integer packet.size)
+    → get_member (codes "eliciting") ms ≡ Some (written.boolean packet.eliciting)
+    → get_member (codes "in_flight") ms ≡ Some (written.boolean packet.in_flight)
     → get_member (codes "leave") ms ≡ option_map (λ l. written.string (permission_name l)) permission
-    → IsProperEvent (Sent t s number size eliciting in_flight (unwrap_or permission leaves.Window))
-    → object_says reader_named (object ms) ≡ Ok (line.Event (Sent t s number size eliciting in_flight (unwrap_or permission leaves.Window)))
+    → IsProperEvent (Sent (record packet { permission = unwrap_or permission leaves.Window }))
+    → object_says reader_named (object ms) ≡ Ok (line.Event (Sent (record packet { permission = unwrap_or permission leaves.Window })))
 unfolding object_says sent_of
-sent_found ms t s number size eliciting in_flight permission named at_time at_space at_number at_size at_eliciting at_in_flight at_permission proper =
+sent_found ms packet permission named at_time at_space at_number at_size at_eliciting at_in_flight at_permission proper =
     let d = object ms in
-    let e = Sent t s number size eliciting in_flight (unwrap_or permission leaves.Window) in
-    let parts = and_parts (nat_le 1 size && nat_le size max_packet_size) (not eliciting || in_flight) proper.fitting in
-    let bounds = and_parts (nat_le 1 size) (nat_le size max_packet_size) parts.0 in
+    let e = Sent (record packet { permission = unwrap_or permission leaves.Window }) in
+    let parts = and_parts (nat_le 1 packet.size && nat_le packet.size max_packet_size) (not packet.eliciting || packet.in_flight) proper.fitting in
+    let bounds = and_parts (nat_le 1 packet.size) (nat_le packet.size max_packet_size) parts.0 in
     let leaves_read = optional_found (string_among permission_named) leaves.Window key.Leave d (λ l. written.string (permission_name l)) permission at_permission (λ l. refl) (permission_reads key.Leave) in
-    let flags_read = both_reads _ _ eliciting _ (required_reads boolean key.Eliciting d (written.boolean eliciting) eliciting at_eliciting refl refl)
-    (both_reads _ _ in_flight (unwrap_or permission leaves.Window) (required_reads boolean key.InFlight d (written.boolean in_flight) in_flight at_in_flight refl refl) leaves_read) in
-    let size_read = required_reads (integer_from 1 max_packet_size) key.Size d (written.integer size) size at_size refl
-    (integer_from_reads 1 max_packet_size key.Size size (leb-true 1 size bounds.0) (leb-true size max_packet_size bounds.1)) in
-    let number_read = required_reads (integer_from 0 max_packet_number) key.Number d (written.integer number) number at_number refl
-    (integer_from_reads 0 max_packet_number key.Number number (omega arith) proper.numbers) in
-    let fields = both_reads _ _ t _ (time_reads d t at_time proper.in_time)
-    (both_reads _ _ s _ (space_stands d s at_space)
-    (both_reads _ _ number _ number_read
-    (both_reads _ _ size _ size_read flags_read))) in
-    let says : sent_of d ≡ Ok e = then_reads (sent_fields d) _ (t, (s, (number, (size, (eliciting, (in_flight, unwrap_or permission leaves.Window)))))) _ fields
-    (flags_pass eliciting in_flight e parts.1) in
+    let flags_read = both_reads _ _ packet.eliciting _ (required_reads boolean key.Eliciting d (written.boolean packet.eliciting) packet.eliciting at_eliciting refl refl)
+    (both_reads _ _ packet.in_flight (unwrap_or permission leaves.Window) (required_reads boolean key.InFlight d (written.boolean packet.in_flight) packet.in_flight at_in_flight refl refl) leaves_read) in
+    let size_read = required_reads (integer_from 1 max_packet_size) key.Size d (written.integer packet.size) packet.size at_size refl
+    (integer_from_reads 1 max_packet_size key.Size packet.size (leb-true 1 packet.size bounds.0) (leb-true packet.size max_packet_size bounds.1)) in
+    let number_read = required_reads (integer_from 0 max_packet_number) key.Number d (written.integer packet.number) packet.number at_number refl
+    (integer_from_reads 0 max_packet_number key.Number packet.number (omega arith) proper.numbers) in
+    let fields = both_reads _ _ packet.time _ (time_reads d packet.time at_time proper.in_time)
+    (both_reads _ _ packet.space _ (space_stands d packet.space at_space)
+    (both_reads _ _ packet.number _ number_read
+    (both_reads _ _ packet.size _ size_read flags_read))) in
+    let says : sent_of d ≡ Ok e = then_reads (sent_fields d) _ (packet.time, (packet.space, (packet.number, (packet.size, (packet.eliciting, (packet.in_flight, unwrap_or permission leaves.Window)))))) _ fields
+    (flags_pass packet.eliciting packet.in_flight e parts.1) in
     then_reads (required string key.Event d) _ (codes "sent") (line.Event e) (named_found d (codes "sent") named) (event_of e _ says)
 
-pub ack_found : (ms : Members) (t : ℕ) (s : Space) (rs : List (ℕ × ℕ)) (delay : Option ℕ) (app_limited : Option Bool)
+pub ack_found : (ms : Members) (ack : Acknowledgment) (delay : Option ℕ) (app_limited : Option Bool)
     → get_member (codes "event") ms ≡ Some (written.string (codes "ack"))
-    → get_member (codes "time") ms ≡ Some (written.integer t)
-    → get_member (codes "space") ms ≡ Some (written.string (space_name s))
-    → get_member (codes "ranges") ms ≡ Some (json.array (written.integer_pairs rs))
+    → get_member (codes "time") ms ≡ Some (written.integer ack.time)
+    → get_member (codes "space") ms ≡ Some (written.string (space_name ack.space))
+    → get_member (codes "ranges") ms ≡ Some (json.array (written.integer_pairs ack.ranges))
     → get_member (codes "delay") ms ≡ option_map written.integer delay
     → get_member (codes "limited") ms ≡ option_map written.boolean app_limited
-    → IsProperEvent (Ack t s rs (unwrap_or delay 0) (unwrap_or app_limited false))
-    → object_says reader_named (object ms) ≡ Ok (line.Event (Ack t s rs (unwrap_or delay 0) (unwrap_or app_limited false)))
+    → IsProperEvent (Ack (record ack { delay = unwrap_or delay 0; app_limited = unwrap_or app_limited false }))
+    → object_says reader_named (object ms) ≡ Ok (line.Event (Ack (record ack { delay = unwrap_or delay 0; app_limited = unwrap_or app_limited false })))
 unfolding object_says ack_of
-ack_found ms t s rs delay app_limited named at_time at_space at_ranges at_delay at_limited proper =
+ack_found ms ack delay app_limited named at_time at_space at_ranges at_delay at_limited proper =
     let d = object ms in
-    let e = Ack t s rs (unwrap_or delay 0) (unwrap_or app_limited false) in
-    let listed = ranges_stand d rs at_ranges (ranges_read key.Ranges rs proper.fitting proper.numbers.0) in
+    let e = Ack (record ack { delay = unwrap_or delay 0; app_limited = unwrap_or app_limited false }) in
+    let listed = ranges_stand d ack.ranges at_ranges (ranges_read key.Ranges ack.ranges proper.fitting proper.numbers.0) in
     let rest = both_reads _ _ (unwrap_or delay 0) (unwrap_or app_limited false)
     (optional_found integer 0 key.Delay d written.integer delay at_delay (λ n. refl) (λ n. refl))
     (optional_found boolean false key.Limited d written.boolean app_limited at_limited (λ b. refl) (λ b. refl)) in
-    let fields = both_reads _ _ t _ (time_reads d t at_time proper.in_time) (both_reads _ _ s _ (space_stands d s at_space) (both_reads _ _ rs _ listed rest)) in
-    let says : ack_of d ≡ Ok e = then_reads (ack_fields d) _ (t, (s, (rs, (unwrap_or delay 0, unwrap_or app_limited false)))) _ fields refl in
+    let fields = both_reads _ _ ack.time _ (time_reads d ack.time at_time proper.in_time) (both_reads _ _ ack.space _ (space_stands d ack.space at_space) (both_reads _ _ ack.ranges _ listed rest)) in
+    let says : ack_of d ≡ Ok e = then_reads (ack_fields d) _ (ack.time, (ack.space, (ack.ranges, (unwrap_or delay 0, unwrap_or app_limited false)))) _ fields refl in
     then_reads (required string key.Event d) _ (codes "ack") (line.Event e) (named_found d (codes "ack") named) (event_of e _ says)
 
 pub lost_found : (ms : Members) (t : ℕ) (s : Space) (rs : List (ℕ × ℕ))

@@ -9,6 +9,8 @@ use Rattle.serde_json.specs.Data.{Data, depth}
 use Rattle.serde_json.specs.Find.{get}
 use Rattle.serde_json.specs.Written.{compact_text}
 use Rattle.qa_base.specs.declared.event.Event.{Event}
+use Rattle.qa_base.specs.declared.event.SentPacket.{SentPacket}
+use Rattle.qa_base.specs.declared.event.Ack.{Ack as Acknowledgment}
 use Rattle.qa_base.specs.declared.event.Event.TheVariants.{Sent, Ack, Lost, Timer, Discard, Confirmed, Keys, Metrics}
 use Rattle.qa_base.specs.declared.event.MetricValues.{MetricValues}
 use Rattle.qa_base.specs.declared.key.Key.{Key}
@@ -21,7 +23,6 @@ use Rattle.qa_format.specs.declared.line.Line.TheVariants as line
 use Rattle.qa_base.specs.declared.line_kind.LineKind.TheVariants as kinds
 use Rattle.qa_base.specs.declared.rule.Field.TheVariants.{Window, Ssthresh, BytesInFlight, LatestRtt, MinRtt, SmoothedRtt, Rttvar}
 use Rattle.qa_base.specs.declared.space.TimerKind.{TimerKind}
-use Rattle.qa_base.specs.declared.space.Permission.{Permission}
 use Rattle.qa_base.specs.declared.space.Space.{Space}
 use Rattle.qa_base.specs.declared.space.LossByNumber.{LossByNumber}
 use Rattle.qa_base.specs.declared.space.LossByNumber.TheVariants.{Must, May}
@@ -354,26 +355,25 @@ space_follows : (j : List ℕ) (s : Space) (t : ℕ) → slice_cmp nat_cmp j (co
     → Follow j ((key.Space, written.string (space_name s)) ∷ (key.Time, written.integer t) ∷ [])
 space_follows j s t less high = follow j key.Space (written.string (space_name s)) _ less refl (space_is_kept s) (time_follows (codes "space") t refl high)
 
-sent_follows : (t : ℕ) (s : Space) (number size : ℕ) (eliciting in_flight : Bool) (permission : Permission)
-    → IsProperEvent (Sent t s number size eliciting in_flight permission) → Follow [] (event_pairs (Sent t s number size eliciting in_flight permission))
-sent_follows t s number size eliciting in_flight permission proper =
-    let parts = and_parts (nat_le 1 size && nat_le size max_packet_size) (not eliciting || in_flight) proper.fitting in
-    let high = leb-true size max_packet_size (and_parts (nat_le 1 size) (nat_le size max_packet_size) parts.0).1 in
-    follow _ key.Eliciting _ _ refl refl (boolean_is_kept eliciting)
+sent_follows : (packet : SentPacket) → IsProperEvent (Sent packet) → Follow [] (event_pairs (Sent packet))
+sent_follows packet proper =
+    let parts = and_parts (nat_le 1 packet.size && nat_le packet.size max_packet_size) (not packet.eliciting || packet.in_flight) proper.fitting in
+    let high = leb-true packet.size max_packet_size (and_parts (nat_le 1 packet.size) (nat_le packet.size max_packet_size) parts.0).1 in
+    follow _ key.Eliciting _ _ refl refl (boolean_is_kept packet.eliciting)
     (follow _ key.Event _ _ refl refl (string_is_kept _ refl)
-    (follow _ key.InFlight _ _ refl refl (boolean_is_kept in_flight)
-    (follow _ key.Leave _ _ refl refl (permission_is_kept permission)
-    (follow _ key.Number _ _ refl refl (integer_is_kept number (omega (arith, proper.numbers)))
-    (follow _ key.Size _ _ refl refl (integer_is_kept size (omega (arith, high)))
-    (space_follows _ s t refl proper.in_time))))))
+    (follow _ key.InFlight _ _ refl refl (boolean_is_kept packet.in_flight)
+    (follow _ key.Leave _ _ refl refl (permission_is_kept packet.permission)
+    (follow _ key.Number _ _ refl refl (integer_is_kept packet.number (omega (arith, proper.numbers)))
+    (follow _ key.Size _ _ refl refl (integer_is_kept packet.size (omega (arith, high)))
+    (space_follows _ packet.space packet.time refl proper.in_time))))))
 
-ack_follows : (t : ℕ) (s : Space) (rs : List (ℕ × ℕ)) (delay : ℕ) (app_limited : Bool) → IsProperEvent (Ack t s rs delay app_limited) → Follow [] (event_pairs (Ack t s rs delay app_limited))
-ack_follows t s rs delay app_limited proper =
-    follow _ key.Delay _ _ refl refl (integer_is_kept delay proper.numbers.1)
+ack_follows : (ack : Acknowledgment) → IsProperEvent (Ack ack) → Follow [] (event_pairs (Ack ack))
+ack_follows ack proper =
+    follow _ key.Delay _ _ refl refl (integer_is_kept ack.delay proper.numbers.1)
     (follow _ key.Event _ _ refl refl (string_is_kept _ refl)
-    (follow _ key.Limited _ _ refl refl (boolean_is_kept app_limited)
-    (follow _ key.Ranges _ _ refl refl (ranges_are_kept rs proper.numbers.0)
-    (space_follows _ s t refl proper.in_time))))
+    (follow _ key.Limited _ _ refl refl (boolean_is_kept ack.app_limited)
+    (follow _ key.Ranges _ _ refl refl (ranges_are_kept ack.ranges proper.numbers.0)
+    (space_follows _ ack.space ack.time refl proper.in_time))))
 
 lost_follows : (t : ℕ) (s : Space) (rs : List (ℕ × ℕ)) → IsProperEvent (Lost t s rs) → Follow [] (event_pairs (Lost t s rs))
 lost_follows t s rs proper =
@@ -524,8 +524,8 @@ object_reads ps x kept says = ap (λ r. r >>= object_says reader_named) (json_re
 
 -- the keys of an event rise
 pub event_follows : (e : Event) → IsProperEvent e → Follow [] (event_pairs e)
-event_follows (Sent t s number size eliciting in_flight permission) proper = sent_follows t s number size eliciting in_flight permission proper
-event_follows (Ack t s rs delay app_limited) proper = ack_follows t s rs delay app_limited proper
+event_follows (Sent packet) proper = sent_follows packet proper
+event_follows (Ack ack) proper = ack_follows ack proper
 event_follows (Lost t s rs) proper = lost_follows t s rs proper
 event_follows (Timer t k s) proper = timer_follows t k s proper
 event_follows (Discard t s) proper = follow _ key.Event _ _ refl refl (string_is_kept _ refl) (space_follows _ s t refl proper.in_time)
@@ -541,8 +541,8 @@ metrics_are_said t v proper =
 
 -- the object of an event says the event
 event_is_said : (e : Event) → IsProperEvent e → object_says reader_named (object_of (event_pairs e)) ≡ Ok (line.Event e)
-event_is_said (Sent t s number size eliciting in_flight permission) proper = sent_found _ t s number size eliciting in_flight (Some permission) refl refl refl refl refl refl refl refl proper
-event_is_said (Ack t s rs delay app_limited) proper = ack_found _ t s rs (Some delay) (Some app_limited) refl refl refl refl refl refl proper
+event_is_said (Sent packet) proper = sent_found _ packet (Some packet.permission) refl refl refl refl refl refl refl refl proper
+event_is_said (Ack ack) proper = ack_found _ ack (Some ack.delay) (Some ack.app_limited) refl refl refl refl refl refl proper
 event_is_said (Lost t s rs) proper = lost_found _ t s rs refl refl refl refl proper
 event_is_said (Timer t k s) proper = timer_found _ t k s refl refl refl refl proper
 event_is_said (Discard t s) proper = discard_found _ t s refl refl refl proper

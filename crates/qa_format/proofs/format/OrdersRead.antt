@@ -414,12 +414,12 @@ module _ (e : Event) (ps : Pairs) (proper : IsProperEvent e) (are : AreOf e ps) 
 
 -- an event is read from its keys and values in any order, and with or without its defaults
 pub order_reads : (e : Event) (ps : Pairs) → IsProperEvent e → AreOf e ps → reading (text_of ps) ≡ Ok (line.Event e)
-order_reads (Sent t s number size eliciting in_flight permission) ps proper are =
-    let e = Sent t s number size eliciting in_flight permission in
+order_reads (Sent packet) ps proper are =
+    let e = Sent packet in
     let at = event_at e ps proper are in
-    let left = event_optional e ps proper are permission_data Window (codes "leave") permission same_permission refl refl in
-    event_reads e ps proper are (Sent t s number size eliciting in_flight (unwrap_or left.0 Window)) (ap (Sent t s number size eliciting in_flight) left.2)
-    (sent_found _ t s number size eliciting in_flight left.0
+    let left = event_optional e ps proper are permission_data Window (codes "leave") packet.permission same_permission refl refl in
+    event_reads e ps proper are (Sent (record packet { permission = unwrap_or left.0 Window })) (ap (λ l. Sent (record packet { permission = l })) left.2)
+    (sent_found _ packet left.0
     (at (codes "event") _ refl refl)
     (at (codes "time") _ refl refl)
     (at (codes "space") _ refl refl)
@@ -428,13 +428,13 @@ order_reads (Sent t s number size eliciting in_flight permission) ps proper are 
     (at (codes "eliciting") _ refl refl)
     (at (codes "in_flight") _ refl refl)
     left.1)
-order_reads (Ack t s rs delay app_limited) ps proper are =
-    let e = Ack t s rs delay app_limited in
+order_reads (Ack ack) ps proper are =
+    let e = Ack ack in
     let at = event_at e ps proper are in
-    let delayed = event_optional e ps proper are written.integer 0 (codes "delay") delay same_integer refl refl in
-    let bounded = event_optional e ps proper are written.boolean false (codes "limited") app_limited same_boolean refl refl in
-    event_reads e ps proper are (Ack t s rs (unwrap_or delayed.0 0) (unwrap_or bounded.0 false)) (ap₂ (Ack t s rs) delayed.2 bounded.2)
-    (ack_found _ t s rs delayed.0 bounded.0
+    let delayed = event_optional e ps proper are written.integer 0 (codes "delay") ack.delay same_integer refl refl in
+    let bounded = event_optional e ps proper are written.boolean false (codes "limited") ack.app_limited same_boolean refl refl in
+    event_reads e ps proper are (Ack (record ack { delay = unwrap_or delayed.0 0; app_limited = unwrap_or bounded.0 false })) (ap₂ (λ delay app_limited. Ack (record ack { delay = delay; app_limited = app_limited })) delayed.2 bounded.2)
+    (ack_found _ ack delayed.0 bounded.0
     (at (codes "event") _ refl refl)
     (at (codes "time") _ refl refl)
     (at (codes "space") _ refl refl)

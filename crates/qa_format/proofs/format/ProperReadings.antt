@@ -59,7 +59,7 @@ unfolding sent_of
 sent_is_proper d e h =
     let read = bind_ok (sent_fields d) _ e h in
     let f = read.0 in
-    let agree = flags_agree f.1.1.1.1.0 f.1.1.1.1.1.0 (Sent f.0 f.1.0 f.1.1.0 f.1.1.1.0 f.1.1.1.1.0 f.1.1.1.1.1.0 f.1.1.1.1.1.1) e read.2 in
+    let agree = flags_agree f.1.1.1.1.0 f.1.1.1.1.1.0 (Sent (record { time = f.0; space = f.1.0; number = f.1.1.0; size = f.1.1.1.0; eliciting = f.1.1.1.1.0; in_flight = f.1.1.1.1.1.0; permission = f.1.1.1.1.1.1 })) e read.2 in
     let times = both_ok _ _ f read.1 in
     let spaces = both_ok _ _ f.1 times.1 in
     let numbers = both_ok _ _ f.1.1 spaces.1 in

@@ -27,10 +27,8 @@ AreWords values =
 
 -- the numbers of an event are in their ranges
 abbrev pub HasProperNumbers : Event → Type 0
-HasProperNumbers (Sent time space number size eliciting in_flight permission) =
-    number ≤ max_packet_number
-HasProperNumbers (Ack time space ranges delay app_limited) =
-    AllByRecursion IsRange ranges × (delay < 2 ^ 64)
+HasProperNumbers (Sent packet) = packet.number ≤ max_packet_number
+HasProperNumbers (Ack ack) = AllByRecursion IsRange ack.ranges × (ack.delay < 2 ^ 64)
 HasProperNumbers (Lost time space ranges) = AllByRecursion IsRange ranges
 HasProperNumbers (Metrics time values) = AreWords values
 HasProperNumbers _ = Unit {0}

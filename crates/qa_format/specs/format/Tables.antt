@@ -200,7 +200,15 @@ unfoldable pub sent_of : Data → Result Event Fault
 sent_of d =
     sent_fields d >>= λ (time, (space, (number, (size, (eliciting, (in_flight, permission)))))).
     if eliciting && not in_flight then Err FlagsClash else Ok
-    (Sent time space number size eliciting in_flight permission)
+    (Sent (record {
+      time = time;
+      space = space;
+      number = number;
+      size = size;
+      eliciting = eliciting;
+      in_flight = in_flight;
+      permission = permission;
+    }))
 
 -- time, space, ranges, delay and limited
 abbrev pub ack_fields : Data → Result (ℕ × (Space × (List (ℕ × ℕ) × (ℕ × Bool)))) Fault
@@ -214,7 +222,13 @@ ack_fields d =
 unfoldable pub ack_of : Data → Result Event Fault
 ack_of d =
     ack_fields d >>= λ (time, (space, (ranges, (delay, app_limited)))). Ok
-    (Ack time space ranges delay app_limited)
+    (Ack (record {
+      time = time;
+      space = space;
+      ranges = ranges;
+      delay = delay;
+      app_limited = app_limited;
+    }))
 
 -- time, space and ranges
 abbrev pub lost_fields : Data → Result (ℕ × (Space × List (ℕ × ℕ))) Fault

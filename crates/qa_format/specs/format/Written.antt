@@ -98,23 +98,23 @@ reported f None = []
 reported f (Some n) = (key.Metric f, integer n) ∷ []
 
 abbrev pub event_pairs : Event → Pairs
-event_pairs (Sent time space number size eliciting in_flight permission) =
-    (key.Eliciting, boolean eliciting)
+event_pairs (Sent packet) =
+    (key.Eliciting, boolean packet.eliciting)
     ∷ (key.Event, string (line_kind_name kinds.Sent))
-    ∷ (key.InFlight, boolean in_flight)
-    ∷ (key.Leave, string (permission_name permission))
-    ∷ (key.Number, integer number)
-    ∷ (key.Size, integer size)
-    ∷ (key.Space, string (space_name space))
-    ∷ (key.Time, integer time)
+    ∷ (key.InFlight, boolean packet.in_flight)
+    ∷ (key.Leave, string (permission_name packet.permission))
+    ∷ (key.Number, integer packet.number)
+    ∷ (key.Size, integer packet.size)
+    ∷ (key.Space, string (space_name packet.space))
+    ∷ (key.Time, integer packet.time)
     ∷ []
-event_pairs (Ack time space ranges delay app_limited) =
-    (key.Delay, integer delay)
+event_pairs (Ack ack) =
+    (key.Delay, integer ack.delay)
     ∷ (key.Event, string (line_kind_name kinds.Ack))
-    ∷ (key.Limited, boolean app_limited)
-    ∷ (key.Ranges, json.array (integer_pairs ranges))
-    ∷ (key.Space, string (space_name space))
-    ∷ (key.Time, integer time)
+    ∷ (key.Limited, boolean ack.app_limited)
+    ∷ (key.Ranges, json.array (integer_pairs ack.ranges))
+    ∷ (key.Space, string (space_name ack.space))
+    ∷ (key.Time, integer ack.time)
     ∷ []
 event_pairs (Lost time space ranges) =
     (key.Event, string (line_kind_name kinds.Lost))

@@ -4,7 +4,7 @@ use Rattle.qa_base.specs.declared.event.Event.TheVariants.{Sent, Discard}
 use Rattle.qa_base.specs.declared.space.Permission.TheVariants.{Window}
 use Rattle.qa_base.specs.declared.space.Space.TheVariants.{Initial, Handshake, App}
 use Rattle.qa_base.specs.values.Events.{fits}
-use Rattle.qa_laws.proofs.Shorthand.{sent, padded, bare, ack, lost, pto_fires}
+use Rattle.qa_laws.proofs.Shorthand.{sent, padded, bare, ack, lost, pto_fires, packet_sent}
 
 -- A packet has 1 to 65527 bytes, also one that is not in flight.
 pub sizes_of_packets :
@@ -17,7 +17,7 @@ sizes_of_packets = (refl, refl, refl, refl, refl)
 
 -- One that is ack-eliciting is in flight; one that is not may be or not.
 pub flags_of_packets :
-    (fits (Sent 0 App 0 1200 true false Window) ≡ false)
+    (fits (packet_sent true false Window App 0 0 1200) ≡ false)
     × (fits (padded App 0 0 1200) ≡ true)
     × (fits (bare App 0 0 1200) ≡ true)
 flags_of_packets = (refl, refl, refl)

@@ -48,7 +48,7 @@ packet_of_another_space_does_not_meet_the_probe = ((((tt, refl), refl), refl), r
 pub padded_packet_does_not_meet_the_probe :
     IsRun c (padded Initial 1 1000000 1200 ∷ due)
     × (first_broken c (padded Initial 1 1000000 1200 ∷ due) (pto_fires Initial 1998000) ≡ Some rule.ProbeOwed)
-    × (first_broken c (Sent 1000000 Initial 1 1200 false true Probe ∷ due) (pto_fires Initial 1998000) ≡ Some rule.ProbeOwed)
+    × (first_broken c (padded_probe Initial 1 1000000 1200 ∷ due) (pto_fires Initial 1998000) ≡ Some rule.ProbeOwed)
     × (first_broken c (bare_probe Initial 1 1000000 100 ∷ due) (pto_fires Initial 1998000) ≡ Some rule.ProbeOwed)
 unfolding first_broken
 padded_packet_does_not_meet_the_probe = ((((tt, refl), refl), refl), refl, refl, refl)
@@ -158,7 +158,7 @@ allowance_is_in_bytes = (((((((tt, refl), refl), refl), refl), refl), refl), ref
 pub allowance_is_of_all_spaces :
     (first_broken s half_spent (probe Handshake 0 1024000 1201) ≡ Some rule.PastProbe)
     × IsRun s (probe Handshake 0 1024000 1200 ∷ half_spent)
-    × (first_broken s (Sent 1024000 App 2 1200 false true Probe ∷ half_spent) (probe App 3 1024000 1) ≡ Some rule.PastProbe)
+    × (first_broken s (padded_probe App 2 1024000 1200 ∷ half_spent) (probe App 3 1024000 1) ≡ Some rule.PastProbe)
     × (first_broken s (sent App 2 1024000 1200 ∷ half_spent) (probe App 3 1024000 1200) ≡ None)
 unfolding first_broken
 allowance_is_of_all_spaces = (refl, (((((tt, refl), refl), refl), refl), refl), refl, refl)

@@ -8,7 +8,7 @@ use Rattle.qa_base.specs.declared.space.Space.TheVariants.{Handshake, App}
 use Rattle.qa_base.specs.machine.Reno.{reno}
 use Rattle.qa_base.specs.machine.Rules.{first_broken, IsRun}
 use Rattle.qa_base.specs.values.Settings.{Settings}
-use Rattle.qa_laws.proofs.Shorthand.{server, sent, padded, recovery, ack, lost}
+use Rattle.qa_laws.proofs.Shorthand.{server, sent, padded, recovery, ack, lost, packet_sent}
 
 abbrev s : Settings
 s = server 1200 12000
@@ -52,10 +52,10 @@ loss_in_recovery_renews_nothing = (((((((((((tt, refl), refl), refl), refl), ref
 
 -- A padded packet spends the leave; one that is not in flight does not, and needs none.
 pub what_spends_the_mark :
-    (first_broken s (spent (Sent 100000 App 4 100 false true Recovery)) (recovery App 5 100001 1200) ≡ Some rule.PastRecovery)
-    × (first_broken s (spent (Sent 100000 App 4 100 false false Recovery)) (recovery App 5 100001 1200) ≡ None)
-    × (first_broken s [] (Sent 100000 App 4 100 false false Recovery) ≡ None)
-    × (first_broken s [] (Sent 100000 App 4 100 false true Recovery) ≡ Some rule.PastRecovery)
+    (first_broken s (spent (packet_sent false true Recovery App 4 100000 100)) (recovery App 5 100001 1200) ≡ Some rule.PastRecovery)
+    × (first_broken s (spent (packet_sent false false Recovery App 4 100000 100)) (recovery App 5 100001 1200) ≡ None)
+    × (first_broken s [] (packet_sent false false Recovery App 4 100000 100) ≡ None)
+    × (first_broken s [] (packet_sent false true Recovery App 4 100000 100) ≡ Some rule.PastRecovery)
 unfolding first_broken
 what_spends_the_mark = (refl, refl, refl, refl)
 

@@ -86,8 +86,8 @@ found_both c r h p (Some (s, now)) = found_by c r h p s now (largest_acknowledge
 
 same_detection : (c : Settings) (r : Estimate) (h : List Event) → detection_by (where_they_must c) r h ≡ detection_by c r h
 same_detection c r [] = refl
-same_detection c r (Sent time space number size eliciting in_flight permission ∷ h) = refl
-same_detection c r (Ack time space ranges delay app_limited ∷ h) = refl
+same_detection c r (Sent packet ∷ h) = refl
+same_detection c r (Ack ack ∷ h) = refl
 same_detection c r (Lost time space ranges ∷ h) = refl
 same_detection c r (Timer time Loss space ∷ h) = refl
 same_detection c r (Timer time Pto space ∷ h) = refl

@@ -16,7 +16,7 @@ use Rattle.qa_base.specs.machine.Packets.{Packet, packets, is_of, is_some_packet
 use Rattle.qa_base.specs.machine.Rules.{broken, first_broken, first_of}
 use Rattle.qa_base.specs.machine.Window.{other_window}
 use Rattle.qa_base.specs.values.Constants.{minimum_window}
-use Rattle.qa_base.specs.values.Events.{is_named, is_space}
+use Rattle.qa_base.specs.values.Events.{is_named, is_space, is_in_flight_by}
 use Rattle.qa_base.specs.values.Settings.{Settings, early, is_reported}
 use Rattle.qa_base.proofs.machine.Declared.{must_nameable}
 use Rattle.qa_base.proofs.machine.RunLaws.{all_hold, rules_hold}
@@ -47,12 +47,12 @@ same_loss_owed c h (Lost time space ranges) formed none = refl
 same_loss_owed c h _ formed none = ap is_some_packet (owed_may_be_named c h formed ∙ nameable_alone c h none)
 
 same_past_window : (c : Settings) (h : List Event) (e : Event) → is_reported c.options.controller ≡ true → Formed c h → free c h ≡ [] → is_past_window (where_they_must c) h e ≡ is_past_window c h e
-same_past_window c h (Sent time space number size eliciting in_flight Window) reported formed none =
-    ap₂ (λ limit n. in_flight && is_past c.options.window_overshoot limit n size) (same_window c h reported) (same_bytes c h formed none)
+same_past_window c h (Sent packet) reported formed none =
+    ap₂ (λ limit n. is_in_flight_by Window packet && is_past c.options.window_overshoot limit n packet.size) (same_window c h reported) (same_bytes c h formed none)
 same_past_window c h _ reported formed none = refl
 
 same_past_recovery : (c : Settings) (h : List Event) (e : Event) → Formed c h → free c h ≡ [] → is_past_recovery (where_they_must c) h e ≡ is_past_recovery c h e
-same_past_recovery c h (Sent time space number size eliciting in_flight Recovery) formed none = ap (λ spent. in_flight && is_over 1 1 spent) (same c h formed none).spent
+same_past_recovery c h (Sent packet) formed none = ap (λ spent. is_in_flight_by Recovery packet && is_over 1 1 spent) (same c h formed none).spent
 same_past_recovery c h _ formed none = refl
 
 same_not_set : (c : Settings) (h : List Event) (e : Event) → Formed c h → free c h ≡ [] → is_timer_not_set (where_they_must c) h e ≡ is_timer_not_set c h e

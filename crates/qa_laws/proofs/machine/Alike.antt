@@ -26,7 +26,7 @@ use Rattle.qa_base.specs.machine.Rtt.{Estimate, sample_of, updated, refreshed, p
 use Rattle.qa_base.specs.machine.State.{totals}
 use Rattle.qa_base.specs.machine.Timer.{pto_count, earlier, awaits_loss, loss_due, earliest_loss, awaits_acknowledgment, last_eliciting, pto_due, earliest_pto, last_set, anti_deadlock, deadline, packet_deadline, is_same_due, set_since}
 use Rattle.qa_base.specs.machine.Window.{acknowledged_bytes, acknowledged_since_collapse, changes_window, reported_window, ssthresh, ssthresh_by, window, window_by}
-use Rattle.qa_base.specs.values.Events.{declares_lost, time_of}
+use Rattle.qa_base.specs.values.Events.{declares_lost, time_of, is_in_flight_by}
 use Rattle.qa_base.specs.values.Settings.{Settings, early, granularity, is_may, per_microsecond}
 use Rattle.qa_base.proofs.machine.Collapses.{since_collapse_after}
 use Rattle.qa_base.proofs.machine.Declared.{declared_is, owed_is}
@@ -401,7 +401,7 @@ same_loss_set c t h agree same (Lost time space ranges) = ap₂ (λ least most. 
 same_loss_set c t h agree same _ = refl
 
 pub same_past_recovery : (c : Settings) (t : Tolerances) (h : List Event) → Agree c t h → (e : Event) → is_past_recovery (like c t) h e ≡ is_past_recovery c h e
-same_past_recovery c t h agree (Sent time space number size eliciting in_flight Recovery) = ap (λ spent. in_flight && is_over 1 1 spent) (same_recovery c t h agree)
+same_past_recovery c t h agree (Sent packet) = ap (λ spent. is_in_flight_by Recovery packet && is_over 1 1 spent) (same_recovery c t h agree)
 same_past_recovery c t h agree _ = refl
 
 pub same_not_set : (c : Settings) (t : Tolerances) (h : List Event) → Agree c t h → (e : Event) → is_timer_not_set (like c t) h e ≡ is_timer_not_set c h e

@@ -5,6 +5,7 @@ use Rattle.std.proofs.lemmas.List.Sums.{sum_by-cons}
 use Rattle.std.specs.List.{AllByRecursion, list_any}
 use Rattle.std.specs.Prelude.{nat_lt, if◌then◌else◌}
 use Rattle.qa_base.specs.declared.event.Event.{Event}
+use Rattle.qa_base.specs.declared.event.Ack.{Ack as Acknowledgment}
 use Rattle.qa_base.specs.declared.event.Event.TheVariants.{Ack}
 use Rattle.qa_base.specs.declared.space.Space.{Space}
 use Rattle.qa_base.specs.declared.space.Space.TheVariants.{Initial, Handshake, App}
@@ -119,13 +120,13 @@ space_back : (s t : Space) → is_space s t ≡ true → is_space t s ≡ true
 space_back s t same = rw (is_space_is s t same) (is_space_same t)
 
 -- what an acknowledgment newly acknowledges is of its space
-pub newly_are_of : (h : List Event) (time : ℕ) (space : Space) (ranges : List (ℕ × ℕ)) (delay : ℕ) (app_limited : Bool) → AreOf space (newly_acknowledged (Ack time space ranges delay app_limited ∷ h))
-newly_are_of h time space ranges delay app_limited =
-    let e = Ack time space ranges delay app_limited in
-    part_are_of space (is_newly_acknowledged e h) (packets h) (λ p is.
+pub newly_are_of : (h : List Event) (ack : Acknowledgment) → AreOf ack.space (newly_acknowledged (Ack ack ∷ h))
+newly_are_of h ack =
+    let e = Ack ack in
+    part_are_of ack.space (is_newly_acknowledged e h) (packets h) (λ p is.
     let parts = and_parts (acknowledges p.space p.number e && not (is_acknowledged h p)) (not (is_declared_lost h p)) is in
     let named = (and_parts (acknowledges p.space p.number e) (not (is_acknowledged h p)) parts.0).0 in
-    space_back p.space space (and_parts (is_space p.space space) (is_named ranges p.number) named).0)
+    space_back p.space ack.space (and_parts (is_space p.space ack.space) (is_named ack.ranges p.number) named).0)
 
 -- of packets of one space the bytes are those of that space
 pub bytes_of_space : (s : Space) (ps : List Packet) → AreOf s ps → sum_by (bytes_of s) ps ≡ sum_by bytes ps

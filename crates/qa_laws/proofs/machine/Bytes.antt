@@ -4,6 +4,7 @@ use Rattle.std.proofs.lemmas.Bool.{and_right}
 use Rattle.qa_base.specs.history.Declared.{named_free, is_named_free}
 use Rattle.std.proofs.Common.{◌≡◌, ◌+◌, ℕ, List, [], ◌∷◌, length, Bool, true, false, ap, arith, sum_by, filter, ◌∙◌, refl}
 use Rattle.qa_base.specs.declared.event.Event.{Event}
+use Rattle.qa_base.specs.declared.event.Ack.{Ack as Acknowledgment}
 use Rattle.qa_base.specs.declared.event.Event.TheVariants.{Ack, Timer, Discard}
 use Rattle.qa_base.specs.declared.space.TimerKind.{TimerKind}
 use Rattle.qa_base.specs.declared.space.Space.{Space}
@@ -26,11 +27,11 @@ names_nothing c e h none =
     same_filter (is_named_free c e h) (λ p. false) (packets h) (λ p. and_right (is_free c h p) (declares_lost p.space p.number e) (none p)) ∙ none_passes (packets h)
 
 -- an acknowledgment takes off what it newly acknowledges and what it finds lost
-pub bytes-ack : (c : Settings) (h : List Event) (time : ℕ) (space : Space) (ranges : List (ℕ × ℕ)) (delay : ℕ) (app_limited : Bool) → IsRun c (Ack time space ranges delay app_limited ∷ h)
-    → bytes_in_flight c (Ack time space ranges delay app_limited ∷ h)
-    + (sum_by bytes (newly_acknowledged (Ack time space ranges delay app_limited ∷ h)) + sum_by bytes (owed c (Ack time space ranges delay app_limited ∷ h))) ≡ bytes_in_flight c h
-bytes-ack c h time space ranges delay app_limited run =
-    let e = Ack time space ranges delay app_limited in
+pub bytes-ack : (c : Settings) (h : List Event) (ack : Acknowledgment) → IsRun c (Ack ack ∷ h)
+    → bytes_in_flight c (Ack ack ∷ h)
+    + (sum_by bytes (newly_acknowledged (Ack ack ∷ h)) + sum_by bytes (owed c (Ack ack ∷ h))) ≡ bytes_in_flight c h
+bytes-ack c h ack run =
+    let e = Ack ack in
     let all = open_sum_after bytes c e h (tolerated_run_of c (e ∷ h) run) in
     let none : sum_by bytes (discarded c e h) ≡ 0 = none_weigh bytes (packets h) in
     let unnamed : sum_by bytes (named_free c e h) ≡ 0 = ap (sum_by bytes) (names_nothing c e h (λ p. refl)) in
@@ -64,7 +65,7 @@ bytes-discard c h time space run =
     omega (arith, all, nothing, unnamed, before, after)
 
 discarded-quiet : (c : Settings) (e : Event) (h : List Event) → is_quiet e ≡ true → discarded c e h ≡ []
-discarded-quiet c (Ack time space ranges delay app_limited) h quiet = cc
+discarded-quiet c (Ack ack) h quiet = cc
 discarded-quiet c (Timer time kind space) h quiet = cc
 discarded-quiet c (Discard time space) h quiet = cc
 discarded-quiet c _ h quiet = none_passes (packets h)

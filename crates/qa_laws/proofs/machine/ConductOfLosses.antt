@@ -4,6 +4,7 @@ use Rattle.std.proofs.lemmas.Bool.{and_parts, and_from, or_left, or_right, or_ca
 use Rattle.std.specs.List.{list_all, AllByRecursion}
 use Rattle.std.specs.Prelude.{nat_lt, nat_le, if◌then◌else◌}
 use Rattle.qa_base.specs.declared.event.Event.{Event}
+use Rattle.qa_base.specs.declared.event.Ack.{Ack as Acknowledgment}
 use Rattle.qa_base.specs.declared.event.Event.TheVariants.{Ack, Lost}
 use Rattle.qa_base.specs.declared.space.Space.{Space}
 use Rattle.qa_base.specs.machine.Breaches.{numbers}
@@ -65,19 +66,19 @@ acknowledged_stays : (e : Event) (h : List Event) (s : Space) (n : ℕ) → Ackn
 acknowledged_stays e h s n (q, has, of_space, number, covered) =
     (q, has_behind (packet_of (length h) e) (packets h) q has, of_space, number, covered_stays e h q covered)
 
-acknowledged_now : (c : Settings) (h : List Event) (time : ℕ) (space : Space) (ranges : List (ℕ × ℕ)) (delay : ℕ) (app_limited : Bool)
-    → IsRun c (Ack time space ranges delay app_limited ∷ h) → IsProperEvent (Ack time space ranges delay app_limited) → Acknowledged (Ack time space ranges delay app_limited ∷ h) space (greatest ranges)
-acknowledged_now c h time space ranges delay app_limited run proper =
-    let e = Ack time space ranges delay app_limited in
+acknowledged_now : (c : Settings) (h : List Event) (ack : Acknowledgment)
+    → IsRun c (Ack ack ∷ h) → IsProperEvent (Ack ack) → Acknowledged (Ack ack ∷ h) ack.space (greatest ack.ranges)
+acknowledged_now c h ack run proper =
+    let e = Ack ack in
     let holds = all_hold c h e run.1 in
-    let all = not-false (has_all (numbers (packets_of h space)) ranges) holds.ack_unsent in
-    let named = greatest_is_named ranges proper.fitting proper.numbers.0 in
-    let one = one_of_numbers (packets_of h space) (greatest ranges) (has_all_names (numbers (packets_of h space)) ranges all (greatest ranges) named) in
+    let all = not-false (has_all (numbers (packets_of h ack.space)) ack.ranges) holds.ack_unsent in
+    let named = greatest_is_named ack.ranges proper.fitting proper.numbers.0 in
+    let one = one_of_numbers (packets_of h ack.space) (greatest ack.ranges) (has_all_names (numbers (packets_of h ack.space)) ack.ranges all (greatest ack.ranges) named) in
     let q = one.0 in
-    let found = part_is (is_of space) (packets h) q one.1 in
-    let of_space : q.space ≡ space = sym (is_space_is space q.space found.1) in
+    let found = part_is (is_of ack.space) (packets h) q one.1 in
+    let of_space : q.space ≡ ack.space = sym (is_space_is ack.space q.space found.1) in
     let below : q.place < length h = at_one (λ p. p.place < length h) (packets h) q (placed h) found.0 in
-    let acks : acknowledges q.space q.number e ≡ true = and_from (is_space q.space space) (is_named ranges q.number) (rw of_space (is_space_same space)) (rw one.2 named) in (
+    let acks : acknowledges q.space q.number e ≡ true = and_from (is_space q.space ack.space) (is_named ack.ranges q.number) (rw of_space (is_space_same ack.space)) (rw one.2 named) in (
       q,
       found.0,
       of_space,
@@ -99,21 +100,21 @@ raised_is n m (Some k) is =
     first_or true le = inl (leb-true n k le)
     first_or false gt = inr (leb-false n k gt)
 
-ack_if : (c : Settings) (h : List Event) (time : ℕ) (space : Space) (ranges : List (ℕ × ℕ)) (delay : ℕ) (app_limited : Bool)
-    → IsRun c (Ack time space ranges delay app_limited ∷ h) → IsProperEvent (Ack time space ranges delay app_limited) → (s : Space) (m : ℕ) (here : Bool) → is_space s space ≡ here
-    → raised (if here then greatest ranges ∷ [] else []) (largest_acknowledged h s) ≡ Some m
-    → ((k : ℕ) → largest_acknowledged h s ≡ Some k → Acknowledged h s k) → Acknowledged (Ack time space ranges delay app_limited ∷ h) s m
-ack_if c h time space ranges delay app_limited run proper s m true here is before = elim (raised_is (greatest ranges) m (largest_acknowledged h s) is) [
-  | inl now ↦ rw (now, is_space_is s space here) (acknowledged_now c h time space ranges delay app_limited run proper)
-  | inr was ↦ acknowledged_stays (Ack time space ranges delay app_limited) h s m (before m was)
+ack_if : (c : Settings) (h : List Event) (ack : Acknowledgment)
+    → IsRun c (Ack ack ∷ h) → IsProperEvent (Ack ack) → (s : Space) (m : ℕ) (here : Bool) → is_space s ack.space ≡ here
+    → raised (if here then greatest ack.ranges ∷ [] else []) (largest_acknowledged h s) ≡ Some m
+    → ((k : ℕ) → largest_acknowledged h s ≡ Some k → Acknowledged h s k) → Acknowledged (Ack ack ∷ h) s m
+ack_if c h ack run proper s m true here is before = elim (raised_is (greatest ack.ranges) m (largest_acknowledged h s) is) [
+  | inl now ↦ rw (now, is_space_is s ack.space here) (acknowledged_now c h ack run proper)
+  | inr was ↦ acknowledged_stays (Ack ack) h s m (before m was)
 ]
-ack_if c h time space ranges delay app_limited run proper s m false here is before = acknowledged_stays (Ack time space ranges delay app_limited) h s m (before m is)
+ack_if c h ack run proper s m false here is before = acknowledged_stays (Ack ack) h s m (before m is)
 
 largest_step : (c : Settings) (e : Event) (h : List Event) → IsRun c (e ∷ h) → IsProperEvent e → (s : Space) (m : ℕ)
     → raised (greatest_in s e) (largest_acknowledged h s) ≡ Some m
     → ((k : ℕ) → largest_acknowledged h s ≡ Some k → Acknowledged h s k) → Acknowledged (e ∷ h) s m
-largest_step c (Ack time space ranges delay app_limited) h run proper s m is before =
-    ack_if c h time space ranges delay app_limited run proper s m (is_space s space) refl is before
+largest_step c (Ack ack) h run proper s m is before =
+    ack_if c h ack run proper s m (is_space s ack.space) refl is before
 largest_step c e h run proper s m is before = acknowledged_stays e h s m (before m is)
 
 -- in a run the largest acknowledged number is that of a packet that is acknowledged

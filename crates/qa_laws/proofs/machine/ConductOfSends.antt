@@ -6,10 +6,12 @@ use Rattle.std.specs.List.{list_any}
 use Rattle.std.specs.Prelude.{if◌then◌else◌}
 use Rattle.qa_base.specs.declared.event.Event.{Event}
 use Rattle.qa_base.specs.declared.event.Event.TheVariants.{Sent, Timer}
+use Rattle.qa_base.specs.declared.event.SentPacket.{SentPacket}
 use Rattle.qa_base.specs.declared.space.TimerKind.TheVariants.{Loss, Pto}
 use Rattle.qa_base.specs.declared.space.Permission.{Permission}
 use Rattle.qa_base.specs.declared.space.Permission.TheVariants.{Window, Probe, Recovery}
 use Rattle.qa_base.specs.declared.space.Space.{Space}
+use Rattle.qa_base.specs.values.Events.{is_in_flight_by}
 use Rattle.qa_base.specs.machine.Breaches.{is_over, is_past}
 use Rattle.qa_laws.specs.machine.Conduct.{is_pto_event, is_probe, probe_bytes, is_recovery, HasMoment, IsAmong, HasPermission, HasOvershoot}
 use Rattle.qa_base.specs.machine.Permission.{probe_size, is_recovery_packet}
@@ -28,9 +30,15 @@ use Rattle.qa_base.proofs.machine.Steps.{sum_since}
 
 -- ---- the window
 
-fits_window : (gone : Bool) (flight size window : ℕ) → flight + size ≤ window → flight + (if true && not gone then size else 0) ≤ window
-fits_window true flight size window le = omega (arith, le)
-fits_window false flight size window le = le
+fits_window : (flies gone : Bool) (flight size window : ℕ) → flight + size ≤ window → flight + (if flies && not gone then size else 0) ≤ window
+fits_window true true flight size window le = omega (arith, le)
+fits_window true false flight size window le = le
+fits_window false gone flight size window le = omega (arith, le)
+
+-- what is forbidden to packets that are sent so does not hold of one that is
+forbidden : (sent_so breaks : Bool) → sent_so ≡ true → (sent_so && breaks) ≡ false → breaks ≡ false
+forbidden true breaks so kept = kept
+forbidden false breaks so kept = cc
 
 not_past : (window bytes size : ℕ) (overshoot : Bool) → overshoot ≡ false → is_past overshoot window bytes size ≡ false → bytes + size ≤ window
 not_past window bytes size true within is = cc
@@ -40,11 +48,15 @@ not_full : (window bytes size : ℕ) (overshoot : Bool) → overshoot ≡ true �
 not_full window bytes size true allowed is = leb-false window bytes is
 not_full window bytes size false allowed is = cc
 
+not_past_window : (c : Settings) (h : List Event) (packet : SentPacket) → is_in_flight_by Window packet ≡ true → IsRun c (Sent packet ∷ h)
+    → is_past c.options.window_overshoot (window c h) (bytes_in_flight c h) packet.size ≡ false
+not_past_window c h packet so run = forbidden (is_in_flight_by Window packet) _ so (all_hold c h (Sent packet) run.1).past_window
+
 -- in a run, before an in-flight packet that is sent by leave of the window, the bytes in flight are below the window
-pub below_window : (c : Settings) (h : List Event) (time : ℕ) (space : Space) (number size : ℕ) (eliciting : Bool) → c.options.window_overshoot ≡ true
-    → IsRun c (Sent time space number size eliciting true Window ∷ h) → bytes_in_flight c h < window c h
-below_window c h time space number size eliciting allowed run =
-    not_full (window c h) (bytes_in_flight c h) size c.options.window_overshoot allowed (all_hold c h (Sent time space number size eliciting true Window) run.1).past_window
+pub below_window : (c : Settings) (h : List Event) (packet : SentPacket) → is_in_flight_by Window packet ≡ true → c.options.window_overshoot ≡ true
+    → IsRun c (Sent packet ∷ h) → bytes_in_flight c h < window c h
+below_window c h packet so allowed run =
+    not_full (window c h) (bytes_in_flight c h) packet.size c.options.window_overshoot allowed (not_past_window c h packet so run)
 
 -- the leave of a packet that the window has no room for
 window_permission : (c : Settings) (h : List Event) (size : ℕ) (overshoot : Bool) → c.options.window_overshoot ≡ overshoot → is_past overshoot (window c h) (bytes_in_flight c h) size ≡ false
@@ -53,16 +65,16 @@ window_permission c h size true is kept past = record { allowed = is; room = leb
 window_permission c h size false is kept past = let le = ltb-false (window c h) (bytes_in_flight c h + size) kept in absurd (omega (arith, le, past))
 
 -- in a run, after an in-flight packet that is sent by leave of the window, the bytes in flight are within the window, unless it may be overshot
-pub within_window : (c : Settings) (h : List Event) (time : ℕ) (space : Space) (number size : ℕ) (eliciting : Bool) → c.options.window_overshoot ≡ false → IsRun c (Sent time space number size eliciting true Window ∷ h)
-    → bytes_in_flight c (Sent time space number size eliciting true Window ∷ h) ≤ window c (Sent time space number size eliciting true Window ∷ h)
-within_window c h time space number size eliciting within run =
-    let e = Sent time space number size eliciting true Window in
+pub within_window : (c : Settings) (h : List Event) (packet : SentPacket) → is_in_flight_by Window packet ≡ true → c.options.window_overshoot ≡ false → IsRun c (Sent packet ∷ h)
+    → bytes_in_flight c (Sent packet ∷ h) ≤ window c (Sent packet ∷ h)
+within_window c h packet so within run =
+    let e = Sent packet in
     let holds = all_hold c h e run.1 in
     let none = no_packet (owed c h) holds.loss_owed in
-    let le = not_past (window c h) (bytes_in_flight c h) size c.options.window_overshoot within holds.past_window in
-    let bytes = bytes_in_flight-sent c h time space number size eliciting true Window none in
+    let le = not_past (window c h) (bytes_in_flight c h) packet.size c.options.window_overshoot within (not_past_window c h packet so run) in
+    let bytes = bytes_in_flight-sent c h packet none in
     let same : window c (e ∷ h) ≡ window c h = rw (moves-quiet c e h refl) refl in
-    let within = fits_window (is_discarded h space) (bytes_in_flight c h) size (window c h) le in
+    let within = fits_window packet.in_flight (is_discarded h packet.space) (bytes_in_flight c h) packet.size (window c h) le in
     rw (bytes, same) within
 
 -- ---- since the last moment that passes a test
@@ -111,20 +123,24 @@ pto_is (Timer time Loss space) h = refl
 pto_is _ h = refl
 
 probe_is : (e : Event) (h : List Event) → probe_size (e ∷ h) ≡ probe_bytes e
-probe_is (Sent time space number size eliciting in_flight Probe) h = refl
-probe_is (Sent time space number size eliciting in_flight Window) h = refl
-probe_is (Sent time space number size eliciting in_flight Recovery) h = refl
+probe_is (Sent packet) h = refl
 probe_is _ h = refl
 
 no_pto : (events h : List Event) → NonePasses is_pto events h → list_any is_pto_event events ≡ false
 no_pto [] h none = refl
 no_pto (e ∷ events) h none = rw (sym (pto_is e (events ++ h)) ∙ none.0) (no_pto events h none.1)
 
+-- before a probe that a run sends there was a probe timeout, and the probes since leave room for its bytes
+probe_spent_before : (c : Settings) (h : List Event) (packet : SentPacket) → is_in_flight_by Probe packet ≡ true → IsRun c (Sent packet ∷ h)
+    → (list_any is_pto (moments h) ≡ true) × (sum_by probe_size (since is_pto h) + packet.size ≤ 2 * c.max_datagram_size)
+probe_spent_before c h packet so run =
+    over_not (2 * c.max_datagram_size) packet.size (list_any is_pto (moments h)) (sum_by probe_size (since is_pto h))
+    (forbidden (is_in_flight_by Probe packet) _ so (all_hold c h (Sent packet) run.1).past_probe)
+
 -- the leave of a probe
-probe_permission : (c : Settings) (h : List Event) (time : ℕ) (space : Space) (number size : ℕ) (eliciting : Bool) → IsRun c (Sent time space number size eliciting true Probe ∷ h) → HasPermission c h size Probe
-probe_permission c h time space number size eliciting run =
-    let holds = all_hold c h (Sent time space number size eliciting true Probe) run.1 in
-    let spent = over_not (2 * c.max_datagram_size) size (list_any is_pto (moments h)) (sum_by probe_size (since is_pto h)) holds.past_probe in
+probe_permission : (c : Settings) (h : List Event) (packet : SentPacket) → is_in_flight_by Probe packet ≡ true → IsRun c (Sent packet ∷ h) → HasPermission c h packet.size Probe
+probe_permission c h packet so run =
+    let spent = probe_spent_before c h packet so run in
     let found = since_last is_pto probe_size probe_bytes probe_is h spent.0 in
     record {
       since = found.0;
@@ -139,9 +155,7 @@ probe_permission c h time space number size eliciting run =
 -- ---- recovery
 
 recovery_is : (e : Event) (h : List Event) → is_recovery_packet (e ∷ h) ≡ is_recovery e
-recovery_is (Sent time space number size eliciting in_flight Recovery) h = refl
-recovery_is (Sent time space number size eliciting in_flight Window) h = refl
-recovery_is (Sent time space number size eliciting in_flight Probe) h = refl
+recovery_is (Sent packet) h = refl
 recovery_is _ h = refl
 
 counted_is : (e : Event) (h : List Event) → ◌≡◌ {A = ℕ} (cond (is_recovery_packet (e ∷ h)) 1 0) (cond (is_recovery e) 1 0)
@@ -156,10 +170,16 @@ none_counted (e ∷ events) none = none_if e events (is_recovery e) refl (sym (s
     none_if e events true is none rest = let some : 1 + sum_by (λ e. cond (is_recovery e) 1 0) events ≡ 0 = rw is at none in absurd (omega (arith, some))
     none_if e events false is none rest = let more : 0 + sum_by (λ e. cond (is_recovery e) 1 0) events ≡ 0 = rw is at none in rw is (rest (omega (arith, more)))
 
-recovery_permission : (c : Settings) (h : List Event) (time : ℕ) (space : Space) (number size : ℕ) (eliciting : Bool) → IsRun c (Sent time space number size eliciting true Recovery ∷ h) → HasPermission c h size Recovery
-recovery_permission c h time space number size eliciting run =
-    let holds = all_hold c h (Sent time space number size eliciting true Recovery) run.1 in
-    let spent = over_not 1 1 (list_any (is_entry c) (moments h)) (count_by is_recovery_packet (since (is_entry c) h)) holds.past_recovery in
+-- before a packet for recovery that a run sends there was an entry, and no such packet since
+recovery_spent_before : (c : Settings) (h : List Event) (packet : SentPacket) → is_in_flight_by Recovery packet ≡ true → IsRun c (Sent packet ∷ h)
+    → (list_any (is_entry c) (moments h) ≡ true) × (count_by is_recovery_packet (since (is_entry c) h) + 1 ≤ 1)
+recovery_spent_before c h packet so run =
+    over_not 1 1 (list_any (is_entry c) (moments h)) (count_by is_recovery_packet (since (is_entry c) h))
+    (forbidden (is_in_flight_by Recovery packet) _ so (all_hold c h (Sent packet) run.1).past_recovery)
+
+recovery_permission : (c : Settings) (h : List Event) (packet : SentPacket) → is_in_flight_by Recovery packet ≡ true → IsRun c (Sent packet ∷ h) → HasPermission c h packet.size Recovery
+recovery_permission c h packet so run =
+    let spent = recovery_spent_before c h packet so run in
     let found = since_last (is_entry c) (λ m. cond (is_recovery_packet m) 1 0) (λ e. cond (is_recovery e) 1 0) counted_is h spent.0 in
     record {
       since = found.0;
@@ -170,26 +190,29 @@ recovery_permission c h time space number size eliciting run =
       unused = none_counted found.0 (omega (arith, spent.1, found.6));
     }
 
+permission_for : (c : Settings) (h : List Event) (packet : SentPacket) (permission : Permission) → packet.permission ≡ permission → packet.in_flight ≡ true
+    → IsRun c (Sent packet ∷ h) → window c h < bytes_in_flight c h + packet.size → HasPermission c h packet.size permission
+permission_for c h packet Window is flies run past =
+    window_permission c h packet.size c.options.window_overshoot refl (not_past_window c h packet (rw (is, flies) refl) run) past
+permission_for c h packet Probe is flies run past = probe_permission c h packet (rw (is, flies) refl) run
+permission_for c h packet Recovery is flies run past = recovery_permission c h packet (rw (is, flies) refl) run
+
 -- in a run an in-flight packet that takes the bytes in flight past the window has its leave
-pub past_window_by_permission : (c : Settings) (h : List Event) (time : ℕ) (space : Space) (number size : ℕ) (eliciting : Bool) (permission : Permission)
-    → IsRun c (Sent time space number size eliciting true permission ∷ h) → window c h < bytes_in_flight c h + size → HasPermission c h size permission
-past_window_by_permission c h time space number size eliciting Window run past =
-    window_permission c h size c.options.window_overshoot refl (all_hold c h (Sent time space number size eliciting true Window) run.1).past_window past
-past_window_by_permission c h time space number size eliciting Probe run past = probe_permission c h time space number size eliciting run
-past_window_by_permission c h time space number size eliciting Recovery run past = recovery_permission c h time space number size eliciting run
+pub past_window_by_permission : (c : Settings) (h : List Event) (packet : SentPacket) → packet.in_flight ≡ true
+    → IsRun c (Sent packet ∷ h) → window c h < bytes_in_flight c h + packet.size → HasPermission c h packet.size packet.permission
+past_window_by_permission c h packet flies run past = permission_for c h packet packet.permission refl flies run past
 
 -- ---- between two probe timeouts, and before the first
 
-probe_step : (c : Settings) (e : Event) (h : List Event) (n : ℕ) → IsRun c (e ∷ h) → sum_by probe_size (since is_pto h) ≤ 2 * c.max_datagram_size
+sent_step : (c : Settings) (packet : SentPacket) (h : List Event) (here : Bool) → is_in_flight_by Probe packet ≡ here → IsRun c (Sent packet ∷ h)
+    → sum_by probe_size (since is_pto h) ≤ 2 * c.max_datagram_size → (if here then packet.size else 0) + sum_by probe_size (since is_pto h) ≤ 2 * c.max_datagram_size
+sent_step c packet h true so run before = let spent = probe_spent_before c h packet so run in omega (arith, spent.1)
+sent_step c packet h false so run before = omega (arith, before)
+
+probe_step : (c : Settings) (e : Event) (h : List Event) → IsRun c (e ∷ h) → sum_by probe_size (since is_pto h) ≤ 2 * c.max_datagram_size
     → probe_size (e ∷ h) + sum_by probe_size (since is_pto h) ≤ 2 * c.max_datagram_size
-probe_step c (Sent time space number size eliciting true Probe) h n run before =
-    let holds = all_hold c h (Sent time space number size eliciting true Probe) run.1 in
-    let spent = over_not (2 * c.max_datagram_size) size (list_any is_pto (moments h)) (sum_by probe_size (since is_pto h)) holds.past_probe in
-    omega (arith, spent.1)
-probe_step c (Sent time space number size eliciting false Probe) h n run before = omega (arith, before)
-probe_step c (Sent time space number size eliciting in_flight Window) h n run before = omega (arith, before)
-probe_step c (Sent time space number size eliciting in_flight Recovery) h n run before = omega (arith, before)
-probe_step c _ h n run before = omega (arith, before)
+probe_step c (Sent packet) h run before = sent_step c packet h (is_in_flight_by Probe packet) refl run before
+probe_step c _ h run before = omega (arith, before)
 
 unless_pto : (here : Bool) (n limit : ℕ) → n ≤ limit → (if here then 0 else n) ≤ limit
 unless_pto true n limit le = omega arith
@@ -199,7 +222,7 @@ probes_spent : (c : Settings) (h : List Event) → IsRun c h → sum_by probe_si
 probes_spent c [] run = omega arith
 probes_spent c (e ∷ h) run =
     rw (sum_since is_pto probe_size e h)
-    (unless_pto (is_pto (e ∷ h)) (probe_size (e ∷ h) + sum_by probe_size (since is_pto h)) (2 * c.max_datagram_size) (probe_step c e h 0 run (probes_spent c h run.0)))
+    (unless_pto (is_pto (e ∷ h)) (probe_size (e ∷ h) + sum_by probe_size (since is_pto h)) (2 * c.max_datagram_size) (probe_step c e h run (probes_spent c h run.0)))
 
 part_of_spent : (events h : List Event) → list_any is_pto_event events ≡ false → sum_by probe_bytes events ≤ sum_by probe_size (since is_pto (events ++ h))
 part_of_spent [] h none = omega arith
@@ -226,14 +249,13 @@ never_pto (e ∷ h) none =
     let both = or_parts (is_pto_event e) (list_any is_pto_event h) none in
     rw (pto_is e h ∙ both.0) (never_pto h both.1)
 
+not_sent_so : (c : Settings) (packet : SentPacket) (h : List Event) (here : Bool) → is_in_flight_by Probe packet ≡ here → IsRun c (Sent packet ∷ h)
+    → list_any is_pto (moments h) ≡ false → here ≡ false
+not_sent_so c packet h true so run none = absurd (both_ways (list_any is_pto (moments h)) none (probe_spent_before c h packet so run).0)
+not_sent_so c packet h false so run none = refl
+
 not_a_probe : (c : Settings) (e : Event) (h : List Event) → IsRun c (e ∷ h) → list_any is_pto (moments h) ≡ false → is_probe e ≡ false
-not_a_probe c (Sent time space number size eliciting true Probe) h run none =
-    let holds = all_hold c h (Sent time space number size eliciting true Probe) run.1 in
-    let spent = over_not (2 * c.max_datagram_size) size (list_any is_pto (moments h)) (sum_by probe_size (since is_pto h)) holds.past_probe in
-    absurd (both_ways (list_any is_pto (moments h)) none spent.0)
-not_a_probe c (Sent time space number size eliciting false Probe) h run none = refl
-not_a_probe c (Sent time space number size eliciting in_flight Window) h run none = refl
-not_a_probe c (Sent time space number size eliciting in_flight Recovery) h run none = refl
+not_a_probe c (Sent packet) h run none = not_sent_so c packet h (is_in_flight_by Probe packet) refl run none
 not_a_probe c _ h run none = refl
 
 -- in a run no in-flight packet is marked as a probe before the first probe timeout
@@ -247,13 +269,7 @@ no_probe_before c (e ∷ h) run none =
 
 recovery_spent_none : (c : Settings) (e : Event) (h : List Event) → IsRun c (e ∷ h) → is_recovery e ≡ true
     → (list_any (is_entry c) (moments h) ≡ true) × (count_by is_recovery_packet (since (is_entry c) h) ≡ 0)
-recovery_spent_none c (Sent time space number size eliciting true Recovery) h run is =
-    let holds = all_hold c h (Sent time space number size eliciting true Recovery) run.1 in
-    let spent = over_not 1 1 (list_any (is_entry c) (moments h)) (count_by is_recovery_packet (since (is_entry c) h)) holds.past_recovery in
-    (spent.0, (omega (arith, spent.1)))
-recovery_spent_none c (Sent time space number size eliciting false Recovery) h run is = cc
-recovery_spent_none c (Sent time space number size eliciting in_flight Window) h run is = cc
-recovery_spent_none c (Sent time space number size eliciting in_flight Probe) h run is = cc
+recovery_spent_none c (Sent packet) h run is = let spent = recovery_spent_before c h packet is run in (spent.0, (omega (arith, spent.1)))
 recovery_spent_none c _ h run is = cc
 
 -- in a run each in-flight packet that is marked for recovery has an entry before it
@@ -263,10 +279,7 @@ entry_before c e h run is =
     record { later = found.0; event = found.1; before = found.2; stands = found.3; passes = found.4 }
 
 no_entry : (c : Settings) (f : Event) (h : List Event) → is_recovery f ≡ true → is_entry c (f ∷ h) ≡ false
-no_entry c (Sent time space number size eliciting in_flight Recovery) h is =
-    rw (moves_of_last-quiet c (Sent time space number size eliciting in_flight Recovery) h refl) refl
-no_entry c (Sent time space number size eliciting in_flight Window) h is = cc
-no_entry c (Sent time space number size eliciting in_flight Probe) h is = cc
+no_entry c (Sent packet) h is = rw (moves_of_last-quiet c (Sent packet) h refl) refl
 no_entry c _ h is = cc
 
 push : (d : Event) (events others : List Event) → events ≡ others → d ∷ events ≡ d ∷ others

@@ -115,7 +115,7 @@ unnamed_lose_nothing c (Lost time space ranges) h quiet none =
     let e = Lost time space ranges in
     declared_is c time space ranges h
     ∙ ap (λ (b : Bool). if b then filter (λ p. is_owed c h p || is_named_free c e h p) (packets h) else []) (completes_nothing c e h none)
-unnamed_lose_nothing c (Ack time space ranges delay app_limited) h quiet none = cc
+unnamed_lose_nothing c (Ack ack) h quiet none = cc
 unnamed_lose_nothing c (Timer time kind space) h quiet none = cc
 unnamed_lose_nothing c (Discard time space) h quiet none = cc
 unnamed_lose_nothing c _ h quiet none = refl

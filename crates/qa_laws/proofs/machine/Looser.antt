@@ -23,7 +23,7 @@ use Rattle.qa_base.specs.machine.Timer.{Due, deadline, packet_deadline, set_sinc
 use Rattle.qa_base.specs.machine.Widths.{Fits}
 use Rattle.qa_base.specs.machine.Window.{acknowledged_since_collapse, other_window, window}
 use Rattle.qa_base.specs.values.Constants.{minimum_window}
-use Rattle.qa_base.specs.values.Events.{time_of}
+use Rattle.qa_base.specs.values.Events.{time_of, is_in_flight_by}
 use Rattle.qa_base.specs.values.Settings.{Settings, early, in_unit, is_reported, per_microsecond}
 use Rattle.qa_base.proofs.machine.RunLaws.{rules_hold}
 use Rattle.qa_laws.specs.machine.Alike.{IsLooser, IsNoLess}
@@ -126,11 +126,11 @@ sized o p size small flies room = elim room [
 
 window_passes : (c : Settings) (t : Tolerances) (h : List Event) (e : Event) → Agree c t h → (c.options.window_overshoot ≡ true → t.window_overshoot ≡ true) → Room c t e
     → is_past_window c h e ≡ false → is_past_window (like c t) h e ≡ false
-window_passes c t h (Sent time space number size eliciting in_flight Window) agree more room is =
-    ap₂ (λ limit n. in_flight && is_past t.window_overshoot limit n size) (same_window c t h agree) (same_bytes c t h agree)
-    ∙ and_more in_flight (is_past c.options.window_overshoot (window c h) (bytes_in_flight c h) size) (is_past t.window_overshoot (window c h) (bytes_in_flight c h) size)
-    (past_more c.options.window_overshoot t.window_overshoot (window c h) (bytes_in_flight c h) size more
-    (sized c.options.window_overshoot t.window_overshoot size (nat_le size 65527) (not eliciting || in_flight) room)) is
+window_passes c t h (Sent packet) agree more room is =
+    ap₂ (λ limit n. is_in_flight_by Window packet && is_past t.window_overshoot limit n packet.size) (same_window c t h agree) (same_bytes c t h agree)
+    ∙ and_more (is_in_flight_by Window packet) (is_past c.options.window_overshoot (window c h) (bytes_in_flight c h) packet.size) (is_past t.window_overshoot (window c h) (bytes_in_flight c h) packet.size)
+    (past_more c.options.window_overshoot t.window_overshoot (window c h) (bytes_in_flight c h) packet.size more
+    (sized c.options.window_overshoot t.window_overshoot packet.size (nat_le packet.size 65527) (not packet.eliciting || packet.in_flight) room)) is
 window_passes c t h _ agree more room is = refl
 
 -- ---- slack

@@ -35,16 +35,16 @@ pub record IsSentBy (e : Event) (h : List Event) (p : Packet) : Type 0 where
   pub place : length h ≤ p.place
 
 sent_or_before : (e : Event) (h : List Event) (p : Packet) → Contains (packets (e ∷ h)) p → IsSentBy e h p ⊎ Contains (packets h) p
-sent_or_before (Sent time space number size eliciting in_flight permission) h p has =
+sent_or_before (Sent packet) h p has =
     let q : Packet = record {
       place = length h;
-      time = time;
-      space = space;
-      number = number;
-      size = size;
-      eliciting = eliciting;
-      in_flight = in_flight;
-      permission = permission;
+      time = packet.time;
+      space = packet.space;
+      number = packet.number;
+      size = packet.size;
+      eliciting = packet.eliciting;
+      in_flight = packet.in_flight;
+      permission = packet.permission;
     } in
     elim (first_or_rest q p (packets h) has) [
       | inl same ↦ inl (record { all = ap (λ k. k ∷ packets h) same; place = (let at = ap (λ (k : Packet). k.place) same in omega (arith, at)) })
@@ -85,10 +85,10 @@ raised_by true n k most is le = omega (arith, le)
 raised_by false n k most is le = cc
 
 acknowledged_at_most : (e : Event) (h : List Event) (q : Packet) → acknowledges q.space q.number e ≡ true → IsAtMost q.number (largest_acknowledged (e ∷ h) q.space)
-acknowledged_at_most (Ack time space ranges delay app_limited) h q is =
-    let both = and_parts (is_space q.space space) (is_named ranges q.number) is in
-    rw (largest_after (Ack time space ranges delay app_limited) h q.space)
-    (raised_by (is_space q.space space) q.number (greatest ranges) (largest_acknowledged h q.space) both.0 (named_at_most ranges q.number both.1))
+acknowledged_at_most (Ack ack) h q is =
+    let both = and_parts (is_space q.space ack.space) (is_named ack.ranges q.number) is in
+    rw (largest_after (Ack ack) h q.space)
+    (raised_by (is_space q.space ack.space) q.number (greatest ack.ranges) (largest_acknowledged h q.space) both.0 (named_at_most ack.ranges q.number both.1))
 acknowledged_at_most _ h q is = cc
 
 past_at_most : (c : Settings) (r : Estimate) (now : ℕ) (most : Option ℕ) (q : Packet) → is_past_threshold c r now most q ≡ true → IsAtMost q.number most
@@ -180,16 +180,16 @@ far_from_more c p m (Some k) is le =
 
 owed_by_ack : (c : Settings) (e : Event) (h : List Event) (q p : Packet) → is_may c.options.loss_by_number ≡ false → acknowledges q.space q.number e ≡ true → acknowledges_new (e ∷ h) ≡ true → p.space ≡ q.space → p.in_flight ≡ true
     → is_unsettled (e ∷ h) p ≡ true → is_far c p (largest_acknowledged (e ∷ h) p.space) ≡ true → is_owed c (e ∷ h) p ≡ true
-owed_by_ack c (Ack time space ranges delay app_limited) h q p must acks new same flies unsettled far =
-    let e = Ack time space ranges delay app_limited in
+owed_by_ack c (Ack ack) h q p must acks new same flies unsettled far =
+    let e = Ack ack in
     let r = sampled c (e ∷ h) in
-    let of_space : p.space ≡ space = same ∙ is_space_is q.space space (and_parts (is_space q.space space) (is_named ranges q.number) acks).0 in
-    let past : is_past_threshold c r time (largest_acknowledged (e ∷ h) space) p ≡ true =
-    subst (λ (s : Space). is_past_threshold c r time (largest_acknowledged (e ∷ h) s) p ≡ true) of_space (far_is_past c r time (largest_acknowledged (e ∷ h) p.space) p must far) in
-    let here : is_of space p ≡ true = rw of_space (is_space_same space) in
-    ap (λ b. is_found_at c r (e ∷ h) p (if◌then◌else◌ {A = Option (Space × ℕ)} b (Some (space, time)) None)) new
-    ∙ and_from (is_of space p) (is_found c r (e ∷ h) time space p) here
-    (and_from (p.in_flight && is_unsettled (e ∷ h) p) (is_past_threshold c r time (largest_acknowledged (e ∷ h) space) p) (and_from p.in_flight (is_unsettled (e ∷ h) p) flies unsettled) past)
+    let of_space : p.space ≡ ack.space = same ∙ is_space_is q.space ack.space (and_parts (is_space q.space ack.space) (is_named ack.ranges q.number) acks).0 in
+    let past : is_past_threshold c r ack.time (largest_acknowledged (e ∷ h) ack.space) p ≡ true =
+    subst (λ (s : Space). is_past_threshold c r ack.time (largest_acknowledged (e ∷ h) s) p ≡ true) of_space (far_is_past c r ack.time (largest_acknowledged (e ∷ h) p.space) p must far) in
+    let here : is_of ack.space p ≡ true = rw of_space (is_space_same ack.space) in
+    ap (λ b. is_found_at c r (e ∷ h) p (if◌then◌else◌ {A = Option (Space × ℕ)} b (Some (ack.space, ack.time)) None)) new
+    ∙ and_from (is_of ack.space p) (is_found c r (e ∷ h) ack.time ack.space p) here
+    (and_from (p.in_flight && is_unsettled (e ∷ h) p) (is_past_threshold c r ack.time (largest_acknowledged (e ∷ h) ack.space) p) (and_from p.in_flight (is_unsettled (e ∷ h) p) flies unsettled) past)
 owed_by_ack c _ h q p must acks new same flies unsettled far = cc
 
 -- ---- no packet that is open and in flight is far

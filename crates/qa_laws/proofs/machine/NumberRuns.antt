@@ -5,6 +5,7 @@ use Rattle.std.proofs.lemmas.List.Sums.{sum_by-cons}
 use Rattle.std.specs.List.{AllByRecursion, list_any}
 use Rattle.std.specs.Prelude.{◌==◌, if◌then◌else◌}
 use Rattle.qa_base.specs.declared.event.Event.{Event}
+use Rattle.qa_base.specs.declared.event.SentPacket.{SentPacket}
 use Rattle.qa_base.specs.declared.event.Event.TheVariants.{Sent}
 use Rattle.qa_base.specs.declared.space.Permission.{Permission}
 use Rattle.qa_base.specs.declared.space.Space.{Space}
@@ -98,33 +99,40 @@ begun p ps earlier two =
 
 -- ---- one more event
 
-abbrev sent_last : ℕ → ℕ → Space → ℕ → ℕ → Bool → Bool → Permission → Packet
-sent_last place time space number size eliciting in_flight permission = record {
+abbrev sent_last : ℕ → SentPacket → Packet
+sent_last place packet = record {
   place = place;
-  time = time;
-  space = space;
-  number = number;
-  size = size;
-  eliciting = eliciting;
-  in_flight = in_flight;
-  permission = permission;
+  time = packet.time;
+  space = packet.space;
+  number = packet.number;
+  size = packet.size;
+  eliciting = packet.eliciting;
+  in_flight = packet.in_flight;
+  permission = packet.permission;
 }
 
+sent_begins : (c : Settings) (h : List Event) (packet : SentPacket) (s : Space) → IsRun c (Sent (record packet { space = s }) ∷ h)
+    → runs (Sent (record packet { space = s }) ∷ h) ≡ runs h + runs_begun (numbers_of h s) packet.number
+sent_begins c h packet Initial run =
+    let e = Sent (record packet { space = Initial }) in
+    let two = in_order_of c (e ∷ h) Initial (tolerated_run_of c (e ∷ h) run) in
+    let more = begun (sent_last (length h) (record packet { space = Initial })) (packets_of h Initial) two.0 two.1 in
+    omega (arith, more)
+sent_begins c h packet Handshake run =
+    let e = Sent (record packet { space = Handshake }) in
+    let two = in_order_of c (e ∷ h) Handshake (tolerated_run_of c (e ∷ h) run) in
+    let more = begun (sent_last (length h) (record packet { space = Handshake })) (packets_of h Handshake) two.0 two.1 in
+    omega (arith, more)
+sent_begins c h packet App run =
+    let e = Sent (record packet { space = App }) in
+    let two = in_order_of c (e ∷ h) App (tolerated_run_of c (e ∷ h) run) in
+    let more = begun (sent_last (length h) (record packet { space = App })) (packets_of h App) two.0 two.1 in
+    omega (arith, more)
+
 -- in a run a packet that is sent begins a run of numbers, unless the number before its own was sent in its space
-pub runs_sent : (c : Settings) (h : List Event) (time : ℕ) (space : Space) (number size : ℕ) (eliciting in_flight : Bool) (permission : Permission) → IsRun c (Sent time space number size eliciting in_flight permission ∷ h)
-    → runs (Sent time space number size eliciting in_flight permission ∷ h) ≡ runs h + runs_begun (numbers_of h space) number
-runs_sent c h time Initial number size eliciting in_flight permission run =
-    let two = in_order_of c (Sent time Initial number size eliciting in_flight permission ∷ h) Initial (tolerated_run_of c (Sent time Initial number size eliciting in_flight permission ∷ h) run) in
-    let more = begun (sent_last (length h) time Initial number size eliciting in_flight permission) (packets_of h Initial) two.0 two.1 in
-    omega (arith, more)
-runs_sent c h time Handshake number size eliciting in_flight permission run =
-    let two = in_order_of c (Sent time Handshake number size eliciting in_flight permission ∷ h) Handshake (tolerated_run_of c (Sent time Handshake number size eliciting in_flight permission ∷ h) run) in
-    let more = begun (sent_last (length h) time Handshake number size eliciting in_flight permission) (packets_of h Handshake) two.0 two.1 in
-    omega (arith, more)
-runs_sent c h time App number size eliciting in_flight permission run =
-    let two = in_order_of c (Sent time App number size eliciting in_flight permission ∷ h) App (tolerated_run_of c (Sent time App number size eliciting in_flight permission ∷ h) run) in
-    let more = begun (sent_last (length h) time App number size eliciting in_flight permission) (packets_of h App) two.0 two.1 in
-    omega (arith, more)
+pub runs_sent : (c : Settings) (h : List Event) (packet : SentPacket) → IsRun c (Sent packet ∷ h)
+    → runs (Sent packet ∷ h) ≡ runs h + runs_begun (numbers_of h packet.space) packet.number
+runs_sent c h packet = sent_begins c h packet packet.space
 
 abbrev runs_in : List Packet → Space → ℕ
 runs_in ps s = count_by (ends_run (numbers (filter (is_of s) ps))) (numbers (filter (is_of s) ps))

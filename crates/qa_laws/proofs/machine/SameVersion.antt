@@ -18,7 +18,7 @@ use Rattle.qa_base.specs.machine.Rules.{first_of, first_broken, IsComplete, IsRu
 use Rattle.qa_base.specs.machine.State.{totals}
 use Rattle.qa_base.specs.machine.Window.{other_window}
 use Rattle.qa_base.specs.values.Constants.{minimum_window}
-use Rattle.qa_base.specs.values.Events.{time_of}
+use Rattle.qa_base.specs.values.Events.{time_of, is_in_flight_by}
 use Rattle.qa_base.specs.values.Settings.{Settings, choosing_options, early, is_outside, is_reported, spares_unreported}
 use Rattle.qa_base.specs.values.Limits.{max_timer_late, max_report_slack_us, max_report_slack_bytes, min_packet_threshold, max_packet_threshold, max_timer_early_us}
 use Rattle.qa_laws.specs.machine.Alike.{of_version}
@@ -36,8 +36,8 @@ vary c version losses = like c (varied c version losses)
 -- ---- the rules
 
 same_past_window : (c : Settings) (version : Version) (losses : LossByNumber) (h : List Event) → Agree c (varied c version losses) h → (e : Event) → is_past_window (vary c version losses) h e ≡ is_past_window c h e
-same_past_window c version losses h a (Sent time space number size eliciting in_flight Window) =
-    ap₂ (λ limit n. in_flight && is_past c.options.window_overshoot limit n size) (same_window c (varied c version losses) h a) (same_bytes c (varied c version losses) h a)
+same_past_window c version losses h a (Sent packet) =
+    ap₂ (λ limit n. is_in_flight_by Window packet && is_past c.options.window_overshoot limit n packet.size) (same_window c (varied c version losses) h a) (same_bytes c (varied c version losses) h a)
 same_past_window c version losses h a _ = refl
 
 same_timer_early : (c : Settings) (version : Version) (losses : LossByNumber) (h : List Event) → Agree c (varied c version losses) h → (e : Event) → is_timer_early (vary c version losses) h e ≡ is_timer_early c h e

@@ -5,6 +5,7 @@ use Rattle.std.proofs.lemmas.Bool.{and_parts, or_cases, leb-true, leb-false, lt-
 use Rattle.std.specs.List.{AllByRecursion, list_any}
 use Rattle.std.specs.Prelude.{nat_le, if◌then◌else◌}
 use Rattle.qa_base.specs.declared.event.Event.{Event}
+use Rattle.qa_base.specs.declared.event.Ack.{Ack as Acknowledgment}
 use Rattle.qa_base.specs.declared.event.Event.TheVariants.{Ack}
 use Rattle.qa_base.specs.declared.space.Space.{Space}
 use Rattle.qa_base.specs.machine.Breaches.{has_at_or_above}
@@ -48,18 +49,18 @@ highest_first n [] two most = refl
 highest_first n (p ∷ ps) two most = first_step n p ps (p.number == n) refl two.0 most.0
 
 -- in a run the packet with the largest number of an acknowledgment, where it is newly acknowledged, is the first of those
-pub sampled_is_first : (c : Settings) (h : List Event) → IsRun c h → (time : ℕ) (space : Space) (ranges : List (ℕ × ℕ)) (delay : ℕ) (app_limited : Bool)
-    → find (λ p. p.number == greatest ranges) (newly_acknowledged (Ack time space ranges delay app_limited ∷ h)) ≡ first_if_numbered (greatest ranges) (newly_acknowledged (Ack time space ranges delay app_limited ∷ h))
-sampled_is_first c h run time space ranges delay app_limited =
-    let e = Ack time space ranges delay app_limited in
+pub sampled_is_first : (c : Settings) (h : List Event) → IsRun c h → (ack : Acknowledgment)
+    → find (λ p. p.number == greatest ack.ranges) (newly_acknowledged (Ack ack ∷ h)) ≡ first_if_numbered (greatest ack.ranges) (newly_acknowledged (Ack ack ∷ h))
+sampled_is_first c h run ack =
+    let e = Ack ack in
     let new = newly_acknowledged (e ∷ h) in
-    highest_first (greatest ranges) new
-    (each_earlier space new (newly_are_of h time space ranges delay app_limited) (two_of_part WasSentBefore (is_newly_acknowledged e h) (packets h) (in_order c h (tolerated_run_of c h run))))
-    (of_each (λ p. p.number ≤ greatest ranges) new (λ p has.
+    highest_first (greatest ack.ranges) new
+    (each_earlier ack.space new (newly_are_of h ack) (two_of_part WasSentBefore (is_newly_acknowledged e h) (packets h) (in_order c h (tolerated_run_of c h run))))
+    (of_each (λ p. p.number ≤ greatest ack.ranges) new (λ p has.
     let is = (part_is (is_newly_acknowledged e h) (packets h) p has).1 in
     let parts = and_parts (acknowledges p.space p.number e && not (is_acknowledged h p)) (not (is_declared_lost h p)) is in
     let named = (and_parts (acknowledges p.space p.number e) (not (is_acknowledged h p)) parts.0).0 in
-    named_at_most ranges p.number (and_parts (is_space p.space space) (is_named ranges p.number) named).1))
+    named_at_most ack.ranges p.number (and_parts (is_space p.space ack.space) (is_named ack.ranges p.number) named).1))
 
 -- ---- the greatest number that was sent
 

@@ -8,6 +8,7 @@ use Rattle.std.proofs.lemmas.List.Elements.{Contains-append_left, Contains-appen
 use Rattle.std.specs.List.{AllByRecursion}
 use Rattle.std.specs.Prelude.{if◌then◌else◌}
 use Rattle.qa_base.specs.declared.event.Event.{Event}
+use Rattle.qa_base.specs.declared.event.SentPacket.{SentPacket}
 use Rattle.qa_base.specs.declared.event.Event.TheVariants.{Sent, Ack, Timer, Discard}
 use Rattle.qa_base.specs.declared.space.Permission.{Permission}
 use Rattle.qa_base.specs.declared.space.Space.{Space}
@@ -126,7 +127,7 @@ none_named c e h p has none =
     false_from_ne_true (is_named_free c e h p) (λ is. both_ways (is_some_packet (named_free c e h)) none (has_some (named_free c e h) p (part_has (is_named_free c e h) (packets h) p has is)))
 
 quiet_leaves : (c : Settings) (e : Event) (h : List Event) (p : Packet) → is_quiet e ≡ true → LeavesIt c e h p
-quiet_leaves c (Ack time space ranges delay app_limited) h p quiet = cc
+quiet_leaves c (Ack ack) h p quiet = cc
 quiet_leaves c (Timer time kind space) h p quiet = cc
 quiet_leaves c (Discard time space) h p quiet = cc
 quiet_leaves c _ h p quiet = (refl, refl, refl)
@@ -161,25 +162,25 @@ begins_sent c g h p [] is same begins = is
 begins_sent c g h p (q ∷ qs) is same begins = same q (has_first q qs) ∙ begins
 
 -- in a run a packet that is sent is of use, and no other is more or less so
-pub kept_sent : (c : Settings) (h : List Event) (time : ℕ) (space : Space) (number size : ℕ) (eliciting in_flight : Bool) (permission : Permission) → IsRun c (Sent time space number size eliciting in_flight permission ∷ h)
-    → kept_count c (Sent time space number size eliciting in_flight permission ∷ h) ≡ kept_count c h + 1
-kept_sent c h time space number size eliciting in_flight permission run =
-    let e = Sent time space number size eliciting in_flight permission in
+pub kept_sent : (c : Settings) (h : List Event) (packet : SentPacket) → IsRun c (Sent packet ∷ h)
+    → kept_count c (Sent packet ∷ h) ≡ kept_count c h + 1
+kept_sent c h packet run =
+    let e = Sent packet in
     let p : Packet = record {
       place = length h;
-      time = time;
-      space = space;
-      number = number;
-      size = size;
-      eliciting = eliciting;
-      in_flight = in_flight;
-      permission = permission;
+      time = packet.time;
+      space = packet.space;
+      number = packet.number;
+      size = packet.size;
+      eliciting = packet.eliciting;
+      in_flight = packet.in_flight;
+      permission = packet.permission;
     } in
     let all = behind (is_kept c h) (reverse (packets h)) in
     let kept = from_first (is_kept c h) (reverse (packets h)) in
     let split : reverse (packets (e ∷ h)) ≡ all.0 ++ (kept ++ p ∷ []) =
     turned p (packets h) ∙ (ap (λ (ps : List Packet). ps ++ p ∷ []) all.1 ∙ append_assoc all.0 kept (p ∷ [])) in
-    let opens = sent_is_open c h time space number size eliciting in_flight permission p refl refl (all_hold c h e run.1).space_gone in
+    let opens = sent_is_open c h packet p refl refl (all_hold c h e run.1).space_gone in
     let is : is_kept c (e ∷ h) p ≡ true = or_left (is_open c (e ∷ h) p) (is_owed c (e ∷ h) p) opens in
     kept_count_is c (e ∷ h) all.0 (kept ++ p ∷ []) split (front_stays c e h run all.0 kept all.1 all.2)
     (begins_sent c (e ∷ h) h p kept is (λ q has. quiet_use c e h run refl (all_hold c h e run.1).loss_owed (ap is_some_packet (names_nothing c e h (λ p. refl))) q (rest_has h all.0 kept all.1 q has)) (begins c h (reverse (packets h))))

@@ -61,9 +61,9 @@ conduct_of_run c h run proper = record {
       lost_rightly c before time space ranges
       (prefix_of_run c after (Lost time space ranges ∷ before) (subst (λ (k : List Event). IsRun c k) is run))
       (proper_behind after (Lost time space ranges ∷ before) (subst (λ (k : List Event). AllByRecursion IsProperEvent k) is proper)).1 n named;
-  sent = λ after before time space number size eliciting permission is past.
-      past_window_by_permission c before time space number size eliciting permission
-      (prefix_of_run c after (Sent time space number size eliciting true permission ∷ before) (subst (λ (k : List Event). IsRun c k) is run)) past;
+  sent = λ after before packet is flies past.
+      past_window_by_permission c before packet flies
+      (prefix_of_run c after (Sent packet ∷ before) (subst (λ (k : List Event). IsRun c k) is run)) past;
   halved = λ after between before second first is enters_first enters_second other calm.
       halved_once c second first between before
       (prefix_of_run c after (second ∷ between ++ first ∷ before) (subst (λ (k : List Event). IsRun c k) is run)) enters_first enters_second other calm;

@@ -4,12 +4,13 @@ use Rattle.std.specs.Prelude.{[], ◌∷◌, ◌++◌, Option, Some, sum_by, Con
 use Rattle.std.specs.List.{list_any}
 use Rattle.qa_base.specs.declared.event.Event.{Event}
 use Rattle.qa_base.specs.declared.event.Event.TheVariants.{Sent, Lost, Timer}
+use Rattle.qa_base.specs.declared.event.SentPacket.{SentPacket}
 use Rattle.qa_base.specs.declared.space.TimerKind.TheVariants.{Pto}
 use Rattle.qa_base.specs.declared.space.Permission.{Permission}
 use Rattle.qa_base.specs.declared.space.Permission.TheVariants.{Window, Probe, Recovery}
 use Rattle.qa_base.specs.declared.space.Space.{Space}
 use Rattle.qa_base.specs.values.Constants.{probe_datagrams}
-use Rattle.qa_base.specs.values.Events.{is_named}
+use Rattle.qa_base.specs.values.Events.{is_named, is_in_flight_by}
 use Rattle.qa_base.specs.machine.Estimates.{sampled}
 use Rattle.qa_base.specs.machine.Loss.{declared, bytes_in_flight, is_persistent, detection}
 use Rattle.qa_base.specs.machine.Moments.{detection_of, last_time}
@@ -50,19 +51,19 @@ is_pto_event _ = false
 
 -- an in-flight packet that is marked as a probe
 abbrev pub is_probe : Event → Bool
-is_probe (Sent time space number size eliciting in_flight Probe) = in_flight
+is_probe (Sent packet) = is_in_flight_by Probe packet
 is_probe _ = false
 
 -- its bytes
 abbrev pub probe_bytes : Event → ℕ
-probe_bytes (Sent time space number size eliciting in_flight Probe) = if in_flight then size else 0
+probe_bytes (Sent packet) = if is_in_flight_by Probe packet then packet.size else 0
 probe_bytes _ = 0
 
 -- ---- recovery (RFC 9002, section 7.3.2)
 
 -- an in-flight packet that is marked for recovery
 abbrev pub is_recovery : Event → Bool
-is_recovery (Sent time space number size eliciting in_flight Recovery) = in_flight
+is_recovery (Sent packet) = is_in_flight_by Recovery packet
 is_recovery _ = false
 
 -- packets that are lost enter recovery: the last of them was sent after recovery began, or there is
@@ -142,10 +143,10 @@ pub record IsSenderRule (c : Settings) (h : List Event) : Type 0 where
   pub lost : (after before : List Event) (time : ℕ) (space : Space) (ranges : List (ℕ × ℕ))
       → h ≡ after ++ Lost time space ranges ∷ before
       → (n : ℕ) → is_named ranges n ≡ true → IsLostRightly c before space n
-  pub sent : (after before : List Event) (time : ℕ) (space : Space) (number size : ℕ)
-      (eliciting : Bool) (permission : Permission)
-      → h ≡ after ++ Sent time space number size eliciting true permission ∷ before
-      → window c before < bytes_in_flight c before + size → HasPermission c before size permission
+  pub sent : (after before : List Event) (packet : SentPacket)
+      → h ≡ after ++ Sent packet ∷ before → packet.in_flight ≡ true
+      → window c before < bytes_in_flight c before + packet.size
+      → HasPermission c before packet.size packet.permission
   pub halved : (after between before : List Event) (second first : Event)
       → h ≡ after ++ (second ∷ between ++ first ∷ before)
       → is_entry c (first ∷ before) ≡ true → is_entry c (second ∷ between ++ first ∷ before) ≡ true

@@ -81,8 +81,8 @@ abbrev pub greatest_sent : List Event → Space → Option ℕ
 greatest_sent h s = greatest_of (numbers_of h s)
 
 abbrev pub greatest_before : List Event → Event → Option ℕ
-greatest_before h (Sent time space number size eliciting in_flight permission) =
-    greatest_sent h space
+greatest_before h (Sent packet) =
+    greatest_sent h packet.space
 greatest_before h _ = None
 
 -- the least number of the ranges that was not sent in the space
@@ -90,7 +90,7 @@ abbrev pub first_unsent : List Event → Space → List (ℕ × ℕ) → Option 
 first_unsent h s ranges = first_outside ranges (numbers_of h s)
 
 abbrev pub first_unsent_of : List Event → Event → Option ℕ
-first_unsent_of h (Ack time space ranges delay app_limited) = first_unsent h space ranges
+first_unsent_of h (Ack ack) = first_unsent h ack.space ack.ranges
 first_unsent_of h _ = None
 
 -- ---- why a deadline is what it is

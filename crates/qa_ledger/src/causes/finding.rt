@@ -134,7 +134,7 @@ fn greatest_before<S: Facts>(state: &S, event: &Event) -> Option<PacketNumber>
         → result ≡ causes.greatest_before h event.now }
 {
     match event {
-        Event::Sent { space, .. } => state.greatest_sent(*space),
+        Event::Sent(packet) => state.greatest_sent(packet.space),
         _ => None,
     }
 }
@@ -145,7 +145,7 @@ fn first_unsent<S: Facts>(state: &S, event: &Event) -> Option<PacketNumber>
         → result ≡ causes.first_unsent_of h event.now }
 {
     match event {
-        Event::Ack { space, ranges, .. } => state.first_unsent(*space, ranges.as_slice()),
+        Event::Ack(ack) => state.first_unsent(ack.space, ack.ranges.as_slice()),
         _ => None,
     }
 }

@@ -3,6 +3,7 @@ use Rattle.std.proofs.Common.{◌≡◌, ◌∙◌, ◌<◌, ◌^◌, ℕ, List,
 use Rattle.std.specs.List.{AllByRecursion}
 use Rattle.std.specs.Prelude.{if◌then◌else◌}
 use Rattle.qa_base.specs.declared.event.Event.{Event}
+use Rattle.qa_base.specs.declared.event.Ack.{Ack as Acknowledgment}
 use Rattle.qa_base.specs.declared.event.Event.TheVariants.{Ack, Timer}
 use Rattle.qa_base.specs.declared.space.Space.{Space}
 use Rattle.qa_base.specs.declared.space.TimerKind.TheVariants.{Loss}
@@ -28,20 +29,20 @@ if_new : (c : Settings) (h : List Event) (d : Space × ℕ) (new : Bool) → new
 if_new c h d new is = rw is refl
 
 -- an acknowledgment of something new
-pub acked_detected : (c : Settings) (h : List Event) (time : ℕ) (space : Space) (ranges : List (ℕ × ℕ)) (delay : ℕ) (app_limited : Bool) (before : Control) (ps : List SentPacket)
-    → before ≡ reno c h → ps ≡ acknowledged_by c (Ack time space ranges delay app_limited) h → acknowledges_new (Ack time space ranges delay app_limited ∷ h) ≡ true
+pub acked_detected : (c : Settings) (h : List Event) (ack : Acknowledgment) (before : Control) (ps : List SentPacket)
+    → before ≡ reno c h → ps ≡ acknowledged_by c (Ack ack) h → acknowledges_new (Ack ack ∷ h) ≡ true
     → AllByRecursion Fits h → length h < 2 ^ 32
-    → Some (record { space = space; looked = time; time = time; before = before; acknowledged = fold with_bytes 0 ps }) ≡ detection_after c (Ack time space ranges delay app_limited ∷ h)
-acked_detected c h time space ranges delay app_limited before ps is_before are some fit few =
-    let e = Ack time space ranges delay app_limited in
-    rw (is_before, are) (ap (of space time time (reno c h)) (new_bytes_are c e h fit few) ∙ sym (if_new c (e ∷ h) (space, time) (acknowledges_new (e ∷ h)) some))
+    → Some (record { space = ack.space; looked = ack.time; time = ack.time; before = before; acknowledged = fold with_bytes 0 ps }) ≡ detection_after c (Ack ack ∷ h)
+acked_detected c h ack before ps is_before are some fit few =
+    let e = Ack ack in
+    rw (is_before, are) (ap (of ack.space ack.time ack.time (reno c h)) (new_bytes_are c e h fit few) ∙ sym (if_new c (e ∷ h) (ack.space, ack.time) (acknowledges_new (e ∷ h)) some))
 
 -- an acknowledgment of nothing new is no detection
-pub acked_undetected : (c : Settings) (h : List Event) (time : ℕ) (space : Space) (ranges : List (ℕ × ℕ)) (delay : ℕ) (app_limited : Bool)
-    → acknowledges_new (Ack time space ranges delay app_limited ∷ h) ≡ false → None ≡ detection_after c (Ack time space ranges delay app_limited ∷ h)
-acked_undetected c h time space ranges delay app_limited none =
-    let e = Ack time space ranges delay app_limited in
-    sym (ap (λ b. option_map (detected_in c (e ∷ h)) (if b then Some (space, time) else None)) none)
+pub acked_undetected : (c : Settings) (h : List Event) (ack : Acknowledgment)
+    → acknowledges_new (Ack ack ∷ h) ≡ false → None ≡ detection_after c (Ack ack ∷ h)
+acked_undetected c h ack none =
+    let e = Ack ack in
+    sym (ap (λ b. option_map (detected_in c (e ∷ h)) (if b then Some (ack.space, ack.time) else None)) none)
 
 -- a loss timer
 pub timed_detected : (c : Settings) (h : List Event) (time : ℕ) (space : Space) (looked : ℕ) (before : Control)

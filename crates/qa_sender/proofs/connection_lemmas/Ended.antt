@@ -1,6 +1,7 @@
 -- What an event makes of the estimate, and whether the peer has validated the sender's address.
 use Rattle.std.proofs.Common.{◌≡◌, List, ◌∷◌, ℕ, Bool, true, false, refl, ap}
 use Rattle.qa_base.specs.declared.event.Event.{Event}
+use Rattle.qa_base.specs.declared.event.Ack.{Ack as Acknowledgment}
 use Rattle.qa_base.specs.declared.event.Event.TheVariants.{Ack}
 use Rattle.qa_base.specs.declared.space.Space.{Space}
 use Rattle.qa_base.specs.machine.Detection.{is_persistent_by}
@@ -19,11 +20,11 @@ use Rattle.qa_sender.proofs.connection_lemmas.Told.{sample_is}
 use Rattle.qa_sent_packets.specs.declared.packet.SentPacket.{SentPacket}
 
 -- the estimate with the sample of an acknowledgment
-pub sampled_of : (c : Settings) (h : List Event) (time : ℕ) (space : Space) (ranges : List (ℕ × ℕ)) (delay : ℕ) (app_limited : Bool) (header : Settings) (confirmed : Bool) (ps : List SentPacket) (before : Estimate)
-    → header ≡ c → confirmed ≡ is_confirmed h → ps ≡ acknowledged_by c (Ack time space ranges delay app_limited) h → before ≡ rtt c h
-    → updated before (sample_by header.options.sample_eliciting_only time (limited_delay header.max_ack_delay confirmed delay) (greatest ranges) ps) ≡ sampled c (Ack time space ranges delay app_limited ∷ h)
-sampled_of c h time space ranges delay app_limited header confirmed ps before is_header is_confirmed_then are is =
-    rw (is_header, is_confirmed_then, are, is) (ap (updated (rtt c h)) (sample_is c h time space ranges delay app_limited))
+pub sampled_of : (c : Settings) (h : List Event) (ack : Acknowledgment) (header : Settings) (confirmed : Bool) (ps : List SentPacket) (before : Estimate)
+    → header ≡ c → confirmed ≡ is_confirmed h → ps ≡ acknowledged_by c (Ack ack) h → before ≡ rtt c h
+    → updated before (sample_by header.options.sample_eliciting_only ack.time (limited_delay header.max_ack_delay confirmed ack.delay) (greatest ack.ranges) ps) ≡ sampled c (Ack ack ∷ h)
+sampled_of c h ack header confirmed ps before is_header is_confirmed_then are is =
+    rw (is_header, is_confirmed_then, are, is) (ap (updated (rtt c h)) (sample_is c h ack))
 
 refreshed_is : (refreshes : Bool) (c : Settings) (h : List Event) (r : Estimate) → refreshed_if refreshes (is_persistent_by r c h) r ≡ refreshed_by refreshes c h r
 refreshed_is true c h r = refl

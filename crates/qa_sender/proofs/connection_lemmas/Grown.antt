@@ -28,10 +28,10 @@ abbrev IsSized : Packet → Type 0
 IsSized p = (1 ≤ p.size) × (p.size ≤ 65527)
 
 sized_one : (e : Event) (n : ℕ) → Fits e → AllByRecursion IsSized (packet_of n e)
-sized_one (Sent time space number size eliciting in_flight permission) n fit =
-    let parts = and_parts (nat_le 1 size && nat_le size 65527) (not eliciting || in_flight) fit in
-    let both = and_parts (nat_le 1 size) (nat_le size 65527) parts.0 in
-    ((leb-true 1 size both.0, leb-true size 65527 both.1), tt)
+sized_one (Sent packet) n fit =
+    let parts = and_parts (nat_le 1 packet.size && nat_le packet.size 65527) (not packet.eliciting || packet.in_flight) fit in
+    let both = and_parts (nat_le 1 packet.size) (nat_le packet.size 65527) parts.0 in
+    ((leb-true 1 packet.size both.0, leb-true packet.size 65527 both.1), tt)
 sized_one _ n fit = tt
 
 sized : (h : List Event) → AllByRecursion Fits h → AllByRecursion IsSized (packets h)
@@ -40,7 +40,7 @@ sized (e ∷ h) fit = each_append IsSized (packet_of (length h) e) (packets h) (
 
 pub packets_few : (h : List Event) → length (packets h) ≤ length h
 packets_few [] = omega arith
-packets_few (Sent time space number size eliciting in_flight permission ∷ h) = omega (arith, packets_few h)
+packets_few (Sent packet ∷ h) = omega (arith, packets_few h)
 packets_few (_ ∷ h) = omega (arith, packets_few h)
 
 pub newly_few : (e : Event) (h : List Event) → length (newly_acknowledged (e ∷ h)) ≤ length h

@@ -3,6 +3,7 @@ use Rattle.std.proofs.Common.{◌≡◌, ◌∙◌, ◌≤◌, ◌+◌, ℕ, suc
 use Rattle.std.specs.List.{list_any}
 use Rattle.std.specs.Prelude.{if◌then◌else◌}
 use Rattle.qa_base.specs.declared.event.Event.{Event}
+use Rattle.qa_base.specs.declared.event.Ack.{Ack as Acknowledgment}
 use Rattle.qa_base.specs.declared.event.Event.TheVariants.{Sent, Ack, Lost, Timer, Discard, Confirmed, Keys, Metrics}
 use Rattle.qa_base.specs.declared.event.MetricValues.{MetricValues}
 use Rattle.qa_base.specs.declared.space.TimerKind.TheVariants.{Loss, Pto}
@@ -22,6 +23,7 @@ use Rattle.qa_base.specs.values.Events.{is_quiet, time_of}
 use Rattle.qa_base.specs.values.Settings.{AreInRange, Settings}
 use Rattle.qa_base.proofs.machine.Quiet.{is_pto-quiet, newly-quiet, none_passes, not_refreshed, resets_count-quiet, rtt-quiet}
 use Rattle.qa_base.proofs.machine.Steps.{reno_after}
+use Rattle.qa_sender.specs.Following.{as_sent}
 use Rattle.qa_sender.specs.connection.Changes.{acknowledged, completed, counted, discarded, grown, probing, reported, restarted, sent, with_persistent_congestion, with_congestion_event, with_sample}
 use Rattle.qa_sender.specs.connection.Handshaking.{acknowledged_in, discarded_in, handshake_after, sent_in}
 use Rattle.qa_sender.specs.connection.Known.{HasParts, IsMeasured, IsOf, IsProperToleratedRun, acknowledged_by}
@@ -102,31 +104,31 @@ none_of (p ∷ ps) none = cc
 -- ---- an acknowledgment
 
 -- once it raised the largest acknowledged number, and its sample was taken, losses can be looked for
-pub acked_measured : (c : Settings) (h : List Event) (time : ℕ) (space : Space) (ranges : List (ℕ × ℕ)) (delay : ℕ) (app_limited : Bool) (old covers samples : Connection) → HasParts old c h
-    → (largest : ℕ) → largest ≡ greatest ranges → covers ≡ acknowledged space largest old
-    → (ps : List SentPacket) → ps ≡ acknowledged_by c (Ack time space ranges delay app_limited) h → samples ≡ with_sample time delay largest ps covers
-    → IsMeasured samples c (Ack time space ranges delay app_limited ∷ h)
-acked_measured c h time space ranges delay app_limited old covers samples of largest is_largest is_acknowledged ps are is_sampled =
+pub acked_measured : (c : Settings) (h : List Event) (ack : Acknowledgment) (old covers samples : Connection) → HasParts old c h
+    → (largest : ℕ) → largest ≡ greatest ack.ranges → covers ≡ acknowledged ack.space largest old
+    → (ps : List SentPacket) → ps ≡ acknowledged_by c (Ack ack) h → samples ≡ with_sample ack.time ack.delay largest ps covers
+    → IsMeasured samples c (Ack ack ∷ h)
+acked_measured c h ack old covers samples of largest is_largest is_acknowledged ps are is_sampled =
     rw (is_sampled, is_acknowledged, is_largest) (record {
       header = of.header;
-      rtt = sampled_of c h time space ranges delay app_limited old.header old.handshake.confirmed ps old.rtt of.header (ap (λ (x : HandshakeState). x.confirmed) of.handshake) are of.rtt;
-      spaces = spaces_acked h time space ranges delay app_limited old.spaces of.spaces;
+      rtt = sampled_of c h ack old.header old.handshake.confirmed ps old.rtt of.header (ap (λ (x : HandshakeState). x.confirmed) of.handshake) are of.rtt;
+      spaces = spaces_acked h ack old.spaces of.spaces;
     })
 
 -- an acknowledgment of something new, as its steps are made one after the other
-pub acked_is : (c : Settings) (h : List Event) (time : ℕ) (space : Space) (ranges : List (ℕ × ℕ)) (delay : ℕ) (app_limited : Bool) (old covers samples loses grows new : Connection)
-    → HasParts old c h → IsProperToleratedRun c (Ack time space ranges delay app_limited ∷ h) → AreInRange c
-    → (largest : ℕ) → largest ≡ greatest ranges → covers ≡ acknowledged space largest old
-    → (ps : List SentPacket) → ps ≡ acknowledged_by c (Ack time space ranges delay app_limited) h → acknowledges_new (Ack time space ranges delay app_limited ∷ h) ≡ true
-    → samples ≡ with_sample time delay largest ps covers
-    → loses ≡ with_persistent_congestion (is_persistent c (Ack time space ranges delay app_limited ∷ h)) (with_congestion_event time (last_sent (owed c (Ack time space ranges delay app_limited ∷ h))) samples)
-    → grows ≡ grown app_limited ps loses → new ≡ restarted time grows → HasParts new c (Ack time space ranges delay app_limited ∷ h)
-acked_is c h time space ranges delay app_limited old covers samples loses grows new of run range largest is_largest is_acknowledged ps are some is_sampled is_declared_lost is_grown is_new =
-    let e = Ack time space ranges delay app_limited in
-    let measured = acked_measured c h time space ranges delay app_limited old covers samples of largest is_largest is_acknowledged ps are is_sampled in
+pub acked_is : (c : Settings) (h : List Event) (ack : Acknowledgment) (old covers samples loses grows new : Connection)
+    → HasParts old c h → IsProperToleratedRun c (Ack ack ∷ h) → AreInRange c
+    → (largest : ℕ) → largest ≡ greatest ack.ranges → covers ≡ acknowledged ack.space largest old
+    → (ps : List SentPacket) → ps ≡ acknowledged_by c (Ack ack) h → acknowledges_new (Ack ack ∷ h) ≡ true
+    → samples ≡ with_sample ack.time ack.delay largest ps covers
+    → loses ≡ with_persistent_congestion (is_persistent c (Ack ack ∷ h)) (with_congestion_event ack.time (last_sent (owed c (Ack ack ∷ h))) samples)
+    → grows ≡ grown ack.app_limited ps loses → new ≡ restarted ack.time grows → HasParts new c (Ack ack ∷ h)
+acked_is c h ack old covers samples loses grows new of run range largest is_largest is_acknowledged ps are some is_sampled is_declared_lost is_grown is_new =
+    let e = Ack ack in
+    let measured = acked_measured c h ack old covers samples of largest is_largest is_acknowledged ps are is_sampled in
     let long = run.few in
-    let shakes : acknowledged_in space old.handshake ≡ handshake_after (e ∷ h) = ap (acknowledged_in space) of.handshake in
-    let valid = validated_is old.header c (acknowledged_in space old.handshake) (e ∷ h) of.header shakes in
+    let shakes : acknowledged_in ack.space old.handshake ≡ handshake_after (e ∷ h) = ap (acknowledged_in ack.space) of.handshake in
+    let valid = validated_is old.header c (acknowledged_in ack.space old.handshake) (e ∷ h) of.header shakes in
     let resets = valid ∙ sym (ap (λ b. b && is_validated c (e ∷ h)) some) in
     let entered = entry_of c e h old.reno (last_sent (owed c (e ∷ h))) of.reno refl in
     let samples_rtt : samples.rtt ≡ sampled c (e ∷ h) = measured.rtt in
@@ -134,39 +136,39 @@ acked_is c h time space ranges delay app_limited old covers samples loses grows 
       header = measured.header;
       handshake = rw (is_sampled, is_acknowledged) shakes;
       rtt = rtt_of c e h samples.header (is_persistent c (e ∷ h)) samples.rtt measured.header refl measured.rtt;
-      reno = rw (is_sampled, is_acknowledged) (reno_of c e h old.header old.reno time ps (last_sent (owed c (e ∷ h))) (is_persistent c (e ∷ h)) of.header of.reno refl are refl refl range run.fit.1 (omega (arith, long)));
-      reported = rw (is_sampled, is_acknowledged) (ap (λ (r : ReportedWindow). acknowledging ps (collapsed_with 0 (is_persistent c (e ∷ h)) r)) of.reported ∙ reported_acked c h time space ranges delay app_limited ps are run.fit.1 (omega (arith, long)));
-      timer = rw (is_sampled, is_acknowledged) (ap (timers.restarted time _) of.timer ∙ timer_restarted c e h _ refl resets some (λ s. some));
+      reno = rw (is_sampled, is_acknowledged) (reno_of c e h old.header old.reno ack.time ps (last_sent (owed c (e ∷ h))) (is_persistent c (e ∷ h)) of.header of.reno refl are refl refl range run.fit.1 (omega (arith, long)));
+      reported = rw (is_sampled, is_acknowledged) (ap (λ (r : ReportedWindow). acknowledging ps (collapsed_with 0 (is_persistent c (e ∷ h)) r)) of.reported ∙ reported_acked c h ack ps are run.fit.1 (omega (arith, long)));
+      timer = rw (is_sampled, is_acknowledged) (ap (timers.restarted ack.time _) of.timer ∙ timer_restarted c e h _ refl resets some (λ s. some));
       allowances = rw (is_sampled, is_acknowledged) (ap (λ b. on_congestion_event b old.allowances) entered ∙ (ap (on_congestion_event _) of.allowances ∙ sym (allowances_stay c e h refl refl)));
       spaces = measured.spaces;
     })
 
 -- an acknowledgment of nothing new: it raises the largest acknowledged number, and may be one of the Handshake space
-pub acked_old : (c : Settings) (h : List Event) (time : ℕ) (space : Space) (ranges : List (ℕ × ℕ)) (delay : ℕ) (app_limited : Bool) (old covers : Connection) → HasParts old c h
-    → (largest : ℕ) → largest ≡ greatest ranges → covers ≡ acknowledged space largest old
-    → [] ≡ acknowledged_by c (Ack time space ranges delay app_limited) h → acknowledges_new (Ack time space ranges delay app_limited ∷ h) ≡ false
-    → owed c (Ack time space ranges delay app_limited ∷ h) ≡ [] → HasParts covers c (Ack time space ranges delay app_limited ∷ h)
-acked_old c h time space ranges delay app_limited old covers of largest is_largest is_acknowledged are none free =
-    let e = Ack time space ranges delay app_limited in
-    let measured = acked_measured c h time space ranges delay app_limited old covers (with_sample time delay largest [] covers) of largest is_largest is_acknowledged [] are refl in
+pub acked_old : (c : Settings) (h : List Event) (ack : Acknowledgment) (old covers : Connection) → HasParts old c h
+    → (largest : ℕ) → largest ≡ greatest ack.ranges → covers ≡ acknowledged ack.space largest old
+    → [] ≡ acknowledged_by c (Ack ack) h → acknowledges_new (Ack ack ∷ h) ≡ false
+    → owed c (Ack ack ∷ h) ≡ [] → HasParts covers c (Ack ack ∷ h)
+acked_old c h ack old covers of largest is_largest is_acknowledged are none free =
+    let e = Ack ack in
+    let measured = acked_measured c h ack old covers (with_sample ack.time ack.delay largest [] covers) of largest is_largest is_acknowledged [] are refl in
     rw (is_acknowledged, is_largest) (record {
       header = of.header;
-      handshake = ap (acknowledged_in space) of.handshake;
+      handshake = ap (acknowledged_in ack.space) of.handshake;
       rtt = rw is_acknowledged at measured.rtt ∙ sym (rtt_stays c e h free);
       reno = of.reno ∙ sym (reno_stays c e h free (none_of (newly_acknowledged (e ∷ h)) none));
       reported = of.reported ∙ sym (reported_stays c e h refl (none_of (newly_acknowledged (e ∷ h)) none) (not_persistent c (e ∷ h) free));
       timer = of.timer ∙ sym (timer_stays c e h refl (ap (λ b. b && is_validated c (e ∷ h)) none) none (λ s. none));
       allowances = of.allowances ∙ sym (allowances_unhit c e h _ refl refl refl free);
-      spaces = spaces_acked h time space ranges delay app_limited old.spaces of.spaces;
+      spaces = spaces_acked h ack old.spaces of.spaces;
     })
 
 -- ---- a packet
 
 -- a packet is sent
-pub sent_is : (c : Settings) (h : List Event) (p : SentPacket) (permission : Permission) (k : Connection) → HasParts k c h → IsProperToleratedRun c (Sent p.time p.space p.number p.size p.eliciting p.in_flight permission ∷ h)
-    → HasParts (sent p permission k) c (Sent p.time p.space p.number p.size p.eliciting p.in_flight permission ∷ h)
+pub sent_is : (c : Settings) (h : List Event) (p : SentPacket) (permission : Permission) (k : Connection) → HasParts k c h → IsProperToleratedRun c (Sent (as_sent p permission) ∷ h)
+    → HasParts (sent p permission k) c (Sent (as_sent p permission) ∷ h)
 sent_is c h p permission k of run =
-    let e = Sent p.time p.space p.number p.size p.eliciting p.in_flight permission in
+    let e = Sent (as_sent p permission) in
     let long = run.few in
     record {
       header = of.header;
@@ -178,10 +180,10 @@ sent_is c h p permission k of run =
         pto_count = t.pto_count;
         last_set = if p.in_flight then Some p.time else t.last_set;
         probe_due = if p.eliciting then answered_in p.space t.probe_due else t.probe_due;
-      }) of.timer ∙ timer_sent c h p.time p.space p.number p.size p.eliciting p.in_flight permission;
+      }) of.timer ∙ timer_sent c h (as_sent p permission);
       allowances = ap (λ (a : Allowances). if p.in_flight then spent permission p.size a else a) of.allowances
-          ∙ allowances_sent c h p.time p.space p.number p.size p.eliciting p.in_flight permission run.fit (omega (arith, long));
-      spaces = spaces_sent h p.time p.space p.number p.size p.eliciting p.in_flight permission k.spaces of.spaces;
+          ∙ allowances_sent c h (as_sent p permission) run.fit (omega (arith, long));
+      spaces = spaces_sent h (as_sent p permission) k.spaces of.spaces;
     }
 
 -- ---- timers

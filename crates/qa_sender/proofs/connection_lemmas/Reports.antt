@@ -7,6 +7,7 @@ use Rattle.std.proofs.lemmas.List.Sums.{sum_by-append, sum_by-cons}
 use Rattle.std.specs.List.{AllByRecursion}
 use Rattle.std.specs.Prelude.{if◌then◌else◌}
 use Rattle.qa_base.specs.declared.event.Event.{Event}
+use Rattle.qa_base.specs.declared.event.Ack.{Ack as Acknowledgment}
 use Rattle.qa_base.specs.declared.event.Event.TheVariants.{Ack, Metrics}
 use Rattle.qa_base.specs.declared.event.MetricValues.{MetricValues}
 use Rattle.qa_base.specs.declared.space.Space.{Space}
@@ -140,11 +141,11 @@ acked_by c e h true acknowledged fit few small = ap Some (with_all_is c e h 0 fi
 acked_by c e h false None fit few small = refl
 acked_by c e h false (Some n) fit few small = ap Some (with_all_is c e h n fit few small)
 
-pub reported_acked : (c : Settings) (h : List Event) (time : ℕ) (space : Space) (ranges : List (ℕ × ℕ)) (delay : ℕ) (app_limited : Bool) (ps : List SentPacket)
-    → ps ≡ acknowledged_by c (Ack time space ranges delay app_limited) h → AllByRecursion Fits h → length h < 2 ^ 32
-    → acknowledging ps (collapsed_with 0 (is_persistent c (Ack time space ranges delay app_limited ∷ h)) (reported_after c h)) ≡ reported_after c (Ack time space ranges delay app_limited ∷ h)
-reported_acked c h time space ranges delay app_limited ps are fit few =
-    let e = Ack time space ranges delay app_limited in
+pub reported_acked : (c : Settings) (h : List Event) (ack : Acknowledgment) (ps : List SentPacket)
+    → ps ≡ acknowledged_by c (Ack ack) h → AllByRecursion Fits h → length h < 2 ^ 32
+    → acknowledging ps (collapsed_with 0 (is_persistent c (Ack ack ∷ h)) (reported_after c h)) ≡ reported_after c (Ack ack ∷ h)
+reported_acked c h ack ps are fit few =
+    let e = Ack ack in
     rw are (ap (of (reported_window c h)) (
     acked_by c e h (is_persistent c (e ∷ h)) (acknowledged_since_collapse c h) fit few (since_collapse_small c h fit)
     ∙ sym (since_collapse_after c e h)

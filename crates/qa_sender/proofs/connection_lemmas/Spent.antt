@@ -4,6 +4,7 @@ use Rattle.std.proofs.lemmas.Bool.{and_parts, leb-true}
 use Rattle.std.specs.List.{AllByRecursion}
 use Rattle.std.specs.Prelude.{◌&&◌, ◌||◌, not, if◌then◌else◌, nat_le}
 use Rattle.qa_base.specs.declared.event.Event.{Event}
+use Rattle.qa_base.specs.declared.event.SentPacket.{SentPacket as PacketOfEvent}
 use Rattle.qa_base.specs.declared.event.Event.TheVariants.{Sent}
 use Rattle.qa_base.specs.declared.space.Permission.{Permission}
 use Rattle.qa_base.specs.declared.space.Permission.TheVariants.{Window, Probe, Recovery}
@@ -12,6 +13,7 @@ use Rattle.qa_base.specs.machine.Permission.{is_recovery_packet, probe_size, pro
 use Rattle.qa_base.specs.machine.Loss.{declared}
 use Rattle.qa_base.specs.machine.Reno.{is_entry}
 use Rattle.qa_base.specs.machine.Timer.{is_pto}
+use Rattle.qa_base.specs.values.Events.{is_in_flight_by}
 use Rattle.qa_base.specs.machine.Widths.{Fits}
 use Rattle.qa_base.specs.values.Settings.{Settings}
 use Rattle.qa_base.proofs.machine.Steps.{probe_spent_after, recovery_spent_after}
@@ -36,9 +38,9 @@ size_if true size small = small
 size_if false size small = omega arith
 
 probe_size_small : (e : Event) (h : List Event) → Fits e → probe_size (e ∷ h) ≤ 65527
-probe_size_small (Sent time space number size eliciting in_flight Probe) h fit =
-    let parts = and_parts (nat_le 1 size && nat_le size 65527) (not eliciting || in_flight) fit in
-    size_if in_flight size (leb-true size 65527 (and_parts (nat_le 1 size) (nat_le size 65527) parts.0).1)
+probe_size_small (Sent packet) h fit =
+    let parts = and_parts (nat_le 1 packet.size && nat_le packet.size 65527) (not packet.eliciting || packet.in_flight) fit in
+    size_if (is_in_flight_by Probe packet) packet.size (leb-true packet.size 65527 (and_parts (nat_le 1 packet.size) (nat_le packet.size 65527) parts.0).1)
 probe_size_small _ h fit = omega arith
 
 probe_small : (h : List Event) → AllByRecursion Fits h → IsSmall h (probe_spent h)
@@ -100,19 +102,27 @@ same_if : (b : Bool) (a : Allowances) → (if b then a else a) ≡ a
 same_if true a = refl
 same_if false a = refl
 
-pub allowances_sent : (c : Settings) (h : List Event) (time : ℕ) (space : Space) (number size : ℕ) (eliciting in_flight : Bool) (permission : Permission)
-    → AllByRecursion Fits (Sent time space number size eliciting in_flight permission ∷ h) → length h ≤ 4294967295
-    → (if in_flight then spent permission size (allowances_after c h) else allowances_after c h) ≡ allowances_after c (Sent time space number size eliciting in_flight permission ∷ h)
-allowances_sent c h time space number size eliciting true Probe fit few =
-    let e = Sent time space number size eliciting true Probe in
-    ap₂ allowances_of (whole_sum size h (probe_spent h) (probe_size_small e h fit.0) few (probe_small h fit.1) ∙ sym (probe_spent_after e h))
+-- a packet that is in flight or not, by this leave
+abbrev sent_so : PacketOfEvent → Bool → Permission → Event
+sent_so packet in_flight permission = Sent (record packet { in_flight = in_flight; permission = permission })
+
+allowances_by : (c : Settings) (h : List Event) (packet : PacketOfEvent) (in_flight : Bool) (permission : Permission)
+    → AllByRecursion Fits (sent_so packet in_flight permission ∷ h) → length h ≤ 4294967295
+    → (if in_flight then spent permission packet.size (allowances_after c h) else allowances_after c h) ≡ allowances_after c (sent_so packet in_flight permission ∷ h)
+allowances_by c h packet true Probe fit few =
+    let e = sent_so packet true Probe in
+    ap₂ allowances_of (whole_sum packet.size h (probe_spent h) (probe_size_small e h fit.0) few (probe_small h fit.1) ∙ sym (probe_spent_after e h))
     (sym (recovery_stays c e h refl ∙ ap (λ b. if b then Some 0 else recovery_spent c h) (no_entry c e h refl)))
-allowances_sent c h time space number size eliciting true Recovery fit few =
-    let e = Sent time space number size eliciting true Recovery in
+allowances_by c h packet true Recovery fit few =
+    let e = sent_so packet true Recovery in
     ap₂ allowances_of (sym (probes_stay e h refl))
     (whole_sum 1 h (recovery_spent c h) (omega arith) few (recovery_small c h)
     ∙ sym (recovery_spent_after c e h ∙ ap (λ b. if b then Some 0 else option_map (λ n. 1 + n) (recovery_spent c h)) (no_entry c e h refl)))
-allowances_sent c h time space number size eliciting false Probe fit few = sym (allowances_unhit c (Sent time space number size eliciting false Probe) h false refl refl refl refl)
-allowances_sent c h time space number size eliciting false Recovery fit few = sym (allowances_unhit c (Sent time space number size eliciting false Recovery) h false refl refl refl refl)
-allowances_sent c h time space number size eliciting in_flight Window fit few =
-    same_if in_flight (allowances_after c h) ∙ sym (allowances_unhit c (Sent time space number size eliciting in_flight Window) h false refl refl refl refl)
+allowances_by c h packet false Probe fit few = sym (allowances_unhit c (sent_so packet false Probe) h false refl refl refl refl)
+allowances_by c h packet false Recovery fit few = sym (allowances_unhit c (sent_so packet false Recovery) h false refl refl refl refl)
+allowances_by c h packet in_flight Window fit few =
+    same_if in_flight (allowances_after c h) ∙ sym (allowances_unhit c (sent_so packet in_flight Window) h false refl refl refl refl)
+
+pub allowances_sent : (c : Settings) (h : List Event) (packet : PacketOfEvent) → AllByRecursion Fits (Sent packet ∷ h) → length h ≤ 4294967295
+    → (if packet.in_flight then spent packet.permission packet.size (allowances_after c h) else allowances_after c h) ≡ allowances_after c (Sent packet ∷ h)
+allowances_sent c h packet = allowances_by c h packet packet.in_flight packet.permission

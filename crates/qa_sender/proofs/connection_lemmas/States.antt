@@ -2,6 +2,8 @@
 use Rattle.std.proofs.Common.{◌≡◌, ◌∙◌, ℕ, max, List, [], ◌∷◌, ◌++◌, Bool, true, false, ◌&&◌, ◌||◌, Option, Some, None, flat_map, unwrap_or, refl, sym, ap, arith}
 use Rattle.std.specs.Prelude.{if◌then◌else◌}
 use Rattle.qa_base.specs.declared.event.Event.{Event}
+use Rattle.qa_base.specs.declared.event.SentPacket.{SentPacket as PacketOfEvent}
+use Rattle.qa_base.specs.declared.event.Ack.{Ack as Acknowledgment}
 use Rattle.qa_base.specs.declared.event.Event.TheVariants.{Ack, Discard, Sent}
 use Rattle.qa_base.specs.declared.space.Permission.{Permission}
 use Rattle.qa_base.specs.declared.space.Space.{Space}
@@ -50,11 +52,11 @@ largest_if : (here : Bool) (n : ℕ) (rest : List ℕ) (gone : Bool) (last : Opt
 largest_if true n rest gone last = ap (λ (most : Option ℕ). record { discarded = gone; largest = most; last_eliciting = last }) (raised_by n (greatest_of rest))
 largest_if false n rest gone last = refl
 
-pub spaces_acked : (h : List Event) (time : ℕ) (space : Space) (ranges : List (ℕ × ℕ)) (delay : ℕ) (app_limited : Bool) (old : PerSpace SpaceState) → ((s : Space) → of_space s old ≡ space_after h s)
-    → (s : Space) → of_space s (changed_in space (with_largest (greatest ranges)) old) ≡ space_after (Ack time space ranges delay app_limited ∷ h) s
-spaces_acked h time space ranges delay app_limited old are s =
-    changed_is h (with_largest (greatest ranges)) space old s (are s)
-    ∙ largest_if (is_space s space) (greatest ranges) (flat_map (greatest_in s) h) (is_discarded h s) (last_eliciting h s)
+pub spaces_acked : (h : List Event) (ack : Acknowledgment) (old : PerSpace SpaceState) → ((s : Space) → of_space s old ≡ space_after h s)
+    → (s : Space) → of_space s (changed_in ack.space (with_largest (greatest ack.ranges)) old) ≡ space_after (Ack ack ∷ h) s
+spaces_acked h ack old are s =
+    changed_is h (with_largest (greatest ack.ranges)) ack.space old s (are s)
+    ∙ largest_if (is_space s ack.space) (greatest ack.ranges) (flat_map (greatest_in s) h) (is_discarded h s) (last_eliciting h s)
 
 -- ---- a discard
 
@@ -82,8 +84,8 @@ elicited : (h : List Event) (time : ℕ) (space : Space) (old : PerSpace SpaceSt
 elicited h time space old s true is = changed_is h (with_eliciting time) space old s is ∙ eliciting_if (is_space s space) time (space_after h s)
 elicited h time space old s false is = is ∙ not_eliciting (is_space s space) time (space_after h s)
 
-pub spaces_sent : (h : List Event) (time : ℕ) (space : Space) (number size : ℕ) (eliciting in_flight : Bool) (permission : Permission) (old : PerSpace SpaceState) → ((s : Space) → of_space s old ≡ space_after h s)
-    → (s : Space) → of_space s (if eliciting then changed_in space (with_eliciting time) old else old) ≡ space_after (Sent time space number size eliciting in_flight permission ∷ h) s
-spaces_sent h time space number size eliciting in_flight permission old are s =
-    elicited h time space old s eliciting (are s)
-    ∙ ap (λ (last : Option ℕ). record (space_after h s) { last_eliciting = last }) (sym (last_eliciting_sent h s time space number size eliciting in_flight permission))
+pub spaces_sent : (h : List Event) (packet : PacketOfEvent) (old : PerSpace SpaceState) → ((s : Space) → of_space s old ≡ space_after h s)
+    → (s : Space) → of_space s (if packet.eliciting then changed_in packet.space (with_eliciting packet.time) old else old) ≡ space_after (Sent packet ∷ h) s
+spaces_sent h packet old are s =
+    elicited h packet.time packet.space old s packet.eliciting (are s)
+    ∙ ap (λ (last : Option ℕ). record (space_after h s) { last_eliciting = last }) (sym (last_eliciting_sent h s packet))

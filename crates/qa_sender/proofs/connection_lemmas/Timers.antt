@@ -3,6 +3,7 @@ use Rattle.std.proofs.Common.{◌≡◌, ◌∙◌, ◌≤◌, ◌+◌, ℕ, Lis
 use Rattle.std.specs.List.{AllByRecursion}
 use Rattle.std.specs.Prelude.{if◌then◌else◌}
 use Rattle.qa_base.specs.declared.event.Event.{Event}
+use Rattle.qa_base.specs.declared.event.SentPacket.{SentPacket as PacketOfEvent}
 use Rattle.qa_base.specs.declared.event.Event.TheVariants.{Sent, Timer}
 use Rattle.qa_base.specs.declared.space.TimerKind.TheVariants.{Loss, Pto}
 use Rattle.qa_base.specs.declared.space.Permission.{Permission}
@@ -89,18 +90,20 @@ answered_if true true s new none = refl
 answered_if true false s new none = rw none refl
 answered_if false here s new none = rw none refl
 
-answered_is : (eliciting : Bool) (due : Option Space) (h : List Event) (time : ℕ) (space : Space) (number size : ℕ) (in_flight : Bool) (permission : Permission)
-    → (if eliciting then answered_in space due else due) ≡ unanswered_by (Sent time space number size eliciting in_flight permission ∷ h) due
-answered_is true None h time space number size in_flight permission = refl
-answered_is false None h time space number size in_flight permission = refl
-answered_is eliciting (Some s) h time space number size in_flight permission =
-    answered_if eliciting (is_space s space) s _ (ap is_some_packet (none_passes (packets h)))
+answered_none : (eliciting : Bool) (space : Space) → (if eliciting then answered_in space None else None) ≡ None
+answered_none true space = refl
+answered_none false space = refl
+
+answered_is : (due : Option Space) (h : List Event) (packet : PacketOfEvent) → (if packet.eliciting then answered_in packet.space due else due) ≡ unanswered_by (Sent packet ∷ h) due
+answered_is None h packet = answered_none packet.eliciting packet.space
+answered_is (Some s) h packet =
+    answered_if packet.eliciting (is_space s packet.space) s _ (ap is_some_packet (none_passes (packets h)))
 
 -- a packet
-pub timer_sent : (c : Settings) (h : List Event) (time : ℕ) (space : Space) (number size : ℕ) (eliciting in_flight : Bool) (permission : Permission)
-    → timer_of (pto_count c h) (if in_flight then Some time else last_set h) (if eliciting then answered_in space (probe_due h) else probe_due h)
-    ≡ timer_after c (Sent time space number size eliciting in_flight permission ∷ h)
-timer_sent c h time space number size eliciting in_flight permission =
-    let e = Sent time space number size eliciting in_flight permission in
+pub timer_sent : (c : Settings) (h : List Event) (packet : PacketOfEvent)
+    → timer_of (pto_count c h) (if packet.in_flight then Some packet.time else last_set h) (if packet.eliciting then answered_in packet.space (probe_due h) else probe_due h)
+    ≡ timer_after c (Sent packet ∷ h)
+timer_sent c h packet =
+    let e = Sent packet in
     same_timer _ _ _ _ _ _ (sym (pto_count-quiet c e h refl)) (sym (last_set_after e h))
-    (answered_is eliciting (probe_due h) h time space number size in_flight permission ∙ sym (due_is e h refl))
+    (answered_is (probe_due h) h packet ∙ sym (due_is e h refl))

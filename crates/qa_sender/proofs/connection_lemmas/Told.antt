@@ -5,6 +5,7 @@ use Rattle.std.proofs.lemmas.List.{length-map, length-reverse, reverse-reverse}
 use Rattle.std.specs.List.{list_any}
 use Rattle.std.specs.Prelude.{if◌then◌else◌}
 use Rattle.qa_base.specs.declared.event.Event.{Event}
+use Rattle.qa_base.specs.declared.event.Ack.{Ack as Acknowledgment}
 use Rattle.qa_base.specs.declared.event.Event.TheVariants.{Ack}
 use Rattle.qa_base.specs.declared.space.Space.{Space}
 use Rattle.qa_base.specs.machine.Handshake.{is_confirmed}
@@ -63,8 +64,8 @@ sample_is_of c h only time delay n ps =
     ∙ ap (λ (s : Option Sample). if list_any (gives_sample only n) ps then s else None) (ap (sample_at time delay) (sent_at_is c h n ps) ∙ at_is time delay (find (λ (p : Packet). p.number == n) ps))
 
 -- an acknowledgment gives the sample of the packets that it newly acknowledges
-pub sample_is : (c : Settings) (h : List Event) (time : ℕ) (space : Space) (ranges : List (ℕ × ℕ)) (delay : ℕ) (app_limited : Bool)
-    → steps.sample_by c.options.sample_eliciting_only time (limited_delay c.max_ack_delay (is_confirmed h) delay) (greatest ranges) (acknowledged_by c (Ack time space ranges delay app_limited) h)
-    ≡ sample_of c (Ack time space ranges delay app_limited ∷ h)
-sample_is c h time space ranges delay app_limited =
-    sample_is_of c h c.options.sample_eliciting_only time (estimates.limited_delay c h delay) (greatest ranges) (newly_acknowledged (Ack time space ranges delay app_limited ∷ h))
+pub sample_is : (c : Settings) (h : List Event) (ack : Acknowledgment)
+    → steps.sample_by c.options.sample_eliciting_only ack.time (limited_delay c.max_ack_delay (is_confirmed h) ack.delay) (greatest ack.ranges) (acknowledged_by c (Ack ack) h)
+    ≡ sample_of c (Ack ack ∷ h)
+sample_is c h ack =
+    sample_is_of c h c.options.sample_eliciting_only ack.time (estimates.limited_delay c h ack.delay) (greatest ack.ranges) (newly_acknowledged (Ack ack ∷ h))

@@ -1,7 +1,9 @@
 //! How much the ledger that passes once over events keeps, worked out by hand, over histories too
 //! that are too long for a trace.
 use qa_base::limits::MAX_LINES;
-use qa_base::{Event, Header, PacketNumber, Permission, Role, Space, Span, Spans, Ticks};
+use qa_base::{
+    Ack, Event, Header, PacketNumber, Permission, Role, SentPacket, Space, Span, Spans, Ticks,
+};
 use qa_ledger::Ledger;
 use qa_sender::Running;
 use std::alloc::Global;
@@ -86,7 +88,7 @@ fn server(alloc: Global) -> Option<History> {
 
 /// A packet of 1,200 bytes by leave of the window, if it is in flight.
 fn packet(time: u64, number: u64, eliciting: bool, in_flight: bool) -> Option<Event> {
-    Some(Event::Sent {
+    Some(Event::Sent(SentPacket {
         time: Ticks::new(time)?,
         space: Space::App,
         number: PacketNumber::new(number)?,
@@ -94,7 +96,7 @@ fn packet(time: u64, number: u64, eliciting: bool, in_flight: bool) -> Option<Ev
         eliciting,
         in_flight,
         permission: Permission::Window,
-    })
+    }))
 }
 
 /// An ack-eliciting packet.
@@ -113,13 +115,13 @@ fn ranges(alloc: Global, lo: u64, hi: u64) -> Option<Spans> {
 /// An acknowledgment of one packet.
 fn ack(alloc: Global, time: u64, number: u64) -> Option<Event> {
     let time = Ticks::new(time)?;
-    Some(Event::Ack {
+    Some(Event::Ack(Ack {
         time,
         space: Space::App,
         ranges: ranges(alloc, number, number)?,
         delay: 0,
         app_limited: false,
-    })
+    }))
 }
 
 /// A Lost line of the packets from `lo` to `hi`.

@@ -1,6 +1,7 @@
 //! A line that is written and read back, as a logger does it.
 use qa_trace::{
-    Event, Fault, Line, LineFault, PacketNumber, Space, Span, Spans, Ticks, read_line, write_line,
+    Ack, Event, Fault, Line, LineFault, PacketNumber, Space, Span, Spans, Ticks, read_line,
+    write_line,
 };
 use std::alloc::Global;
 use std::test::Fail;
@@ -27,13 +28,13 @@ fn ranges(alloc: Global) -> Result<Spans, Fail> {
 /// This is an example of docs/library.md.
 #[test]
 fn a_line_is_written_and_read(rt: HostRuntime) -> Result<(), Fail> {
-    let event = Event::Ack {
+    let event = Event::Ack(Ack {
         time: Ticks::of(100_000),
         space: Space::App,
         ranges: ranges(rt.alloc())?,
         delay: 25_000,
         app_limited: false,
-    };
+    });
     assert!(rt; event.fits());
     let line = Line::Event(event);
     let text = write_line(rt.alloc(), &line)?;
@@ -50,13 +51,13 @@ fn lf_is_not_blank(rt: HostRuntime) {
 
 /// An acknowledgment of packet 3, and of those from 0 to 3.
 fn overlapping(alloc: Global) -> Option<Event> {
-    Some(Event::Ack {
+    Some(Event::Ack(Ack {
         time: Ticks::of(5),
         space: Space::App,
         ranges: ranges_to(alloc, 3)?,
         delay: 0,
         app_limited: false,
-    })
+    }))
 }
 
 /// Whether its copy is the same.

@@ -2,7 +2,9 @@
 ghost use Rattle.std.specs.Prelude.{◌<◌, ◌≤◌, ◌+◌};
 ghost use Rattle.qa_base.specs.values.Limits.{max_lines};
 
-use qa_base::{Event, Header, PacketNumber, Permission, Role, Rule, Space, Span, Spans, Ticks};
+use qa_base::{
+    Ack, Event, Header, PacketNumber, Permission, Role, Rule, SentPacket, Space, Span, Spans, Ticks,
+};
 use qa_ledger::{Cause, Explains, Ledger, LedgerFault, Owed, Tolerates};
 use qa_sender::Running;
 use std::alloc::Global;
@@ -10,7 +12,7 @@ use std::test::Fail;
 
 /// An ack-eliciting packet of 1,200 bytes at time 0.
 fn packet(number: u64, permission: Permission) -> Option<Event> {
-    Some(Event::Sent {
+    Some(Event::Sent(SentPacket {
         time: Ticks::of(0),
         space: Space::App,
         number: PacketNumber::new(number)?,
@@ -18,7 +20,7 @@ fn packet(number: u64, permission: Permission) -> Option<Event> {
         eliciting: true,
         in_flight: true,
         permission,
-    })
+    }))
 }
 
 /// A packet by leave of the window.
@@ -47,13 +49,13 @@ fn ranges(alloc: Global, number: u64) -> Option<Spans> {
 
 /// An acknowledgment of one packet after 100 ms.
 fn ack(alloc: Global, number: u64) -> Option<Event> {
-    Some(Event::Ack {
+    Some(Event::Ack(Ack {
         time: Ticks::of(100_000),
         space: Space::App,
         ranges: ranges(alloc, number)?,
         delay: 0,
         app_limited: false,
-    })
+    }))
 }
 
 /// A Lost line of one packet, after 100 ms.

@@ -12,7 +12,7 @@ fn size_of(event: &Event) -> u64
     ensures { result ≡ size_in event.now }
 {
     match event {
-        Event::Sent { size, .. } => *size,
+        Event::Sent(packet) => packet.size,
         _ => 0,
     }
 }

@@ -56,9 +56,9 @@ impl Warnings {
     {
         match event {
             Event::Metrics { .. } => self.told.tell_metrics(name, n, header.version(), line),
-            Event::Sent { size, .. } if header.max_datagram_size() < *size => {
+            Event::Sent(packet) if header.max_datagram_size() < packet.size => {
                 let most = header.max_datagram_size();
-                self.told.tell_packet(name, n, event, *size, most)
+                self.told.tell_packet(name, n, event, packet.size, most)
             }
             _ => Ok(()),
         }

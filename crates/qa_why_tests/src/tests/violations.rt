@@ -3,7 +3,9 @@
 ghost use Rattle.std.specs.Prelude.{◌<◌, ◌≤◌, ◌+◌};
 ghost use Rattle.qa_base.specs.values.Limits.{max_lines};
 
-use qa_base::{Event, Header, PacketNumber, Permission, Role, Rule, Space, Ticks, TimeUnit};
+use qa_base::{
+    Event, Header, PacketNumber, Permission, Role, Rule, SentPacket, Space, Ticks, TimeUnit,
+};
 use qa_check::Judge;
 use qa_ledger::{Cause, Ledger, LedgerFault};
 use qa_sender::Running;
@@ -14,7 +16,7 @@ use std::test::Fail;
 /// An ack-eliciting probe of 1,200 bytes at time 0, which breaks V8 where no probe timeout came
 /// before.
 fn probe(number: u64) -> Option<Event> {
-    Some(Event::Sent {
+    Some(Event::Sent(SentPacket {
         time: Ticks::of(0),
         space: Space::Initial,
         number: PacketNumber::new(number)?,
@@ -22,7 +24,7 @@ fn probe(number: u64) -> Option<Event> {
         eliciting: true,
         in_flight: true,
         permission: Permission::Probe,
-    })
+    }))
 }
 
 /// Has the judge judge an event; None where there is none, or it does not fit.

@@ -10,8 +10,8 @@ use Rattle.qa_reference.specs.Words.{is_discard}
 use Rattle.qa_reference.proofs.timer.resets_count.Goals as goal
 
 unless_discard : (c : Settings) (e : Event) (h : List Event) → is_discard e ≡ false → resets_count c (e ∷ h) ≡ (acknowledges_new (e ∷ h) && is_validated c (e ∷ h))
-unless_discard c (Sent time space number size eliciting in_flight permission) h plain = refl
-unless_discard c (Ack time space ranges delay app_limited) h plain = refl
+unless_discard c (Sent packet) h plain = refl
+unless_discard c (Ack ack) h plain = refl
 unless_discard c (Lost time space ranges) h plain = refl
 unless_discard c (Timer time kind space) h plain = refl
 unless_discard c (Discard time space) h plain = absurd (false≢true (sym plain))

@@ -16,45 +16,45 @@ use Rattle.qa_sender.proofs.machine.Machine.on_ack.Goals as goal
 
 pub find_losses-requires : goal.find_losses-requires
 find_losses-requires c =
-    rw (c.in_ok-acknowledged.ensures.ok, c.as_slice-ranges.ensures) (settled_covered c.args.space c.args.ranges.now c.args.self.now.packets.packets c.requires)
+    rw (c.in_ok-acknowledged.ensures.ok, c.as_slice-ranges.ensures) (settled_covered c.args.ack.now.space c.args.ack.now.ranges c.args.self.now.packets.packets c.requires)
 
 pub returns-then-is_empty-clause-ok : goal.returns-then-is_empty-clause-ok
 returns-then-is_empty-clause-ok c = λ k h stands run.
-    let e = Ack c.args.time c.args.space c.args.ranges.now c.args.delay c.args.app_limited in
+    let e = Ack c.args.ack.now in
     let old = c.args.self.now in
     let ps = c.in_ok-acknowledged.acknowledged.items in
-    let are : ps ≡ acknowledged_by k e h = (rw c.as_slice-ranges.ensures at c.in_ok-acknowledged.ensures.found) ∙ newly_stand k h _ _ _ _ _ run.run old.packets stands.packets in
+    let are : ps ≡ acknowledged_by k e h = (rw c.as_slice-ranges.ensures at c.in_ok-acknowledged.ensures.found) ∙ newly_stand k h _ run.run old.packets stands.packets in
     let empty : (length ps == 0) ≡ true = sym (ap (λ n. n == 0) c.in_ok-acknowledged.acknowledged.ok.0) ∙ (sym c.is_empty.ensures ∙ c.if-is_empty.true) in
     let none : acknowledges_new (e ∷ h) ≡ false = sym (new_is k e h ps are) ∙ ap not empty in
     let nothing : [] ≡ acknowledged_by k e h = sym (none_by_length ps empty) ∙ are in
-    let covered = stands_covered k h _ _ _ _ _ run.run none old.packets c.cover.new.packets stands.packets (rw c.as_slice-ranges.ensures at c.in_ok-acknowledged.ensures.ok) in
-    c.finish.ensures k e h refl (acked_undetected k h c.args.time c.args.space c.args.ranges.now c.args.delay c.args.app_limited none) run (rw c.acknowledge.ensures stands.connection.events)
-    (acked_old k h _ _ _ _ _ old.connection c.acknowledge.new.self stands.connection.parts
-    c.greatest-largest.result c.greatest-largest.ensures c.acknowledge.ensures nothing none (nothing_owed k h c.args.time c.args.space c.args.ranges.now c.args.delay c.args.app_limited none))
+    let covered = stands_covered k h _ run.run none old.packets c.cover.new.packets stands.packets (rw c.as_slice-ranges.ensures at c.in_ok-acknowledged.ensures.ok) in
+    c.finish.ensures k e h refl (acked_undetected k h c.args.ack.now none) run (rw c.acknowledge.ensures stands.connection.events)
+    (acked_old k h _ old.connection c.acknowledge.new.self stands.connection.parts
+    c.greatest-largest.result c.greatest-largest.ensures c.acknowledge.ensures nothing none (nothing_owed k h c.args.ack.now none))
     (rw c.take_back.ensures covered) (sent_still old.numbers e h refl stands.numbers) stands.watch
 
 pub returns-clause-ok : goal.returns-clause-ok
 returns-clause-ok c = λ k h stands run.
-    let e = Ack c.args.time c.args.space c.args.ranges.now c.args.delay c.args.app_limited in
+    let e = Ack c.args.ack.now in
     let old = c.args.self.now in
     let ps = c.in_ok-acknowledged.acknowledged.items in
-    let are : ps ≡ acknowledged_by k e h = (rw c.as_slice-ranges.ensures at c.in_ok-acknowledged.ensures.found) ∙ newly_stand k h _ _ _ _ _ run.run old.packets stands.packets in
+    let are : ps ≡ acknowledged_by k e h = (rw c.as_slice-ranges.ensures at c.in_ok-acknowledged.ensures.found) ∙ newly_stand k h _ run.run old.packets stands.packets in
     let full : (length ps == 0) ≡ false = sym (ap (λ n. n == 0) c.in_ok-acknowledged.acknowledged.ok.0) ∙ (sym c.is_empty.ensures ∙ c.if-is_empty.false) in
     let some : acknowledges_new (e ∷ h) ≡ true = sym (new_is k e h ps are) ∙ ap not full in
-    let sampled_is = c.sample.ensures ∙ ap (λ qs. with_sample c.args.time c.args.delay c.greatest-largest.result qs c.acknowledge.new.self) c.deref.ensures.value in
-    let grown_is = c.grow.ensures ∙ ap (λ qs. grown c.args.app_limited qs c.find_losses.new.self.connection) c.deref-3.ensures.value in
-    let measured = acked_measured k h _ _ _ _ _ old.connection c.acknowledge.new.self c.sample.new.self stands.connection.parts
+    let sampled_is = c.sample.ensures ∙ ap (λ qs. with_sample c.args.ack.now.time c.args.ack.now.delay c.greatest-largest.result qs c.acknowledge.new.self) c.deref.ensures.value in
+    let grown_is = c.grow.ensures ∙ ap (λ qs. grown c.args.ack.now.app_limited qs c.find_losses.new.self.connection) c.deref-3.ensures.value in
+    let measured = acked_measured k h _ old.connection c.acknowledge.new.self c.sample.new.self stands.connection.parts
     c.greatest-largest.result c.greatest-largest.ensures c.acknowledge.ensures ps are sampled_is in
-    let at_time : StandsOnceFound c.cover.new.packets k (e ∷ h) c.args.space c.args.time = λ new l late is. stands_acknowledged k h _ _ _ _ _ run.run some l late old.packets c.cover.new.packets new stands.packets (rw c.as_slice-ranges.ensures at c.in_ok-acknowledged.ensures.ok) is in
-    let once : StandsOnceFound c.cover.new.packets k (e ∷ h) c.args.space c.get-2.result = subst (λ (now : ℕ). StandsOnceFound c.cover.new.packets k (e ∷ h) c.args.space now) (sym c.get-2.ensures.value) at_time in
+    let at_time : StandsOnceFound c.cover.new.packets k (e ∷ h) c.args.ack.now.space c.args.ack.now.time = λ new l late is. stands_acknowledged k h _ run.run some l late old.packets c.cover.new.packets new stands.packets (rw c.as_slice-ranges.ensures at c.in_ok-acknowledged.ensures.ok) is in
+    let once : StandsOnceFound c.cover.new.packets k (e ∷ h) c.args.ack.now.space c.get-2.result = subst (λ (now : ℕ). StandsOnceFound c.cover.new.packets k (e ∷ h) c.args.ack.now.space now) (sym c.get-2.ensures.value) at_time in
     let lost = c.find_losses.ensures.connection k (e ∷ h) run.run (λ p. refl) measured once in
     let long = run.few in
     let before : c.sample.new.self.reno ≡ reno k h = rw (sampled_is, c.acknowledge.ensures) stands.connection.parts.reno in
-    let detected = ap Some (c.detected-detection.ensures ∙ ap (λ qs. record { space = c.args.space; looked = c.get.result; time = c.args.time; before = c.sample.new.self.reno; acknowledged = fold with_bytes 0 qs }) c.deref-2.ensures.value
-    ∙ ap (λ n. record { space = c.args.space; looked = n; time = c.args.time; before = c.sample.new.self.reno; acknowledged = fold with_bytes 0 ps }) c.get.ensures.value)
-    ∙ acked_detected k h c.args.time c.args.space c.args.ranges.now c.args.delay c.args.app_limited c.sample.new.self.reno ps before are some run.fit.1 (omega (arith, long)) in
+    let detected = ap Some (c.detected-detection.ensures ∙ ap (λ qs. record { space = c.args.ack.now.space; looked = c.get.result; time = c.args.ack.now.time; before = c.sample.new.self.reno; acknowledged = fold with_bytes 0 qs }) c.deref-2.ensures.value
+    ∙ ap (λ n. record { space = c.args.ack.now.space; looked = n; time = c.args.ack.now.time; before = c.sample.new.self.reno; acknowledged = fold with_bytes 0 ps }) c.get.ensures.value)
+    ∙ acked_detected k h c.args.ack.now c.sample.new.self.reno ps before are some run.fit.1 (omega (arith, long)) in
     c.finish-2.ensures k e h refl detected run (rw (c.restart.ensures, grown_is, lost, sampled_is, c.acknowledge.ensures) stands.connection.events)
-    (acked_is k h _ _ _ _ _ old.connection c.acknowledge.new.self c.sample.new.self c.find_losses.new.self.connection c.grow.new.self c.restart.new.self
+    (acked_is k h _ old.connection c.acknowledge.new.self c.sample.new.self c.find_losses.new.self.connection c.grow.new.self c.restart.new.self
     stands.connection.parts run (subst AreInRange measured.header c.find_losses.ensures.range) c.greatest-largest.result c.greatest-largest.ensures c.acknowledge.ensures ps are some sampled_is lost grown_is c.restart.ensures)
     (rw c.take_back-2.ensures (c.find_losses.ensures.packets k (e ∷ h) measured once))
     (rw c.find_losses.ensures.numbers (sent_still old.numbers e h refl stands.numbers)) (rw c.find_losses.ensures.watch stands.watch)

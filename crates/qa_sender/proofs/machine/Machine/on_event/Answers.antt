@@ -5,14 +5,14 @@ use Rattle.qa_sender.proofs.Sends.{next_has_room, next_is_last, settled_next}
 use Rattle.qa_sender.proofs.machine.Machine.on_event.Goals as goal
 
 pub on_sent-requires-clause-ordered : goal.on_sent-requires-clause-ordered
-on_sent-requires-clause-ordered c = next_is_last c.args.self.now.packets c.args.event.now c.requires.next _ c.in-Sent.permission c.in-Sent.is
+on_sent-requires-clause-ordered c = next_is_last c.args.self.now.packets c.args.event.now c.requires.next _ c.in-Sent.sent.now.permission c.in-Sent.is
 
 pub on_sent-requires-clause-few : goal.on_sent-requires-clause-few
 on_sent-requires-clause-few c = next_has_room c.args.self.now.packets c.args.event.now c.requires.next
 
 pub on_ack-requires : goal.on_ack-requires
 on_ack-requires c =
-    settled_next c.args.self.now.packets c.args.event.now (Ack c.in-Ack.time c.in-Ack.space c.in-Ack.ranges c.in-Ack.delay c.in-Ack.app_limited) c.in-Ack.is (λ k h. refl) c.requires.next
+    settled_next c.args.self.now.packets c.args.event.now (Ack c.in-Ack.ack.now) c.in-Ack.is (λ k h. refl) c.requires.next
 
 pub on_loss_timer-requires : goal.on_loss_timer-requires
 on_loss_timer-requires c =
