@@ -10,3 +10,4 @@ pub mod AnyOrder
 pub mod KeysFound
 pub mod PlainTexts
 pub mod OrdersRead
+pub mod Lengths

@@ -1,5 +1,5 @@
 -- The text that is written for a line.
-use Rattle.std.specs.Prelude.{ℕ, List, [], ◌∷◌, ◌++◌, Bool, true, Option, Some, None}
+use Rattle.std.specs.Prelude.{ℕ, nat_le, List, [], ◌∷◌, ◌++◌, length, Bool, true, Option, Some, None}
 use Rattle.serde_json.specs.Data as json
 use Rattle.serde_json.specs.Data.{Data, Items, no_items, item, Members, no_members, member}
 use Rattle.serde_json.specs.Written.{compact_text}
@@ -13,6 +13,7 @@ use Rattle.qa_base.specs.declared.header.Version.{Version}
 use Rattle.qa_base.specs.declared.header.Version.TheVariants.{One, Two, Three}
 use Rattle.qa_format.specs.declared.line.Line.{Line}
 use Rattle.qa_format.specs.declared.line.Line.TheVariants as line
+use Rattle.qa_format.specs.format.Lines.{line_limit}
 use Rattle.qa_base.specs.declared.line_kind.LineKind.TheVariants as kinds
 use Rattle.qa_base.specs.declared.rule.Field.{Field}
 use Rattle.qa_base.specs.declared.rule.Field.TheVariants.{Window, Ssthresh, BytesInFlight}
@@ -162,3 +163,19 @@ abbrev pub line_fits : Line → Bool
 line_fits line.Blank = true
 line_fits (line.Header s) = true
 line_fits (line.Event e) = fits e
+
+-- ---- the limit of a line
+
+-- the text of the event is no longer than a line may be
+abbrev pub is_short : Event → Bool
+is_short e = nat_le (length (written (line.Event e))) line_limit
+
+-- some line says the event: one with very many ranges may be too long for any
+abbrev pub has_line : Event → Bool
+has_line (Ack ack) = is_short (Ack ack)
+has_line (Lost time space ranges) = is_short (Lost time space ranges)
+has_line _ = true
+
+-- with so many ranges the text is short, whatever their numbers are
+abbrev pub few_ranges : ℕ
+few_ranges = 1024
