@@ -4,6 +4,8 @@ use Rattle.std.proofs.lemmas.Bool.{and_parts, leb-true}
 use Rattle.std.specs.Prelude.{nat_le, option_map, IfSome, unwrap_or}
 use Rattle.std.specs.List.{AllByRecursion}
 use Rattle.qa_base.specs.declared.event.Event.TheVariants.{Sent, Ack, Lost, Timer, Discard, Confirmed, Keys, Metrics}
+use Rattle.qa_base.specs.declared.event.Ack.{Ack as Acknowledgment}
+use Rattle.qa_base.specs.declared.event.SentPacket.{SentPacket}
 use Rattle.qa_base.specs.declared.space.TimerKind.{TimerKind}
 use Rattle.qa_base.specs.declared.space.Permission.{Permission}
 use Rattle.qa_base.specs.declared.space.Permission.TheVariants.{Window}
@@ -41,16 +43,16 @@ ranges_are o rs h e = let P : Option (List (ℕ × ℕ)) → Type 0 = λ q. IfSo
 
 -- ---- events
 
-pub says_sent : (f : Found) (t n m : ℕ) (s : Space) (size : ℕ) (eliciting in_flight : Bool) (permission : Permission)
-    → f.event ≡ Some kinds.Sent → (f.time ≡ Some t) × (t ≤ max_time) → f.space ≡ Some s
-    → f.number ≡ Some m → in_range 0 max_packet_number m ≡ Some n → f.size ≡ Some size → f.eliciting ≡ Some eliciting → f.in_flight ≡ Some in_flight
-    → permission ≡ unwrap_or f.permission Window → fits (Sent t s n size eliciting in_flight permission) ≡ true
-    → Says f (Sent t s n size eliciting in_flight permission)
-says_sent f t n m s size eliciting in_flight permission is_event time_is is_space is_number in_number is_size is_eliciting is_in_flight is_permission fitting =
-    let number_is = range_is max_packet_number m n in_number in
-    let P : Permission → Type 0 = λ l. fits (Sent t s n size eliciting in_flight l) ≡ true → Says f (Sent t s n size eliciting in_flight l) in
+pub says_sent : (f : Found) (packet : SentPacket) (m : ℕ)
+    → f.event ≡ Some kinds.Sent → (f.time ≡ Some packet.time) × (packet.time ≤ max_time) → f.space ≡ Some packet.space
+    → f.number ≡ Some m → in_range 0 max_packet_number m ≡ Some packet.number → f.size ≡ Some packet.size → f.eliciting ≡ Some packet.eliciting → f.in_flight ≡ Some packet.in_flight
+    → packet.permission ≡ unwrap_or f.permission Window → fits (Sent packet) ≡ true
+    → Says f (Sent packet)
+says_sent f packet m is_event time_is is_space is_number in_number is_size is_eliciting is_in_flight is_permission fitting =
+    let number_is = range_is max_packet_number m packet.number in_number in
+    let P : Permission → Type 0 = λ l. fits (Sent (record packet { permission = l })) ≡ true → Says f (Sent (record packet { permission = l })) in
     subst P (sym is_permission) (λ fit ms h.
-    sent_found ms t s n size eliciting in_flight f.permission
+    sent_found ms packet f.permission
     (h.event ∙ ap (option_map line_kind_data) is_event)
     (h.time ∙ ap (option_map integer) time_is.0)
     (h.space ∙ ap (option_map space_data) is_space)
@@ -61,13 +63,14 @@ says_sent f t n m s size eliciting in_flight permission is_event time_is is_spac
     h.permission
     (record { fitting = fit; in_time = time_is.1; numbers = number_is.1 })) fitting
 
-pub says_ack : (f : Found) (t : ℕ) (s : Space) (rs : List (ℕ × ℕ)) (delay : ℕ) (app_limited : Bool)
-    → f.event ≡ Some kinds.Ack → (f.time ≡ Some t) × (t ≤ max_time) → f.space ≡ Some s → f.ranges ≡ Some rs
-    → delay ≡ unwrap_or f.delay 0 → delay < 2 ^ 64 → app_limited ≡ unwrap_or f.app_limited false
-    → Says f (Ack t s rs delay app_limited)
-says_ack f t s rs delay app_limited is_event time_is is_space is_ranges is_delay small is_app_limited = λ ms h.
-    let are = ranges_are f.ranges rs h.are_ranges is_ranges in
-    let says = ack_found ms t s rs f.delay f.app_limited
+pub says_ack : (f : Found) (ack : Acknowledgment)
+    → f.event ≡ Some kinds.Ack → (f.time ≡ Some ack.time) × (ack.time ≤ max_time) → f.space ≡ Some ack.space → f.ranges ≡ Some ack.ranges
+    → ack.delay ≡ unwrap_or f.delay 0 → ack.delay < 2 ^ 64 → ack.app_limited ≡ unwrap_or f.app_limited false
+    → Says f (Ack ack)
+says_ack f ack is_event time_is is_space is_ranges is_delay small is_app_limited =
+    let says : Says f (Ack (record ack { delay = unwrap_or f.delay 0; app_limited = unwrap_or f.app_limited false })) = λ ms h.
+    let are = ranges_are f.ranges ack.ranges h.are_ranges is_ranges in
+    ack_found ms ack f.delay f.app_limited
     (h.event ∙ ap (option_map line_kind_data) is_event)
     (h.time ∙ ap (option_map integer) time_is.0)
     (h.space ∙ ap (option_map space_data) is_space)
@@ -75,7 +78,8 @@ says_ack f t s rs delay app_limited is_event time_is is_space is_ranges is_delay
     h.delay
     h.app_limited
     (record { fitting = are.0; in_time = time_is.1; numbers = (are.1, omega (arith, is_delay)) }) in
-    rw (is_delay, is_app_limited) says
+    subst (λ (delay : ℕ). Says f (Ack (record ack { delay = delay }))) (sym is_delay)
+    (subst (λ (app_limited : Bool). Says f (Ack (record ack { delay = unwrap_or f.delay 0; app_limited = app_limited }))) (sym is_app_limited) says)
 
 pub says_lost : (f : Found) (t : ℕ) (s : Space) (rs : List (ℕ × ℕ))
     → f.event ≡ Some kinds.Lost → (f.time ≡ Some t) × (t ≤ max_time) → f.space ≡ Some s → f.ranges ≡ Some rs

@@ -29,12 +29,14 @@ fn probe_size(event: &Event) -> u64
     ensures { (h : List Event) → result ≡ leaves.probe_size (event.now ∷ h) }
 {
     match event {
-        Event::Sent(SentPacket {
-            size,
-            in_flight: true,
-            permission: Permission::Probe,
-            ..
-        }) => *size,
+        Event::Sent(
+            SentPacket {
+                size,
+                in_flight: true,
+                permission: Permission::Probe,
+                ..
+            },
+        ) => *size,
         _ => 0,
     }
 }
@@ -156,11 +158,13 @@ fn recovery_mark(event: &Event) -> u64
     ensures one { result ≤ 1 }
 {
     match event {
-        Event::Sent(SentPacket {
-            in_flight: true,
-            permission: Permission::Recovery,
-            ..
-        }) => 1,
+        Event::Sent(
+            SentPacket {
+                in_flight: true,
+                permission: Permission::Recovery,
+                ..
+            },
+        ) => 1,
         _ => 0,
     }
 }

@@ -73,11 +73,7 @@ impl Machine {
 
     /// An acknowledgment came (RFC 9002, A.7). Nothing may be owed. `AllocError` comes where it is
     /// out of memory, and leaves the machine as it was.
-    pub(crate) fn on_ack(
-        &mut self,
-        alloc: Global,
-        ack: &Ack,
-    ) -> Result<(), AllocError>
+    pub(crate) fn on_ack(&mut self, alloc: Global, ack: &Ack) -> Result<(), AllocError>
         requires { NoneOwed self.old.packets.packets }
         ensures ok { OnOk result (Follows self.old self.new (events.Ack ack.now)) }
         ensures err { OnErr result (self.new ≡ self.old) }

@@ -9,8 +9,7 @@ use Rattle.qa_explain.specs.text.Pieces.{named, numbered}
 unfoldable pub subject : Event → List ℕ
 subject (Sent packet) =
     numbered (codes "packet ") packet.number ++ named (codes " of ") (space_name packet.space)
-subject (Ack ack) =
-    named (codes "the acknowledgment of ") (space_name ack.space)
+subject (Ack ack) = named (codes "the acknowledgment of ") (space_name ack.space)
 subject (Lost time space ranges) = named (codes "the lost line of ") (space_name space)
 subject (Timer time kind space) =
     named (codes "the ") (kind_name kind) ++ named (codes " timer of ") (space_name space)

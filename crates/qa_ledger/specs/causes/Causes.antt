@@ -81,8 +81,7 @@ abbrev pub greatest_sent : List Event → Space → Option ℕ
 greatest_sent h s = greatest_of (numbers_of h s)
 
 abbrev pub greatest_before : List Event → Event → Option ℕ
-greatest_before h (Sent packet) =
-    greatest_sent h packet.space
+greatest_before h (Sent packet) = greatest_sent h packet.space
 greatest_before h _ = None
 
 -- the least number of the ranges that was not sent in the space

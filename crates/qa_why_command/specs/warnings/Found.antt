@@ -44,8 +44,7 @@ of_packet max_datagram_size e size =
 -- in the line of an event, under a header
 abbrev pub of_event_under : Settings → Event → List ℕ → List Concern
 of_event_under c (Metrics time values) l = of_metrics c.version l
-of_event_under c (Sent packet) l =
-    of_packet c.max_datagram_size (Sent packet) packet.size
+of_event_under c (Sent packet) l = of_packet c.max_datagram_size (Sent packet) packet.size
 of_event_under c e l = []
 
 -- in the line of an event, behind a header or none

@@ -8,7 +8,7 @@ use Rattle.qa_reference.proofs.losses.detection_by.Goals as goal
 -- Written out, so that a wrong body is refused at these lines.
 pub returns-else-acknowledges_new : goal.returns-else-acknowledges_new
 returns-else-acknowledges_new c =
-    let ack = c.in-Ack.ack.now in
+    let ack = c.in-Ack.ack in
     let h = history_of c.args.before.now in
     let by = λ (new : Bool). if new then Some (ack.space, ack.time) else None in
     sym (ap (λ (e : Event). detection_by c.args.header.now c.args.rtt (e ∷ h)) c.in-Ack.is ∙ ap by (ap (λ (e : Event). acknowledges_new (e ∷ h)) (sym c.in-Ack.is) ∙ (sym c.acknowledges_new.ensures ∙ c.if-acknowledges_new.false)))

@@ -5,14 +5,14 @@ use Rattle.qa_sender.proofs.Sends.{next_has_room, next_is_last, settled_next}
 use Rattle.qa_sender.proofs.machine.Machine.on_event.Goals as goal
 
 pub on_sent-requires-clause-ordered : goal.on_sent-requires-clause-ordered
-on_sent-requires-clause-ordered c = next_is_last c.args.self.now.packets c.args.event.now c.requires.next _ c.in-Sent.sent.now.permission c.in-Sent.is
+on_sent-requires-clause-ordered c = next_is_last c.args.self.now.packets c.args.event.now c.requires.next _ c.in-Sent.sent.permission c.in-Sent.is
 
 pub on_sent-requires-clause-few : goal.on_sent-requires-clause-few
 on_sent-requires-clause-few c = next_has_room c.args.self.now.packets c.args.event.now c.requires.next
 
 pub on_ack-requires : goal.on_ack-requires
 on_ack-requires c =
-    settled_next c.args.self.now.packets c.args.event.now (Ack c.in-Ack.ack.now) c.in-Ack.is (λ k h. refl) c.requires.next
+    settled_next c.args.self.now.packets c.args.event.now (Ack c.in-Ack.ack) c.in-Ack.is (λ k h. refl) c.requires.next
 
 pub on_loss_timer-requires : goal.on_loss_timer-requires
 on_loss_timer-requires c =
@@ -21,3 +21,6 @@ on_loss_timer-requires c =
 
 pub on_discard-requires : goal.on_discard-requires
 on_discard-requires c = settled_next c.args.self.now.packets c.args.event.now (Discard c.in-Discard.time c.in-Discard.space) c.in-Discard.is (λ k h. refl) c.requires.next
+
+pub returns-in-Sent-clause-ok : goal.returns-in-Sent-clause-ok
+returns-in-Sent-clause-ok c = rw c.in-Sent.is c.on_sent.ensures.ok
