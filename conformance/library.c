@@ -2,15 +2,19 @@
  *
  *     library pieces N       feeds standard input in pieces of N bytes
  *     library events         hands in what the commands of standard input say, which are below
+ *     library calls          makes the calls that they say, and writes what each returns
  *     library refused N      feeds standard input in pieces of N bytes with each allocation refused in turn
  *     library orders         calls each function where it has nothing to do
+ *     library many           hands in acknowledgments of very many ranges
  *     library kept           counts what the acknowledgments behind the first ask for: nothing
  *
- * The first two write the report. A command is a line, and its numbers are the fields of a struct:
+ * The first two write the report. A command is a line, and its numbers are the fields of a struct or
+ * the arguments of a call; one that has none has a 0:
  *
  *     feed COUNT             the COUNT bytes behind the line are fed
  *     header, sent, ack, lost, timer, discard, confirmed, keys, metrics
  *     ack and lost end with the number of ranges, and two numbers for each
+ *     open, close, finish, status, verdict, which `calls` alone knows
  *
  * The exit status is 0, 1 where an answer was not as wanted, and 2 where the input was none.
  */
@@ -255,6 +259,48 @@ static int run_events(void) {
     return failed;
 }
 
+/* ---- calls in any order */
+
+/* Writes the report, where there is a verdict. */
+static int tell_verdict(qaudit *q) {
+    static uint8_t text[ROOM];
+    qaudit_told told;
+    bool is_known = qaudit_verdict(q, &told);
+    size_t count = qaudit_report(q, text, ROOM);
+    if (is_known != (count > 0) || count > ROOM) return fail("a verdict without a report, or a report without a verdict");
+    printf("report %zu\n", count);
+    fwrite(text, 1, count, stdout);
+    return 0;
+}
+
+/* Makes the next call, and moves behind it. */
+static int call_next(qaudit *q) {
+    int failed = 0;
+    if (is_word("verdict")) failed = tell_verdict(q);
+    else if (is_word("open")) printf("%" PRIu32 "\n", qaudit_open(q));
+    else if (is_word("finish")) printf("%" PRIu32 "\n", qaudit_finish(q));
+    else if (is_word("status")) printf("%" PRIu32 "\n", qaudit_status(q));
+    else if (is_word("close")) qaudit_close(q);
+    else {
+        printf("%" PRIu32 "\n", hand_next(q));
+        return 0;
+    }
+    (void)number();
+    place++;
+    return failed;
+}
+
+static int run_calls(void) {
+    qaudit q = {NULL, false};
+    input all = read_all();
+    int failed = 0;
+    place = (const char *)all.bytes;
+    while (!failed && place < (const char *)all.bytes + all.count) failed = call_next(&q);
+    qaudit_close(&q);
+    __real_free(all.bytes);
+    return failed;
+}
+
 /* ---- refused allocations */
 
 /* Runs over the input with this allocation refused. Returns whether something was not as wanted. */
@@ -336,6 +382,35 @@ static int run_orders(void) {
     return 0;
 }
 
+/* ---- very many ranges */
+
+/* What is returned for an acknowledgment of 2,000 numbers, two apart from this one on, behind a header. */
+static qaudit_status_t status_of_many(uint64_t first) {
+    static qaudit_range ranges[2000];
+    qaudit q = {NULL, false};
+    qaudit_trace_header header;
+    qaudit_acknowledgment ack;
+    qaudit_status_t status;
+    size_t i;
+    memset(&header, 0, sizeof header);
+    memset(&ack, 0, sizeof ack);
+    header.max_datagram_size = 1200;
+    ack.space = QAUDIT_APP;
+    for (i = 0; i < 2000; i++) ranges[i].least = ranges[i].greatest = first + 2 * i;
+    if (qaudit_open(&q) != QAUDIT_OPEN || qaudit_header(&q, &header) != QAUDIT_OPEN) return QAUDIT_CLOSED;
+    status = qaudit_ack(&q, &ack, ranges, 2000);
+    if (status == QAUDIT_OUT_OF_RANGE && qaudit_ack(&q, &ack, ranges, 1000) != QAUDIT_FIXED) status = QAUDIT_CLOSED;
+    qaudit_close(&q);
+    return status;
+}
+
+/* Of short numbers a line says them, and they were never sent; of long ones no line does, and nothing is taken. */
+static int run_many(void) {
+    if (status_of_many(0) != QAUDIT_FIXED) return fail("an acknowledgment of many short numbers was not judged");
+    if (status_of_many(4000000000000000000u) != QAUDIT_OUT_OF_RANGE) return fail("an acknowledgment that no line says was taken");
+    return 0;
+}
+
 /* ---- memory that is kept */
 
 /* Sends a packet, and acknowledges all so far. Returns how often the acknowledgment asked for memory; less than 0 where a
@@ -383,7 +458,9 @@ int main(int argc, char **argv) {
     if (argc == 3 && piece > 0 && strcmp(argv[1], "pieces") == 0) return run_pieces(piece);
     if (argc == 3 && piece > 0 && strcmp(argv[1], "refused") == 0) return run_all_refused(piece);
     if (argc == 2 && strcmp(argv[1], "events") == 0) return run_events();
+    if (argc == 2 && strcmp(argv[1], "calls") == 0) return run_calls();
     if (argc == 2 && strcmp(argv[1], "orders") == 0) return run_orders();
+    if (argc == 2 && strcmp(argv[1], "many") == 0) return run_many();
     if (argc == 2 && strcmp(argv[1], "kept") == 0) return run_kept();
     return 2;
 }

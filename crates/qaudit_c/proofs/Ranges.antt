@@ -1,7 +1,12 @@
 -- Ranges behind ranges.
-use Rattle.std.proofs.Common.{◌≡◌, ◌∙◌, ℕ, List, [], ◌∷◌, ◌++◌, Option, Some, None, refl, ap}
+use Rattle.std.proofs.Common.{◌≡◌, ◌∙◌, ℕ, ◌≤◌, Bool, true, false, List, [], ◌∷◌, ◌++◌, Option, Some, None, refl, ap, subst, arith}
+use Rattle.std.proofs.lemmas.Bool.{and_parts, leb-true}
+use Rattle.std.specs.List.{AllByRecursion}
+use Rattle.std.specs.Prelude.{nat_le, ◌&&◌, if◌then◌else◌}
+use Rattle.qa_base.specs.values.Limits.{max_packet_number, max_time}
+use Rattle.qa_format.specs.format.Proper.{IsRange}
 use Rattle.qaudit_c.specs.declared.structs.PacketRange.{PacketRange}
-use Rattle.qaudit_c.specs.Events.{range_said, cons_of, ranges_of}
+use Rattle.qaudit_c.specs.Events.{range_said, cons_of, ranges_of, time_of}
 
 -- both, one behind the other, where both are there
 abbrev pub join_of : Option (List (ℕ × ℕ)) → Option (List (ℕ × ℕ)) → Option (List (ℕ × ℕ))
@@ -32,3 +37,46 @@ one_range_more rs r ranges range before this = ranges_append rs (r ∷ []) ∙ r
 pub no_range : (rs : List PacketRange) (r : PacketRange) (qs : List PacketRange) (ranges : List (ℕ × ℕ)) → ranges_of rs ≡ Some ranges → range_said r ≡ None
     → ranges_of (rs ++ r ∷ qs) ≡ None
 no_range rs r qs ranges before this = ranges_append rs (r ∷ qs) ∙ rw (before, this) refl
+
+-- ---- what ranges are
+
+abbrev IsOne : Option (ℕ × ℕ) → Type 0
+IsOne None = Unit {0}
+IsOne (Some range) = IsRange range
+
+abbrev AreAll : Option (List (ℕ × ℕ)) → Type 0
+AreAll None = Unit {0}
+AreAll (Some ranges) = AllByRecursion IsRange ranges
+
+one_by : (r : PacketRange) (b : Bool) → (nat_le r.least r.greatest && nat_le r.greatest max_packet_number) ≡ b → IsOne (if b then Some (r.least, r.greatest) else None)
+one_by r true is =
+    let parts = and_parts (nat_le r.least r.greatest) (nat_le r.greatest max_packet_number) is in
+    (leb-true r.least r.greatest parts.0, leb-true r.greatest max_packet_number parts.1)
+one_by r false is = tt
+
+one_is : (r : PacketRange) → IsOne (range_said r)
+one_is r = one_by r (nat_le r.least r.greatest && nat_le r.greatest max_packet_number) refl
+
+cons_are : (range : Option (ℕ × ℕ)) (ranges : Option (List (ℕ × ℕ))) → IsOne range → AreAll ranges → AreAll (cons_of range ranges)
+cons_are None ranges is are = tt
+cons_are (Some range) None is are = tt
+cons_are (Some range) (Some ranges) is are = (is, are)
+
+all_are : (rs : List PacketRange) → AreAll (ranges_of rs)
+all_are [] = tt
+all_are (r ∷ rs) = cons_are (range_said r) (ranges_of rs) (one_is r) (all_are rs)
+
+-- the ranges that C says are ranges of packet numbers
+pub are_ranges : (rs : List PacketRange) (ranges : List (ℕ × ℕ)) → ranges_of rs ≡ Some ranges → AllByRecursion IsRange ranges
+are_ranges rs ranges is = subst (λ (o : Option (List (ℕ × ℕ))). AreAll o) is (all_are rs)
+
+time_by : (t time : ℕ) (b : Bool) → (nat_le 0 t && nat_le t max_time) ≡ b → (if b then Some t else None) ≡ Some time → time ≤ max_time
+time_by t time true is same =
+    let most = leb-true t max_time (and_parts (nat_le 0 t) (nat_le t max_time) is).1 in
+    let equal : t ≡ time = cc in
+    omega arith
+time_by t time false is same = absurd cc
+
+-- and a time is one
+pub is_time : (t time : ℕ) → time_of t ≡ Some time → time ≤ max_time
+is_time t time is = time_by t time (nat_le 0 t && nat_le t max_time) refl is

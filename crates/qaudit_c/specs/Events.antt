@@ -1,6 +1,8 @@
 -- What the events and the header of C say.
-use Rattle.std.specs.Prelude.{ℕ, ◌&&◌, Bool, nat_le, List, [], ◌∷◌, Option, Some, None, Result, Ok}
+use Rattle.std.specs.Prelude.{ℕ, ◌<◌, ◌≤◌, ◌^◌, ◌&&◌, Bool, true, nat_le, length, List, [], ◌∷◌}
+use Rattle.std.specs.Prelude.{Option, Some, None, Result, Ok}
 use Rattle.std.specs.Prelude.{Err, option_map, if◌then◌else◌}
+use Rattle.std.specs.List.{AllByRecursion}
 use Rattle.std.specs.Option.{option_and_then}
 use Rattle.qa_base.specs.declared.event.Event.{Event}
 use Rattle.qa_base.specs.declared.event.Event.TheVariants as events
@@ -16,6 +18,8 @@ use Rattle.qa_base.specs.values.Limits.{in_range, max_time, max_packet_number}
 use Rattle.qa_base.specs.values.Settings.{Settings, settings_in, choosing_options}
 use Rattle.qa_format.specs.declared.line.Line.{Line}
 use Rattle.qa_format.specs.declared.line.Line.TheVariants as lines
+use Rattle.qa_format.specs.format.Proper.{IsRange}
+use Rattle.qa_format.specs.format.Written.{has_line}
 use Rattle.qaudit_c.specs.declared.structs.SentPacket.{SentPacket}
 use Rattle.qaudit_c.specs.declared.structs.PacketRange.{PacketRange}
 use Rattle.qaudit_c.specs.declared.structs.Acknowledgment.{Acknowledgment}
@@ -26,9 +30,36 @@ use Rattle.qaudit_c.specs.Numbers.{space_numbered, permission_numbered, timer_nu
 use Rattle.qaudit_c.specs.Numbers.{role_numbered, unit_numbered, controller_numbered}
 use Rattle.qaudit_c.specs.Numbers.{loss_by_number_numbered}
 
--- the event, where a line can say it
+-- the event, where it fits
 abbrev pub fitting : Event → Option Event
 fitting e = if fits e then Some e else None
+
+-- the event, where a line can say it: one with very many ranges may be too long for any
+abbrev pub on_a_line : Event → Option Event
+on_a_line e = if fits e && has_line e then Some e else None
+
+-- how many ranges a line names
+abbrev pub range_count : Line → ℕ
+range_count (lines.Event (events.Ack ack)) = length ack.ranges
+range_count (lines.Event (events.Lost time space ranges)) = length ranges
+range_count _ = 0
+
+-- a line says this
+abbrev pub is_said : Line → Bool
+is_said (lines.Event e) = has_line e
+is_said _ = true
+
+-- the numbers of an event with ranges are in theirs
+abbrev pub HasProperRanges : Event → Type 0
+HasProperRanges (events.Ack ack) =
+    (ack.time ≤ max_time) × AllByRecursion IsRange ack.ranges × (ack.delay < 2 ^ 64)
+HasProperRanges (events.Lost time space ranges) =
+    (time ≤ max_time) × AllByRecursion IsRange ranges
+HasProperRanges _ = Unit {0}
+
+abbrev pub SaysProperRanges : Line → Type 0
+SaysProperRanges (lines.Event e) = HasProperRanges e
+SaysProperRanges _ = Unit {0}
 
 abbrev pub time_of : ℕ → Option ℕ
 time_of time = in_range 0 max_time time
@@ -84,7 +115,7 @@ ack_said a rs =
     option_and_then (λ time.
     option_and_then (λ space.
     option_and_then (λ ranges.
-    fitting (events.Ack (record {
+    on_a_line (events.Ack (record {
       time = time;
       space = space;
       ranges = ranges;
@@ -98,7 +129,7 @@ lost_said t s rs =
     option_and_then (λ time.
     option_and_then
     (λ space.
-    option_and_then (λ ranges. fitting (events.Lost time space ranges)) (ranges_of rs))
+    option_and_then (λ ranges. on_a_line (events.Lost time space ranges)) (ranges_of rs))
     (space_numbered s)) (time_of t)
 
 abbrev pub timer_said : FiredTimer → Option Event

@@ -1,30 +1,77 @@
 //! What the calls do that hand in ranges of packet numbers: the ranges lie in memory that the
 //! session keeps from one such call to the next.
-ghost use Rattle.std.specs.Prelude.{◌≡◌, ◌≢◌};
+ghost use Rattle.std.specs.Prelude.{◌≡◌, IfOk, Some, true};
+ghost use Rattle.qa_format.specs.format.Written.{line_fits};
 ghost use Rattle.qaudit_c.specs.Calls as calls;
 ghost use Rattle.qaudit_c.specs.Events as said;
 
 use crate::calls::{NOT_TAKEN, OUT_OF_RANGE, hand_to, refusal};
 use crate::events::{moment_of, spans_of};
 use crate::structs::{Acknowledgment, PacketRange};
+use qa_base::limits::MAX_LINE_LENGTH;
 use qa_base::{Ack, Event};
 use qa_check::Line;
 use qa_embed::Session;
-use std::alloc::Global;
+use qa_trace::write_line;
+use std::alloc::{AllocError, Global};
+
+/// For so many ranges a line has room, whatever their numbers are.
+const FEW_RANGES: usize = 1024;
+
+/// How many ranges a line names.
+#[inline(always)]
+fn range_count(line: &Line) -> usize
+    ensures { result ≡ said.range_count line.now }
+{
+    match line {
+        Line::Event(Event::Ack(Ack { ranges, .. }) | Event::Lost { ranges, .. }) => {
+            ranges.as_slice().len()
+        }
+        _ => 0,
+    }
+}
+
+/// Whether a line can say this: one with very many ranges may be too long for any. `AllocError`
+/// comes only of more than 1,024 ranges, where it is out of memory.
+#[inline(always)]
+fn is_said(alloc: Global, line: &Line) -> Result<bool, AllocError>
+    requires fitting { line_fits line.now ≡ true }
+    requires ranges { said.SaysProperRanges line.now }
+    ensures { IfOk result (λ is. is ≡ said.is_said line.now) }
+{
+    if range_count(line) <= FEW_RANGES {
+        return Ok(true);
+    }
+    let text = write_line(alloc, line)?;
+    Ok(text.len() <= MAX_LINE_LENGTH)
+}
 
 /// Hands in the line that says the event, where a line can, and keeps the memory of its ranges.
 ///
 /// The line is made here alone and goes on by reference, as in `hand_event`.
 #[inline(always)]
 fn hand_and_keep(alloc: Global, session: &mut Session, event: Event) -> u32
-    ensures handed { calls.HandsRun
-        (said.line_of_event (said.fitting event)) result session.old session.new }
-    ensures memory { result ≢ 6 }
+    requires ranges { said.HasProperRanges event }
+    ensures { calls.HandsRun
+        (said.line_of_event (said.on_a_line event)) result session.old session.new }
 {
     if !event.fits() {
         return refusal(session, OUT_OF_RANGE);
     }
     let line = Line::Event(event);
+    match is_said(alloc, &line) {
+        Ok(true) => hand_line(alloc, session, line),
+        Ok(false) => refusal(session, OUT_OF_RANGE),
+        Err(_) => refusal(session, NOT_TAKEN),
+    }
+}
+
+/// Hands in a line, and keeps the memory of its ranges.
+#[inline(always)]
+fn hand_line(alloc: Global, session: &mut Session, line: Line) -> u32
+    requires fitting { line_fits line ≡ true }
+    ensures { calls.HandsRun (Some line) result session.old session.new }
+{
     let status = hand_to(session, &line);
     if let Line::Event(Event::Ack(Ack { ranges, .. }) | Event::Lost { ranges, .. }) = line {
         session.take_back(alloc, ranges);

@@ -77,8 +77,8 @@ timer_passed c h true r rest passed first =
 timer_passed c h false r rest passed first = refl
 
 none_of_answers : (c : Settings) (h : List Event) (e : Event) (r : Rule) → is_tolerated c h r ≡ true → first_of (behind_packets c h e) ≡ Some r → first_of (tests_of_answers c h e) ≡ None
-none_of_answers c h (Ack time space ranges delay app_limited) r passed first =
-    let v10 = not_first c h (is_ack_unsent h (Ack time space ranges delay app_limited)) rule.AckUnsent r _ refl passed first in
+none_of_answers c h (Ack ack) r passed first =
+    let v10 = not_first c h (is_ack_unsent h (Ack ack)) rule.AckUnsent r _ refl passed first in
     rw v10.0 refl
 none_of_answers c h (Timer time kind space) r passed first =
     let e = Timer time kind space in
