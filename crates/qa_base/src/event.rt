@@ -3,7 +3,7 @@ ghost use Rattle.std.specs.Prelude.{List, ◌≡◌, ◌≤◌, ◌∷◌, IfOk}
 ghost use Rattle.qa_base.specs.declared.event.Event.{Event as AnEvent};
 ghost use Rattle.qa_base.specs.machine.Reno.{is_app_limited};
 ghost use Rattle.qa_base.specs.machine.Timer as timers;
-ghost use Rattle.qa_base.specs.values.Events.{fits as fits_of, time_of};
+ghost use Rattle.qa_base.specs.values.Events.{fits as fits_of, is_in_flight_by, time_of};
 ghost use Rattle.qa_base.specs.values.Limits.{max_time};
 ghost use Rattle.qa_base.specs.values.Kinds.{event_kind};
 
@@ -44,6 +44,16 @@ pub struct SentPacket {
     pub in_flight: bool,
     /// By what leave it was sent.
     pub permission: Permission,
+}
+
+impl SentPacket {
+    /// Whether it is in flight by this leave.
+    #[inline(always)]
+    pub fn is_in_flight_by(&self, permission: Permission) -> bool
+        ensures { result ≡ is_in_flight_by permission self.now }
+    {
+        permission == self.permission && self.in_flight
+    }
 }
 
 /// An acknowledgment that came (RFC 9002, A.7).

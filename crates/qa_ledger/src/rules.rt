@@ -119,18 +119,11 @@ pub(crate) fn is_past_window<S: State>(state: &S, event: &Event) -> bool
         → result ≡ breaches.is_past_window c h event.now }
 {
     match event {
-        Event::Sent(
-            SentPacket {
-                size,
-                in_flight: true,
-                permission: Permission::Window,
-                ..
-            },
-        ) => is_past(
+        Event::Sent(packet) if packet.is_in_flight_by(Permission::Window) => is_past(
             state.header().options().window_overshoot,
             state.window(),
             state.bytes_in_flight(),
-            *size,
+            packet.size,
         ),
         _ => false,
     }
@@ -142,16 +135,9 @@ pub(crate) fn is_past_probe<S: State>(state: &S, event: &Event) -> bool
         → result ≡ breaches.is_past_probe c h event.now }
 {
     match event {
-        Event::Sent(
-            SentPacket {
-                size,
-                in_flight: true,
-                permission: Permission::Probe,
-                ..
-            },
-        ) => is_over(
+        Event::Sent(packet) if packet.is_in_flight_by(Permission::Probe) => is_over(
             PROBE_DATAGRAMS * state.max_datagram_size(),
-            *size,
+            packet.size,
             state.probe_spent(),
         ),
         _ => false,
@@ -164,13 +150,11 @@ pub(crate) fn is_past_recovery<S: State>(state: &S, event: &Event) -> bool
         → result ≡ breaches.is_past_recovery c h event.now }
 {
     match event {
-        Event::Sent(
-            SentPacket {
-                in_flight: true,
-                permission: Permission::Recovery,
-                ..
-            },
-        ) => is_over(1, 1, widened(state.recovery_spent())),
+        Event::Sent(packet) if packet.is_in_flight_by(Permission::Recovery) => is_over(
+            1,
+            1,
+            widened(state.recovery_spent()),
+        ),
         _ => false,
     }
 }

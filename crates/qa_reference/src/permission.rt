@@ -21,7 +21,7 @@ use crate::sampling::start;
 use crate::settled::acknowledges_new;
 use crate::timer::is_discard;
 use crate::window::{last_lost, reno_after};
-use qa_base::{Event, Header, Permission, SentPacket, Space, Ticks};
+use qa_base::{Event, Header, Permission, Space, Ticks};
 use qa_recovery::Reno;
 
 /// The size of the in-flight packet marked as a probe that the event sent.
@@ -29,14 +29,7 @@ fn probe_size(event: &Event) -> u64
     ensures { (h : List Event) → result ≡ leaves.probe_size (event.now ∷ h) }
 {
     match event {
-        Event::Sent(
-            SentPacket {
-                size,
-                in_flight: true,
-                permission: Permission::Probe,
-                ..
-            },
-        ) => *size,
+        Event::Sent(packet) if packet.is_in_flight_by(Permission::Probe) => packet.size,
         _ => 0,
     }
 }
@@ -158,13 +151,7 @@ fn recovery_mark(event: &Event) -> u64
     ensures one { result ≤ 1 }
 {
     match event {
-        Event::Sent(
-            SentPacket {
-                in_flight: true,
-                permission: Permission::Recovery,
-                ..
-            },
-        ) => 1,
+        Event::Sent(packet) if packet.is_in_flight_by(Permission::Recovery) => 1,
         _ => 0,
     }
 }

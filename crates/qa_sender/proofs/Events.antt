@@ -14,7 +14,7 @@ use Rattle.qa_base.specs.machine.Breaches.{is_loss_owed}
 use Rattle.qa_base.specs.machine.Detection.{found_at, is_found_at, looks_at, old_at}
 use Rattle.qa_base.specs.machine.Estimates.{sampled, rtt}
 use Rattle.qa_base.specs.machine.Loss.{is_free, is_owed as owes, owed, detection}
-use Rattle.qa_base.specs.machine.Packets.{Packet, packets, acknowledges_new, is_acknowledged as covers, is_discarded, is_declared_lost, is_newly_acknowledged, is_some_packet, newly_acknowledged}
+use Rattle.qa_base.specs.machine.Packets.{Packet, packets, acknowledges_new, is_acknowledged as covers, is_discarded, is_declared_lost, is_newly_acknowledged, is_some_packet, newly_acknowledged, packet_at}
 use Rattle.qa_base.specs.machine.Violations.{IsToleratedRun}
 use Rattle.qa_base.specs.values.Events.{acknowledges, declares_lost, discards}
 use Rattle.qa_base.specs.values.Settings.{Settings, early}
@@ -62,16 +62,7 @@ settled_covered s ranges (p ∷ ps) free = (covered_or_not p _ free.0, settled_c
 
 -- the packet of the history that is sent
 abbrev packet_after : List Event → SentPacket → Permission → Packet
-packet_after h p permission = record {
-  place = length h;
-  time = p.time;
-  space = p.space;
-  number = p.number;
-  size = p.size;
-  eliciting = p.eliciting;
-  in_flight = p.in_flight;
-  permission = permission;
-}
+packet_after h p permission = packet_at (length h) (as_sent p permission)
 
 fresh_by : (cov los own gone : Bool) → cov ≡ false → los ≡ false → own ≡ false → gone ≡ false → fate_by cov los own gone ≡ Open
 fresh_by cov los own gone not_covered not_lost not_owed there = rw (not_covered, not_lost, not_owed, there) refl

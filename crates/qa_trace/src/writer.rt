@@ -1,6 +1,6 @@
 //! The text of a line.
-ghost use Rattle.std.specs.Prelude.{◌≡◌, ◌≤◌, true, false, string_bytes, None, Some, Ok, IfOk};
-ghost use Rattle.std.specs.Prelude.{OnOk, MatchOption};
+ghost use Rattle.std.specs.Prelude.{◌≡◌, ◌≤◌, ◌<◌, ◌^◌, true, false, string_bytes, None, Some, Ok};
+ghost use Rattle.std.specs.Prelude.{IfOk, OnOk, MatchOption};
 ghost use Rattle.std.specs.List.{AllByRecursion};
 ghost use Rattle.serde_json.specs.Data as json;
 ghost use Rattle.serde_json.specs.View.{view, members_view};
@@ -233,6 +233,7 @@ fn ack_object(alloc: Global, ack: &Ack) -> Result<Value, AllocError>
     ensures object { IfOk result (λ v. view v ≡ object_of (event_pairs (Event.Ack ack.now))) }
     ensures in_time { OnOk result (ack.now.time ≤ max_time) }
     ensures are_ranges { OnOk result (AllByRecursion IsRange ack.now.ranges) }
+    ensures in_word { OnOk result (ack.now.delay < 2 ^ 64) }
 {
     let mut map = event_map(alloc, LineKind::Ack, ack.time)?;
     put_integer(&mut map, alloc, Key::Delay, ack.delay)?;

@@ -12,7 +12,7 @@ use Rattle.qa_base.specs.values.Events.{acknowledges, discards}
 use Rattle.qa_base.specs.machine.Estimates.{sampled}
 use Rattle.qa_base.specs.machine.Detection.{is_found, is_found_at, found_at, is_unsettled}
 use Rattle.qa_base.specs.machine.Loss.{owed, is_owed, is_free, is_open, flight_size, bytes_in_flight, detection}
-use Rattle.qa_base.specs.machine.Packets.{Packet, packets, packet_of, is_of, is_acknowledged, is_declared_lost, is_discarded, is_newly_acknowledged, newly_acknowledged}
+use Rattle.qa_base.specs.machine.Packets.{Packet, packets, packet_of, is_of, is_acknowledged, is_declared_lost, is_discarded, is_newly_acknowledged, newly_acknowledged, packet_at}
 use Rattle.qa_base.specs.machine.Violations.{IsToleratedRun}
 use Rattle.qa_base.specs.values.Settings.{Settings}
 use Rattle.qa_base.specs.history.Declared.{is_named_free, named_free}
@@ -172,16 +172,7 @@ sum_after : (weight : Packet → ℕ) (c : Settings) (e : Event) (h : List Event
     → open_sum weight c (e ∷ h) ≡ sum_by weight (packet_of (length h) e) + sum_by (counted (is_open c (e ∷ h)) weight) (packets h)
 sum_after weight c (Sent packet) h run =
     let e = Sent packet in
-    let p : Packet = record {
-      place = length h;
-      time = packet.time;
-      space = packet.space;
-      number = packet.number;
-      size = packet.size;
-      eliciting = packet.eliciting;
-      in_flight = packet.in_flight;
-      permission = packet.permission;
-    } in
+    let p = packet_at (length h) packet in
     let holds = form_holds c h e run.1 in
     let open_now : is_open c (e ∷ h) p ≡ true = sent_is_open c h packet p refl refl holds.space_gone in
     let here : counted (is_open c (e ∷ h)) weight p ≡ weight p = ap (λ b. if b then weight p else 0) open_now in

@@ -9,7 +9,7 @@ use Rattle.qa_base.specs.declared.space.Space.TheVariants.{Initial, Handshake, A
 use Rattle.qa_base.specs.values.Events.{time_of, is_space}
 use Rattle.qa_base.specs.machine.Order.{IsLower}
 use Rattle.qa_base.specs.history.Sequence.{WasSentBefore, EachTwo}
-use Rattle.qa_base.specs.machine.Packets.{Packet, packets, packets_of, is_of}
+use Rattle.qa_base.specs.machine.Packets.{Packet, packets, packets_of, is_of, packet_at}
 use Rattle.qa_base.specs.machine.Violations.{IsToleratedRun}
 use Rattle.qa_base.specs.values.Settings.{Settings}
 use Rattle.qa_base.proofs.history.Pairs.{of_each, each_weaker, two_of, two_of_part, part_is}
@@ -55,16 +55,7 @@ order_more : (c : Settings) (h : List Event) (e : Event) → IsToleratedRun c (e
 order_more c h (Sent packet) run two =
     let e = Sent packet in
     let falls = numbers_fall c (e ∷ h) run in
-    let p : Packet = record {
-      place = length h;
-      time = packet.time;
-      space = packet.space;
-      number = packet.number;
-      size = packet.size;
-      eliciting = packet.eliciting;
-      in_flight = packet.in_flight;
-      permission = packet.permission;
-    } in
+    let p = packet_at (length h) packet in
     (joined p (packets h) (placed h) (are_by c e h run) falls.0, two)
 order_more c h _ run two = two
 

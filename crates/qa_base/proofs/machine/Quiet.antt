@@ -14,7 +14,7 @@ use Rattle.qa_base.specs.machine.Detection.{is_found, is_found_at, found_at, dec
 use Rattle.qa_base.specs.machine.Estimates.{refreshed_by, rtt, sampled}
 use Rattle.qa_base.specs.machine.Loss.{is_owed, owed, declared, flight_size, bytes_in_flight, detection}
 use Rattle.qa_base.specs.machine.Moments.{since}
-use Rattle.qa_base.specs.machine.Packets.{Packet, packets, newly_acknowledged, is_followed_by, is_discarded, is_of, is_acknowledged, is_declared_lost}
+use Rattle.qa_base.specs.machine.Packets.{Packet, packets, newly_acknowledged, is_followed_by, is_discarded, is_of, is_acknowledged, is_declared_lost, packet_at}
 use Rattle.qa_base.specs.machine.Reno.{grows, is_app_limited, moves, moves_of_last}
 use Rattle.qa_base.specs.machine.Rtt.{Estimate}
 use Rattle.qa_base.specs.values.Settings.{Settings}
@@ -179,16 +179,7 @@ pub bytes_in_flight-sent : (c : Settings) (h : List Event) (packet : SentPacket)
     → bytes_in_flight c (Sent packet ∷ h) ≡ bytes_in_flight c h + (if packet.in_flight && not (is_discarded h packet.space) then packet.size else 0)
 bytes_in_flight-sent c h packet none =
     let e = Sent packet in
-    let p : Packet = record {
-      place = length h;
-      time = packet.time;
-      space = packet.space;
-      number = packet.number;
-      size = packet.size;
-      eliciting = packet.eliciting;
-      in_flight = packet.in_flight;
-      permission = packet.permission;
-    } in
+    let p = packet_at (length h) packet in
     let all = sum_by-cons (flight_size c (e ∷ h)) p (packets h) in
     let rest = same_sum (flight_size c (e ∷ h)) (flight_size c h) (packets h) (still_open c h e (packets h) (not_owed c h none) (sent_leaves c h packet)) in
     let new = just_sent c h packet p refl refl refl refl in

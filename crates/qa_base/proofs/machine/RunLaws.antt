@@ -8,7 +8,7 @@ use Rattle.qa_base.specs.declared.event.Event.TheVariants.{Sent}
 use Rattle.qa_base.specs.declared.rule.Rule.{Rule}
 use Rattle.qa_base.specs.machine.Violations.{is_untolerated, first_untolerated, IsToleratedRun}
 use Rattle.qa_base.specs.machine.Order.{IsLower, NumbersFall}
-use Rattle.qa_base.specs.machine.Packets.{Packet, packets, is_of, newly_acknowledged, is_newly_acknowledged}
+use Rattle.qa_base.specs.machine.Packets.{Packet, packets, is_of, newly_acknowledged, is_newly_acknowledged, packet_at}
 use Rattle.qa_base.specs.machine.Rules.{broken, first_of, first_broken, IsRun}
 use Rattle.qa_base.specs.machine.Breaches.{is_time_back, is_loss_owed, is_loss_not_owed, is_other_loss_set, is_space_gone, is_number_not_higher, is_past_window, is_past_probe, is_past_recovery, is_ack_unsent, is_timer_not_set, is_timer_other, is_timer_early, is_probe_owed, is_not_confirmed}
 use Rattle.qa_base.specs.machine.Detection.{is_old}
@@ -172,16 +172,7 @@ all_lower p (q ∷ ps) none =
 event_falls : (c : Settings) (e : Event) (h : List Event) → first_untolerated c h e ≡ None → NumbersFall (packets h) → NumbersFall (packets (e ∷ h))
 event_falls c (Sent packet) h allowed falls =
     let holds = form_holds c h (Sent packet) allowed in
-    let p : Packet = record {
-      place = length h;
-      time = packet.time;
-      space = packet.space;
-      number = packet.number;
-      size = packet.size;
-      eliciting = packet.eliciting;
-      in_flight = packet.in_flight;
-      permission = packet.permission;
-    } in
+    let p = packet_at (length h) packet in
     (all_lower p (packets h) holds.number_not_higher, falls)
 event_falls c _ h allowed falls = falls
 

@@ -11,7 +11,7 @@ use Rattle.qa_base.specs.declared.space.Space.{Space}
 use Rattle.qa_base.specs.values.Events.{time_of, is_space}
 use Rattle.qa_base.specs.machine.Permission.{probe_size, probe_spent, is_recovery_packet, recovery_spent, answers_pto, timer_space, last_pto_space, is_unanswered, is_probe_due}
 use Rattle.qa_base.specs.machine.Moments.{moments, since}
-use Rattle.qa_base.specs.machine.Packets.{Packet, packets_of}
+use Rattle.qa_base.specs.machine.Packets.{Packet, packets_of, packet_at}
 use Rattle.qa_base.specs.machine.Reno.{moves, moves_of_last, moved, reno, is_entry, start}
 use Rattle.qa_base.specs.values.Settings.{Settings}
 use Rattle.qa_base.specs.machine.Probes.{probe_due, unanswered_by}
@@ -71,16 +71,7 @@ eliciting_if false eliciting p ps is = refl
 pub last_eliciting_sent : (h : List Event) (s : Space) (packet : SentPacket)
     → last_eliciting (Sent packet ∷ h) s ≡ (if is_space s packet.space && packet.eliciting then Some packet.time else last_eliciting h s)
 last_eliciting_sent h s packet =
-    eliciting_if (is_space s packet.space) packet.eliciting (record {
-      place = length h;
-      time = packet.time;
-      space = packet.space;
-      number = packet.number;
-      size = packet.size;
-      eliciting = packet.eliciting;
-      in_flight = packet.in_flight;
-      permission = packet.permission;
-    }) (packets_of h s) refl
+    eliciting_if (is_space s packet.space) packet.eliciting (packet_at (length h) packet) (packets_of h s) refl
 
 -- ---- the probe that is due
 

@@ -8,6 +8,7 @@ use Rattle.std.specs.Prelude.{None, if◌then◌else◌}
 use Rattle.std.specs.List.{list_any}
 use Rattle.qa_base.specs.declared.event.Event.{Event}
 use Rattle.qa_base.specs.declared.event.Event.TheVariants.{Sent, Ack}
+use Rattle.qa_base.specs.declared.event.SentPacket.{SentPacket}
 use Rattle.qa_base.specs.declared.space.Space.{Space}
 use Rattle.qa_base.specs.declared.space.Permission.{Permission}
 use Rattle.qa_base.specs.values.Events.{is_space, acknowledges, declares_lost, discards}
@@ -30,9 +31,9 @@ pub record Packet : Type 0 where
   pub in_flight : Bool
   pub permission : Permission
 
--- the packet that an event sent, which stands after so many others
-abbrev pub packet_of : ℕ → Event → List Packet
-packet_of place (Sent packet) = record {
+-- the packet that an event tells, which stands after so many others
+abbrev pub packet_at : ℕ → SentPacket → Packet
+packet_at place packet = record {
   place = place;
   time = packet.time;
   space = packet.space;
@@ -41,7 +42,11 @@ packet_of place (Sent packet) = record {
   eliciting = packet.eliciting;
   in_flight = packet.in_flight;
   permission = packet.permission;
-} ∷ []
+}
+
+-- the packet that the event sent
+abbrev pub packet_of : ℕ → Event → List Packet
+packet_of place (Sent packet) = packet_at place packet ∷ []
 packet_of place _ = []
 
 -- the packets that were sent, the latest first

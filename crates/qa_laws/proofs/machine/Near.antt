@@ -11,7 +11,7 @@ use Rattle.qa_base.specs.machine.Detection.{is_found, is_found_at, is_old, is_pa
 use Rattle.qa_base.specs.machine.Estimates.{sampled}
 use Rattle.qa_base.specs.machine.Loss.{detection, is_free, is_open, is_owed}
 use Rattle.qa_base.specs.machine.Order.{IsLower, NumbersFall}
-use Rattle.qa_base.specs.machine.Packets.{Packet, acknowledges_new, greatest, greatest_in, is_acknowledged, is_declared_lost, is_followed_by, is_newly_acknowledged, is_of, largest_acknowledged, newly_acknowledged, packets}
+use Rattle.qa_base.specs.machine.Packets.{Packet, acknowledges_new, greatest, greatest_in, is_acknowledged, is_declared_lost, is_followed_by, is_newly_acknowledged, is_of, largest_acknowledged, newly_acknowledged, packets, packet_at}
 use Rattle.qa_base.specs.machine.Rtt.{Estimate}
 use Rattle.qa_base.specs.machine.Rules.{IsRun}
 use Rattle.qa_base.specs.values.Events.{acknowledges, declares_lost, is_named, is_space}
@@ -36,16 +36,7 @@ pub record IsSentBy (e : Event) (h : List Event) (p : Packet) : Type 0 where
 
 sent_or_before : (e : Event) (h : List Event) (p : Packet) → Contains (packets (e ∷ h)) p → IsSentBy e h p ⊎ Contains (packets h) p
 sent_or_before (Sent packet) h p has =
-    let q : Packet = record {
-      place = length h;
-      time = packet.time;
-      space = packet.space;
-      number = packet.number;
-      size = packet.size;
-      eliciting = packet.eliciting;
-      in_flight = packet.in_flight;
-      permission = packet.permission;
-    } in
+    let q = packet_at (length h) packet in
     elim (first_or_rest q p (packets h) has) [
       | inl same ↦ inl (record { all = ap (λ k. k ∷ packets h) same; place = (let at = ap (λ (k : Packet). k.place) same in omega (arith, at)) })
       | inr behind ↦ inr behind

@@ -13,7 +13,7 @@ use Rattle.qa_base.specs.declared.space.Space.TheVariants.{Initial, Handshake, A
 use Rattle.qa_base.specs.machine.Breaches.{numbers}
 use Rattle.qa_base.specs.machine.Kept.{numbers_of, runs}
 use Rattle.qa_base.specs.machine.Numbers.{is_in}
-use Rattle.qa_base.specs.machine.Packets.{Packet, packets, packet_of, packets_of, is_of}
+use Rattle.qa_base.specs.machine.Packets.{Packet, packets, packet_of, packets_of, is_of, packet_at}
 use Rattle.qa_base.specs.machine.Rules.{IsRun}
 use Rattle.qa_base.specs.values.Settings.{Settings}
 use Rattle.qa_base.proofs.machine.RunLaws.{tolerated_run_of}
@@ -99,34 +99,22 @@ begun p ps earlier two =
 
 -- ---- one more event
 
-abbrev sent_last : ℕ → SentPacket → Packet
-sent_last place packet = record {
-  place = place;
-  time = packet.time;
-  space = packet.space;
-  number = packet.number;
-  size = packet.size;
-  eliciting = packet.eliciting;
-  in_flight = packet.in_flight;
-  permission = packet.permission;
-}
-
 sent_begins : (c : Settings) (h : List Event) (packet : SentPacket) (s : Space) → IsRun c (Sent (record packet { space = s }) ∷ h)
     → runs (Sent (record packet { space = s }) ∷ h) ≡ runs h + runs_begun (numbers_of h s) packet.number
 sent_begins c h packet Initial run =
     let e = Sent (record packet { space = Initial }) in
     let two = in_order_of c (e ∷ h) Initial (tolerated_run_of c (e ∷ h) run) in
-    let more = begun (sent_last (length h) (record packet { space = Initial })) (packets_of h Initial) two.0 two.1 in
+    let more = begun (packet_at (length h) (record packet { space = Initial })) (packets_of h Initial) two.0 two.1 in
     omega (arith, more)
 sent_begins c h packet Handshake run =
     let e = Sent (record packet { space = Handshake }) in
     let two = in_order_of c (e ∷ h) Handshake (tolerated_run_of c (e ∷ h) run) in
-    let more = begun (sent_last (length h) (record packet { space = Handshake })) (packets_of h Handshake) two.0 two.1 in
+    let more = begun (packet_at (length h) (record packet { space = Handshake })) (packets_of h Handshake) two.0 two.1 in
     omega (arith, more)
 sent_begins c h packet App run =
     let e = Sent (record packet { space = App }) in
     let two = in_order_of c (e ∷ h) App (tolerated_run_of c (e ∷ h) run) in
-    let more = begun (sent_last (length h) (record packet { space = App })) (packets_of h App) two.0 two.1 in
+    let more = begun (packet_at (length h) (record packet { space = App })) (packets_of h App) two.0 two.1 in
     omega (arith, more)
 
 -- in a run a packet that is sent begins a run of numbers, unless the number before its own was sent in its space

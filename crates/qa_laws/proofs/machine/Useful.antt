@@ -14,7 +14,7 @@ use Rattle.qa_base.specs.declared.space.Permission.{Permission}
 use Rattle.qa_base.specs.declared.space.Space.{Space}
 use Rattle.qa_base.specs.machine.Kept.{is_kept, kept_count}
 use Rattle.qa_base.specs.machine.Loss.{is_open, is_owed, owed}
-use Rattle.qa_base.specs.machine.Packets.{Packet, packets, packet_of, is_some_packet, is_newly_acknowledged}
+use Rattle.qa_base.specs.machine.Packets.{Packet, packets, packet_of, is_some_packet, is_newly_acknowledged, packet_at}
 use Rattle.qa_base.specs.machine.Rules.{IsRun}
 use Rattle.qa_base.specs.values.Events.{is_quiet}
 use Rattle.qa_base.specs.values.Settings.{Settings}
@@ -166,16 +166,7 @@ pub kept_sent : (c : Settings) (h : List Event) (packet : SentPacket) → IsRun 
     → kept_count c (Sent packet ∷ h) ≡ kept_count c h + 1
 kept_sent c h packet run =
     let e = Sent packet in
-    let p : Packet = record {
-      place = length h;
-      time = packet.time;
-      space = packet.space;
-      number = packet.number;
-      size = packet.size;
-      eliciting = packet.eliciting;
-      in_flight = packet.in_flight;
-      permission = packet.permission;
-    } in
+    let p = packet_at (length h) packet in
     let all = behind (is_kept c h) (reverse (packets h)) in
     let kept = from_first (is_kept c h) (reverse (packets h)) in
     let split : reverse (packets (e ∷ h)) ≡ all.0 ++ (kept ++ p ∷ []) =
