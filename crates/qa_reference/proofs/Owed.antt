@@ -5,7 +5,7 @@ use Rattle.std.specs.Prelude.{nat_lt}
 use Rattle.qa_base.specs.declared.event.Event.{Event}
 use Rattle.qa_base.specs.declared.space.Space.{Space}
 use Rattle.qa_base.specs.machine.Estimates.{sampled}
-use Rattle.qa_base.specs.machine.Detection.{is_found_at}
+use Rattle.qa_base.specs.machine.Detection.{is_at, is_found}
 use Rattle.qa_base.specs.machine.Loss.{detection, is_owed, owed}
 use Rattle.qa_base.specs.machine.Packets.{Packet, packets, is_some_packet}
 use Rattle.qa_base.specs.machine.Rtt.{Estimate}
@@ -15,7 +15,7 @@ use Rattle.qa_reference.specs.Looks.{Seen, IsLook, largest_there, is_found_where
 
 -- ---- by what is seen
 
-found_where : (c : Settings) (h : List Event) (p : Packet) (d : Option (Space × ℕ)) → is_found_where c h (sampled c h) (largest_there h d) p d ≡ is_found_at c (sampled c h) h p d
+found_where : (c : Settings) (h : List Event) (p : Packet) (d : Option (Space × ℕ)) → is_found_where c h (sampled c h) (largest_there h d) p d ≡ is_at (is_found c (sampled c h) h) p d
 found_where c h p None = refl
 found_where c h p (Some d) = refl
 

@@ -8,7 +8,7 @@ use Rattle.qa_base.specs.machine.Loss.{is_persistent}
 use Rattle.qa_base.specs.machine.Rtt.{Estimate, pto_base, refreshed, loss_delay}
 use Rattle.qa_base.specs.values.Settings.{Settings, granularity}
 
-refreshed_by_is : (asked : Bool) (c : Settings) (h : List Event) (r : Estimate) → refreshed_by asked c h r ≡ (if asked && is_persistent_by r c h then refreshed r else r)
+refreshed_by_is : (asked : Bool) (c : Settings) (h : List Event) (r : Estimate) → refreshed_by asked c h r ≡ (if asked && is_persistent_by c r h then refreshed r else r)
 refreshed_by_is true c h r = refl
 refreshed_by_is false c h r = refl
 

@@ -6,7 +6,7 @@ use Rattle.qa_base.specs.declared.event.Event.{Event}
 use Rattle.qa_base.specs.declared.event.Event.TheVariants.{Sent, Ack, Lost, Timer, Discard, Confirmed, Keys, Metrics}
 use Rattle.qa_base.specs.declared.space.Space.{Space}
 use Rattle.qa_base.specs.machine.Estimates.{sampled}
-use Rattle.qa_base.specs.machine.Detection.{are_ends, detection_by, is_completed_by, is_found_at, is_free_by, is_left_at, is_owed_by, is_taken_by as is_taken_at}
+use Rattle.qa_base.specs.machine.Detection.{are_ends, detection_by, is_at, is_completed_by, is_found, is_free_by, is_left, is_owed_by, is_taken_by as is_taken_at}
 use Rattle.qa_base.specs.machine.Loss.{declared, is_nameable, is_owed, is_persistent, nameable, owed}
 use Rattle.qa_base.specs.machine.Packets.{Packet, packets}
 use Rattle.qa_base.specs.machine.Rtt.{Estimate}
@@ -17,11 +17,11 @@ use Rattle.qa_reference.specs.Looks.{AreSeen, IsLook, IsSeen, Seen, SeenLosses, 
 
 -- ---- by an estimate
 
-found_where : (c : Settings) (r : Estimate) (h : List Event) (p : Packet) (d : Option (Space × ℕ)) → is_found_where c h r (largest_there h d) p d ≡ is_found_at c r h p d
+found_where : (c : Settings) (r : Estimate) (h : List Event) (p : Packet) (d : Option (Space × ℕ)) → is_found_where c h r (largest_there h d) p d ≡ is_at (is_found c r h) p d
 found_where c r h p None = refl
 found_where c r h p (Some d) = refl
 
-left_where : (c : Settings) (r : Estimate) (h : List Event) (p : Packet) (d : Option (Space × ℕ)) → is_left_where c h r (largest_there h d) p d ≡ is_left_at c r h p d
+left_where : (c : Settings) (r : Estimate) (h : List Event) (p : Packet) (d : Option (Space × ℕ)) → is_left_where c h r (largest_there h d) p d ≡ is_at (is_left c r h) p d
 left_where c r h p None = refl
 left_where c r h p (Some d) = refl
 
@@ -119,10 +119,10 @@ rtt_seen c (Metrics time values ∷ h) losses seen = seen.0.0
 
 -- they establish persistent congestion
 pub persistent_seen : (c : Settings) (h : List Event) (losses : SeenLosses) → AreSeen c h losses
-    → list_any (λ p. list_any (are_ends losses.look.rtt c h p) (lost_in h losses h)) (lost_in h losses h) ≡ is_persistent c h
+    → list_any (λ p. list_any (are_ends c losses.look.rtt h p) (lost_in h losses h)) (lost_in h losses h) ≡ is_persistent c h
 persistent_seen c h losses seen =
-    ap (λ (r : Estimate). list_any (λ p. list_any (are_ends r c h p) (lost_in h losses h)) (lost_in h losses h)) (rtt_seen c h losses seen)
-    ∙ sym (ap (λ (ps : List Packet). list_any (λ p. list_any (are_ends (sampled c h) c h p) ps) ps) (lost_seen c h losses seen))
+    ap (λ (r : Estimate). list_any (λ p. list_any (are_ends c r h p) (lost_in h losses h)) (lost_in h losses h)) (rtt_seen c h losses seen)
+    ∙ sym (ap (λ (ps : List Packet). list_any (λ p. list_any (are_ends c (sampled c h) h p) ps) ps) (lost_seen c h losses seen))
 
 -- ---- what is seen of one more event
 

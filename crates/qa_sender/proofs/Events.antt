@@ -11,7 +11,7 @@ use Rattle.qa_base.specs.declared.space.TimerKind.TheVariants.{Loss}
 use Rattle.qa_base.specs.declared.space.Permission.{Permission}
 use Rattle.qa_base.specs.declared.space.Space.{Space}
 use Rattle.qa_base.specs.machine.Breaches.{is_loss_owed}
-use Rattle.qa_base.specs.machine.Detection.{found_at, is_found_at, looks_at, old_at}
+use Rattle.qa_base.specs.machine.Detection.{all_at, is_at, is_found, looks_at, old_at}
 use Rattle.qa_base.specs.machine.Estimates.{sampled, rtt}
 use Rattle.qa_base.specs.machine.Loss.{is_free, is_owed as owes, owed, detection}
 use Rattle.qa_base.specs.machine.Packets.{Packet, packets, acknowledges_new, is_acknowledged as covers, is_discarded, is_declared_lost, is_newly_acknowledged, is_some_packet, newly_acknowledged, packet_at}
@@ -130,7 +130,7 @@ some_by_length (p ∷ ps) = sym (lt-ltb 0 (length (p ∷ ps)) (omega arith))
 nothing_found : (c : Settings) (h : List Event) (ack : Acknowledgment)
     → acknowledges_new (Ack ack ∷ h) ≡ false → (p : Packet) → owes c (Ack ack ∷ h) p ≡ false
 nothing_found c h ack none p =
-    ap (λ b. is_found_at c (sampled c (Ack ack ∷ h)) (Ack ack ∷ h) p (if◌then◌else◌ {A = Option (Space × ℕ)} b (Some (ack.space, ack.time)) None)) none
+    ap (λ b. is_at (is_found c (sampled c (Ack ack ∷ h)) (Ack ack ∷ h)) p (if◌then◌else◌ {A = Option (Space × ℕ)} b (Some (ack.space, ack.time)) None)) none
 
 between_by : (cov los was own gone : Bool) → was ≡ false → own ≡ false → fate_by cov los false gone ≡ fate_by cov (was || los) own gone
 between_by cov los was own gone not_was not_own = rw (not_was, not_own) refl
@@ -139,7 +139,7 @@ between_by cov los was own gone not_was not_own = rw (not_was, not_own) refl
 pub nothing_owed : (c : Settings) (h : List Event) (ack : Acknowledgment)
     → acknowledges_new (Ack ack ∷ h) ≡ false → owed c (Ack ack ∷ h) ≡ []
 nothing_owed c h ack none =
-    ap (λ b. found_at c (sampled c (Ack ack ∷ h)) (Ack ack ∷ h) (if◌then◌else◌ {A = Option (Space × ℕ)} b (Some (ack.space, ack.time)) None)) none
+    ap (λ b. all_at (is_found c (sampled c (Ack ack ∷ h)) (Ack ack ∷ h)) (Ack ack ∷ h) (if◌then◌else◌ {A = Option (Space × ℕ)} b (Some (ack.space, ack.time)) None)) none
 
 -- in a tolerated run, after an acknowledgment of nothing new, the packets that it names are covered, and the packets held stand for the history
 pub stands_covered : (c : Settings) (h : List Event) (ack : Acknowledgment)

@@ -7,7 +7,7 @@ use Rattle.qa_base.specs.declared.event.Ack.{Ack as Acknowledgment}
 use Rattle.qa_base.specs.declared.event.Event.TheVariants.{Ack, Lost, Discard}
 use Rattle.qa_base.specs.declared.space.Space.{Space}
 use Rattle.qa_base.specs.declared.space.Space.TheVariants.{Initial, Handshake, App}
-use Rattle.qa_base.specs.machine.Detection.{is_found, is_found_at, is_past_threshold}
+use Rattle.qa_base.specs.machine.Detection.{is_at, is_found, is_past_threshold}
 use Rattle.qa_base.specs.machine.Estimates.{sampled}
 use Rattle.qa_base.specs.machine.Loss.{is_free, is_open as opens, is_owed as owes, detection}
 use Rattle.qa_base.specs.machine.Packets.{Packet, packets, is_acknowledged as covers, is_discarded, is_declared_lost, is_newly_acknowledged, is_of, largest_acknowledged}
@@ -76,7 +76,7 @@ owed_by false los false true free there = refl
 owed_by false true false false free there = refl
 owed_by false false false false free there = refl
 
-found_there : (c : Settings) (e : Event) (h : List Event) → IsToleratedRun c (e ∷ h) → (p : Packet) (d : Option (Space × ℕ)) → detection c (e ∷ h) ≡ d → is_found_at c (sampled c (e ∷ h)) (e ∷ h) p d ≡ true
+found_there : (c : Settings) (e : Event) (h : List Event) → IsToleratedRun c (e ∷ h) → (p : Packet) (d : Option (Space × ℕ)) → detection c (e ∷ h) ≡ d → is_at (is_found c (sampled c (e ∷ h)) (e ∷ h)) p d ≡ true
     → is_discarded h p.space ≡ false
 found_there c e h run p None at is = cc
 found_there c e h run p (Some (s, now)) at is =
@@ -292,7 +292,7 @@ found_told c e h run s now at none l thresholds p has not_was no_disc unnamed =
     (λ same. there_of h s p.space (space_of_detection c e h run s now at) (space_turned p.space s ∙ same))
     (covered_after e h p has)
     (lost_unnamed c e h run p has unnamed ∙ sym (free_by (owes c h p) (is_declared_lost h p) not_was))
-    (ap (is_found_at c (sampled c g) g p) at)
+    (ap (is_at (is_found c (sampled c g) g) p) at)
     ∙ ap (λ b. told (fate_by (covers g p) (is_declared_lost g p) (owes c g p) b) p) (sym gone_is))
 
 -- ---- what is newly acknowledged

@@ -10,7 +10,7 @@ use Rattle.qa_base.specs.declared.event.Event.{Event}
 use Rattle.qa_base.specs.declared.event.Event.TheVariants.{Lost}
 use Rattle.qa_base.specs.declared.space.Space.{Space}
 use Rattle.qa_base.specs.machine.Breaches.{numbers}
-use Rattle.qa_base.specs.machine.Detection.{found_at, is_after, is_end as ends, is_found, is_found_at, is_left_at}
+use Rattle.qa_base.specs.machine.Detection.{all_at, is_after, is_at, is_end as ends, is_found, is_left}
 use Rattle.qa_base.specs.machine.Estimates.{sampled}
 use Rattle.qa_base.specs.machine.Loss.{declared, detection, is_free, is_nameable, is_owed as owes, is_persistent, owed}
 use Rattle.qa_base.specs.machine.Packets.{Packet, packets, is_acknowledged as covers, is_of, is_some_packet}
@@ -50,7 +50,7 @@ use Rattle.qa_sent_packets.specs.declared.packet.SentPacket.{SentPacket}
 
 -- ---- the packets that are owed
 
-found_part : (c : Settings) (h : List Event) (d : Option (Space × ℕ)) → filter (λ p. is_found_at c (sampled c h) h p d) (packets h) ≡ found_at c (sampled c h) h d
+found_part : (c : Settings) (h : List Event) (d : Option (Space × ℕ)) → filter (λ p. is_at (is_found c (sampled c h) h) p d) (packets h) ≡ all_at (is_found c (sampled c h) h) h d
 found_part c h None = none_left (λ p. false) (packets h) (of_each (λ p. false ≡ false) (packets h) (λ p has. refl))
 found_part c h (Some (s, now)) = part_of_part (is_of s) (is_found c (sampled c h) h now s) (packets h)
 
@@ -324,7 +324,7 @@ taken_losses c h time space ranges run free are some old new stands is =
 none_left_at : (c : Settings) (h : List Event) (e : Event) → detection c h ≡ None → (ps : List Packet) → list_any (is_named_free c e h) ps ≡ false
 none_left_at c h e none [] = refl
 none_left_at c h e none (p ∷ ps) =
-    let out : is_free c h p ≡ false = ap (is_left_at c (sampled c h) h p) none in
+    let out : is_free c h p ≡ false = ap (is_at (is_left c (sampled c h) h) p) none in
     rw out (none_left_at c h e none ps)
 
 -- and there was one

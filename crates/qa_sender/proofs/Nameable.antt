@@ -10,7 +10,7 @@ use Rattle.qa_base.specs.declared.event.Event.TheVariants.{Discard}
 use Rattle.qa_base.specs.declared.space.Space.{Space}
 use Rattle.qa_base.specs.declared.space.Space.TheVariants.{Initial}
 use Rattle.qa_base.specs.machine.Breaches.{numbers}
-use Rattle.qa_base.specs.machine.Detection.{is_found, is_found_at, is_left, is_left_at, is_old, is_past_threshold, is_unsettled, may_be_spared}
+use Rattle.qa_base.specs.machine.Detection.{is_at, is_found, is_left, is_old, is_past_threshold, is_unsettled, may_be_spared}
 use Rattle.qa_base.specs.machine.Estimates.{sampled}
 use Rattle.qa_base.specs.machine.Loss.{detection, is_free, is_nameable, is_open as opens, is_owed as owes, nameable, owed}
 use Rattle.qa_base.specs.machine.Numbers.{has_all, has_next, has_range, is_in, names_between}
@@ -92,14 +92,14 @@ gone_of c [] run s now at = cc
 gone_of c (e ∷ h) run s now at = there_if (is_discarded h s) (discards s e) (space_of_detection c e h run s now at) (no_discard c e h s now at)
 
 told_by : (k : Connection) (c : Settings) (h : List Event) (d : Option (Space × ℕ)) → IsToleratedRun c h → IsOf k c h → detection c h ≡ d → (p : Packet)
-    → is_free_by (freed k (option_map (detected_in c h) d)) (sent_of c h p) ≡ is_left_at c (sampled c h) h p d
+    → is_free_by (freed k (option_map (detected_in c h) d)) (sent_of c h p) ≡ is_at (is_left c (sampled c h) h) p d
 told_by k c h None run of at p = let none : nat_lt p.number 0 ≡ false = grind (arith, nat_tests) in and_right (is_flying Initial (sent_of c h p)) (nat_lt p.number 0) none
 told_by k c h (Some (s, now)) run of at p =
     let end = end_of c (largest_acknowledged h s) in
     let late = is_past_threshold c (sampled c h) now (largest_acknowledged h s) p in
     let end_is : end_of k.header (of_space s k.spaces).largest ≡ end =
     ap (λ (x : SpaceState). end_of k.header x.largest) (of.parts.spaces s) ∙ ap (λ (x : Settings). end_of x (largest_acknowledged h s)) of.parts.header in
-    let owes_is : owes c h p ≡ (is_of s p && is_found c (sampled c h) h now s p) = ap (is_found_at c (sampled c h) h p) at in
+    let owes_is : owes c h p ≡ (is_of s p && is_found c (sampled c h) h now s p) = ap (is_at (is_found c (sampled c h) h) p) at in
     let opened : is_open (fate c h p) ≡ (is_unsettled h p && not (is_of s p && is_found c (sampled c h) h now s p) && not (is_discarded h p.space)) =
     is_open_told c h p ∙ ap (λ b. is_unsettled h p && not b && not (is_discarded h p.space)) owes_is in
     ap (λ n. is_flying s (sent_of c h p) && nat_lt p.number n) end_is
@@ -117,7 +117,7 @@ of_either : (of a b : Bool) → ((of && a) || (of && b)) ≡ true → of ≡ tru
 of_either true a b is = refl
 of_either false a b is = cc
 
-space_by : (k : Connection) (c : Settings) (h : List Event) (d : Option (Space × ℕ)) → detection c h ≡ d → (p : Packet) → (is_found_at c (sampled c h) h p d || is_left_at c (sampled c h) h p d) ≡ true
+space_by : (k : Connection) (c : Settings) (h : List Event) (d : Option (Space × ℕ)) → detection c h ≡ d → (p : Packet) → (is_at (is_found c (sampled c h) h) p d || is_at (is_left c (sampled c h) h) p d) ≡ true
     → is_space (freed k (option_map (detected_in c h) d)).space p.space ≡ true
 space_by k c h None at p is = cc
 space_by k c h (Some (s, now)) at p is = of_either (is_of s p) (is_found c (sampled c h) h now s p) (is_left c (sampled c h) h now s p) is

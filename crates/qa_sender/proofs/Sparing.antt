@@ -5,7 +5,7 @@ use Rattle.std.specs.List.{AllByRecursion}
 use Rattle.qa_base.specs.declared.event.Event.{Event}
 use Rattle.qa_base.specs.declared.space.Space.{Space}
 use Rattle.qa_base.specs.machine.Breaches.{numbers}
-use Rattle.qa_base.specs.machine.Detection.{is_left, is_left_at, left_at}
+use Rattle.qa_base.specs.machine.Detection.{all_at, is_at, is_left}
 use Rattle.qa_base.specs.machine.Estimates.{sampled}
 use Rattle.qa_base.specs.machine.Loss.{detection, free, is_free, is_open as opens}
 use Rattle.qa_base.specs.machine.Packets.{Packet, is_of, packets}
@@ -30,7 +30,7 @@ use Rattle.qa_sent_packets.specs.declared.packet.SentPacket.{SentPacket}
 
 -- ---- their numbers
 
-left_part : (c : Settings) (h : List Event) (d : Option (Space × ℕ)) → filter (λ p. is_left_at c (sampled c h) h p d) (packets h) ≡ left_at c (sampled c h) h d
+left_part : (c : Settings) (h : List Event) (d : Option (Space × ℕ)) → filter (λ p. is_at (is_left c (sampled c h) h) p d) (packets h) ≡ all_at (is_left c (sampled c h) h) h d
 left_part c h None = none_left (λ p. false) (packets h) (of_each (λ p. false ≡ false) (packets h) (λ p has. refl))
 left_part c h (Some (s, now)) = part_of_part (is_of s) (is_left c (sampled c h) h now s) (packets h)
 

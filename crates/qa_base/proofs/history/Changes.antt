@@ -9,7 +9,7 @@ use Rattle.qa_base.specs.declared.space.Space.{Space}
 use Rattle.qa_base.specs.machine.Breaches.{numbers}
 use Rattle.qa_base.specs.values.Events.{is_space, is_named, acknowledges, declares_lost}
 use Rattle.qa_base.specs.machine.Estimates.{sampled}
-use Rattle.qa_base.specs.machine.Detection.{is_found, is_found_at, is_left, is_left_at, is_old, may_be_spared, is_unsettled}
+use Rattle.qa_base.specs.machine.Detection.{is_at, is_found, is_left, is_old, is_unsettled, may_be_spared}
 use Rattle.qa_base.specs.machine.Loss.{owed, is_owed, is_free, nameable, is_nameable, is_open, detection}
 use Rattle.qa_base.specs.machine.Numbers.{is_in, has_all}
 use Rattle.qa_base.specs.history.Declared.{is_named_free}
@@ -124,7 +124,7 @@ pub record IsLeft (c : Settings) (h : List Event) (p : Packet) : Type 0 where
   pub unsettled : is_unsettled h p ≡ true
   pub spared : may_be_spared c (sampled c h) now (largest_acknowledged h p.space) p ≡ true
 
-left_by : (c : Settings) (h : List Event) (p : Packet) (d : Option (Space × ℕ)) → detection c h ≡ d → is_left_at c (sampled c h) h p d ≡ true → IsLeft c h p
+left_by : (c : Settings) (h : List Event) (p : Packet) (d : Option (Space × ℕ)) → detection c h ≡ d → is_at (is_left c (sampled c h) h) p d ≡ true → IsLeft c h p
 left_by c h p None at is = cc
 left_by c h p (Some (s, now)) at is =
     let parts = and_parts (is_of s p) (is_left c (sampled c h) h now s p) is in
@@ -142,7 +142,7 @@ left_by c h p (Some (s, now)) at is =
 pub free_is_left : (c : Settings) (h : List Event) (p : Packet) → is_free c h p ≡ true → IsLeft c h p
 free_is_left c h p is = left_by c h p (detection c h) refl is
 
-left_not_found : (c : Settings) (h : List Event) (p : Packet) (left : IsLeft c h p) → is_found_at c (sampled c h) h p (Some (p.space, left.now)) ≡ false
+left_not_found : (c : Settings) (h : List Event) (p : Packet) (left : IsLeft c h p) → is_at (is_found c (sampled c h) h) p (Some (p.space, left.now)) ≡ false
 left_not_found c h p left =
     let young = spared_is_young c (sampled c h) left.now (largest_acknowledged h p.space) p left.spared in
     and_right (is_of p.space p) (is_found c (sampled c h) h left.now p.space p)
@@ -151,7 +151,7 @@ left_not_found c h p left =
 pub free_not_owed : (c : Settings) (h : List Event) (p : Packet) → is_free c h p ≡ true → is_owed c h p ≡ false
 free_not_owed c h p is =
     let left = free_is_left c h p is in
-    ap (is_found_at c (sampled c h) h p) left.at ∙ left_not_found c h p left
+    ap (is_at (is_found c (sampled c h) h) p) left.at ∙ left_not_found c h p left
 
 -- a detection discards nothing
 not_discarded : (c : Settings) (e : Event) (h : List Event) (s : Space) (now : ℕ) → detection c (e ∷ h) ≡ Some (s, now) → is_discarded h s ≡ false → is_discarded (e ∷ h) s ≡ false
@@ -198,7 +198,7 @@ lost_is_taken c e h run p has =
     (neither (is_owed c h p) (is_free c h p) (not_owed_now c e h p has (form_holds c h e run.1).loss_owed))
 
 found_was_flying : (c : Settings) (e : Event) (h : List Event) → IsToleratedRun c (e ∷ h) → (p : Packet) → Contains (packets h) p
-    → (d : Option (Space × ℕ)) → detection c (e ∷ h) ≡ d → is_found_at c (sampled c (e ∷ h)) (e ∷ h) p d ≡ true → is_flying c h p ≡ true
+    → (d : Option (Space × ℕ)) → detection c (e ∷ h) ≡ d → is_at (is_found c (sampled c (e ∷ h)) (e ∷ h)) p d ≡ true → is_flying c h p ≡ true
 found_was_flying c e h run p has None at is = cc
 found_was_flying c e h run p has (Some (s, now)) at is =
     let parts = and_parts (is_of s p) (is_found c (sampled c (e ∷ h)) (e ∷ h) now s p) is in
@@ -225,7 +225,7 @@ newly_was_open c _ h run p has is = cc
 
 -- ---- what is found lost is unsettled
 
-pub found_unsettled : (c : Settings) (h : List Event) (p : Packet) (d : Option (Space × ℕ)) → is_found_at c (sampled c h) h p d ≡ true → is_unsettled h p ≡ true
+pub found_unsettled : (c : Settings) (h : List Event) (p : Packet) (d : Option (Space × ℕ)) → is_at (is_found c (sampled c h) h) p d ≡ true → is_unsettled h p ≡ true
 found_unsettled c h p None is = cc
 found_unsettled c h p (Some (s, now)) is =
     let parts = and_parts (is_of s p) (is_found c (sampled c h) h now s p) is in

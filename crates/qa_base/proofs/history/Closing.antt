@@ -10,7 +10,7 @@ use Rattle.qa_base.specs.declared.event.Event.TheVariants.{Sent, Ack, Lost, Time
 use Rattle.qa_base.specs.declared.space.Space.{Space}
 use Rattle.qa_base.specs.values.Events.{acknowledges, discards}
 use Rattle.qa_base.specs.machine.Estimates.{sampled}
-use Rattle.qa_base.specs.machine.Detection.{is_found, is_found_at, found_at, is_unsettled}
+use Rattle.qa_base.specs.machine.Detection.{all_at, is_at, is_found, is_unsettled}
 use Rattle.qa_base.specs.machine.Loss.{owed, is_owed, is_free, is_open, flight_size, bytes_in_flight, detection}
 use Rattle.qa_base.specs.machine.Packets.{Packet, packets, packet_of, is_of, is_acknowledged, is_declared_lost, is_discarded, is_newly_acknowledged, newly_acknowledged, packet_at}
 use Rattle.qa_base.specs.machine.Violations.{IsToleratedRun}
@@ -109,7 +109,7 @@ sum_of_either weight f g (p ∷ ps) apart =
 
 -- ---- sums over the open packets
 
-found_part : (c : Settings) (h : List Event) (d : Option (Space × ℕ)) → filter (λ p. is_found_at c (sampled c h) h p d) (packets h) ≡ found_at c (sampled c h) h d
+found_part : (c : Settings) (h : List Event) (d : Option (Space × ℕ)) → filter (λ p. is_at (is_found c (sampled c h) h) p d) (packets h) ≡ all_at (is_found c (sampled c h) h) h d
 found_part c h None = none_left (λ p. false) (packets h) (of_each (λ p. false ≡ false) (packets h) (λ p has. refl))
 found_part c h (Some (s, now)) = part_of_part (is_of s) (is_found c (sampled c h) h now s) (packets h)
 

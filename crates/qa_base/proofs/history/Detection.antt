@@ -13,7 +13,7 @@ use Rattle.qa_base.specs.declared.space.Space.TheVariants.{Initial, Handshake, A
 use Rattle.qa_base.specs.machine.Breaches.{is_other}
 use Rattle.qa_base.specs.values.Events.{is_space}
 use Rattle.qa_base.specs.machine.Estimates.{rtt, sampled}
-use Rattle.qa_base.specs.machine.Detection.{is_found, found_at, is_past_threshold, is_unsettled, looks_at, old_at}
+use Rattle.qa_base.specs.machine.Detection.{all_at, is_found, is_past_threshold, is_unsettled, looks_at, old_at}
 use Rattle.qa_base.specs.machine.Loss.{owed, is_owed, is_open, detection}
 use Rattle.qa_base.specs.history.Oldest.{is_flying, due_of, is_asked}
 use Rattle.qa_base.specs.history.Sequence.{EachTwo}
@@ -64,7 +64,7 @@ pub owed_is_front : (c : Settings) (h : List Event) → IsToleratedRun c h → (
     → reverse (owed c h) ≡ take_while (is_past_threshold c (sampled c h) now (largest_acknowledged h s)) (asked h s)
 owed_is_front c h run s now at =
     let late = is_past_threshold c (sampled c h) now (largest_acknowledged h s) in
-    ap (λ d. reverse (found_at c (sampled c h) h d)) at
+    ap (λ d. reverse (all_at (is_found c (sampled c h) h) h d)) at
     ∙ (ap reverse (found_of_asked c h now s)
     ∙ (sym (part_turned late (filter (is_asked h s) (packets h)))
     ∙ (ap (filter late) (sym (part_turned (is_asked h s) (packets h)))

@@ -68,7 +68,7 @@ not_between : (h : List Event) (p q m : Packet) → m.place < p.place → (nat_l
 not_between h p q m before = rw (le-ltb p.place m.place (omega (arith, before))) refl
 
 ends_of_kept : (c : Settings) (g : List Event) (kept gone : List Packet) (p q : Packet) → packets g ≡ kept ++ gone → AllByRecursion (WasSentBefore p) gone
-    → are_ends (sampled c g) c g p q ≡ are_ends_among c g kept p q
+    → are_ends c (sampled c g) g p q ≡ are_ends_among c g kept p q
 ends_of_kept c g kept gone p q parts behind =
     let between : Packet → Bool = λ m. nat_lt p.place m.place && nat_lt m.place q.place && is_acknowledged g m in
     let none : AllByRecursion (λ m. between m ≡ false) gone = each_weaker (WasSentBefore p) (λ m. between m ≡ false) (λ m before. not_between g p q m before.place) gone behind in
@@ -77,12 +77,12 @@ ends_of_kept c g kept gone p q parts behind =
 
 pairs_of_kept : (c : Settings) (g : List Event) (kept gone found : List Packet) → packets g ≡ kept ++ gone → EachTwo WasSentBefore (kept ++ gone)
     → AllByRecursion (λ p. AllByRecursion (WasSentBefore p) gone) found
-    → list_any (λ p. list_any (are_ends (sampled c g) c g p) found) found ≡ list_any (λ p. list_any (are_ends_among c g kept p) found) found
+    → list_any (λ p. list_any (are_ends c (sampled c g) g p) found) found ≡ list_any (λ p. list_any (are_ends_among c g kept p) found) found
 pairs_of_kept c g kept gone found parts two behind =
-    same_any (λ p. list_any (are_ends (sampled c g) c g p) found) (λ p. list_any (are_ends_among c g kept p) found) found
-    (each_weaker (λ p. AllByRecursion (WasSentBefore p) gone) (λ p. list_any (are_ends (sampled c g) c g p) found ≡ list_any (are_ends_among c g kept p) found)
-    (λ p before. same_any (are_ends (sampled c g) c g p) (are_ends_among c g kept p) found
-    (of_each (λ q. are_ends (sampled c g) c g p q ≡ are_ends_among c g kept p q) found (λ q has. ends_of_kept c g kept gone p q parts before)))
+    same_any (λ p. list_any (are_ends c (sampled c g) g p) found) (λ p. list_any (are_ends_among c g kept p) found) found
+    (each_weaker (λ p. AllByRecursion (WasSentBefore p) gone) (λ p. list_any (are_ends c (sampled c g) g p) found ≡ list_any (are_ends_among c g kept p) found)
+    (λ p before. same_any (are_ends c (sampled c g) g p) (are_ends_among c g kept p) found
+    (of_each (λ q. are_ends c (sampled c g) g p q ≡ are_ends_among c g kept p q) found (λ q has. ends_of_kept c g kept gone p q parts before)))
     found behind)
 
 -- none of the closed is found lost by the event that comes next
@@ -112,7 +112,7 @@ persistent_if c e h kept gone run same parts none =
     let two : EachTwo WasSentBefore (kept ++ gone) = subst (λ (ps : List Packet). EachTwo WasSentBefore ps) parts (in_order c h run.0) in
     let behind : AllByRecursion (λ p. AllByRecursion (WasSentBefore p) gone) lost = of_each (λ p. AllByRecursion (WasSentBefore p) gone) lost
     (λ p has. all_behind WasSentBefore kept gone two p (part_is (is_lost_now c (e ∷ h)) kept p has).0) in
-    ap (λ found. list_any (λ p. list_any (are_ends (sampled c (e ∷ h)) c (e ∷ h) p) found) found) (lost_of_kept c e h kept gone parts none)
+    ap (λ found. list_any (λ p. list_any (are_ends c (sampled c (e ∷ h)) (e ∷ h) p) found) found) (lost_of_kept c e h kept gone parts none)
     ∙ pairs_of_kept c (e ∷ h) kept gone lost (same ∙ parts) two behind
 
 -- in a tolerated run, packets before all others of which an event loses none have no part in whether it establishes persistent congestion

@@ -47,9 +47,9 @@ pub apart_of : (c : Settings) (h : List Event) → is_persistent c h ≡ true
     → (p : Packet) × (q : Packet) × AreApart (is_acknowledged h) (counts_as_end c h) (persistent_after (granularity c) (sampled c h) c.max_ack_delay) (packets h) p q
 apart_of c h is =
     let limit = persistent_after (granularity c) (sampled c h) c.max_ack_delay in
-    let one = some_one (λ p. list_any (are_ends (sampled c h) c h p) (declared c h)) (declared c h) is in
+    let one = some_one (λ p. list_any (are_ends c (sampled c h) h p) (declared c h)) (declared c h) is in
     let p = one.0 in
-    let two = some_one (are_ends (sampled c h) c h p) (declared c h) one.2 in
+    let two = some_one (are_ends c (sampled c h) h p) (declared c h) one.2 in
     let q = two.0 in
     let of_p = declared_from c h p one.1 in
     let of_q = declared_from c h q two.1 in
@@ -84,8 +84,8 @@ of_apart c h p q apart =
     let parts = and_parts (nat_lt p.place m.place && nat_lt m.place q.place) (is_acknowledged h m) is in
     let places = and_parts (nat_lt p.place m.place) (nat_lt m.place q.place) parts.0 in
     both_ways (is_acknowledged h m) (apart.clear m inside (ltb-true p.place m.place places.0) (ltb-true m.place q.place places.1)) parts.1)) in
-    some_from (λ p. list_any (are_ends (sampled c h) c h p) (declared c h)) (declared c h) p (declared_has c h p apart.has_p of_p.0)
-    (some_from (are_ends (sampled c h) c h p) (declared c h) q (declared_has c h q apart.has_q of_q.0)
+    some_from (λ p. list_any (are_ends c (sampled c h) h p) (declared c h)) (declared c h) p (declared_has c h p apart.has_p of_p.0)
+    (some_from (are_ends c (sampled c h) h p) (declared c h) q (declared_has c h q apart.has_q of_q.0)
     (and_from (is_end (sampled c h) p && is_end (sampled c h) q && nat_lt limit (q.time - p.time)) (not (is_acknowledged_between h p q))
     (and_from (is_end (sampled c h) p && is_end (sampled c h) q) (nat_lt limit (q.time - p.time))
     (and_from (is_end (sampled c h) p) (is_end (sampled c h) q) of_p.1 of_q.1) (lt-ltb limit (q.time - p.time) apart.far))

@@ -9,7 +9,7 @@ use Rattle.qa_base.specs.declared.space.Space.{Space}
 use Rattle.qa_base.specs.machine.Breaches.{numbers}
 use Rattle.qa_base.specs.values.Events.{is_space, is_named, acknowledges, declares_lost, discards}
 use Rattle.qa_base.specs.machine.Estimates.{sampled}
-use Rattle.qa_base.specs.machine.Detection.{is_found, is_found_at, found_at, is_left, is_left_at, is_unsettled}
+use Rattle.qa_base.specs.machine.Detection.{all_at, is_at, is_found, is_left, is_unsettled}
 use Rattle.qa_base.specs.machine.Loss.{owed, is_owed, is_free, nameable, is_nameable, is_open, detection}
 use Rattle.qa_base.specs.machine.Numbers.{has_all, names_between}
 use Rattle.qa_base.specs.machine.Packets.{Packet, packets, packets_of, is_of, is_some_packet, is_acknowledged, is_declared_lost, is_discarded, greatest, greatest_in, greatest_of, largest_acknowledged, is_below_largest}
@@ -59,13 +59,13 @@ below_largest_stays e h s n is = rw (largest_after e h s) (below_raised (greates
 
 -- ---- what is owed
 
-found_has : (c : Settings) (h : List Event) (p : Packet) (d : Option (Space × ℕ)) → Contains (packets h) p → is_found_at c (sampled c h) h p d ≡ true → Contains (found_at c (sampled c h) h d) p
+found_has : (c : Settings) (h : List Event) (p : Packet) (d : Option (Space × ℕ)) → Contains (packets h) p → is_at (is_found c (sampled c h) h) p d ≡ true → Contains (all_at (is_found c (sampled c h) h) h d) p
 found_has c h p None has is = cc
 found_has c h p (Some (s, now)) has is =
     let both = and_parts (is_of s p) (is_found c (sampled c h) h now s p) is in
     part_has (is_found c (sampled c h) h now s) (packets_of h s) p (part_has (is_of s) (packets h) p has both.0) both.1
 
-found_is : (c : Settings) (h : List Event) (p : Packet) (d : Option (Space × ℕ)) → Contains (found_at c (sampled c h) h d) p → Contains (packets h) p × (is_found_at c (sampled c h) h p d ≡ true)
+found_is : (c : Settings) (h : List Event) (p : Packet) (d : Option (Space × ℕ)) → Contains (all_at (is_found c (sampled c h) h) h d) p → Contains (packets h) p × (is_at (is_found c (sampled c h) h) p d ≡ true)
 found_is c h p None (k, within, is) = absurd (omega arith)
 found_is c h p (Some (s, now)) has =
     let found = part_is (is_found c (sampled c h) h now s) (packets_of h s) p has in
@@ -84,8 +84,8 @@ of_either true b c is = refl
 of_either false b c is = cc
 
 nameable_of_one : (c : Settings) (h : List Event) (p q : Packet) (d : Option (Space × ℕ))
-    → (is_found_at c (sampled c h) h p d || is_left_at c (sampled c h) h p d) ≡ true
-    → (is_found_at c (sampled c h) h q d || is_left_at c (sampled c h) h q d) ≡ true → p.space ≡ q.space
+    → (is_at (is_found c (sampled c h) h) p d || is_at (is_left c (sampled c h) h) p d) ≡ true
+    → (is_at (is_found c (sampled c h) h) q d || is_at (is_left c (sampled c h) h) q d) ≡ true → p.space ≡ q.space
 nameable_of_one c h p q None is_p is_q = cc
 nameable_of_one c h p q (Some (s, now)) is_p is_q =
     let of_p = is_space_is s p.space (of_either (is_of s p) (is_found c (sampled c h) h now s p) (is_left c (sampled c h) h now s p) is_p) in

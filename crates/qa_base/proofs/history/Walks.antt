@@ -8,7 +8,7 @@ use Rattle.qa_base.specs.declared.event.Event.TheVariants.{Sent, Discard}
 use Rattle.qa_base.specs.declared.space.Space.{Space}
 use Rattle.qa_base.specs.values.Events.{discards}
 use Rattle.qa_base.specs.machine.Estimates.{sampled}
-use Rattle.qa_base.specs.machine.Detection.{is_found, is_found_at, is_past_threshold, is_unsettled}
+use Rattle.qa_base.specs.machine.Detection.{is_at, is_found, is_past_threshold, is_unsettled}
 use Rattle.qa_base.specs.machine.Loss.{owed, is_owed, detection}
 use Rattle.qa_base.specs.history.Oldest.{is_flying, is_asked, NoneFlies}
 use Rattle.qa_base.specs.machine.Packets.{Packet, packets, is_of, is_discarded, largest_acknowledged}
@@ -77,7 +77,7 @@ flies_after c e h run s now at p of_space =
     let g = e ∷ h in
     let late = is_past_threshold c (sampled c g) now (largest_acknowledged g s) p in
     let found : is_owed c g p ≡ (p.in_flight && is_unsettled g p && late) =
-    ap (is_found_at c (sampled c g) g p) at ∙ ap (λ b. b && is_found c (sampled c g) g now s p) of_space in
+    ap (is_at (is_found c (sampled c g) g) p) at ∙ ap (λ b. b && is_found c (sampled c g) g now s p) of_space in
     let there : is_discarded g p.space ≡ false = subst (λ (t : Space). is_discarded g t ≡ false) (is_space_is s p.space of_space)
     (or_from (discards s e) (is_discarded h s) (not_discarded c e h s (s, now) at) (space_of_detection c e h run s now at)) in
     ap (λ b. p.in_flight && (is_unsettled g p && not b && not (is_discarded g p.space))) found

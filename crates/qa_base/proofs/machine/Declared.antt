@@ -6,7 +6,7 @@ use Rattle.qa_base.specs.declared.event.Event.{Event}
 use Rattle.qa_base.specs.declared.event.Event.TheVariants.{Sent, Ack, Lost, Timer, Discard, Confirmed, Keys, Metrics}
 use Rattle.qa_base.specs.declared.space.Space.{Space}
 use Rattle.qa_base.specs.declared.space.TimerKind.TheVariants.{Loss, Pto}
-use Rattle.qa_base.specs.machine.Detection.{is_found, is_found_at, found_at, is_left, is_left_at, left_at, detection_by, declared_by, free_by, is_free_by, owed_by, is_owed_by, is_completed_by, is_taken_by, is_persistent_by, is_old, is_past_threshold, is_unsettled, may_be_spared}
+use Rattle.qa_base.specs.machine.Detection.{all_at, declared_by, detection_by, free_by, is_at, is_completed_by, is_found, is_free_by, is_left, is_old, is_owed_by, is_past_threshold, is_persistent_by, is_taken_by, is_unsettled, may_be_spared, owed_by}
 use Rattle.qa_base.specs.machine.Estimates.{refreshed_by, rtt, sampled}
 use Rattle.qa_base.specs.machine.Loss.{declared, free, is_free, is_nameable, is_owed, nameable, owed}
 use Rattle.qa_base.specs.machine.Packets.{Packet, packets, is_of, largest_acknowledged}
@@ -31,11 +31,11 @@ none : (ps : List Packet) → [] ≡ filter (λ p. false) ps
 none [] = refl
 none (p ∷ ps) = none ps
 
-found_is : (c : Settings) (r : Estimate) (h : List Event) (d : Option (Space × ℕ)) → found_at c r h d ≡ filter (λ p. is_found_at c r h p d) (packets h)
+found_is : (c : Settings) (r : Estimate) (h : List Event) (d : Option (Space × ℕ)) → all_at (is_found c r h) h d ≡ filter (λ p. is_at (is_found c r h) p d) (packets h)
 found_is c r h None = none (packets h)
 found_is c r h (Some d) = both (is_found c r h d.1 d.0) (is_of d.0) (packets h)
 
-left_is : (c : Settings) (r : Estimate) (h : List Event) (d : Option (Space × ℕ)) → left_at c r h d ≡ filter (λ p. is_left_at c r h p d) (packets h)
+left_is : (c : Settings) (r : Estimate) (h : List Event) (d : Option (Space × ℕ)) → all_at (is_left c r h) h d ≡ filter (λ p. is_at (is_left c r h) p d) (packets h)
 left_is c r h None = none (packets h)
 left_is c r h (Some d) = both (is_left c r h d.1 d.0) (is_of d.0) (packets h)
 
@@ -65,12 +65,12 @@ spared_refreshed : (c : Settings) (r : Estimate) (now : ℕ) (largest : Option �
 spared_refreshed c r now None p = refl
 spared_refreshed c r now (Some largest) p = refl
 
-found_refreshed : (c : Settings) (r : Estimate) (h : List Event) (p : Packet) (d : Option (Space × ℕ)) → is_found_at c (refreshed r) h p d ≡ is_found_at c r h p d
+found_refreshed : (c : Settings) (r : Estimate) (h : List Event) (p : Packet) (d : Option (Space × ℕ)) → is_at (is_found c (refreshed r) h) p d ≡ is_at (is_found c r h) p d
 found_refreshed c r h p None = refl
 found_refreshed c r h p (Some d) =
     ap (λ (b : Bool). is_of d.0 p && (p.in_flight && is_unsettled h p && b)) (past_refreshed c r d.1 (largest_acknowledged h d.0) p)
 
-left_refreshed : (c : Settings) (r : Estimate) (h : List Event) (p : Packet) (d : Option (Space × ℕ)) → is_left_at c (refreshed r) h p d ≡ is_left_at c r h p d
+left_refreshed : (c : Settings) (r : Estimate) (h : List Event) (p : Packet) (d : Option (Space × ℕ)) → is_at (is_left c (refreshed r) h) p d ≡ is_at (is_left c r h) p d
 left_refreshed c r h p None = refl
 left_refreshed c r h p (Some d) =
     ap (λ (b : Bool). is_of d.0 p && (p.in_flight && is_unsettled h p && b)) (spared_refreshed c r d.1 (largest_acknowledged h d.0) p)
@@ -89,11 +89,11 @@ detection_refreshed c r (Metrics time values ∷ h) = refl
 
 owed_refreshed : (c : Settings) (r : Estimate) (h : List Event) (p : Packet) → is_owed_by c (refreshed r) h p ≡ is_owed_by c r h p
 owed_refreshed c r h p =
-    ap (is_found_at c (refreshed r) h p) (detection_refreshed c r h) ∙ found_refreshed c r h p (detection_by c r h)
+    ap (is_at (is_found c (refreshed r) h) p) (detection_refreshed c r h) ∙ found_refreshed c r h p (detection_by c r h)
 
 free_refreshed : (c : Settings) (r : Estimate) (h : List Event) (p : Packet) → is_free_by c (refreshed r) h p ≡ is_free_by c r h p
 free_refreshed c r h p =
-    ap (is_left_at c (refreshed r) h p) (detection_refreshed c r h) ∙ left_refreshed c r h p (detection_by c r h)
+    ap (is_at (is_left c (refreshed r) h) p) (detection_refreshed c r h) ∙ left_refreshed c r h p (detection_by c r h)
 
 -- what tells the same of an estimate and a refreshed one tells the same of a refresh that comes or not
 if_refreshed : {X : Type 0} (tell : Estimate → X) (b : Bool) (r : Estimate) → tell (refreshed r) ≡ tell r → tell (if b then refreshed r else r) ≡ tell r
@@ -102,7 +102,7 @@ if_refreshed tell false r same = refl
 
 either : {X : Type 0} (tell : Estimate → X) (asked : Bool) (c : Settings) (h : List Event) (r : Estimate) → tell (refreshed r) ≡ tell r → tell (refreshed_by asked c h r) ≡ tell r
 either tell false c h r same = refl
-either tell true c h r same = if_refreshed tell (is_persistent_by r c h) r same
+either tell true c h r same = if_refreshed tell (is_persistent_by c r h) r same
 
 either_after : {X : Type 0} (tell : Estimate → X) (c : Settings) (h : List Event) → tell (refreshed (sampled c h)) ≡ tell (sampled c h) → tell (rtt c h) ≡ tell (sampled c h)
 either_after tell c [] same = refl
@@ -182,7 +182,7 @@ never_spared : (c : Settings) (r : Estimate) (now : ℕ) (largest : Option ℕ) 
 never_spared c r now None p must = refl
 never_spared c r now (Some largest) p must = rw must (none_of_both (nat_lt p.number largest) (not (is_old c r now p)))
 
-never_left : (c : Settings) (r : Estimate) (h : List Event) (p : Packet) (d : Option (Space × ℕ)) → is_may c.options.loss_by_number ≡ false → is_left_at c r h p d ≡ false
+never_left : (c : Settings) (r : Estimate) (h : List Event) (p : Packet) (d : Option (Space × ℕ)) → is_may c.options.loss_by_number ≡ false → is_at (is_left c r h) p d ≡ false
 never_left c r h p None must = refl
 never_left c r h p (Some d) must =
     ap (λ (b : Bool). is_of d.0 p && (p.in_flight && is_unsettled h p && b)) (never_spared c r d.1 (largest_acknowledged h d.0) p must)

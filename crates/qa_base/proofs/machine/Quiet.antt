@@ -10,7 +10,7 @@ use Rattle.qa_base.specs.declared.event.SentPacket.{SentPacket}
 use Rattle.qa_base.specs.declared.event.Event.TheVariants.{Sent, Ack, Lost, Timer, Discard, Confirmed, Keys, Metrics}
 use Rattle.qa_base.specs.declared.space.Space.{Space}
 use Rattle.qa_base.specs.values.Events.{is_quiet}
-use Rattle.qa_base.specs.machine.Detection.{is_found, is_found_at, found_at, declared_by, is_persistent_by}
+use Rattle.qa_base.specs.machine.Detection.{all_at, declared_by, is_at, is_found, is_persistent_by}
 use Rattle.qa_base.specs.machine.Estimates.{refreshed_by, rtt, sampled}
 use Rattle.qa_base.specs.machine.Loss.{is_owed, owed, declared, flight_size, bytes_in_flight, detection}
 use Rattle.qa_base.specs.machine.Moments.{since}
@@ -40,7 +40,7 @@ owed-quiet c (Discard time space) h quiet = cc
 owed-quiet c _ h quiet = refl
 
 -- without persistent congestion nothing is refreshed
-pub not_refreshed : (refresh : Bool) (c : Settings) (h : List Event) (r : Estimate) → is_persistent_by r c h ≡ false → refreshed_by refresh c h r ≡ r
+pub not_refreshed : (refresh : Bool) (c : Settings) (h : List Event) (r : Estimate) → is_persistent_by c r h ≡ false → refreshed_by refresh c h r ≡ r
 not_refreshed true c h r none = rw none refl
 not_refreshed false c h r none = refl
 
@@ -51,7 +51,7 @@ sampled-quiet c (Discard time space) h quiet = cc
 sampled-quiet c _ h quiet = refl
 
 -- where nothing is lost by the last event it establishes no persistent congestion
-pub not_persistent : (r : Estimate) (c : Settings) (h : List Event) → declared_by c r h ≡ [] → is_persistent_by r c h ≡ false
+pub not_persistent : (r : Estimate) (c : Settings) (h : List Event) → declared_by c r h ≡ [] → is_persistent_by c r h ≡ false
 not_persistent r c h none = rw none refl
 
 unrefreshed : (c : Settings) (e : Event) (h : List Event) → sampled c (e ∷ h) ≡ rtt c h → declared c (e ∷ h) ≡ [] → rtt c (e ∷ h) ≡ rtt c h
@@ -137,7 +137,7 @@ no_detection : (ps : List Packet) → AllByRecursion (λ p. false ≡ false) ps
 no_detection [] = tt
 no_detection (p ∷ ps) = (refl, no_detection ps)
 
-not_found : (c : Settings) (r : Estimate) (h : List Event) (d : Option (Space × ℕ)) → found_at c r h d ≡ [] → AllByRecursion (λ p. is_found_at c r h p d ≡ false) (packets h)
+not_found : (c : Settings) (r : Estimate) (h : List Event) (d : Option (Space × ℕ)) → all_at (is_found c r h) h d ≡ [] → AllByRecursion (λ p. is_at (is_found c r h) p d ≡ false) (packets h)
 not_found c r h None none = no_detection (packets h)
 not_found c r h (Some d) none = nothing_found (is_found c r h d.1 d.0) (is_of d.0) (packets h) none
 

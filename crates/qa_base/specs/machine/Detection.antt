@@ -87,39 +87,31 @@ detection_by c r (Timer time Loss space ∷ before) =
     Some (space, looks_at (early c) time (old_at c r before space))
 detection_by c r _ = None
 
--- ---- what is found
+-- ---- what is found, and what may be declared
 
-abbrev pub found_at : Settings → Estimate → List Event → Option (Space × ℕ) → List Packet
-found_at c r h None = []
-found_at c r h (Some (s, now)) = filter (is_found c r h now s) (packets_of h s)
+-- of a detection in a space, at a time: the packets of the space that pass the test
+abbrev pub all_at : (ℕ → Space → Packet → Bool) → List Event → Option (Space × ℕ) → List Packet
+all_at test h None = []
+all_at test h (Some (s, now)) = filter (test now s) (packets_of h s)
+
+-- whether the packet is one of them
+abbrev pub is_at : (ℕ → Space → Packet → Bool) → Packet → Option (Space × ℕ) → Bool
+is_at test p None = false
+is_at test p (Some (s, now)) = is_of s p && test now s p
 
 -- the packets that the last event finds lost
 abbrev pub owed_by : Settings → Estimate → List Event → List Packet
-owed_by c r h = found_at c r h (detection_by c r h)
-
-abbrev pub is_found_at : Settings → Estimate → List Event → Packet → Option (Space × ℕ) → Bool
-is_found_at c r h p None = false
-is_found_at c r h p (Some (s, now)) = is_of s p && is_found c r h now s p
+owed_by c r h = all_at (is_found c r h) h (detection_by c r h)
 
 abbrev pub is_owed_by : Settings → Estimate → List Event → Packet → Bool
-is_owed_by c r h p = is_found_at c r h p (detection_by c r h)
-
--- ---- what may be declared
-
-abbrev pub left_at : Settings → Estimate → List Event → Option (Space × ℕ) → List Packet
-left_at c r h None = []
-left_at c r h (Some (s, now)) = filter (is_left c r h now s) (packets_of h s)
+is_owed_by c r h p = is_at (is_found c r h) p (detection_by c r h)
 
 -- the packets of which the last event leaves it to the sender whether they are lost
 abbrev pub free_by : Settings → Estimate → List Event → List Packet
-free_by c r h = left_at c r h (detection_by c r h)
-
-abbrev pub is_left_at : Settings → Estimate → List Event → Packet → Option (Space × ℕ) → Bool
-is_left_at c r h p None = false
-is_left_at c r h p (Some (s, now)) = is_of s p && is_left c r h now s p
+free_by c r h = all_at (is_left c r h) h (detection_by c r h)
 
 abbrev pub is_free_by : Settings → Estimate → List Event → Packet → Bool
-is_free_by c r h p = is_left_at c r h p (detection_by c r h)
+is_free_by c r h p = is_at (is_left c r h) p (detection_by c r h)
 
 -- the event names a packet that is free after the history
 abbrev pub is_completed_by : Settings → Estimate → List Event → Event → Bool
@@ -156,13 +148,13 @@ is_acknowledged_between h p q =
     (packets h)
 
 -- the two lie too far apart, and nothing between them was acknowledged
-abbrev pub are_ends : Estimate → Settings → List Event → Packet → Packet → Bool
-are_ends r c h p q =
+abbrev pub are_ends : Settings → Estimate → List Event → Packet → Packet → Bool
+are_ends c r h p q =
     is_end r p && is_end r q
     && nat_lt (persistent_after (granularity c) r c.max_ack_delay) (q.time - p.time)
     && not (is_acknowledged_between h p q)
 
 -- the last event establishes persistent congestion by two packets that are lost by it
-abbrev pub is_persistent_by : Estimate → Settings → List Event → Bool
-is_persistent_by r c h =
-    list_any (λ p. list_any (are_ends r c h p) (declared_by c r h)) (declared_by c r h)
+abbrev pub is_persistent_by : Settings → Estimate → List Event → Bool
+is_persistent_by c r h =
+    list_any (λ p. list_any (are_ends c r h p) (declared_by c r h)) (declared_by c r h)

@@ -10,7 +10,7 @@ use Rattle.qa_base.specs.values.Settings.{Settings}
 -- where the header says that min_rtt is refreshed, it is if the last event establishes persistent
 -- congestion (section 5.2)
 abbrev pub refreshed_by : Bool → Settings → List Event → Estimate → Estimate
-refreshed_by true c h r = if is_persistent_by r c h then refreshed r else r
+refreshed_by true c h r = if is_persistent_by c r h then refreshed r else r
 refreshed_by false c h r = r
 
 -- the estimate after each event: its sample first, and then a refresh

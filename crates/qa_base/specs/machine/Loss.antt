@@ -60,4 +60,4 @@ bytes_in_flight c h = sum_by (flight_size c h) (packets h)
 
 -- the last event establishes it by two packets that are lost by it
 abbrev pub is_persistent : Settings → List Event → Bool
-is_persistent c h = is_persistent_by (sampled c h) c h
+is_persistent c h = is_persistent_by c (sampled c h) h

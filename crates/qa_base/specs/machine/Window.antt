@@ -72,14 +72,20 @@ is_collapse_or_change c h = is_persistent c h || changes_window c h
 abbrev pub if_persistent : Settings → List Event → Option (List Event)
 if_persistent c h = if is_persistent c h then Some h else None
 
--- the moment at which persistent congestion was last established, where no other window was
--- reported since
-abbrev pub last_collapse : Settings → List Event → Option (List Event)
-last_collapse c h = option_and_then (if_persistent c) (find (is_collapse_or_change c) (moments h))
+-- the last moment at which persistent congestion was established or another window reported
+abbrev pub last_collapse_or_change : Settings → List Event → Option (List Event)
+last_collapse_or_change c h = find (is_collapse_or_change c) (moments h)
 
--- the bytes in flight that were newly acknowledged since then, those of the detection that
--- established it included
+-- that moment, where it established persistent congestion: no other window was reported since
+abbrev pub last_collapse : Settings → List Event → Option (List Event)
+last_collapse c h = option_and_then (if_persistent c) (last_collapse_or_change c h)
+
+-- the bytes in flight that were newly acknowledged since such a moment
+abbrev pub acknowledged_since : Settings → List Event → ℕ
+acknowledged_since c h = sum_by acknowledged_bytes (since (is_collapse_or_change c) h)
+
+-- and those of the detection that established it
 abbrev pub acknowledged_since_collapse : Settings → List Event → Option ℕ
 acknowledged_since_collapse c h =
-    option_map (λ m. sum_by acknowledged_bytes (since (is_collapse_or_change c) h)
-    + acknowledged_bytes (detection_of m)) (last_collapse c h)
+    option_map (λ m. acknowledged_since c h + acknowledged_bytes (detection_of m))
+    (last_collapse c h)

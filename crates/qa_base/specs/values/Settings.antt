@@ -1,7 +1,8 @@
 -- What a header says.
 use Rattle.std.specs.Prelude.{◌≡◌, ℕ, ◌≤◌, ◌*◌, ◌==◌, ◌&&◌, ◌||◌, not, min, max, nat_lt, Bool, true}
-use Rattle.std.specs.Prelude.{false, Option, None, unwrap_or, Result, Ok, Err, if◌then◌else◌}
+use Rattle.std.specs.Prelude.{false, List, [], ◌∷◌, Option, None, unwrap_or, Result, Ok, Err, if◌then◌else◌}
 use Rattle.std.specs.Option.{ForSome}
+use Rattle.qa_base.specs.declared.key.Key.{Key}
 use Rattle.qa_base.specs.declared.key.Key.TheVariants as key
 use Rattle.qa_base.specs.declared.key.RangeFault.{RangeFault}
 use Rattle.qa_base.specs.declared.header.Options.{Options}
@@ -131,18 +132,27 @@ default_window max_datagram_size =
 abbrev pub is_outside : ℕ → ℕ → ℕ → Bool
 is_outside lo hi n = nat_lt n lo || nat_lt hi n
 
+-- the settings, or the key of the first test that is so
+abbrev pub unless_outside : List (Bool × Key) → Settings → Result Settings RangeFault
+unless_outside [] s = Ok s
+unless_outside (test ∷ tests) s =
+    if test.0 then Err (record { 0 = test.1 }) else unless_outside tests s
+
+-- whether each value is out of its range, in the order in which faults are looked for
+abbrev pub values_outside : Settings → List (Bool × Key)
+values_outside s =
+    (is_outside min_datagram_size max_packet_size s.max_datagram_size, key.MaxDatagramSize)
+    ∷ (is_outside 0 (in_unit s.unit max_max_ack_delay) s.max_ack_delay, key.MaxAckDelay)
+    ∷ (is_outside 1 (in_unit s.unit max_initial_rtt) s.initial_rtt, key.InitialRtt)
+    ∷ (
+      is_outside (minimum_window s.max_datagram_size) max_initial_window s.initial_window,
+      key.InitialWindow,
+    )
+    ∷ []
+
 -- these values, or the key of the first that is out of its range
 abbrev pub checked : Settings → Result Settings RangeFault
-checked s =
-    if is_outside min_datagram_size max_packet_size s.max_datagram_size then Err
-    (record { 0 = key.MaxDatagramSize }) else
-    (if is_outside 0 (in_unit s.unit max_max_ack_delay) s.max_ack_delay then Err
-    (record { 0 = key.MaxAckDelay }) else
-    (if is_outside 1 (in_unit s.unit max_initial_rtt) s.initial_rtt then Err
-    (record { 0 = key.InitialRtt }) else
-    (if is_outside (minimum_window s.max_datagram_size) max_initial_window s.initial_window then Err
-    (record { 0 = key.InitialWindow }) else
-    Ok s)))
+checked s = unless_outside (values_outside s) s
 
 -- the first version that says this unit
 abbrev pub version_in : TimeUnit → Version
@@ -174,31 +184,23 @@ version_with One o = if are_second o then Two else Three
 version_with Two o = if are_second o then Two else Three
 version_with Three o = Three
 
+-- whether each option is out of its range, in the order in which faults are looked for
+abbrev pub options_outside : Options → List (Bool × Key)
+options_outside o =
+    (is_outside 0 max_timer_late (unwrap_or o.timer_late 0), key.TimerLateUs)
+    ∷ (is_outside 0 max_report_slack_us o.report_slack_us, key.ReportSlackUs)
+    ∷ (is_outside 0 max_report_slack_bytes o.report_slack_bytes, key.ReportSlackBytes)
+    ∷ (is_outside min_packet_threshold max_packet_threshold o.packet_threshold, key.PacketThreshold)
+    ∷ (is_outside 0 max_timer_early_us o.timer_early_us, key.TimerEarlyUs)
+    ∷ (spares_unreported o, key.LossByNumber)
+    ∷ []
+
 -- a header's values in this version with these options, or the key of the first option that is out
 -- of its range
 abbrev pub in_version : Version → Settings → Options → Result Settings RangeFault
 in_version version s options =
-    if is_outside 0 max_timer_late (unwrap_or options.timer_late 0) then Err
-    (record { 0 = key.TimerLateUs }) else
-    (if is_outside 0 max_report_slack_us options.report_slack_us then Err
-    (record { 0 = key.ReportSlackUs }) else
-    (if is_outside 0 max_report_slack_bytes options.report_slack_bytes then Err
-    (record { 0 = key.ReportSlackBytes }) else
-    (if is_outside min_packet_threshold max_packet_threshold options.packet_threshold then Err
-    (record { 0 = key.PacketThreshold }) else
-    (if is_outside 0 max_timer_early_us options.timer_early_us then Err
-    (record { 0 = key.TimerEarlyUs }) else
-    (if spares_unreported options then Err (record { 0 = key.LossByNumber }) else
-    Ok (record {
-      role = s.role;
-      unit = s.unit;
-      max_datagram_size = s.max_datagram_size;
-      max_ack_delay = s.max_ack_delay;
-      initial_rtt = s.initial_rtt;
-      initial_window = s.initial_window;
-      version = version;
-      options = options;
-    }))))))
+    unless_outside (options_outside options)
+    (record s { version = version; options = options })
 
 -- a header's values with these options: in version 2, or in version 3 where the header is of it or
 -- version 2 cannot say them

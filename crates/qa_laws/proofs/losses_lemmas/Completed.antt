@@ -65,17 +65,17 @@ takes_all c time space ranges h names some =
 
 -- two of these packets make it
 abbrev make_collapse : Settings → List Event → Estimate → List Packet → Bool
-make_collapse c h r ps = list_any (λ p. list_any (are_ends r c h p) ps) ps
+make_collapse c h r ps = list_any (λ p. list_any (are_ends c r h p) ps) ps
 
 two_more : (c : Settings) (h : List Event) (r : Estimate) (f g : Packet → Bool) (ps : List Packet) → ((p : Packet) → f p ≡ true → g p ≡ true)
     → make_collapse c h r (filter f ps) ≡ true → make_collapse c h r (filter g ps) ≡ true
 two_more c h r f g ps keeps is =
-    let p = some_one (λ p. list_any (are_ends r c h p) (filter f ps)) (filter f ps) is in
-    let q = some_one (are_ends r c h p.0) (filter f ps) p.2 in
+    let p = some_one (λ p. list_any (are_ends c r h p) (filter f ps)) (filter f ps) is in
+    let q = some_one (are_ends c r h p.0) (filter f ps) p.2 in
     let in_p = part_is f ps p.0 p.1 in
     let in_q = part_is f ps q.0 q.1 in
-    some_from (λ p. list_any (are_ends r c h p) (filter g ps)) (filter g ps) p.0 (part_has g ps p.0 in_p.0 (keeps p.0 in_p.1))
-    (some_from (are_ends r c h p.0) (filter g ps) q.0 (part_has g ps q.0 in_q.0 (keeps q.0 in_q.1)) q.2)
+    some_from (λ p. list_any (are_ends c r h p) (filter g ps)) (filter g ps) p.0 (part_has g ps p.0 in_p.0 (keeps p.0 in_p.1))
+    (some_from (are_ends c r h p.0) (filter g ps) q.0 (part_has g ps q.0 in_q.0 (keeps q.0 in_q.1)) q.2)
 
 told_if : (c : Settings) (h : List Event) (r : Estimate) (ps : List Packet) (b : Bool) → make_collapse c h (if b then refreshed r else r) ps ≡ make_collapse c h r ps
 told_if c h r ps true = refl
@@ -83,7 +83,7 @@ told_if c h r ps false = refl
 
 -- a refreshed estimate tells the same
 told : (refresh : Bool) (c : Settings) (g h : List Event) (r : Estimate) (ps : List Packet) → make_collapse c h (refreshed_by refresh c g r) ps ≡ make_collapse c h r ps
-told true c g h r ps = told_if c h r ps (is_persistent_by r c g)
+told true c g h r ps = told_if c h r ps (is_persistent_by c r g)
 told false c g h r ps = refl
 
 -- a Lost line leaves what lies between two packets
@@ -93,7 +93,7 @@ past_lost c time space ranges h r ps = refl
 
 -- ---- the estimate
 
-refreshed_is : (refresh : Bool) (c : Settings) (h : List Event) (r : Estimate) (b : Bool) → is_persistent_by r c h ≡ b → refreshed_by refresh c h r ≡ (if refresh && b then refreshed r else r)
+refreshed_is : (refresh : Bool) (c : Settings) (h : List Event) (r : Estimate) (b : Bool) → is_persistent_by c r h ≡ b → refreshed_by refresh c h r ≡ (if refresh && b then refreshed r else r)
 refreshed_is true c h r b is = ap (λ (x : Bool). if x then refreshed r else r) is
 refreshed_is false c h r b is = refl
 

@@ -6,7 +6,7 @@ use Rattle.qa_base.specs.declared.event.Event.{Event}
 use Rattle.qa_base.specs.declared.event.Event.TheVariants.{Sent, Ack, Lost, Timer, Discard, Confirmed, Keys, Metrics}
 use Rattle.qa_base.specs.declared.space.Space.{Space}
 use Rattle.qa_base.specs.declared.space.TimerKind.TheVariants.{Loss, Pto}
-use Rattle.qa_base.specs.machine.Detection.{detection_by, is_found_at, is_left_at, is_old, is_owed_by, is_past_threshold, is_unsettled, may_be_spared}
+use Rattle.qa_base.specs.machine.Detection.{detection_by, is_at, is_found, is_left, is_old, is_owed_by, is_past_threshold, is_unsettled, may_be_spared}
 use Rattle.qa_base.specs.machine.Estimates.{sampled}
 use Rattle.qa_base.specs.machine.Loss.{declared, free, is_free, is_nameable, is_owed, nameable, owed}
 use Rattle.qa_base.specs.machine.Packets.{Packet, packets, is_of, largest_acknowledged}
@@ -80,7 +80,7 @@ found_by c r h p s now None = neither (is_of s p) (p.in_flight && is_unsettled h
 found_by c r h p s now (Some m) =
     either (is_of s p) (p.in_flight && is_unsettled h p) (nat_lt p.number m) (is_may c.options.loss_by_number) (nat_le c.options.packet_threshold (m - p.number)) (is_old c r now p)
 
-found_both : (c : Settings) (r : Estimate) (h : List Event) (p : Packet) (d : Option (Space × ℕ)) → is_found_at (where_they_must c) r h p d ≡ (is_found_at c r h p d || is_left_at c r h p d)
+found_both : (c : Settings) (r : Estimate) (h : List Event) (p : Packet) (d : Option (Space × ℕ)) → is_at (is_found (where_they_must c) r h) p d ≡ (is_at (is_found c r h) p d || is_at (is_left c r h) p d)
 found_both c r h p None = refl
 found_both c r h p (Some (s, now)) = found_by c r h p s now (largest_acknowledged h s)
 
@@ -100,7 +100,7 @@ same_detection c r (Metrics time values ∷ h) = refl
 pub owes_by_samples : (c : Settings) (h : List Event) → sampled (where_they_must c) h ≡ sampled c h → (p : Packet) → is_owed (where_they_must c) h p ≡ is_nameable c h p
 owes_by_samples c h same p =
     ap (λ r. is_owed_by (where_they_must c) r h p) same
-    ∙ (ap (is_found_at (where_they_must c) (sampled c h) h p) (same_detection c (sampled c h) h)
+    ∙ (ap (is_at (is_found (where_they_must c) (sampled c h) h) p) (same_detection c (sampled c h) h)
     ∙ found_both c (sampled c h) h p (detection_by c (sampled c h) h))
 
 -- ---- what is lost by an event

@@ -40,11 +40,11 @@ same_samples c e h same = ap (λ r. updated r (sample_of c (e ∷ h))) same.esti
 
 same_persistent : (c : Settings) (h : List Event) → sampled (where_they_must c) h ≡ sampled c h → declared (where_they_must c) h ≡ declared c h
     → is_persistent (where_they_must c) h ≡ is_persistent c h
-same_persistent c h samples lost = ap₂ (λ r ps. list_any (λ p. list_any (are_ends r c h p) ps) ps) samples lost
+same_persistent c h samples lost = ap₂ (λ r ps. list_any (λ p. list_any (are_ends c r h p) ps) ps) samples lost
 
 same_refresh : (refresh : Bool) (c : Settings) (h : List Event) → sampled (where_they_must c) h ≡ sampled c h → declared (where_they_must c) h ≡ declared c h
     → refreshed_by refresh (where_they_must c) h (sampled (where_they_must c) h) ≡ refreshed_by refresh c h (sampled c h)
-same_refresh true c h samples lost = ap₂ (λ r ps. if list_any (λ p. list_any (are_ends r c h p) ps) ps then refreshed r else r) samples lost
+same_refresh true c h samples lost = ap₂ (λ r ps. if list_any (λ p. list_any (are_ends c r h p) ps) ps then refreshed r else r) samples lost
 same_refresh false c h samples lost = samples
 
 -- by which the same is lost

@@ -13,7 +13,7 @@ use Rattle.qa_base.specs.declared.space.Permission.TheVariants.{Recovery}
 use Rattle.qa_base.specs.declared.space.Space.{Space}
 use Rattle.qa_base.specs.declared.space.Space.TheVariants.{Initial, Handshake, App}
 use Rattle.qa_base.specs.machine.Breaches.{is_loss_owed, is_loss_not_owed, numbers, is_other_loss_set, is_over, is_past_recovery, is_timer_not_set, is_other, is_timer_other}
-use Rattle.qa_base.specs.machine.Detection.{are_ends, detection_by, is_found_at, is_free_by, is_left_at, is_old, is_owed_by, is_past_threshold, is_unsettled, may_be_spared, looks_at, old_at}
+use Rattle.qa_base.specs.machine.Detection.{are_ends, detection_by, is_at, is_found, is_free_by, is_left, is_old, is_owed_by, is_past_threshold, is_unsettled, looks_at, may_be_spared, old_at}
 use Rattle.qa_base.specs.machine.Estimates.{refreshed_by, rtt, sampled}
 use Rattle.qa_base.specs.machine.Handshake.{is_confirmed, is_validated, has_keys}
 use Rattle.qa_base.specs.machine.Permission.{is_recovery_packet, recovery_spent}
@@ -144,7 +144,7 @@ past_alike c t alike r now None p = refl
 past_alike c t (asked, inl same) r now (Some m) p = ap₂ (λ l k. nat_lt p.number m && ((not (is_may l) && nat_le k (m - p.number)) || is_old c r now p)) asked same
 past_alike c t (asked, inr may) r now (Some m) p = ap (λ l. nat_lt p.number m && ((not (is_may l) && nat_le t.packet_threshold (m - p.number)) || is_old c r now p)) asked ∙ rw may refl
 
-pub found_alike : (c : Settings) (t : Tolerances) → OwesAlike c t → (r : Estimate) (h : List Event) (p : Packet) (d : Option (Space × ℕ)) → is_found_at (like c t) r h p d ≡ is_found_at c r h p d
+pub found_alike : (c : Settings) (t : Tolerances) → OwesAlike c t → (r : Estimate) (h : List Event) (p : Packet) (d : Option (Space × ℕ)) → is_at (is_found (like c t) r h) p d ≡ is_at (is_found c r h) p d
 found_alike c t alike r h p None = refl
 found_alike c t alike r h p (Some d) =
     ap (λ b. is_of d.0 p && (p.in_flight && is_unsettled h p && b)) (past_alike c t alike r d.1 (largest_acknowledged h d.0) p)
@@ -155,19 +155,19 @@ spared_alike c t same r now None p = refl
 spared_alike c t same r now (Some m) p = ap₂ (λ l k. nat_lt p.number m && (is_may l && nat_le k (m - p.number)) && not (is_old c r now p)) same.0 same.1
 
 left_alike : (c : Settings) (t : Tolerances) → SameLosses c t → (r : Estimate) (h : List Event) (p : Packet) (d : Option (Space × ℕ))
-    → is_left_at (like c t) r h p d ≡ is_left_at c r h p d
+    → is_at (is_left (like c t) r h) p d ≡ is_at (is_left c r h) p d
 left_alike c t same r h p None = refl
 left_alike c t same r h p (Some d) =
     ap (λ b. is_of d.0 p && (p.in_flight && is_unsettled h p && b)) (spared_alike c t same r d.1 (largest_acknowledged h d.0) p)
 
 pub owes_alike : (c : Settings) (t : Tolerances) → OwesAlike c t → (h : List Event) → Detects c t h → (p : Packet) → is_owed_by (like c t) (sampled c h) h p ≡ is_owed_by c (sampled c h) h p
 owes_alike c t alike h detects p =
-    ap (is_found_at (like c t) (sampled c h) h p) (detects_at c t h detects) ∙ found_alike c t alike (sampled c h) h p (detection_by c (sampled c h) h)
+    ap (is_at (is_found (like c t) (sampled c h) h) p) (detects_at c t h detects) ∙ found_alike c t alike (sampled c h) h p (detection_by c (sampled c h) h)
 
 frees_alike : (c : Settings) (t : Tolerances) → SameLosses c t → (h : List Event) → Detects c t h → (p : Packet)
     → is_free_by (like c t) (sampled c h) h p ≡ is_free_by c (sampled c h) h p
 frees_alike c t same h detects p =
-    ap (is_left_at (like c t) (sampled c h) h p) (detects_at c t h detects) ∙ left_alike c t same (sampled c h) h p (detection_by c (sampled c h) h)
+    ap (is_at (is_left (like c t) (sampled c h) h) p) (detects_at c t h detects) ∙ left_alike c t same (sampled c h) h p (detection_by c (sampled c h) h)
 
 -- where the thresholds are the same, all agree that detect alike
 agree_if : (c : Settings) (t : Tolerances) (h : List Event) → SameLosses c t → Detects c t h → Agree c t h
@@ -218,7 +218,7 @@ lost_by_samples c t e h agree before now = owed_by_samples c t (e ∷ h) agree n
 
 refreshed_same : (refresh : Bool) (c : Settings) (t : Tolerances) (h : List Event) → sampled (like c t) h ≡ sampled c h → declared (like c t) h ≡ declared c h
     → refreshed_by refresh (like c t) h (sampled (like c t) h) ≡ refreshed_by refresh c h (sampled c h)
-refreshed_same true c t h same lost = ap₂ (λ r ps. if list_any (λ p. list_any (are_ends r c h p) ps) ps then refreshed r else r) same lost
+refreshed_same true c t h same lost = ap₂ (λ r ps. if list_any (λ p. list_any (are_ends c r h p) ps) ps then refreshed r else r) same lost
 refreshed_same false c t h same lost = same
 
 -- the samples give the same, and the estimate is the same, and so is what is lost by the last event
@@ -260,7 +260,7 @@ same_nameable c t h same detects =
     (λ p has. ap₂ (λ a b. a || b) (same_is_owed c t h (agree_if c t h same detects) p has) (is_free_alike c t h same detects p)))
 
 same_persistent : (c : Settings) (t : Tolerances) (h : List Event) → Agree c t h → is_persistent (like c t) h ≡ is_persistent c h
-same_persistent c t h agree = ap₂ (λ r ps. list_any (λ p. list_any (are_ends r c h p) ps) ps) (same_sampled c t h agree) (same_declared c t h agree)
+same_persistent c t h agree = ap₂ (λ r ps. list_any (λ p. list_any (are_ends c r h p) ps) ps) (same_sampled c t h agree) (same_declared c t h agree)
 
 same_open : (c : Settings) (t : Tolerances) (h : List Event) → Agree c t h → (p : Packet) → Contains (packets h) p → is_open (like c t) h p ≡ is_open c h p
 same_open c t h agree p has = ap (λ is. is_unsettled h p && not is && not (is_discarded h p.space)) (same_is_owed c t h agree p has)

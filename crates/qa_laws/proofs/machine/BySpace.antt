@@ -11,7 +11,7 @@ use Rattle.qa_base.specs.declared.space.Space.{Space}
 use Rattle.qa_base.specs.declared.space.Space.TheVariants.{Initial, Handshake, App}
 use Rattle.qa_base.specs.values.Events.{is_space, is_named, acknowledges}
 use Rattle.qa_base.specs.machine.Estimates.{sampled}
-use Rattle.qa_base.specs.machine.Detection.{found_at, is_found, is_found_at, is_past_threshold, is_unsettled}
+use Rattle.qa_base.specs.machine.Detection.{all_at, is_at, is_found, is_past_threshold, is_unsettled}
 use Rattle.qa_base.specs.machine.Loss.{is_open, bytes_in_flight, owed, detection}
 use Rattle.qa_base.specs.machine.Packets.{Packet, packets, packets_of, is_of, is_discarded, is_acknowledged, is_declared_lost, is_newly_acknowledged, newly_acknowledged, largest_acknowledged}
 use Rattle.qa_base.specs.values.Settings.{Settings}
@@ -111,7 +111,7 @@ part_are_of s test ps each = of_each (λ p. is_of s p ≡ true) (filter test ps)
 -- what a detection finds is of its space
 pub owed_are_of : (c : Settings) (h : List Event) (s : Space) (now : ℕ) → detection c h ≡ Some (s, now) → AreOf s (owed c h)
 owed_are_of c h s now at =
-    let found : owed c h ≡ filter (is_found c (sampled c h) h now s) (packets_of h s) = ap (found_at c (sampled c h) h) at in
+    let found : owed c h ≡ filter (is_found c (sampled c h) h now s) (packets_of h s) = ap (all_at (is_found c (sampled c h) h) h) at in
     subst (λ (ps : List Packet). AreOf s ps) (sym found)
     (of_each (λ p. is_of s p ≡ true) (filter (is_found c (sampled c h) h now s) (packets_of h s)) (λ p has.
     (part_is (is_of s) (packets h) p (part_is (is_found c (sampled c h) h now s) (packets_of h s) p has).0).1))
@@ -140,7 +140,7 @@ pub bytes_of_other : (s t : Space) (ps : List Packet) → is_space s t ≡ false
 bytes_of_other s t ps apart of =
     sum_of_none (bytes_of s) ps (each_weaker (λ p. is_of t p ≡ true) (λ p. bytes_of s p ≡ 0) (λ p is. ap (λ b. if b then bytes p else 0) (other_space s t p apart is)) ps of)
 
-found_in_flight : (c : Settings) (h : List Event) (p : Packet) (d : Option (Space × ℕ)) → is_found_at c (sampled c h) h p d ≡ true → p.in_flight ≡ true
+found_in_flight : (c : Settings) (h : List Event) (p : Packet) (d : Option (Space × ℕ)) → is_at (is_found c (sampled c h) h) p d ≡ true → p.in_flight ≡ true
 found_in_flight c h p None is = cc
 found_in_flight c h p (Some (s, now)) is =
     let parts = and_parts (is_of s p) (is_found c (sampled c h) h now s p) is in

@@ -11,7 +11,7 @@ use Rattle.qa_base.specs.machine.Breaches.{numbers}
 use Rattle.qa_laws.specs.machine.Conduct.{IsLostRightly}
 use Rattle.qa_base.specs.values.Events.{is_space, is_named, acknowledges, has_ranges}
 use Rattle.qa_base.specs.machine.Estimates.{sampled}
-use Rattle.qa_base.specs.machine.Detection.{is_found, is_found_at, is_past_threshold, is_old, is_unsettled, may_be_spared}
+use Rattle.qa_base.specs.machine.Detection.{is_at, is_found, is_old, is_past_threshold, is_unsettled, may_be_spared}
 use Rattle.qa_base.specs.machine.Loss.{owed, is_owed, is_free, nameable, is_nameable, detection}
 use Rattle.qa_base.specs.machine.Numbers.{has_all}
 use Rattle.qa_base.specs.machine.Packets.{Packet, packet_of, packets, packets_of, is_of, is_acknowledged, greatest, greatest_in, largest_acknowledged}
@@ -186,7 +186,7 @@ lost_by c h run proper p has s now at of_space flying (Some m) largest late =
     }
 
 found_rightly : (c : Settings) (h : List Event) → IsRun c h → AllByRecursion IsProperEvent h → (p : Packet) → Contains (packets h) p
-    → (d : Option (Space × ℕ)) → detection c h ≡ d → is_found_at c (sampled c h) h p d ≡ true → IsLostRightly c h p.space p.number
+    → (d : Option (Space × ℕ)) → detection c h ≡ d → is_at (is_found c (sampled c h) h) p d ≡ true → IsLostRightly c h p.space p.number
 found_rightly c h run proper p has None at is = cc
 found_rightly c h run proper p has (Some (s, now)) at is =
     let parts = and_parts (is_of s p) (is_found c (sampled c h) h now s p) is in

@@ -6,7 +6,7 @@ use Rattle.std.specs.Prelude.{nat_le, nat_lt, if◌then◌else◌}
 use Rattle.qa_base.specs.declared.event.Event.{Event}
 use Rattle.qa_base.specs.declared.event.Event.TheVariants.{Ack, Lost, Timer, Discard}
 use Rattle.qa_base.specs.declared.space.Space.{Space}
-use Rattle.qa_base.specs.machine.Detection.{is_found, is_found_at, is_old, is_past_threshold, is_unsettled, left_at, may_be_spared}
+use Rattle.qa_base.specs.machine.Detection.{all_at, is_at, is_found, is_left, is_old, is_past_threshold, is_unsettled, may_be_spared}
 use Rattle.qa_base.specs.machine.Estimates.{sampled}
 use Rattle.qa_base.specs.machine.Loss.{bytes_in_flight, declared, detection, free, is_free, is_open, is_owed}
 use Rattle.qa_base.specs.machine.Packets.{Packet, packets, is_of, largest_acknowledged}
@@ -71,7 +71,7 @@ free_flies c h p run has = free_is_flying c h (tolerated_run_of c h run) p (free
 
 -- and there is none but behind a detection
 pub none_is_free : (c : Settings) (h : List Event) → detection c h ≡ None → free c h ≡ []
-none_is_free c h none = ap (left_at c (sampled c h) h) none
+none_is_free c h none = ap (all_at (is_left c (sampled c h) h) h) none
 
 -- ---- what is open is young
 
@@ -90,10 +90,10 @@ flying_is_young c h p now largest flying at most less = false_from_ne_true (is_o
     let flies = and_parts p.in_flight (is_open c h p) flying in
     let opens = opens_is c h p flies.1 in
     let past = past_if_old c h p now (largest_acknowledged h p.space) largest most less old in
-    let found : is_found_at c r h p (Some (p.space, now)) ≡ true =
+    let found : is_at (is_found c r h) p (Some (p.space, now)) ≡ true =
     and_from (is_of p.space p) (is_found c r h now p.space p) (is_space_same p.space)
     (and_from (p.in_flight && is_unsettled h p) (is_past_threshold c r now (largest_acknowledged h p.space) p) (and_from p.in_flight (is_unsettled h p) flies.0 opens.unsettled) past) in
-    both_ways (is_owed c h p) opens.free (ap (is_found_at c r h p) at ∙ found))
+    both_ways (is_owed c h p) opens.free (ap (is_at (is_found c r h) p) at ∙ found))
 
 -- ---- quiet events by which nothing is lost
 

@@ -7,7 +7,7 @@ use Rattle.qa_base.specs.declared.event.Event.{Event}
 use Rattle.qa_base.specs.declared.event.Event.TheVariants.{Lost}
 use Rattle.qa_base.specs.declared.space.Space.{Space}
 use Rattle.qa_base.specs.machine.Breaches.{is_loss_not_owed, is_other_loss_set, numbers}
-use Rattle.qa_base.specs.machine.Detection.{detection_by, is_found, is_found_at, is_free_by, is_left, is_left_at, is_old, is_owed_by, is_past_threshold, is_unsettled, may_be_spared}
+use Rattle.qa_base.specs.machine.Detection.{detection_by, is_at, is_found, is_free_by, is_left, is_old, is_owed_by, is_past_threshold, is_unsettled, may_be_spared}
 use Rattle.qa_base.specs.machine.Estimates.{sampled}
 use Rattle.qa_base.specs.machine.Loss.{is_free, is_nameable, is_owed, nameable, owed}
 use Rattle.qa_base.specs.machine.Numbers.{has_all, has_next, has_range, is_in, names_between}
@@ -51,7 +51,7 @@ spared_more c t no_stricter r now (Some m) p is =
     (and_from (nat_lt p.number m) (is_may t.loss_by_number && nat_le t.packet_threshold (m - p.number)) both.0
     (and_from (is_may t.loss_by_number) (nat_le t.packet_threshold (m - p.number)) may_too (le-leb t.packet_threshold (m - p.number) (omega (arith, far, less))))) young.1
 
-left_more : (c : Settings) (t : Tolerances) → NoStricter c t → (r : Estimate) (h : List Event) (p : Packet) (d : Option (Space × ℕ)) → is_left_at c r h p d ≡ true → is_left_at (like c t) r h p d ≡ true
+left_more : (c : Settings) (t : Tolerances) → NoStricter c t → (r : Estimate) (h : List Event) (p : Packet) (d : Option (Space × ℕ)) → is_at (is_left c r h) p d ≡ true → is_at (is_left (like c t) r h) p d ≡ true
 left_more c t no_stricter r h p None is = cc
 left_more c t no_stricter r h p (Some d) is =
     let parts = and_parts (is_of d.0 p) (is_left c r h d.1 d.0 p) is in
@@ -62,11 +62,11 @@ left_more c t no_stricter r h p (Some d) is =
 -- what is free is so under a lower threshold
 frees_more : (c : Settings) (t : Tolerances) → NoStricter c t → (h : List Event) → Detects c t h → (p : Packet) → is_free_by c (sampled c h) h p ≡ true → is_free_by (like c t) (sampled c h) h p ≡ true
 frees_more c t no_stricter h detects p is =
-    ap (is_left_at (like c t) (sampled c h) h p) (detects_at c t h detects) ∙ left_more c t no_stricter (sampled c h) h p (detection_by c (sampled c h) h) is
+    ap (is_at (is_left (like c t) (sampled c h) h) p) (detects_at c t h detects) ∙ left_more c t no_stricter (sampled c h) h p (detection_by c (sampled c h) h) is
 
 -- ---- what is owed is not free
 
-found_not_left : (c : Settings) (r : Estimate) (h : List Event) (p : Packet) (d : Option (Space × ℕ)) → is_found_at c r h p d ≡ true → is_left_at c r h p d ≡ false
+found_not_left : (c : Settings) (r : Estimate) (h : List Event) (p : Packet) (d : Option (Space × ℕ)) → is_at (is_found c r h) p d ≡ true → is_at (is_left c r h) p d ≡ false
 found_not_left c r h p None is = cc
 found_not_left c r h p (Some d) is =
     let parts = and_parts (is_of d.0 p) (is_found c r h d.1 d.0 p) is in

@@ -7,7 +7,7 @@ use Rattle.std.specs.Prelude.{nat_lt, nat_le, if◌then◌else◌}
 use Rattle.qa_base.specs.declared.event.Event.{Event}
 use Rattle.qa_base.specs.declared.event.Event.TheVariants.{Sent, Ack}
 use Rattle.qa_base.specs.declared.space.Space.{Space}
-use Rattle.qa_base.specs.machine.Detection.{is_found, is_found_at, is_old, is_past_threshold, is_unsettled, may_be_spared}
+use Rattle.qa_base.specs.machine.Detection.{is_at, is_found, is_old, is_past_threshold, is_unsettled, may_be_spared}
 use Rattle.qa_base.specs.machine.Estimates.{sampled}
 use Rattle.qa_base.specs.machine.Loss.{detection, is_free, is_open, is_owed}
 use Rattle.qa_base.specs.machine.Order.{IsLower, NumbersFall}
@@ -88,7 +88,7 @@ past_at_most c r now (Some m) q is =
     let less = ltb-true q.number m (and_parts (nat_lt q.number m) ((not (is_may c.options.loss_by_number) && nat_le c.options.packet_threshold (m - q.number)) || is_old c r now q) is).0 in
     omega (arith, less)
 
-found_at_most : (c : Settings) (h : List Event) (q : Packet) (d : Option (Space × ℕ)) → is_found_at c (sampled c h) h q d ≡ true → IsAtMost q.number (largest_acknowledged h q.space)
+found_at_most : (c : Settings) (h : List Event) (q : Packet) (d : Option (Space × ℕ)) → is_at (is_found c (sampled c h) h) q d ≡ true → IsAtMost q.number (largest_acknowledged h q.space)
 found_at_most c h q None is = cc
 found_at_most c h q (Some (s, now)) is =
     let r = sampled c h in
@@ -178,7 +178,7 @@ owed_by_ack c (Ack ack) h q p must acks new same flies unsettled far =
     let past : is_past_threshold c r ack.time (largest_acknowledged (e ∷ h) ack.space) p ≡ true =
     subst (λ (s : Space). is_past_threshold c r ack.time (largest_acknowledged (e ∷ h) s) p ≡ true) of_space (far_is_past c r ack.time (largest_acknowledged (e ∷ h) p.space) p must far) in
     let here : is_of ack.space p ≡ true = rw of_space (is_space_same ack.space) in
-    ap (λ b. is_found_at c r (e ∷ h) p (if◌then◌else◌ {A = Option (Space × ℕ)} b (Some (ack.space, ack.time)) None)) new
+    ap (λ b. is_at (is_found c r (e ∷ h)) p (if◌then◌else◌ {A = Option (Space × ℕ)} b (Some (ack.space, ack.time)) None)) new
     ∙ and_from (is_of ack.space p) (is_found c r (e ∷ h) ack.time ack.space p) here
     (and_from (p.in_flight && is_unsettled (e ∷ h) p) (is_past_threshold c r ack.time (largest_acknowledged (e ∷ h) ack.space) p) (and_from p.in_flight (is_unsettled (e ∷ h) p) flies unsettled) past)
 owed_by_ack c _ h q p must acks new same flies unsettled far = cc

@@ -5,7 +5,7 @@ use Rattle.std.specs.Prelude.{nat_le, nat_lt}
 use Rattle.qa_base.specs.declared.event.Event.{Event}
 use Rattle.qa_base.specs.declared.space.LossByNumber.TheVariants.{Must}
 use Rattle.qa_base.specs.declared.space.Space.{Space}
-use Rattle.qa_base.specs.machine.Detection.{detection_by, is_found_at, is_left_at, is_old, is_past_threshold, is_unsettled, may_be_spared}
+use Rattle.qa_base.specs.machine.Detection.{detection_by, is_at, is_found, is_left, is_old, is_past_threshold, is_unsettled, may_be_spared}
 use Rattle.qa_base.specs.machine.Estimates.{sampled}
 use Rattle.qa_base.specs.machine.Loss.{free, is_free, is_nameable, is_owed, nameable, owed}
 use Rattle.qa_base.specs.machine.Packets.{Packet, packets, is_of, largest_acknowledged}
@@ -50,7 +50,7 @@ found_by c r h p s now None none = refl
 found_by c r h p s now (Some m) none =
     nothing_left (is_of s p) (p.in_flight && is_unsettled h p) (nat_lt p.number m) (is_may c.options.loss_by_number) (nat_le c.options.packet_threshold (m - p.number)) (is_old c r now p) none
 
-found_strictly : (c : Settings) (r : Estimate) (h : List Event) (p : Packet) (d : Option (Space × ℕ)) → is_left_at c r h p d ≡ false → is_found_at (where_they_must c) r h p d ≡ is_found_at c r h p d
+found_strictly : (c : Settings) (r : Estimate) (h : List Event) (p : Packet) (d : Option (Space × ℕ)) → is_at (is_left c r h) p d ≡ false → is_at (is_found (where_they_must c) r h) p d ≡ is_at (is_found c r h) p d
 found_strictly c r h p None none = refl
 found_strictly c r h p (Some (s, now)) none = found_by c r h p s now (largest_acknowledged h s) none
 
@@ -60,7 +60,7 @@ agree_strictly c (e ∷ h) nothing =
     let t = varied c c.version Must in (
       agree_strictly c h nothing.0,
       record {
-        owes = λ p has. ap (is_found_at (like c t) (sampled c (e ∷ h)) (e ∷ h) p) (detects_at c t (e ∷ h) (detects_if_equally_early c t (e ∷ h) refl))
+        owes = λ p has. ap (is_at (is_found (like c t) (sampled c (e ∷ h)) (e ∷ h)) p) (detects_at c t (e ∷ h) (detects_if_equally_early c t (e ∷ h) refl))
             ∙ found_strictly c (sampled c (e ∷ h)) (e ∷ h) p (detection_by c (sampled c (e ∷ h)) (e ∷ h)) (not_free c (e ∷ h) nothing.1 p has);
         names = λ p has. ap (λ b. b && declares_lost p.space p.number e) (none_free_by (like c t) (sampled c h) h p refl)
             ∙ sym (ap (λ b. b && declares_lost p.space p.number e) (none_at c h nothing.0 p has));

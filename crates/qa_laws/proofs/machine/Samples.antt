@@ -11,7 +11,7 @@ use Rattle.qa_base.specs.declared.space.Space.{Space}
 use Rattle.qa_base.specs.machine.Breaches.{has_at_or_above}
 use Rattle.qa_base.specs.values.Events.{is_space, is_named, acknowledges}
 use Rattle.qa_base.specs.machine.Estimates.{sampled}
-use Rattle.qa_base.specs.machine.Detection.{found_at, is_found}
+use Rattle.qa_base.specs.machine.Detection.{all_at, is_found}
 use Rattle.qa_base.specs.machine.Loss.{owed, detection}
 use Rattle.qa_base.specs.history.Sequence.{EachTwo, WasSentBefore}
 use Rattle.qa_base.specs.machine.Packets.{Packet, packets, packets_of, is_of, is_acknowledged, is_declared_lost, is_newly_acknowledged, newly_acknowledged, greatest}
@@ -91,7 +91,7 @@ latest_first (p ∷ ps) two =
     let rest = sent_by p.time ps (each_weaker (IsEarlier p) (λ q. q.time ≤ p.time) (λ q before. before.time) ps two.0) in
     omega (arith, rest)
 
-found_in_order : (c : Settings) (h : List Event) → IsRun c h → (d : Option (Space × ℕ)) → EachTwo IsEarlier (found_at c (sampled c h) h d)
+found_in_order : (c : Settings) (h : List Event) → IsRun c h → (d : Option (Space × ℕ)) → EachTwo IsEarlier (all_at (is_found c (sampled c h) h) h d)
 found_in_order c h run None = tt
 found_in_order c h run (Some (s, now)) = two_of_part IsEarlier (is_found c (sampled c h) h now s) (packets_of h s) (in_order_of c h s (tolerated_run_of c h run))
 

@@ -26,7 +26,7 @@ pub sampled_of : (c : Settings) (h : List Event) (ack : Acknowledgment) (header 
 sampled_of c h ack header confirmed ps before is_header is_confirmed_then are is =
     rw (is_header, is_confirmed_then, are, is) (ap (updated (rtt c h)) (sample_is c h ack))
 
-refreshed_is : (refreshes : Bool) (c : Settings) (h : List Event) (r : Estimate) → refreshed_if refreshes (is_persistent_by r c h) r ≡ refreshed_by refreshes c h r
+refreshed_is : (refreshes : Bool) (c : Settings) (h : List Event) (r : Estimate) → refreshed_if refreshes (is_persistent_by c r h) r ≡ refreshed_by refreshes c h r
 refreshed_is true c h r = refl
 refreshed_is false c h r = refl
 

@@ -84,7 +84,7 @@ no_move d true r = refl
 no_move d false r = refl
 
 not_persistent : (c : Settings) (h : List Event) → declared c h ≡ [] → is_persistent c h ≡ false
-not_persistent c h free = ap (λ ps. list_any (λ p. list_any (are_ends (sampled c h) c h p) ps) ps) free
+not_persistent c h free = ap (λ ps. list_any (λ p. list_any (are_ends c (sampled c h) h p) ps) ps) free
 
 reno_stays : (c : Settings) (e : Event) (h : List Event) → declared c (e ∷ h) ≡ [] → newly_acknowledged (e ∷ h) ≡ [] → reno c (e ∷ h) ≡ reno c h
 reno_stays c e h free none =

@@ -13,11 +13,11 @@ pub loop-place-preserved : goal.loop-place-preserved
 loop-place-preserved c =
     let h = history_of c.args.events.now in
     let rest = lost_in h c.args.losses (history_of (take c.loop-place.place c.args.events.now)) in
-    let any = list_any (are_ends c.args.losses.look.rtt c.args.header.now h c.args.first) in
+    let any = list_any (are_ends c.args.header.now c.args.losses.look.rtt h c.args.first) in
     let next = passing_next any (is_lost_by h c.args.losses) c.args.events.now c.loop-place.place c.index-events-place.result c.lost_of.result c.loop-place-test.true c.index-events-place.is c.lost_of.ensures in
     let with = λ (r : Option Packet). any (listed r ++ rest) in
     let or = λ (b : Bool). b || any rest in
-    let test = λ (p : Packet). ap (λ (r : Estimate). are_ends r c.args.header.now h c.args.first p) c.rtt-rtt.ensures in
+    let test = λ (p : Packet). ap (λ (r : Estimate). are_ends c.args.header.now r h c.args.first p) c.rtt-rtt.ensures in
     elim c.match-lost_of.branch [
       | in-Some+then-are_ends w ↦ w.found-is ∙ sym (next ∙ (ap with w.in-Some.is ∙ ap or (sym (test w.in-Some.packet) ∙ (sym w.are_ends.ensures ∙ w.if-are_ends.true))))
       | in-Some+else-are_ends w ↦ w.found-is ∙ (c.loop-place.invariant ∙ sym (next ∙ (ap with w.in-Some.is ∙ ap or (sym (test w.in-Some.packet) ∙ (sym w.are_ends.ensures ∙ w.if-are_ends.false)))))
@@ -27,4 +27,4 @@ loop-place-preserved c =
 pub returns : goal.returns
 returns c =
     let h = history_of c.args.events.now in
-    c.loop-place.invariant ∙ at_end (λ part. list_any (are_ends c.args.losses.look.rtt c.args.header.now h c.args.first) (lost_in h c.args.losses part)) c.args.events.now c.loop-place.place c.loop-place-test.false
+    c.loop-place.invariant ∙ at_end (λ part. list_any (are_ends c.args.header.now c.args.losses.look.rtt h c.args.first) (lost_in h c.args.losses part)) c.args.events.now c.loop-place.place c.loop-place-test.false

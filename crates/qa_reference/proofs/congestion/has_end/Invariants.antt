@@ -6,4 +6,4 @@ use Rattle.qa_reference.specs.Looks.{lost_in}
 use Rattle.qa_reference.proofs.congestion.has_end.Given as goal
 
 abbrev pub invariant-loop-place : goal.invariant-loop-place
-invariant-loop-place l = l.found ≡ list_any (are_ends l.losses.look.rtt l.header (history_of l.events) l.first) (lost_in (history_of l.events) l.losses (history_of (take l.place l.events)))
+invariant-loop-place l = l.found ≡ list_any (are_ends l.header l.losses.look.rtt (history_of l.events) l.first) (lost_in (history_of l.events) l.losses (history_of (take l.place l.events)))

@@ -13,7 +13,7 @@ pub loop-place-preserved : goal.loop-place-preserved
 loop-place-preserved c =
     let h = history_of c.args.events.now in
     let rest = lost_in h c.args.losses (history_of (take c.loop-place.place c.args.events.now)) in
-    let test : Packet → Bool = λ p. list_any (are_ends c.args.losses.look.rtt c.args.header.now h p) (lost_in h c.args.losses h) in
+    let test : Packet → Bool = λ p. list_any (are_ends c.args.header.now c.args.losses.look.rtt h p) (lost_in h c.args.losses h) in
     let any = list_any test in
     let next = passing_next any (is_lost_by h c.args.losses) c.args.events.now c.loop-place.place c.index-events-place.result c.lost_of.result c.loop-place-test.true c.index-events-place.is c.lost_of.ensures in
     let with = λ (r : Option Packet). any (listed r ++ rest) in
@@ -27,6 +27,6 @@ loop-place-preserved c =
 pub returns : goal.returns
 returns c =
     let h = history_of c.args.events.now in
-    let test : Packet → Bool = λ p. list_any (are_ends c.args.losses.look.rtt c.args.header.now h p) (lost_in h c.args.losses h) in
+    let test : Packet → Bool = λ p. list_any (are_ends c.args.header.now c.args.losses.look.rtt h p) (lost_in h c.args.losses h) in
     c.loop-place.invariant ∙ (at_end (λ part. list_any test (lost_in h c.args.losses part)) c.args.events.now c.loop-place.place c.loop-place-test.false
     ∙ persistent_seen c.args.header.now h c.args.losses c.requires.seen)

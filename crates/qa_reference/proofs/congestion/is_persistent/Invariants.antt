@@ -6,4 +6,4 @@ use Rattle.qa_reference.specs.Looks.{lost_in}
 use Rattle.qa_reference.proofs.congestion.is_persistent.Given as goal
 
 abbrev pub invariant-loop-place : goal.invariant-loop-place
-invariant-loop-place l = l.found ≡ list_any (λ (p : Packet). list_any (are_ends l.losses.look.rtt l.header (history_of l.events) p) (lost_in (history_of l.events) l.losses (history_of l.events))) (lost_in (history_of l.events) l.losses (history_of (take l.place l.events)))
+invariant-loop-place l = l.found ≡ list_any (λ (p : Packet). list_any (are_ends l.header l.losses.look.rtt (history_of l.events) p) (lost_in (history_of l.events) l.losses (history_of l.events))) (lost_in (history_of l.events) l.losses (history_of (take l.place l.events)))
