@@ -50,7 +50,7 @@ pub fn is_acknowledged_between(events: &[Event], first: Packet, second: Packet) 
 
 /// Whether the two lie too far apart, and nothing that was sent between them was acknowledged.
 fn are_ends(header: &Header, events: &[Event], rtt: Rtt, first: Packet, second: Packet) -> bool
-    ensures { result ≡ detections.are_ends rtt header.now (history_of events.now) first second }
+    ensures { result ≡ detections.are_ends header.now rtt (history_of events.now) first second }
 {
     let delay = Ticks::of(header.max_ack_delay());
     let apart = second.time.get().saturating_sub(first.time.get());
@@ -63,7 +63,7 @@ fn are_ends(header: &Header, events: &[Event], rtt: Rtt, first: Packet, second: 
 /// Whether the packet and one that is lost by the last event establish persistent congestion.
 fn has_end(header: &Header, events: &[Event], losses: Losses, first: Packet) -> bool
     ensures { result ≡ list_any
-        (detections.are_ends losses.look.rtt header.now (history_of events.now) first)
+        (detections.are_ends header.now losses.look.rtt (history_of events.now) first)
         (lost_in (history_of events.now) losses (history_of events.now)) }
 {
     let rtt = losses.rtt();

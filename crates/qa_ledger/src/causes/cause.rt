@@ -33,8 +33,8 @@ pub struct Oldest {
 /// How a report is compared with the machine.
 #[derive(Clone, Copy)]
 pub struct Comparison {
-    /// Whose window packets are judged by. One that the sender reports is compared with nothing, nor
-    /// is its `ssthresh`.
+    /// Whose window packets are judged by. One that the sender reports is compared with nothing,
+    /// nor is its `ssthresh`.
     pub controller: Controller,
     /// By how much a reported number of bytes may differ.
     pub slack_bytes: u64,
