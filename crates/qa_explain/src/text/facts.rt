@@ -14,11 +14,7 @@ use std::alloc::AllocError;
 
 /// Appends the facts of the cause by which the event breaks a rule, a line each.
 #[tactic(auto, unfolding(crate::specs::text::Facts::facts_text))]
-pub fn push_facts(
-    out: &mut String,
-    event: &Event,
-    cause: &Cause,
-) -> Result<(), AllocError>
+pub fn push_facts(out: &mut String, event: &Event, cause: &Cause) -> Result<(), AllocError>
     ensures { OnOk result (string_bytes out.new
         ≡ string_bytes out.old ++ text.facts_text event.now cause.now) }
 {

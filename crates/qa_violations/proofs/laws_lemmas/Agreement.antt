@@ -171,7 +171,7 @@ on_line : (n : ℕ) (before : List (List ℕ)) (l : List ℕ) (header : Option S
 on_line n before l header h c e r headed says breaks ds =
     let all = first_violation c h e r breaks in
     let same = ap₂ (λ (o : Option Settings) (x : Result Line Fault). violated_at n before l o h (event_said x)) headed says
-        ∙ ap (λ (rules : List Rule). map (violated c.unit n before l e) (explained c h e rules)) all.1 in
+    ∙ ap (λ (rules : List Rule). map (violated c.unit n before l e) (explained c h e rules)) all.1 in
     subst (λ (found : List Violated). ComesFirst n r (found ++ ds)) (sym same) (refl, refl)
 
 comes_first : (before ls : List (List ℕ)) (l : List ℕ) (m : ℕ) (r : Rule)
@@ -182,7 +182,7 @@ comes_first before ls l m r at =
     let good : stop_after past_sender_rules before l ≡ None = at.good in
     let read = said_reading reading (length before) l at.says in
     let here = on_line (length before + 1) before l (header_in reading before) (history_in before) at.settings at.event r at.headed read at.breaks
-        (violated_after (before ++ l ∷ []) (front (before ++ l ∷ []) ls)) in
+    (violated_after (before ++ l ∷ []) (front (before ++ l ∷ []) ls)) in
     subst (λ (n : ℕ). ComesFirst n r (violated_after before (front before (l ∷ ls)))) (sym at.line)
     (subst (λ (ls : List (List ℕ)). ComesFirst (length before + 1) r (violated_after before ls)) (sym (front_more before ls l good)) here)
 
@@ -259,9 +259,10 @@ end_whole bytes n last (Some c) h ends = end_by (is_some_packet (owed c h)) byte
 good_whole : (bytes : List ℕ) → AreGood (strict reading) (lines bytes) → EndsUnviolated (end_of reading (lines bytes)) bytes
 unfolding verdict_of
 good_whole bytes good =
-    let past = tolerated_lines [] (lines bytes) good in
-    (ap (λ (o : Option Verdict). unwrap_or o (end_of reading (lines bytes))) past,
-      ap (violated_after []) (good_at_end past_sender_rules bytes (lines bytes) past refl) ∙ none_violated [] (lines bytes) good)
+    let past = tolerated_lines [] (lines bytes) good in (
+      ap (λ (o : Option Verdict). unwrap_or o (end_of reading (lines bytes))) past,
+      ap (violated_after []) (good_at_end past_sender_rules bytes (lines bytes) past refl) ∙ none_violated [] (lines bytes) good,
+    )
 
 by_stop : (bytes : List ℕ) (o : Option Verdict) → first_stop (strict reading) [] (lines bytes) ≡ o → Whole (unwrap_or o (end_of reading (lines bytes))) bytes
 by_stop bytes None good =
