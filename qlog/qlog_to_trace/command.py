@@ -306,13 +306,8 @@ class Converter:
                     f"its order is not that of {dialect.name}: {order_of(found).value};"
                     " it is read so"
                 )
-        if looking.is_apart:
-            counts = looking.counts
-            self.notes.misread(
-                f"of {counts.acknowledgments} reports beside acknowledgments"
-                f" {max(counts.behind, counts.before)} agree with the packets that were sent: the"
-                " log may be misread, and a refusal be the reading's and not the sender's"
-            )
+        if doubt := looking.doubt():
+            self.notes.misread(doubt)
         return found
 
     def _dialect(self) -> Dialect:

@@ -7,7 +7,7 @@ from fractions import Fraction
 from .dialects import Dialect
 from .errors import Unusable
 from .events import NANOSECONDS, Event
-from .looking import Looking
+from .looking import DEFAULT_DELAY_EXPONENT, Looking
 from .notes import Guess
 from .sizes import Sizes
 
@@ -15,7 +15,6 @@ LEAST_DATAGRAM = 1200
 # What fits in an Ethernet frame. A part of the window that is larger, and larger than each packet,
 # is of a window of more datagrams.
 USUAL_DATAGRAM = 1500
-DEFAULT_DELAY_EXPONENT = 3
 GREATEST_DELAY_EXPONENT = 20
 # RFC 9000, 18.2: values of 2^14 ms and more are invalid.
 GREATEST_MAX_ACK_DELAY = ((1 << 14) - 1) * NANOSECONDS["ms"]
@@ -197,8 +196,9 @@ class Survey:
         values = event.metrics()
         if self.first_window is None and values.get("window"):
             self.first_window = values["window"]
-        if self.first_smoothed is None and values.get("smoothed_rtt"):
-            self.first_smoothed = values["smoothed_rtt"]
+        # A report with a sample may stand before the packet that gave it.
+        if self.first_smoothed is None and not values.get("latest_rtt"):
+            self.first_smoothed = values.get("smoothed_rtt") or None
 
     def max_datagram_size(self, initial_datagrams: int) -> tuple[int, Guess]:
         """The part of the first window, where no packet was larger; else the largest packet."""
