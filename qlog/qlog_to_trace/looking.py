@@ -248,7 +248,8 @@ class Looking:
 
     def _see_sample(self, event: Event, space: str, new: list[int]) -> None:
         """The round-trip time of the largest packet, if that is newly acknowledged."""
-        tops = {max(high for _, high in ranges) for ranges in map(event.ranges, event.acks) if ranges}
+        ranges = [event.ranges(ack) for ack in event.acks]
+        tops = [max(high for _, high in pairs) for pairs in ranges if pairs]
         if not new or max(new) not in tops:
             return
         try:
@@ -295,17 +296,16 @@ class Looking:
     def doubt(self) -> str | None:
         """What to say if most reports agree with the packets in no order."""
         counts, samples = self.counts, self.samples
-        agree = max(counts.behind, counts.before)
-        alike = samples.either + max(samples.behind, samples.before)
-        for count, fits, told in (
-            (counts.acknowledgments, agree, "reports beside acknowledgments {} agree with the packets"
-            " that were sent"),
-            (samples.count, alike, "reports of latest_rtt {} agree with the times of the packets"),
-        ):
-            if count >= LEAST_AGAINST_DIALECT and fits < count * PART_APART:
+        by_bytes = max(counts.behind, counts.before)
+        by_times = samples.either + max(samples.behind, samples.before)
+        sent = f"reports beside acknowledgments {by_bytes} agree with the packets that were sent"
+        times = f"reports of latest_rtt {by_times} agree with the times of the packets"
+        found = ((counts.acknowledgments, by_bytes, sent), (samples.count, by_times, times))
+        for count, agree, told in found:
+            if count >= LEAST_AGAINST_DIALECT and agree < count * PART_APART:
                 return (
-                    f"of {count} {told.format(fits)}: the log may be misread, and a refusal be the"
-                    " reading's and not the sender's"
+                    f"of {count} {told}: the log may be misread, and a refusal be the reading's and"
+                    " not the sender's"
                 )
         return None
 
