@@ -83,8 +83,8 @@ class Conversion:
         # Bytes that the last probe timeout still allows, and packets until an acknowledgment comes.
         self._probe_left = 0
         self._probes_left = 0
-        # Whether the window fell since the last packet that was sent.
-        self._has_fallen = False
+        # Whether the window fell, and whether a packet came, since the last packet that was sent.
+        self._has_fallen = self._has_come = False
         # When losses were last declared.
         self._last_loss: int | None = None
         # Whether all loss timers found packets at a later time than that of the RFC.
@@ -213,6 +213,7 @@ class Conversion:
     def _on_sent(self, group: Group) -> None:
         first, last = group.events[0], group.events[-1]
         self._guess_probes(group)
+        self._has_come = False
         is_reported = self._take_metrics(group.beside)
         reported = self._metrics.get("bytes_in_flight")
         if is_reported and reported is not None and self._settles_sizes:
@@ -252,6 +253,11 @@ class Conversion:
         if self._dialect.probes_by_trigger:
             if group.first.is_probe and self._probes_left <= 0:
                 self._notes.guess(Guess.PROBE_BY_TRIGGER)
+                self._write_timer(group.first, "pto", str(group.first.space))
+            return
+        if self._dialect.probes_by_room:
+            if group.first.is_probe and not self._has_come:
+                self._notes.guess(Guess.PROBE_BY_ROOM)
                 self._write_timer(group.first, "pto", str(group.first.space))
             return
         if self._dialect.probes_by_ping:
@@ -341,6 +347,7 @@ class Conversion:
 
     def _on_received(self, group: Group) -> None:
         event, lost = group.first, group.lost_before
+        self._has_come = True
         later = self._not_shown(group)
         if lost and not self._is_shown(lost, event, group.beside):
             self._lost_alone(lost)

@@ -62,6 +62,33 @@ class ByFrames(unittest.TestCase):
         self.assertEqual(sizes(log), [53, 33, 1198, 33])
 
 
+class Probes(unittest.TestCase):
+    """A probe of OpenSSL keeps a byte for a PING, which the data that follows then does not fill."""
+
+    FULL = 1165
+
+    def log(self, came: int) -> list[Event]:
+        """Packets 0 to 5, of which 3 is one byte short; an acknowledgment comes before one."""
+        log = [packet(it, [stream(it * self.FULL - (it > 3))]) for it in range(6)]
+        for event, time in zip(log, (0, 0, 50, 900, 960, 960), strict=True):
+            event["time"] = time
+        first, second = received(50, [[0]]), received(log[came]["time"], [[0, 2]])
+        return [*log[:2], first, *log[2:came], second, *log[came:]]
+
+    def test_a_probe_that_no_packet_came_before(self) -> None:
+        found = converted(self.log(4), name="OpenSSL/3.5.9")
+        self.assertEqual(found.kinds[5:8], ["timer", "sent", "ack"])
+        timer, probe = found.lines[5:7]
+        self.assertEqual((timer["time"], timer["kind"], timer["space"]), (900_000, "pto", "app"))
+        self.assertIn("room for a PING", timer["x_guess"][0])
+        self.assertEqual((probe["size"], probe["leave"]), (1197, "probe"))
+
+    def test_a_packet_may_have_to_elicit_for_a_packet_that_came(self) -> None:
+        found = converted(self.log(3), name="OpenSSL/3.5.9")
+        self.assertEqual(found.only("timer"), [])
+        self.assertEqual(found.only("sent")[3]["size"], 1197)
+
+
 class ByOtherValues(unittest.TestCase):
     """Sizes by the payload and by the header."""
 
