@@ -39,7 +39,7 @@ def behind(retry: Retry, events: Iterable[Event], notes: Notes) -> Iterator[Even
             continue
         yield event
     notes.warnings.append(
-        f"the trace begins behind the Retry at {retry.place}; packets before it: {count}"
+        f"the trace begins behind {retry.told}; packets before it: {count}"
     )
 
 
@@ -217,7 +217,7 @@ class Conversion:
         is_reported = self._take_metrics(group.beside)
         reported = self._metrics.get("bytes_in_flight")
         if is_reported and reported is not None and self._settles_sizes:
-            self._settle_size(group, reported)
+            self._settle_group(group)
         if self._handshake.awaits_discard:
             added = sum(event.size for event in group.events if event.is_in_flight)
             self._handshake.settle(first, reported, added)
@@ -232,13 +232,29 @@ class Conversion:
         if is_late:
             self._handshake.discard("initial", last)
 
-    def _settle_size(self, group: Group, reported: int) -> None:
-        """Takes the growth of the bytes in flight for a size that the log does not have."""
-        in_flight = [event for event in group.events if event.is_in_flight] or group.events
-        event = in_flight[0]
-        growth = reported - self._flight.bytes
+    def _settle_group(self, group: Group) -> None:
+        """Takes the growth of the bytes in flight for sizes that the log does not have.
+
+        A datagram is padded once all of its packets are there, so that what it adds to the Initial
+        packet, the first of them, is reported last.
+        """
+        packets = [event for event in group.events if event.is_in_flight] or group.events
+        metrics = (it.metrics() for it in group.beside if it.name == "metrics_updated")
+        reported = [it["bytes_in_flight"] for it in metrics if "bytes_in_flight" in it]
+        if len(packets) == 1:
+            reported = reported[-1:]
+        elif self._dialect.sizes_by_growth:
+            packets = sorted(packets, key=lambda event: event.space == "initial")
+        if len(packets) != len(reported):
+            return
+        befores = [self._flight.bytes, *reported[:-1]]
+        for event, before, now in zip(packets, befores, reported, strict=True):
+            self._settle_size(event, now - before)
+
+    def _settle_size(self, event: Event, growth: int) -> None:
+        """Takes a growth for the size of a packet, if that is asked for and is likely."""
         is_asked = self._dialect.sizes_by_growth or event.is_size_guessed
-        if not is_asked or len(in_flight) > 1 or growth == event.size:
+        if not is_asked or growth == event.size:
             return
         if 0 < growth <= max(self._datagram, event.size):
             event.size, event.is_padded = growth, True

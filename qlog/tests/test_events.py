@@ -116,6 +116,20 @@ class Events(unittest.TestCase):
         self.assertIn("the trace begins behind the Retry at line 4; packets before", end.errors)
         self.assertIn("left out 2: a loss of a packet that was sent before a Retry", end.errors)
 
+    def test_a_retry_that_is_not_logged_shows_by_where_initial_packets_go(self) -> None:
+        first, second, third = (sent(it * 40, it, "initial") for it in range(3))
+        for event, destination in ((first, "aa"), (second, "bb"), (third, "cc")):
+            event["data"]["header"]["dcid"] = destination
+        measured = metrics(39, latest_rtt=38, smoothed_rtt=38, min_rtt=38, bytes_in_flight=0)
+        rest = [received(79, [[1]], "initial"), third]
+        end = converted([first, measured, second, *rest], name="neqo", role="client")
+        self.assertEqual([line["number"] for line in end.only("sent")], [1, 2])
+        self.assertEqual(end.lines[0]["initial_rtt"], 38_000)
+        self.assertIn("behind a Retry that is not in the log, at line 4; packets", end.errors)
+        # The server names itself in its first packet.
+        end = converted([first, received(39, [[0]], "initial"), third], name="neqo", role="client")
+        self.assertEqual((len(end.only("sent")), end.errors), (2, ""))
+
     def test_a_rise_of_the_count_is_a_probe_timeout(self) -> None:
         first = [sent(0, 0, "initial"), metrics(0, pto_count=0)]
         found = converted([*first, sent(999, 1, "initial"), metrics(999, pto_count=1)])

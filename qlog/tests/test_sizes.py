@@ -63,7 +63,7 @@ class ByFrames(unittest.TestCase):
 
 
 class Probes(unittest.TestCase):
-    """A probe of OpenSSL keeps a byte for a PING, which the data that follows then does not fill."""
+    """A probe of OpenSSL keeps a byte for a PING, which the data behind it does not fill then."""
 
     FULL = 1165
 
@@ -113,6 +113,14 @@ class ByOtherValues(unittest.TestCase):
             log = [*self.without_length(**values), metrics(0, bytes_in_flight=1200)]
             log += [received(5, [[0]])]
             self.assertEqual(converted(log).only("sent")[0]["size"], 1200)
+
+    def test_packets_of_a_datagram_that_is_padded(self) -> None:
+        # The size of the second is that of the datagram so far, and its bytes are reported first.
+        datagram = [sent(0, 0, "initial", 163), sent(0, 0, "0RTT", 504)]
+        datagram += [metrics(0, bytes_in_flight=341), metrics(0, bytes_in_flight=1252)]
+        found = converted(datagram, name="neqo", role="client")
+        self.assertEqual([line["size"] for line in found.only("sent")], [911, 341])
+        self.assertEqual(found.kinds, ["header", "sent", "sent", "metrics"])
 
     def test_nothing_says_it(self) -> None:
         end = converted(self.without_length())
