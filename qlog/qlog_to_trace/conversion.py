@@ -246,10 +246,20 @@ class Conversion:
         elif self._dialect.sizes_by_growth:
             packets = sorted(packets, key=lambda event: event.space == "initial")
         if len(packets) != len(reported):
+            if self._dialect.sizes_by_growth:
+                self._settle_datagram(group.events)
             return
         befores = [self._flight.bytes, *reported[:-1]]
         for event, before, now in zip(packets, befores, reported, strict=True):
             self._settle_size(event, now - before)
+
+    def _settle_datagram(self, packets: list[Event]) -> None:
+        """Takes sizes that are those of the datagram so far for what each packet adds."""
+        sizes = [event.size for event in packets]
+        for before, event, size in zip(packets, packets[1:], sizes, strict=False):
+            if event.space != before.space and event.size > size:
+                event.size -= size
+                self._notes.guess(Guess.SIZE_BY_GROWTH)
 
     def _settle_size(self, event: Event, growth: int) -> None:
         """Takes a growth for the size of a packet, if that is asked for and is likely."""

@@ -122,6 +122,13 @@ class ByOtherValues(unittest.TestCase):
         self.assertEqual([line["size"] for line in found.only("sent")], [911, 341])
         self.assertEqual(found.kinds, ["header", "sent", "sent", "metrics"])
 
+    def test_packets_of_a_datagram_with_one_report(self) -> None:
+        # The bytes of the Initial packet are gone with its keys once the report is written.
+        datagram = [sent(0, 0, "initial", 99), sent(0, 0, "handshake", 194)]
+        found = converted([*datagram, metrics(0, bytes_in_flight=95)], name="neqo", role="client")
+        self.assertEqual([line["size"] for line in found.only("sent")], [99, 95])
+        self.assertEqual(found.kinds, ["header", "sent", "discard", "sent", "metrics"])
+
     def test_nothing_says_it(self) -> None:
         end = converted(self.without_length())
         self.assertEqual((end.status, end.text), (2, ""))
