@@ -301,6 +301,9 @@ class Conversion:
         every = self._dialect.packets_between_pings
         if "ping" not in event.frame_types:
             return False
+        if event.space == "app" and not self._flight.bytes:
+            # No probe timeout is set, so the PING is that of a program.
+            return False
         has_ranges = any(len(event.ranges(frame)) > 1 for frame in event.acks)
         return every is None or event.number % every != 0 or not has_ranges
 

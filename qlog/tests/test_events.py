@@ -138,6 +138,14 @@ class Events(unittest.TestCase):
         self.assertEqual(found.only("sent")[1]["leave"], "probe")
         self.assertIn("pto_count", found.only("timer")[0]["x_guess"][0])
 
+    def test_a_ping_with_nothing_in_flight_is_that_of_a_program(self) -> None:
+        events = [sent(0, 0), received(20, [[0]]), sent(300, 1, frames=("ping",))]
+        self.assertEqual(converted(events, name="aioquic").only("timer"), [])
+        # The handshake has a probe timeout with nothing in flight too (RFC 9002, 6.2.2.1).
+        probe = sent(300, 0, "handshake", frames=("ping",))
+        found = converted([*events[:2], probe], name="aioquic", role="client")
+        self.assertEqual(len(found.only("timer")), 1)
+
     def test_a_ping_is_a_probe_but_for_those_that_ask_for_acknowledgments(self) -> None:
         for number, ranges, is_probe in (
             (8, [[0, 1], [3, 4]], False),
