@@ -29,18 +29,20 @@ KINDS_OF_TIMER = {"ack": "loss", "loss": "loss", "loss_timeout": "loss", "pto": 
 def behind(retry: Retry, events: Iterable[Event], notes: Notes) -> Iterator[Event]:
     """The events behind a Retry, without the losses of packets that were sent before it."""
     count = 0
+    is_told = False
     for event in events:
         if event.index <= retry.index:
             count += event.name == "packet_sent" and event.space is not None
             continue
+        if not is_told:
+            told = f"the trace begins behind {retry.told}; packets before it: {count}"
+            notes.warnings.append(told)
+            is_told = True
         is_lost = event.name == "packet_lost" and event.space is not None
         if is_lost and event.number <= retry.numbers.get(str(event.space), -1):
             notes.omit(Omission.LOSS_BEFORE_RETRY)
             continue
         yield event
-    notes.warnings.append(
-        f"the trace begins behind {retry.told}; packets before it: {count}"
-    )
 
 
 def detections(events: list[Event], gap: int) -> Iterator[list[Event]]:

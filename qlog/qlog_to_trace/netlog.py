@@ -27,6 +27,7 @@ TYPE_OF_LEVEL = {
 TYPE_OF_HEADER = {"INITIAL": "initial", "HANDSHAKE": "handshake", "ZERO_RTT_PROTECTED": "0RTT"}
 LONG_HEADER = "IETF_QUIC_LONG_HEADER_PACKET"
 PROBE = "PTO_RETRANSMISSION"
+AGAIN = "HANDSHAKE_RETRANSMISSION"
 # Frames of packets that go over another path.
 FRAMES_OF_PATHS = {"path_challenge", "path_response", "padding"}
 # Losses that are found so long behind an acknowledgment, in microseconds, are not shown by it: its
@@ -76,6 +77,8 @@ class Session:
         self._in_flight: dict[str, set[int]] = {}
         # All spaces count on from one another.
         self._last_number: int | None = None
+        # Whether a packet came of which no header is logged, as of a Retry.
+        self._is_bare = False
         # Packets of other paths, which are left out.
         self.of_paths = 0
 
@@ -87,6 +90,8 @@ class Session:
             return
         if name.startswith(BOUNDARIES):
             yield from self._settled(name == "ACK_FRAME_RECEIVED")
+        if name == "PACKET_RECEIVED" or name.startswith(OF_RECEIVED):
+            self._is_bare = name == "PACKET_RECEIVED"
         if name == "ACK_FRAME_RECEIVED":
             yield from self._on_ack(time, values)
         elif name == "PACKET_SENT":
@@ -157,6 +162,11 @@ class Session:
         if set(frames) <= FRAMES_OF_PATHS and set(frames) != {"padding"}:
             self.of_paths += 1
             return
+        time = number_of(values, "sent_time_us")
+        if self._is_bare and kind == "initial" and values.get("transmission_type") == AGAIN:
+            # All that it had sent goes out again at once.
+            self._is_bare = False
+            yield event(time, "packet_received", {"header": {"packet_type": "retry"}})
         self._in_flight.setdefault(kind, set()).add(number)
         data: Values = {
             "header": {"packet_type": kind, PACKET: number},
@@ -166,7 +176,7 @@ class Session:
         # At a probe timeout the sender passes over a number.
         if values.get("transmission_type") == PROBE or is_behind_gap:
             data["trigger"] = "pto_probe"
-        yield event(number_of(values, "sent_time_us"), "packet_sent", data)
+        yield event(time, "packet_sent", data)
 
     def _on_header(self, time: int, values: Values) -> Iterator[Values]:
         kind = str(values.get("long_header_type"))
@@ -190,6 +200,12 @@ class Session:
 
 
 PACKET = "packet_number"
+# Events that tell of a packet that came.
+OF_RECEIVED = (
+    "UNAUTHENTICATED_PACKET_HEADER_RECEIVED",
+    "BUFFERED_UNDECRYPTABLE_PACKET",
+    "DROPPED_UNDECRYPTABLE_PACKET",
+)
 # Events behind which no loss belongs to the acknowledgment before.
 BOUNDARIES = (
     "PACKET_SENT",

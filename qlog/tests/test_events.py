@@ -115,6 +115,9 @@ class Events(unittest.TestCase):
         self.assertEqual(end.only("sent")[0]["number"], 2)
         self.assertIn("the trace begins behind the Retry at line 4; packets before", end.errors)
         self.assertIn("left out 2: a loss of a packet that was sent before a Retry", end.errors)
+        closing = sent(120, 3, frames=("connection_close",))
+        end = converted([*first, *rest, closing], name="OpenSSL/3.6.5", role="client")
+        self.assertIn("the trace begins behind the Retry at line 4; packets before", end.errors)
 
     def test_a_retry_that_is_not_logged_shows_by_where_initial_packets_go(self) -> None:
         first, second, third = (sent(it * 40, it, "initial") for it in range(3))
