@@ -12,8 +12,8 @@ UPLOAD = Path(__file__).resolve().parents[1] / "examples" / "upload"
 # Each notes what it is asked for, as the true ones do.
 SERVER = "exec sleep 20"
 CLIENT = """for word; do case $word in
-	--qlog-file=*) echo log > "${word#*=}" ;;
-	--download=*) folder=${word#*=} ;;
+    --qlog-file=*) echo log > "${word#*=}" ;;
+    --download=*) folder=${word#*=} ;;
 esac; done
 """
 ANSWERED = 'echo answer > "$folder/index.html"\n'
