@@ -23,6 +23,8 @@ GAP_OF_LOSSES = 1_000_000
 # they are later by more than what a program takes (nanoseconds).
 LATE_BY_TIME = Fraction(6, 5)
 LATE_BY_PROGRAM = 10_000_000
+# How many probe timeouts there may be at once by a log's count. The timeout doubles each time.
+MOST_TIMEOUTS = 32
 KINDS_OF_TIMER = {"ack": "loss", "loss": "loss", "loss_timeout": "loss", "pto": "pto"}
 
 
@@ -295,6 +297,8 @@ class Conversion:
             return
         counts = (event.pto_count() for event in group.beside)
         count = next((it for it in counts if it is not None), self._pto_count)
+        if count - self._pto_count > MOST_TIMEOUTS:
+            raise group.first.error(f"pto_count rises to {count} at once")
         for _ in range(count - self._pto_count):
             self._notes.guess(Guess.PROBE_BY_COUNT)
             self._write_timer(group.first, "pto", self._probed_space())

@@ -13,8 +13,9 @@ from decimal import Decimal
 from typing import Any, BinaryIO
 
 from .errors import Torn, Unusable
+from .events import as_number
 from .forms import Form, Record
-from .scanner import Scanner
+from .scanner import LONGEST_RECORD, Scanner
 
 MARK = re.compile(rb'\s*\{\s*"constants"')
 PREFIX = "QUIC_SESSION_"
@@ -45,8 +46,8 @@ def is_netlog(first: bytes) -> bool:
 def number_of(values: Values, key: str) -> int:
     """A whole number, which a netlog may write as a string."""
     try:
-        return int(values[key])
-    except (KeyError, TypeError, ValueError) as error:
+        return int(as_number(values[key]))
+    except (ArithmeticError, KeyError, TypeError, ValueError) as error:
         raise Unusable(f"a netlog without {key} in an event that has one") from error
 
 
@@ -54,7 +55,10 @@ def ranges_of(values: Values) -> list[list[int]]:
     """The ranges of an ACK frame, by its ends and what is missing between."""
     low, high = number_of(values, "smallest_observed"), number_of(values, "largest_observed")
     found, start = [], low
-    missing = sorted(int(it) for it in values.get("missing_packets") or [])
+    listed = values.get("missing_packets") or []
+    if not isinstance(listed, list):
+        raise Unusable("a netlog whose missing_packets are no list")
+    missing = sorted(number_of({"missing_packets": it}, "missing_packets") for it in listed)
     for gap in [*missing, high + 1]:
         if start < gap:
             found.append([start, gap - 1])
@@ -285,7 +289,7 @@ class Netlog(Form):
     ) -> Iterator[tuple[str, str, object, Values]]:
         for _ in scanner.elements():
             place = scanner.place()
-            member = scanner.value()
+            member = scanner.value(LONGEST_RECORD)
             if not isinstance(member, dict):
                 continue
             source = member.get("source")
