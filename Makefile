@@ -38,9 +38,9 @@ python_of_fuzz := conformance/fuzz/run
 # The pages, and what measures and tests them.
 python_of_page := page/qaudit-page page/qaudit-matrix $(wildcard page/qaudit_page/*.py)
 python_of_page_tests := page/measure $(wildcard page/*.py page/tests/*.py)
-python_of_qlog := qlog/qlog-to-trace $(wildcard qlog/qlog_to_trace/*.py qlog/tests/*.py)
+python_of_qlog := qlog/qlog-to-trace qlog/fuzz $(wildcard qlog/qlog_to_trace/*.py qlog/tests/*.py)
 # captures/transfer.py runs where aioquic is, and is checked for style alone.
-python_of_captures := captures/audit.py captures/causes.py captures/run captures/stacks.py captures/table captures/test_causes.py examples/delay.py examples/logger.py
+python_of_captures := captures/audit.py captures/causes.py captures/run captures/stacks.py captures/table captures/test_causes.py captures/test_upload.py examples/delay.py examples/logger.py
 python_of_release := $(addprefix release/,edits minutes prove unproved) $(wildcard release/*.py)
 python_of_bindings := $(wildcard bindings/python/*.py)
 python_of_bench := $(addprefix bench/,instructions library peers run trace) $(wildcard bench/*.py) bench/programs/read.py
@@ -54,7 +54,7 @@ conformance := conformance-cuts conformance-failing conformance-refusals conform
 bindings := conformance-library bindings-rust bindings-go bindings-python
 
 .PHONY: help run build quick lib one_byte lines test test_library gate conformance $(bindings) $(conformance) \
-	links made_up contracts crates unproved $(runner_tests) test_qlog test_captures test_release test_page lint edits tried bench install dist clean
+	links made_up contracts crates unproved $(runner_tests) test_qlog fuzz test_captures test_release test_page lint edits tried bench install dist clean
 
 help:
 	@echo 'make run       audits $(examples)'
@@ -231,8 +231,13 @@ $(runner_tests):
 test_qlog:
 	cd qlog && python3 -m unittest
 
+# No part of `test`, for it takes five minutes; a hundred of its cases are in test_qlog.
+fuzz:
+	qlog/fuzz
+
 test_captures:
 	python3 captures/test_causes.py
+	python3 captures/test_upload.py
 
 # What proves the programs, and what says how long it takes.
 test_release:

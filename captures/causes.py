@@ -17,6 +17,8 @@ WORDS_OF_REFUSAL = 3
 MICROSECONDS_IN_A_MILLISECOND = 1000
 # By how many microseconds a value that is computed from rounded ones may be off.
 ROUNDED = 2
+# By how many an age may be off from the loss delay, if the times of both are cut to a millisecond.
+ROUNDED_AGE = 2 * MICROSECONDS_IN_A_MILLISECOND
 UNITS_IN_A_MICROSECOND = {"us": 1, "ns": 1000}
 # Of `max_ack_delay`, where a header has none.
 LONGEST_DELAY_US = 25000
@@ -46,6 +48,11 @@ class Before:
     reports: dict[str, int] = field(default_factory=dict)
     timers: list[str] = field(default_factory=list)
     last_kind: str = "header"
+    last_time: int = 0
+    # Whether packets left the bytes in flight with no event.
+    has_forgotten: bool = False
+    # The largest number of each space that was acknowledged.
+    largest: dict[str, int] = field(default_factory=dict)
 
     def take(self, event: Event) -> None:
         """Goes on by a line."""
@@ -61,8 +68,8 @@ class Before:
         taker = getattr(self, f"_take_{kind}", None)
         if taker:
             taker(event)
-        if kind != "metrics":
-            self.last_kind = kind
+        if kind not in ("header", "metrics"):
+            self.last_kind, self.last_time = kind, event["time"]
 
     def _take_sent(self, event: Event) -> None:
         self.sent[event["space"], event["number"]] = event
@@ -71,6 +78,7 @@ class Before:
 
     def _take_ack(self, event: Event) -> None:
         largest = max(last for _, last in event["ranges"])
+        self.largest[event["space"]] = max(largest, self.largest.get(event["space"], largest))
         newest = self.sent.get((event["space"], largest))
         new = [packet for key, packet in self.sent.items() if is_named(key, event)]
         if newest and any(packet["eliciting"] for packet in new):
@@ -93,6 +101,7 @@ class Before:
 
     def _take_metrics(self, event: Event) -> None:
         self.reports |= reported_by(event)
+        self.has_forgotten |= "x_forgot" in event
 
 
 def reported_by(event: Event) -> dict[str, int]:
@@ -125,6 +134,12 @@ def is_less_the_delay(before: Before, event: Event) -> bool:
 def is_probe_forgotten(before: Before, event: Event) -> bool:
     """Whether less is reported in flight than is, after a probe timeout."""
     return "pto" in before.timers and int(event["bytes_in_flight"]) < before.in_flight
+
+
+def is_probed_packet_owed(before: Before, event: Event) -> bool:
+    """Whether packets left the bytes in flight after a probe timeout, whose loss is then owed."""
+    is_less = int(event.get("bytes_in_flight", before.in_flight)) < before.in_flight
+    return "pto" in before.timers and (is_less or before.has_forgotten)
 
 
 def padded_in_flight(before: Before) -> int:
@@ -173,13 +188,32 @@ def is_rounded(before: Before, _: Event) -> bool:
     return abs(sample.latest - sample.minimum - sample.delay) <= MICROSECONDS_IN_A_MILLISECOND
 
 
+def is_age_rounded(before: Before, event: Event) -> bool:
+    """Whether the log's whole milliseconds decide if a packet is old enough to be lost (RFC 9002,
+    6.1.2): there is one whose age is the loss delay, as far as such times say it."""
+    values = before.reports | reported_by(event)
+    longest = max(values.get("latest_rtt", 0), values.get("smoothed_rtt", 0))
+    if not before.in_whole_milliseconds or not longest:
+        return False
+    ages = (
+        before.last_time - int(packet["time"])
+        for (space, number), packet in before.sent.items()
+        if packet["in_flight"] and number < before.largest.get(space, 0)
+    )
+    return any(abs(age - longest * 9 / 8) <= ROUNDED_AGE * before.unit for age in ages)
+
+
 def is_declared_unasked(before: Before, event: Event) -> bool:
     """Whether packets of the handshake are declared lost with no acknowledgment and no timer."""
-    return event["space"] in HANDSHAKE_SPACES and before.last_kind not in ("ack", "timer")
+    is_later = before.last_kind == "ack" and before.last_time < event["time"]
+    is_unasked = is_later or before.last_kind not in ("ack", "timer")
+    return event.get("space") in HANDSHAKE_SPACES and is_unasked
 
 
 # For what a rule refuses: the questions in their order, and what a yes means.
 Question = Callable[[Before, Event], bool]
+PROBED = "a probe timeout takes packets out of flight"
+OLD_ENOUGH = "whole milliseconds decide whether a packet is old enough"
 CAUSES: dict[str, list[tuple[Question, str]]] = {
     "V16 metric latest_rtt": [
         (is_sample_left_out, "a sample is not taken"),
@@ -187,7 +221,7 @@ CAUSES: dict[str, list[tuple[Question, str]]] = {
     ],
     "V16 metric bytes_in_flight": [
         (is_padding_forgotten, "a padded ACK is not in flight"),
-        (is_probe_forgotten, "a probe timeout takes packets out of flight"),
+        (is_probe_forgotten, PROBED),
     ],
     "V16 metric rttvar": [
         (is_rounded, "whole milliseconds decide whether the delay is subtracted"),
@@ -197,7 +231,12 @@ CAUSES: dict[str, list[tuple[Question, str]]] = {
         (is_rounded, "whole milliseconds decide whether the delay is subtracted")
     ],
     "V7 past-window": [(is_padding_in_the_way, "a padded ACK is not in flight")],
-    "V3 loss-not-owed": [(is_declared_unasked, "packets of the handshake are declared lost")],
+    "V2 loss-owed": [(is_probed_packet_owed, PROBED), (is_age_rounded, OLD_ENOUGH)],
+    "V3 loss-not-owed": [
+        (is_declared_unasked, "packets of the handshake are declared lost"),
+        (is_age_rounded, OLD_ENOUGH),
+    ],
+    "V4 loss-set": [(is_age_rounded, OLD_ENOUGH)],
 }
 
 

@@ -19,12 +19,14 @@ LESS_THE_DELAY = "V16: `latest_rtt` is less the delay"
 PROBE = "V16: a probe timeout takes packets out of flight"
 FROM_THE_MINIMUM = "V16: `rttvar` is taken from the minimum"
 HANDSHAKE = "V3: packets of the handshake are declared lost"
+AGE = "whole milliseconds decide whether a packet is old enough"
 PADDED = "V16: a padded ACK is not in flight"
 ROUNDED = "V16: whole milliseconds decide whether the delay is subtracted"
 NOT_TAKEN = "V16: a sample is not taken"
 NAMED = {
     "quic-go-probe": PROBE,
     "quic-go-reno-probe": PROBE,
+    "quic-go-0.59-probe": "V2: a probe timeout takes packets out of flight",
     "quic-go-sample": NOT_TAKEN,
     "ngtcp2-sample": NOT_TAKEN,
     "quic-go-latest": LESS_THE_DELAY,
@@ -138,6 +140,45 @@ class Causes(unittest.TestCase):
         found = cause_of(trace, "refused line 5 V7 past-window")
         self.assertEqual(found, "V7: a padded ACK is not in flight")
 
+    def test_handshake_is_declared_lost(self) -> None:
+        """With nothing that shows it, or an acknowledgment some time before; others by the rule."""
+        rule = "V3 loss-not-owed"
+        packets = SAMPLES.replace("app", "handshake")
+        ack = packets.splitlines()[2]
+        for space, before, time, cause in (
+            ("handshake", packets, 43000, HANDSHAKE),
+            ("handshake", f"{packets}{ack}\n", 43000, HANDSHAKE),
+            ("handshake", f"{packets}{ack}\n", 20000, rule),
+            ("app", SAMPLES, 43000, rule),
+        ):
+            lost = {"event": "lost", "time": time, "space": space, "ranges": [[1, 1]]}
+            trace = f"{before}{json.dumps(lost)}\n"
+            with self.subTest(space=space, time=time):
+                line = len(trace.splitlines())
+                self.assertEqual(cause_of(trace.encode(), f"refused line {line} {rule}"), cause)
+
+    def test_age_by_whole_milliseconds(self) -> None:
+        """A packet whose age is the loss delay within two, and others."""
+        for rule in ("V2 loss-owed", "V3 loss-not-owed", "V4 loss-set"):
+            for rtt, time, cause in (
+                (24000, 49000, AGE),
+                (24000, 45000, AGE),
+                (24000, 49500, rule),
+                (24000, 50000, rule),
+                (24000, 44000, rule),
+            ):
+                wanted = f"{rule[:2]}: {AGE}" if cause is AGE else rule
+                with self.subTest(rule=rule, time=time):
+                    self.assertEqual(self.cause_of_age(rule, rtt, time), wanted)
+
+    def cause_of_age(self, rule: str, rtt: int, time: int) -> str:
+        """The cause where packet 1, of 20 ms, lies below an acknowledged one of a later time."""
+        packet = json.loads(SAMPLES.splitlines()[-1]) | {"number": 2}
+        ack = {"event": "ack", "time": time, "space": "app", "ranges": [[2, 2]], "delay": 0}
+        report = {"event": "metrics", "time": time, "latest_rtt": rtt, "smoothed_rtt": rtt - 1000}
+        trace = SAMPLES + "".join(json.dumps(line) + "\n" for line in (packet, ack, report))
+        return cause_of(trace.encode(), f"refused line 7 {rule}")
+
     def test_no_delay(self) -> None:
         """Without a delay nothing is subtracted."""
         for rule in ("V16 metric latest_rtt", "V16 metric rttvar"):
@@ -153,7 +194,7 @@ class Causes(unittest.TestCase):
     def test_every_cause_is_seen(self) -> None:
         """No cause is left out of these tests."""
         named = {cause for questions in CAUSES.values() for _, cause in questions}
-        seen = {name.partition(": ")[2] for name in (*NAMED.values(), PADDED, ROUNDED)}
+        seen = {name.partition(": ")[2] for name in (*NAMED.values(), PADDED, ROUNDED)} | {AGE}
         self.assertEqual(named, seen)
 
 

@@ -74,7 +74,7 @@ def main() -> Status:
         given.trace, given.program, given.dygraphs, given.title, given.first, given.last
     )
     try:
-        write(given.output, page_of(wanted)[1])
+        write(given.output, page_of(wanted).text)
     except Failure as failure:
         print(f"qaudit-page: {visible(str(failure))}", file=sys.stderr)
         return failure.status

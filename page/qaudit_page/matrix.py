@@ -5,12 +5,13 @@ import os
 import re
 from collections import Counter
 from collections.abc import Iterable, Iterator
-from dataclasses import asdict, dataclass
+from dataclasses import asdict, dataclass, replace
 from pathlib import Path
 from typing import Any
 from urllib.parse import quote
 
 from .compressed import ENDINGS
+from .conversion import FIRST_LINES, notes_of
 from .failure import Failure
 from .files import as_text, name_of, read, write
 from .library import resource
@@ -39,6 +40,8 @@ class Result:
     fault: str = ""
     # Where its page lies.
     page: str = ""
+    # Whether it is refused, and the conversion of its log may be the cause.
+    is_doubtful: bool = False
 
     @property
     def told(self) -> str:
@@ -61,17 +64,19 @@ def judged(job: Job) -> Result:
     """Audits a trace, and writes its page where one is asked for."""
     try:
         if job.page is None:
-            verdict, fault = verdict_of(find(job.program), read(job.trace)), ""
+            data = read(job.trace)
+            verdict = verdict_of(find(job.program), data)
+            notes = notes_of(data.split(b"\n", FIRST_LINES), verdict)
         else:
             # Other traces have the other processors.
-            wanted = Wanted(job.trace, job.program, job.dygraphs, job.key, readers=0)
-            verdict, text = page_of(wanted)
-            write(job.page, text)
-            fault = ""
+            made = page_of(Wanted(job.trace, job.program, job.dygraphs, job.key, readers=0))
+            write(job.page, made.text)
+            verdict, notes = made.verdict, made.notes
     except Failure as failure:
         return unshown(job, failure)
-    page = str(job.page or "")
-    return Result(job.key, verdict.kind, verdict.line, verdict.rule, verdict.name, fault, page)
+    page, doubt = str(job.page or ""), verdict.kind == "refused" and bool(notes)
+    told = (verdict.kind, verdict.line, verdict.rule, verdict.name)
+    return Result(job.key, *told, page=page, is_doubtful=doubt)
 
 
 def unshown(job: Job, failure: Failure) -> Result:
@@ -79,8 +84,7 @@ def unshown(job: Job, failure: Failure) -> Result:
     if job.page is None:
         return Result(job.key, FAILED, fault=str(failure))
     found = judged(Job(job.trace, job.key, None, job.program))
-    fault = found.fault or f"no page: {failure}"
-    return Result(found.key, found.kind, found.line, found.rule, found.name, fault)
+    return replace(found, fault=found.fault or f"no page: {failure}")
 
 
 # Which traces, and where each stands in the table.
@@ -253,6 +257,8 @@ def cell(result: Result, beside: Path) -> str:
     told = f"{MARKS.get(result.kind, '!')} {result.kind}"
     if result.rule:
         told += f"<small>{html(result.rule)} {html(result.name)}, line {count(result.line)}</small>"
+    if result.is_doubtful:
+        told += "<small>its log may be misread</small>"
     if result.fault:
         told += f"<small>{html(result.fault[:200])}</small>"
     about = f'class="{result.kind}" title="{html(result.key)}"'

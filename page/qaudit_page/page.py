@@ -10,6 +10,7 @@ from contextlib import contextmanager
 from dataclasses import dataclass
 from pathlib import Path
 
+from .conversion import notes_of
 from .departures import section_of
 from .facts import Facts, facts_of
 from .failure import Failure
@@ -47,12 +48,22 @@ class Wanted:
         return self.title or name_of(self.trace)
 
 
-def page_of(wanted: Wanted) -> tuple[Verdict, str]:
-    """The page of a trace, and its verdict."""
+@dataclass(frozen=True)
+class Made:
+    """A page, with the verdict on its trace and what is said of the conversion of the log."""
+
+    text: str
+    verdict: Verdict
+    notes: list[str]
+
+
+def page_of(wanted: Wanted) -> Made:
+    """The page of a trace."""
     library, program = dygraphs(wanted.dygraphs), find(wanted.program)
     verdict, trace = audited(program, read(wanted.trace), wanted.readers)
     part = part_of(trace, verdict, wanted.first, wanted.last)
-    return verdict, written(wanted, library, trace, verdict, part)
+    text = written(wanted, library, trace, verdict, part)
+    return Made(text, verdict, notes_of(trace.lines, verdict))
 
 
 def audited(program: str, data: bytes, readers: int) -> tuple[Verdict, Trace]:
@@ -108,7 +119,7 @@ def written(wanted: Wanted, library: str, trace: Trace, verdict: Verdict, part: 
         MARK=MARKS[verdict.kind],
         SENTENCE=sentence(verdict),
         FACTS=pairs(facts_of(verdict.said, trace.unit)),
-        CONVERTED=converted(trace),
+        CONVERTED=converted(trace, verdict),
         QUOTE=quote(trace, verdict),
         DEPARTURES=section_of(verdict, trace.unit),
         OVERVIEW=pairs(overview(wanted, trace, verdict, part)),
@@ -162,17 +173,10 @@ def sentence(verdict: Verdict) -> str:
     return f"<b>{word} at {line}: {what}.</b> {meaning_of(verdict.rule)}"
 
 
-def converted(trace: Trace) -> str:
-    """What the converter of logs says of a trace whose log it may have misread."""
-    first = next((line for line in trace.lines if line.strip()), b"")
-    try:
-        said = json.loads(first)
-    except (ValueError, RecursionError):
-        return ""
-    notes = said.get("x_note") if isinstance(said, dict) else None
-    told = [note for note in notes if isinstance(note, str)] if isinstance(notes, list) else []
-    paragraphs = (f'<p class="note">The converter says of the log: {html(it)}</p>' for it in told)
-    return "".join(paragraphs)
+def converted(trace: Trace, verdict: Verdict) -> str:
+    """What says that the log of a trace may be misread."""
+    notes = notes_of(trace.lines, verdict)
+    return "".join(f'<p class="note">{html(note)}</p>' for note in notes)
 
 
 def quote(trace: Trace, verdict: Verdict) -> str:

@@ -131,6 +131,18 @@ class Tables(unittest.TestCase):
         said = json.loads(self.json.read_text())
         self.assertEqual([it["case"] for it in said["traces"]], ["loss", "loss"])
 
+    def test_a_log_that_may_be_misread(self) -> None:
+        noted = HEADER.replace("{", '{"x_note":["its order is another"],', 1)
+        for name, header, lines in (("bad", noted, (0, 0)), ("good", noted, (0, 1))):
+            trace = joined(header, *(sent(number) for number in lines))
+            (self.traces / f"{name}.trace").write_bytes(trace)
+        for more in ((), ("--pages", self.folder / "pages")):
+            self.assertEqual(self.run_command("--json", self.json, *more).returncode, 1)
+            said = json.loads(self.json.read_text())["traces"]
+            self.assertEqual([it["key"] for it in said if it["is_doubtful"]], ["bad"])
+            table = Page(self.table.read_text()).by_id["table"]
+            self.assertEqual(table.count("its log may be misread"), 1)
+
     def test_against_a_run_before(self) -> None:
         self.assertEqual(self.run_command("--json", self.json).returncode, 1)
         ended = self.run_command("--against", self.json)

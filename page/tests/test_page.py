@@ -369,6 +369,31 @@ class Conversions(unittest.TestCase):
             self.assertEqual(shown in text, is_shown)
             self.assertEqual("The converter says" in text, is_shown)
 
+    def report(self, *differing: str, packets: int = 2, **of_header: Any) -> str:
+        """The page of a trace that ends with a report in which so many values are wrong."""
+        header = {**json.loads(HEADER), **of_header}
+        values = {"bytes_in_flight": 1200 * packets, "smoothed_rtt": 333_000, "rttvar": 166_500}
+        said = {key: it + (key in differing) for key, it in values.items()}
+        line = {"event": "metrics", "time": 0, **said}
+        packets_sent = (sent(number) for number in range(packets))
+        return made(joined(json.dumps(header), *packets_sent, json.dumps(line)))
+
+    def test_an_early_report_of_which_most_values_differ(self) -> None:
+        converted: dict[str, Any] = {"x_dialect": "quic-go"}
+        page = self.report("bytes_in_flight", "rttvar", **converted)
+        shown = "2 of the 3 values of this report differ, and it is one of the first lines"
+        self.assertIn(f'<p class="note">{shown}', page)
+        self.assertIn("it may be in another order than qlog-to-trace took", page)
+        for other in (
+            # By a logger, and not by the converter.
+            self.report("bytes_in_flight", "rttvar"),
+            # One value alone, as of a sender that departs.
+            self.report("rttvar", **converted),
+            self.report(**converted),
+            self.report("bytes_in_flight", "rttvar", packets=20, **converted),
+        ):
+            self.assertNotIn("values of this report differ", other)
+
 
 class Limits(unittest.TestCase):
     """What a page takes."""

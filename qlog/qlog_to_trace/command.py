@@ -4,6 +4,7 @@ import argparse
 import gc
 import json
 import os
+import re
 import sys
 import tempfile
 from collections.abc import Iterator
@@ -36,6 +37,10 @@ EVENTS_OF_PROGRESS = 20_000
 MOST_OF_RECORDS = 3
 TRACES, CONNECTIONS = "traces", "connections or paths"
 LONGEST_LINE = 65_536
+# How many characters a line on standard error has at most.
+MOST_TOLD = 4_000
+# What Python calls printable and nobody sees: fillers and selectors of variations.
+UNSEEN = re.compile("[\u034f\u115f\u1160\u17b4\u17b5\u180b-\u180f\u2800\u3164\ufe00-\ufe0f\uffa0]")
 COPIED_AT_ONCE = 1 << 20
 ENCODER = json.JSONEncoder(separators=(",", ":"))
 
@@ -306,13 +311,8 @@ class Converter:
                     f"its order is not that of {dialect.name}: {order_of(found).value};"
                     " it is read so"
                 )
-        if looking.is_apart:
-            counts = looking.counts
-            self.notes.misread(
-                f"of {counts.acknowledgments} reports beside acknowledgments"
-                f" {max(counts.behind, counts.before)} agree with the packets that were sent: the"
-                " log may be misread, and a refusal be the reading's and not the sender's"
-            )
+        if doubt := looking.doubt():
+            self.notes.misread(doubt)
         return found
 
     def _dialect(self) -> Dialect:
@@ -333,9 +333,18 @@ def opened(name: str | None) -> BinaryIO:
     return copy
 
 
+def visible(text: str) -> str:
+    """Text of others with an escape for each character that is not printed, if need be cut."""
+    shown = "".join(
+        it if it.isprintable() and not UNSEEN.match(it) else f"\\u{{{ord(it):x}}}"
+        for it in text[:MOST_TOLD]
+    )
+    return f"{shown} .." if len(text) > MOST_TOLD else shown
+
+
 def complain(text: str) -> None:
     """One line on standard error."""
-    sys.stderr.write(f"qlog-to-trace: {text}\n")
+    sys.stderr.write(f"qlog-to-trace: {visible(text)}\n")
 
 
 def tell(converter: Converter, name: str) -> None:

@@ -23,24 +23,28 @@ GAP_OF_LOSSES = 1_000_000
 # they are later by more than what a program takes (nanoseconds).
 LATE_BY_TIME = Fraction(6, 5)
 LATE_BY_PROGRAM = 10_000_000
+# How many probe timeouts there may be at once by a log's count. The timeout doubles each time.
+MOST_TIMEOUTS = 32
 KINDS_OF_TIMER = {"ack": "loss", "loss": "loss", "loss_timeout": "loss", "pto": "pto"}
 
 
 def behind(retry: Retry, events: Iterable[Event], notes: Notes) -> Iterator[Event]:
     """The events behind a Retry, without the losses of packets that were sent before it."""
     count = 0
+    is_told = False
     for event in events:
         if event.index <= retry.index:
             count += event.name == "packet_sent" and event.space is not None
             continue
+        if not is_told:
+            told = f"the trace begins behind {retry.told}; packets before it: {count}"
+            notes.warnings.append(told)
+            is_told = True
         is_lost = event.name == "packet_lost" and event.space is not None
         if is_lost and event.number <= retry.numbers.get(str(event.space), -1):
             notes.omit(Omission.LOSS_BEFORE_RETRY)
             continue
         yield event
-    notes.warnings.append(
-        f"the trace begins behind the Retry at {retry.place}; packets before it: {count}"
-    )
 
 
 def detections(events: list[Event], gap: int) -> Iterator[list[Event]]:
@@ -83,8 +87,8 @@ class Conversion:
         # Bytes that the last probe timeout still allows, and packets until an acknowledgment comes.
         self._probe_left = 0
         self._probes_left = 0
-        # Whether the window fell since the last packet that was sent.
-        self._has_fallen = False
+        # Whether the window fell, and whether a packet came, since the last packet that was sent.
+        self._has_fallen = self._has_come = False
         # When losses were last declared.
         self._last_loss: int | None = None
         # Whether all loss timers found packets at a later time than that of the RFC.
@@ -213,10 +217,11 @@ class Conversion:
     def _on_sent(self, group: Group) -> None:
         first, last = group.events[0], group.events[-1]
         self._guess_probes(group)
+        self._has_come = False
         is_reported = self._take_metrics(group.beside)
         reported = self._metrics.get("bytes_in_flight")
         if is_reported and reported is not None and self._settles_sizes:
-            self._settle_size(group, reported)
+            self._settle_group(group)
         if self._handshake.awaits_discard:
             added = sum(event.size for event in group.events if event.is_in_flight)
             self._handshake.settle(first, reported, added)
@@ -231,13 +236,39 @@ class Conversion:
         if is_late:
             self._handshake.discard("initial", last)
 
-    def _settle_size(self, group: Group, reported: int) -> None:
-        """Takes the growth of the bytes in flight for a size that the log does not have."""
-        in_flight = [event for event in group.events if event.is_in_flight] or group.events
-        event = in_flight[0]
-        growth = reported - self._flight.bytes
+    def _settle_group(self, group: Group) -> None:
+        """Takes the growth of the bytes in flight for sizes that the log does not have.
+
+        A datagram is padded once all of its packets are there, so that what it adds to the Initial
+        packet, the first of them, is reported last.
+        """
+        packets = [event for event in group.events if event.is_in_flight] or group.events
+        metrics = (it.metrics() for it in group.beside if it.name == "metrics_updated")
+        reported = [it["bytes_in_flight"] for it in metrics if "bytes_in_flight" in it]
+        if len(packets) == 1:
+            reported = reported[-1:]
+        elif self._dialect.sizes_by_growth:
+            packets = sorted(packets, key=lambda event: event.space == "initial")
+        if len(packets) != len(reported):
+            if self._dialect.sizes_by_growth:
+                self._settle_datagram(group.events)
+            return
+        befores = [self._flight.bytes, *reported[:-1]]
+        for event, before, now in zip(packets, befores, reported, strict=True):
+            self._settle_size(event, now - before)
+
+    def _settle_datagram(self, packets: list[Event]) -> None:
+        """Takes sizes that are those of the datagram so far for what each packet adds."""
+        sizes = [event.size for event in packets]
+        for before, event, size in zip(packets, packets[1:], sizes, strict=False):
+            if event.space != before.space and event.size > size:
+                event.size -= size
+                self._notes.guess(Guess.SIZE_BY_GROWTH)
+
+    def _settle_size(self, event: Event, growth: int) -> None:
+        """Takes a growth for the size of a packet, if that is asked for and is likely."""
         is_asked = self._dialect.sizes_by_growth or event.is_size_guessed
-        if not is_asked or len(in_flight) > 1 or growth == event.size:
+        if not is_asked or growth == event.size:
             return
         if 0 < growth <= max(self._datagram, event.size):
             event.size, event.is_padded = growth, True
@@ -254,6 +285,11 @@ class Conversion:
                 self._notes.guess(Guess.PROBE_BY_TRIGGER)
                 self._write_timer(group.first, "pto", str(group.first.space))
             return
+        if self._dialect.probes_by_room:
+            if group.first.is_probe and not self._has_come:
+                self._notes.guess(Guess.PROBE_BY_ROOM)
+                self._write_timer(group.first, "pto", str(group.first.space))
+            return
         if self._dialect.probes_by_ping:
             if any(self._is_ping_of_probe(event) for event in group.events):
                 self._notes.guess(Guess.PROBE_BY_PING)
@@ -261,6 +297,8 @@ class Conversion:
             return
         counts = (event.pto_count() for event in group.beside)
         count = next((it for it in counts if it is not None), self._pto_count)
+        if count - self._pto_count > MOST_TIMEOUTS:
+            raise group.first.error(f"pto_count rises to {count} at once")
         for _ in range(count - self._pto_count):
             self._notes.guess(Guess.PROBE_BY_COUNT)
             self._write_timer(group.first, "pto", self._probed_space())
@@ -268,6 +306,9 @@ class Conversion:
     def _is_ping_of_probe(self, event: Event) -> bool:
         every = self._dialect.packets_between_pings
         if "ping" not in event.frame_types:
+            return False
+        if event.space == "app" and not self._flight.bytes:
+            # No probe timeout is set, so the PING is that of a program.
             return False
         has_ranges = any(len(event.ranges(frame)) > 1 for frame in event.acks)
         return every is None or event.number % every != 0 or not has_ranges
@@ -341,6 +382,7 @@ class Conversion:
 
     def _on_received(self, group: Group) -> None:
         event, lost = group.first, group.lost_before
+        self._has_come = True
         later = self._not_shown(group)
         if lost and not self._is_shown(lost, event, group.beside):
             self._lost_alone(lost)

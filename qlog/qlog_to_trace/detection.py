@@ -5,10 +5,8 @@ from typing import BinaryIO
 from .errors import Unusable
 from .forms import RECORD_SEPARATOR, Document, Form, Sequence
 from .netlog import Netlog, is_netlog
-from .scanner import DECODER
+from .scanner import DECODER, LONGEST_RECORD
 
-# A first line that is longer is no record of a sequence.
-LONGEST_HEADER = 1 << 20
 MARKS_OF_SEQUENCE = ("trace", "qlog_format", "file_schema", "serialization_format")
 # By their first bytes, files that are no log.
 KINDS_OF_FILE = {
@@ -26,7 +24,7 @@ KINDS_OF_FILE = {
 def form_of(file: BinaryIO) -> Form:
     """The form of a log, by its first bytes."""
     file.seek(0)
-    first = file.readline(LONGEST_HEADER)
+    first = file.readline(LONGEST_RECORD)
     if not first:
         raise Unusable("empty")
     for mark, kind in KINDS_OF_FILE.items():

@@ -66,6 +66,8 @@ class Dialect:
     probes_by_ping: bool = False
     # A packet says by its trigger that it is the probe of a timeout.
     probes_by_trigger: bool = False
+    # A packet of a probe leaves a byte free that was kept for a PING.
+    probes_by_room: bool = False
     # The sender's window is not logged, and not that of NewReno, so none is judged.
     hides_window: bool = False
     # A packet whose number this divides has a PING behind an ACK frame of several ranges, so that
@@ -125,7 +127,7 @@ QUIC_GO_0_50 = replace(QUIC_GO, name="quic-go-0.50", schemas=("0.",), received_s
 # 3.6: JSON-SEQ, 0.3, delta times of which the first is the time of day. Each is cut to a whole ms,
 # so that the clock of the log loses up to one an event, unless the sender's own has whole ms. No
 # sizes, no metrics, no timers, no keys. A STREAM frame without a length fills its packet, but for
-# the two bytes of that length. NewReno.
+# the two bytes of that length, and one that a probe keeps for a PING. NewReno.
 OPENSSL = Dialect(
     "openssl",
     ("openssl/",),
@@ -133,6 +135,7 @@ OPENSSL = Dialect(
     cuts_times=True,
     full_packet=1_198,
     logs_timers=False,
+    probes_by_room=True,
     limited=Limited.NEVER,
     unit="us",
     window_overshoot=True,

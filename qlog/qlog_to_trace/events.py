@@ -106,6 +106,7 @@ class Event:
         "connection",
         "is_size_guessed",
         "is_padded",
+        "keeps_room",
         "_frames",
         "_kinds",
         "_acks",
@@ -134,6 +135,8 @@ class Event:
         self.is_size_guessed = False
         # Whether it has PADDING that is not logged.
         self.is_padded = False
+        # Whether its data ends one byte before the packet is full, since a PING had to have room.
+        self.keeps_room = False
 
     def error(self, reason: str) -> Unusable:
         """What is wrong with the event."""
@@ -309,8 +312,8 @@ class Event:
 
     @property
     def is_probe(self) -> bool:
-        """Whether a packet says that a probe timeout sent it."""
-        return self.data.get("trigger") == "pto_probe"
+        """Whether a packet says or shows that a probe timeout sent it."""
+        return self.keeps_room or self.data.get("trigger") == "pto_probe"
 
     @property
     def repeats(self) -> bool:

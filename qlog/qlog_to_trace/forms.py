@@ -5,7 +5,7 @@ from collections.abc import Iterator
 from typing import Any, BinaryIO, NamedTuple
 
 from .errors import Torn, Unusable
-from .scanner import DECODER, Scanner, is_torn
+from .scanner import DECODER, LONGEST_RECORD, Scanner, is_torn, reason_of
 
 RECORD_SEPARATOR = b"\x1e"
 # What a record may name that decides what follows it; metrics decide only what is reported.
@@ -92,7 +92,7 @@ class Sequence(Form):
             except (ValueError, RecursionError) as error:
                 if is_first:
                     is_cut = not text.endswith(b"\n") and is_cut_short(error)
-                    raise Unusable("torn off" if is_cut else f"not JSON: {error}", place) from error
+                    raise Unusable("torn off" if is_cut else reason_of(error), place) from error
                 value = self._broken(place, text, error)
                 if self.torn_at:
                     return
@@ -104,9 +104,9 @@ class Sequence(Form):
         if not text.endswith(b"\n") and is_cut_short(error):
             self.torn_at = place
         elif any(name in text for name in NAMES_THAT_MATTER):
-            self.torn_at, self.break_of_record = place, f"not JSON: {error}"
+            self.torn_at, self.break_of_record = place, reason_of(error)
         else:
-            self.passed_over.append(f"{place}: not JSON: {error}")
+            self.passed_over.append(f"{place}: {reason_of(error)}")
             return BROKEN_METRICS if b"metrics" in text else None
         return None
 
@@ -116,16 +116,31 @@ class Sequence(Form):
         return self._marked_texts() if self.is_marked else self._lines()
 
     def _lines(self) -> Iterator[tuple[int, bytes]]:
-        for number, line in enumerate(self.file, 1):
+        for number, line in self._numbered():
             if line.strip():
                 yield number, line
+
+    def _numbered(self) -> Iterator[tuple[int, bytes]]:
+        """The lines with their numbers, none of which is longer than a record may be."""
+        number = 0
+        while line := self.file.readline(LONGEST_RECORD + 1):
+            number += 1
+            self._check(len(line), number)
+            yield number, line
+
+    @staticmethod
+    def _check(length: int, number: int) -> None:
+        """Whether a record is as long as one may be."""
+        if length > LONGEST_RECORD:
+            raise Unusable(f"a record of more than {LONGEST_RECORD:,} bytes", f"line {number}")
 
     def _marked_texts(self) -> Iterator[tuple[int, bytes]]:
         """A record goes to the next mark, over several lines if need be."""
         start, text = 1, b""
-        for number, line in enumerate(self.file, 1):
+        for number, line in self._numbered():
             pieces = line.split(RECORD_SEPARATOR)
             text += pieces[0]
+            self._check(len(text), start)
             for piece in pieces[1:]:
                 if text.strip():
                     yield start, text
@@ -165,7 +180,7 @@ class Document(Form):
                 header[key] = scanner.value()
                 continue
             for _ in scanner.elements():
-                scanner.value()
+                scanner.value(LONGEST_RECORD)
 
     def events(self, index: int) -> Iterator[Record]:
         """The events of the trace with this index."""
@@ -188,7 +203,7 @@ class Document(Form):
                 continue
             for _ in scanner.elements():
                 place = scanner.place() if is_asked else ""
-                value = scanner.value()
+                value = scanner.value(LONGEST_RECORD)
                 if is_asked:
                     yield Record(place, value)
 

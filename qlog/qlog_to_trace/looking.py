@@ -10,6 +10,8 @@ from .events import NANOSECONDS, Event
 from .flight import Flight
 from .lines import RTTS
 
+# By how many bits a delay on the wire is shifted, if its sender does not say.
+DEFAULT_DELAY_EXPONENT = 3
 # Of how many events the order is found. All of a log would take long and say no more.
 EVENTS_LOOKED_AT = 5_000
 # How many reports or losses there have to be for a finding, how many where a dialect says another,
@@ -19,8 +21,10 @@ LEAST_AGAINST_DIALECT = 5
 MANY = 2
 # A log with more reports that agree with no order than this part was likely misread.
 PART_APART = 0.5
-# By how many bytes stacks round what they report.
+# By how many bytes stacks round what they report, and how far off a sample of the round-trip time
+# may be by the times of a log (nanoseconds).
 ROUNDING_OF_BYTES = 64
+ROUNDING_OF_TIMES = 2 * NANOSECONDS["ms"]
 # How many values a clock is judged by, and how far off reports and timers are by one of whole ms.
 LEAST_VALUES = 8
 SLACK_OF_MILLISECONDS = 2_000
@@ -83,6 +87,54 @@ class Tracker:
         return abs(reported - counted) <= ROUNDING_OF_BYTES
 
 
+@dataclass(frozen=True)
+class Sample:
+    """A round-trip time by the times of a log, and the delay that a sender may subtract from it."""
+
+    latest: int
+    delay: int
+
+    def agrees(self, reported: int) -> bool:
+        """Whether a report may be of this sample. Some logs have the delay as it is on the wire."""
+        delays = (0, self.delay, self.delay << DEFAULT_DELAY_EXPONENT)
+        return any(abs(self.latest - it - reported) <= ROUNDING_OF_TIMES for it in delays)
+
+
+class Samples:
+    """Whether the round-trip times that are reported are those of the packet before the report, or
+    of the one behind it."""
+
+    def __init__(self) -> None:
+        # Reports that agree with the packet before them alone, with the one behind them alone, with
+        # either, and with none.
+        self.behind = self.before = self.either = self.neither = 0
+        self._last: Sample | None = None
+        # The last value that was reported, and whether it awaits the sample behind it.
+        self._reported = 0
+        self._is_awaited = False
+
+    @property
+    def count(self) -> int:
+        """How many reports there are between two samples."""
+        return self.behind + self.before + self.either + self.neither
+
+    def report(self, reported: int) -> None:
+        """A report. One that repeats the value of the report before says nothing."""
+        self._is_awaited = reported != self._reported
+        self._reported = reported
+
+    def take(self, sample: Sample) -> None:
+        """A packet that gives a sample."""
+        if self._is_awaited:
+            is_behind = self._last is not None and self._last.agrees(self._reported)
+            is_before = sample.agrees(self._reported)
+            self.either += is_behind and is_before
+            self.behind += is_behind and not is_before
+            self.before += is_before and not is_behind
+            self.neither += not is_before and not is_behind
+        self._is_awaited, self._last = False, sample
+
+
 @dataclass
 class Counts:
     """What was counted."""
@@ -104,6 +156,7 @@ class Looking:
 
     def __init__(self) -> None:
         self.counts = Counts()
+        self.samples = Samples()
         self._left = EVENTS_LOOKED_AT
         self._flight = Flight()
         self._behind, self._before = Tracker(), Tracker()
@@ -158,6 +211,8 @@ class Looking:
         for key in RTTS:
             if values.get(key):
                 (self._parts if values[key] % NANOSECONDS["ms"] else self._whole)[key] += 1
+        if values.get("latest_rtt"):
+            self.samples.report(values["latest_rtt"])
         reported = values.get("bytes_in_flight")
         if reported is None:
             is_left_out = bool(values and self._bytes_reported and not self._flight.bytes)
@@ -176,7 +231,9 @@ class Looking:
     def _see_received(self, event: Event, space: str) -> None:
         ranges = [pair for ack in event.acks for pair in event.ranges(ack)]
         held = self._flight.bytes
-        self._flight.take(space, self._flight.named(space, ranges))
+        new = self._flight.named(space, ranges)
+        self._see_sample(event, space, new)
+        self._flight.take(space, new)
         if self._flight.bytes != held:
             self._is_awaited, self._is_counted = True, bool(self._report)
             if self._report:
@@ -188,6 +245,19 @@ class Looking:
             self._see_losses(event, top)
             self._received = (event, top)
         self._lost = []
+
+    def _see_sample(self, event: Event, space: str, new: list[int]) -> None:
+        """The round-trip time of the largest packet, if that is newly acknowledged."""
+        ranges = [event.ranges(ack) for ack in event.acks]
+        tops = [max(high for _, high in pairs) for pairs in ranges if pairs]
+        if not new or max(new) not in tops:
+            return
+        try:
+            delays = [event.nanoseconds(ack.get("ack_delay") or 0, "delay") for ack in event.acks]
+        except Unusable:
+            # The second reading tells of it, in its place.
+            return
+        self.samples.take(Sample(event.time - self._flight.time_of(space, max(new)), max(delays)))
 
     def _see_losses(self, event: Event, top: int) -> None:
         """To which of two packets the losses between them are nearer, unless a timer found them."""
@@ -204,10 +274,16 @@ class Looking:
 
     # What was found.
 
+    def _are_before(self, least: int) -> bool | None:
+        """Whether reports stand before the packet that caused them: by the bytes in flight, or if
+        these do not say it, by the round-trip times."""
+        found = against(self.counts.before, self.counts.behind, least)
+        return against(self.samples.before, self.samples.behind, least) if found is None else found
+
     def _order(self, taken: Order, least: int) -> Order:
         """The order of the log, or the one that is taken, where too little of it says another."""
         counts = self.counts
-        reports = against(counts.before, counts.behind, least)
+        reports = self._are_before(least)
         losses = against(counts.losses_before, counts.losses_behind, least)
         if reports is None:
             reports = taken is Order.BEFORE
@@ -217,13 +293,21 @@ class Looking:
             return Order.BEFORE
         return Order.LOSSES_BEFORE if losses else Order.BEHIND
 
-    @property
-    def is_apart(self) -> bool:
-        """Whether most reports agree with no order."""
-        counts = self.counts
-        agree = max(counts.behind, counts.before)
-        most = counts.acknowledgments * PART_APART
-        return counts.acknowledgments >= LEAST_AGAINST_DIALECT and agree < most
+    def doubt(self) -> str | None:
+        """What to say if most reports agree with the packets in no order."""
+        counts, samples = self.counts, self.samples
+        by_bytes = max(counts.behind, counts.before)
+        by_times = samples.either + max(samples.behind, samples.before)
+        sent = f"reports beside acknowledgments {by_bytes} agree with the packets that were sent"
+        times = f"reports of latest_rtt {by_times} agree with the times of the packets"
+        found = ((counts.acknowledgments, by_bytes, sent), (samples.count, by_times, times))
+        for count, agree, told in found:
+            if count >= LEAST_AGAINST_DIALECT and agree < count * PART_APART:
+                return (
+                    f"of {count} {told}: the log may be misread, and a refusal be the reading's and"
+                    " not the sender's"
+                )
+        return None
 
     def corrected(self, dialect: Dialect) -> Dialect:
         """A dialect that the log names, in the order of the log where its reports say another.
@@ -232,7 +316,7 @@ class Looking:
         as to the other.
         """
         taken = order_of(dialect)
-        reports = against(self.counts.before, self.counts.behind, LEAST_AGAINST_DIALECT)
+        reports = self._are_before(LEAST_AGAINST_DIALECT)
         if reports is None or reports is (taken is Order.BEFORE):
             return dialect
         return in_order(dialect, self._order(taken, LEAST_AGAINST_DIALECT))
@@ -255,7 +339,8 @@ class Looking:
         told = [
             f"{order_of(dialect).value} (acknowledgments with a report: {counts.acknowledgments},"
             f" of which agree behind {counts.behind}, before {counts.before};"
-            f" losses behind {counts.losses_behind}, before {counts.losses_before})",
+            f" losses behind {counts.losses_behind}, before {counts.losses_before};"
+            f" round-trip times behind {self.samples.behind}, before {self.samples.before})",
             f"a value that metrics leave out: {dialect.absent.value}",
         ]
         times = "whole milliseconds" if has_milliseconds else "finer than milliseconds"

@@ -13,8 +13,9 @@ from decimal import Decimal
 from typing import Any, BinaryIO
 
 from .errors import Torn, Unusable
+from .events import as_number
 from .forms import Form, Record
-from .scanner import Scanner
+from .scanner import LONGEST_RECORD, Scanner
 
 MARK = re.compile(rb'\s*\{\s*"constants"')
 PREFIX = "QUIC_SESSION_"
@@ -27,6 +28,7 @@ TYPE_OF_LEVEL = {
 TYPE_OF_HEADER = {"INITIAL": "initial", "HANDSHAKE": "handshake", "ZERO_RTT_PROTECTED": "0RTT"}
 LONG_HEADER = "IETF_QUIC_LONG_HEADER_PACKET"
 PROBE = "PTO_RETRANSMISSION"
+AGAIN = "HANDSHAKE_RETRANSMISSION"
 # Frames of packets that go over another path.
 FRAMES_OF_PATHS = {"path_challenge", "path_response", "padding"}
 # Losses that are found so long behind an acknowledgment, in microseconds, are not shown by it: its
@@ -44,8 +46,8 @@ def is_netlog(first: bytes) -> bool:
 def number_of(values: Values, key: str) -> int:
     """A whole number, which a netlog may write as a string."""
     try:
-        return int(values[key])
-    except (KeyError, TypeError, ValueError) as error:
+        return int(as_number(values[key]))
+    except (ArithmeticError, KeyError, TypeError, ValueError) as error:
         raise Unusable(f"a netlog without {key} in an event that has one") from error
 
 
@@ -53,7 +55,10 @@ def ranges_of(values: Values) -> list[list[int]]:
     """The ranges of an ACK frame, by its ends and what is missing between."""
     low, high = number_of(values, "smallest_observed"), number_of(values, "largest_observed")
     found, start = [], low
-    missing = sorted(int(it) for it in values.get("missing_packets") or [])
+    listed = values.get("missing_packets") or []
+    if not isinstance(listed, list):
+        raise Unusable("a netlog whose missing_packets are no list")
+    missing = sorted(number_of({"missing_packets": it}, "missing_packets") for it in listed)
     for gap in [*missing, high + 1]:
         if start < gap:
             found.append([start, gap - 1])
@@ -76,6 +81,8 @@ class Session:
         self._in_flight: dict[str, set[int]] = {}
         # All spaces count on from one another.
         self._last_number: int | None = None
+        # Whether a packet came of which no header is logged, as of a Retry.
+        self._is_bare = False
         # Packets of other paths, which are left out.
         self.of_paths = 0
 
@@ -87,6 +94,8 @@ class Session:
             return
         if name.startswith(BOUNDARIES):
             yield from self._settled(name == "ACK_FRAME_RECEIVED")
+        if name == "PACKET_RECEIVED" or name.startswith(OF_RECEIVED):
+            self._is_bare = name == "PACKET_RECEIVED"
         if name == "ACK_FRAME_RECEIVED":
             yield from self._on_ack(time, values)
         elif name == "PACKET_SENT":
@@ -157,6 +166,11 @@ class Session:
         if set(frames) <= FRAMES_OF_PATHS and set(frames) != {"padding"}:
             self.of_paths += 1
             return
+        time = number_of(values, "sent_time_us")
+        if self._is_bare and kind == "initial" and values.get("transmission_type") == AGAIN:
+            # All that it had sent goes out again at once.
+            self._is_bare = False
+            yield event(time, "packet_received", {"header": {"packet_type": "retry"}})
         self._in_flight.setdefault(kind, set()).add(number)
         data: Values = {
             "header": {"packet_type": kind, PACKET: number},
@@ -166,7 +180,7 @@ class Session:
         # At a probe timeout the sender passes over a number.
         if values.get("transmission_type") == PROBE or is_behind_gap:
             data["trigger"] = "pto_probe"
-        yield event(number_of(values, "sent_time_us"), "packet_sent", data)
+        yield event(time, "packet_sent", data)
 
     def _on_header(self, time: int, values: Values) -> Iterator[Values]:
         kind = str(values.get("long_header_type"))
@@ -190,6 +204,12 @@ class Session:
 
 
 PACKET = "packet_number"
+# Events that tell of a packet that came.
+OF_RECEIVED = (
+    "UNAUTHENTICATED_PACKET_HEADER_RECEIVED",
+    "BUFFERED_UNDECRYPTABLE_PACKET",
+    "DROPPED_UNDECRYPTABLE_PACKET",
+)
 # Events behind which no loss belongs to the acknowledgment before.
 BOUNDARIES = (
     "PACKET_SENT",
@@ -269,7 +289,7 @@ class Netlog(Form):
     ) -> Iterator[tuple[str, str, object, Values]]:
         for _ in scanner.elements():
             place = scanner.place()
-            member = scanner.value()
+            member = scanner.value(LONGEST_RECORD)
             if not isinstance(member, dict):
                 continue
             source = member.get("source")

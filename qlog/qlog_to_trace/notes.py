@@ -16,6 +16,7 @@ class Guess(Enum):
     INITIAL_RTT = "initial_rtt: that of the stack's sources or documentation"
     PROBE_BY_COUNT = "a probe timeout and its space: pto_count rose"
     PROBE_BY_PING = "a probe timeout and its space: a PING was sent"
+    PROBE_BY_ROOM = "a probe timeout: a packet has kept room for a PING, and nothing had come"
     PROBE_BY_TRIGGER = "a probe timeout and its space: a packet is its probe"
     SIZE = "size: by the header and the frames, for the log does not have it"
     SIZE_BY_GROWTH = "size: that by which the bytes in flight grew, for the log's is another"

@@ -2,6 +2,7 @@
 
 import codecs
 import json
+import sys
 from collections.abc import Iterator
 from decimal import Decimal
 from typing import Any, BinaryIO, NoReturn
@@ -9,8 +10,9 @@ from typing import Any, BinaryIO, NoReturn
 from .errors import Torn, Unusable
 
 PIECE = 1 << 18
-# A single event is never near this; a text that makes no value by then never will.
+# A text that makes no value by then never will; and how long an event may be.
 LONGEST_VALUE = 1 << 26
+LONGEST_RECORD = 1 << 20
 WHITE = " \t\r\n"
 # An error this near to the end may be one of a literal, a number or an escape that was cut.
 LONGEST_TOKEN = 6
@@ -22,6 +24,15 @@ def no_constant(name: str) -> NoReturn:
 
 
 DECODER = json.JSONDecoder(parse_float=Decimal, parse_constant=no_constant)
+
+
+def reason_of(error: Exception) -> str:
+    """Why a text is no value, for people."""
+    if isinstance(error, RecursionError):
+        return "it nests too deep"
+    if "set_int_max_str_digits" in str(error):
+        return f"a number of more than {sys.get_int_max_str_digits()} digits"
+    return f"not JSON: {error}"
 
 
 def is_torn(error: json.JSONDecodeError) -> bool:
@@ -52,12 +63,11 @@ class Scanner:
         """What is wrong at the cursor."""
         return Unusable(reason, self.place())
 
-    def _more(self) -> bool:
+    def _more(self, longest: int = LONGEST_VALUE) -> bool:
         """Takes a further piece, of the size of what is there at least; whether there was one."""
         if self._is_ended:
             return False
-        if len(self._text) - self._at > LONGEST_VALUE:
-            raise self.error(f"no JSON value within {LONGEST_VALUE} characters")
+        self._check(len(self._text), longest)
         self.place()
         rest = self._text[self._at :]
         piece = self._file.read(max(PIECE, len(rest)))
@@ -68,6 +78,11 @@ class Scanner:
             raise self.error(f"not UTF-8, within the {PIECE} bytes from here") from error
         self._at = self._counted = 0
         return not self._is_ended
+
+    def _check(self, end: int, longest: int) -> None:
+        """Whether a value that ends here, or later, is as long as it may be."""
+        if end - self._at > longest:
+            raise self.error(f"a value of more than {longest:,} characters")
 
     def peek(self) -> str:
         """The next character that is no white space, at which the cursor then is."""
@@ -85,7 +100,7 @@ class Scanner:
             raise self.error(f"`{mark}` expected")
         self._at += 1
 
-    def value(self) -> Any:
+    def value(self, longest: int = LONGEST_VALUE) -> Any:
         """The value at the cursor, which is then behind it."""
         self.peek()
         while True:
@@ -95,13 +110,14 @@ class Scanner:
                 if not is_torn(error):
                     raise self.error(f"not JSON: {error.msg}") from error
             except (ValueError, RecursionError) as error:
-                raise self.error(f"not JSON: {error}") from error
+                raise self.error(reason_of(error)) from error
             else:
                 # A number may go on in the next piece.
                 if end < len(self._text) or self._is_ended:
+                    self._check(end, longest)
                     self._at = end
                     return found
-            if not self._more():
+            if not self._more(longest):
                 return self._last_value()
 
     def _last_value(self) -> Any:

@@ -9,6 +9,8 @@ from .events import GREATEST_SIZE, Event
 NUMBER = 4
 TAG = 16
 VERSION = 4
+# A packet that has to be ack-eliciting keeps room for a PING until something else elicits.
+ROOM = 1
 # The frames whose data is counted beside them, at `payload_length`.
 FRAMES_OF_DATA = ("crypto", "stream")
 Frame = dict[str, Any]
@@ -92,7 +94,9 @@ class Sizes:
         if size is None:
             size = self._by_payload(event)
         else:
-            size += sum(self._data_of(frame, size) for frame in event.frames if is_open(frame))
+            data = [self._data_of(frame, size) for frame in event.frames if is_open(frame)]
+            size += sum(data)
+            event.keeps_room = bool(data) and size == self._filled - ROOM
         if size is not None:
             self.are_guessed = event.is_size_guessed = True
             event.size = event.integer(size, "raw.length", GREATEST_SIZE)

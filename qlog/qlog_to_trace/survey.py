@@ -7,7 +7,7 @@ from fractions import Fraction
 from .dialects import Dialect
 from .errors import Unusable
 from .events import NANOSECONDS, Event
-from .looking import Looking
+from .looking import DEFAULT_DELAY_EXPONENT, Looking
 from .notes import Guess
 from .sizes import Sizes
 
@@ -15,7 +15,6 @@ LEAST_DATAGRAM = 1200
 # What fits in an Ethernet frame. A part of the window that is larger, and larger than each packet,
 # is of a window of more datagrams.
 USUAL_DATAGRAM = 1500
-DEFAULT_DELAY_EXPONENT = 3
 GREATEST_DELAY_EXPONENT = 20
 # RFC 9000, 18.2: values of 2^14 ms and more are invalid.
 GREATEST_MAX_ACK_DELAY = ((1 << 14) - 1) * NANOSECONDS["ms"]
@@ -37,7 +36,8 @@ class Retry:
     """The Retry that a client took in, behind which its trace begins (RFC 9002, 6.3)."""
 
     index: int
-    place: str
+    # What is said of it.
+    told: str
     # The last numbers that were sent before it, by space.
     numbers: dict[str, int]
 
@@ -51,6 +51,9 @@ class Survey:
         self.looking = Looking()
         self.retry: Retry | None = None
         self._last_numbers: dict[str, int] = {}
+        # Where Initial packets go, as long as none has come, and the round-trip time so far.
+        self._destination: object = None
+        self._smoothed = 0
         # Whether each time is a whole millisecond.
         self.has_milliseconds = True
         # Nanoseconds.
@@ -77,7 +80,7 @@ class Survey:
         self.first_handshake_received: int | None = None
         self.handshake_done: int | None = None
         self.last_crypto_before_done: int | None = None
-        self._has_ack = False
+        self._has_received = self._has_ack = False
         # Events of packets with and without frames.
         self._with_frames: set[str] = set()
         self._without_frames: set[str] = set()
@@ -154,6 +157,7 @@ class Survey:
         if event.space is None:
             return
         assert event.number >= 0
+        self._see_destination(event)
         self._last_numbers[event.space] = event.number
         self._see_frames(event)
         if not event.has_size:
@@ -163,13 +167,29 @@ class Survey:
         if self.handshake_done is None and "handshake_done" in event.frame_types:
             self.handshake_done = event.index
 
+    def _see_destination(self, event: Event) -> None:
+        """A client that sends Initial packets elsewhere before a packet came has taken in a Retry
+        (RFC 9000, section 7.2)."""
+        if event.space != "initial" or self._role != "client" or self._has_received:
+            return
+        destination = event.header.get("dcid")
+        if self._destination not in (None, destination) and self.retry is None:
+            told = f"a Retry that is not in the log, at {event.place}"
+            self.retry = Retry(event.index - 1, told, dict(self._last_numbers))
+            # It may have measured what it assumes from there on (RFC 9002, 6.3).
+            if self._smoothed:
+                self.recovery["initial_rtt"] = self._smoothed
+        self._destination = destination
+
     def _see_received(self, event: Event) -> None:
         self._is_after_timer = False
         if event.space is None:
             # A client takes in one Retry at most (RFC 9000, section 17.2.5.2).
             if event.packet_type == "retry" and self._role == "client" and self.retry is None:
-                self.retry = Retry(event.index, event.place, dict(self._last_numbers))
+                told = f"the Retry at {event.place}"
+                self.retry = Retry(event.index, told, dict(self._last_numbers))
             return
+        self._has_received = True
         self._see_frames(event)
         for ack in event.acks:
             event.ranges(ack)
@@ -195,10 +215,12 @@ class Survey:
         if self._has_ack:
             return
         values = event.metrics()
+        self._smoothed = values.get("smoothed_rtt", self._smoothed)
         if self.first_window is None and values.get("window"):
             self.first_window = values["window"]
-        if self.first_smoothed is None and values.get("smoothed_rtt"):
-            self.first_smoothed = values["smoothed_rtt"]
+        # A report with a sample may stand before the packet that gave it.
+        if self.first_smoothed is None and not values.get("latest_rtt"):
+            self.first_smoothed = values.get("smoothed_rtt") or None
 
     def max_datagram_size(self, initial_datagrams: int) -> tuple[int, Guess]:
         """The part of the first window, where no packet was larger; else the largest packet."""

@@ -115,6 +115,23 @@ class Events(unittest.TestCase):
         self.assertEqual(end.only("sent")[0]["number"], 2)
         self.assertIn("the trace begins behind the Retry at line 4; packets before", end.errors)
         self.assertIn("left out 2: a loss of a packet that was sent before a Retry", end.errors)
+        closing = sent(120, 3, frames=("connection_close",))
+        end = converted([*first, *rest, closing], name="OpenSSL/3.6.5", role="client")
+        self.assertIn("the trace begins behind the Retry at line 4; packets before", end.errors)
+
+    def test_a_retry_that_is_not_logged_shows_by_where_initial_packets_go(self) -> None:
+        first, second, third = (sent(it * 40, it, "initial") for it in range(3))
+        for event, destination in ((first, "aa"), (second, "bb"), (third, "cc")):
+            event["data"]["header"]["dcid"] = destination
+        measured = metrics(39, latest_rtt=38, smoothed_rtt=38, min_rtt=38, bytes_in_flight=0)
+        rest = [received(79, [[1]], "initial"), third]
+        end = converted([first, measured, second, *rest], name="neqo", role="client")
+        self.assertEqual([line["number"] for line in end.only("sent")], [1, 2])
+        self.assertEqual(end.lines[0]["initial_rtt"], 38_000)
+        self.assertIn("behind a Retry that is not in the log, at line 4; packets", end.errors)
+        # The server names itself in its first packet.
+        end = converted([first, received(39, [[0]], "initial"), third], name="neqo", role="client")
+        self.assertEqual((len(end.only("sent")), end.errors), (2, ""))
 
     def test_a_rise_of_the_count_is_a_probe_timeout(self) -> None:
         first = [sent(0, 0, "initial"), metrics(0, pto_count=0)]
@@ -123,6 +140,14 @@ class Events(unittest.TestCase):
         self.assertEqual(found.only("timer")[0]["kind"], "pto")
         self.assertEqual(found.only("sent")[1]["leave"], "probe")
         self.assertIn("pto_count", found.only("timer")[0]["x_guess"][0])
+
+    def test_a_ping_with_nothing_in_flight_is_that_of_a_program(self) -> None:
+        events = [sent(0, 0), received(20, [[0]]), sent(300, 1, frames=("ping",))]
+        self.assertEqual(converted(events, name="aioquic").only("timer"), [])
+        # The handshake has a probe timeout with nothing in flight too (RFC 9002, 6.2.2.1).
+        probe = sent(300, 0, "handshake", frames=("ping",))
+        found = converted([*events[:2], probe], name="aioquic", role="client")
+        self.assertEqual(len(found.only("timer")), 1)
 
     def test_a_ping_is_a_probe_but_for_those_that_ask_for_acknowledgments(self) -> None:
         for number, ranges, is_probe in (

@@ -83,6 +83,19 @@ class Header(unittest.TestCase):
             said = (line["version"], line["window"], line["packet_threshold"], line["unit"])
             self.assertEqual(said, (3, "reported", 3, "us"), name)
 
+    def test_the_options_of_todays_stacks(self) -> None:
+        file = "urn:ietf:params:qlog:file:sequential"
+        keys = ("x_dialect", "window_overshoot", "sample_eliciting_only", "timer_early_us")
+        for name, schema, values in (
+            ("quic-go", "0.3", ("quic-go-0.50", True, True, 3_000)),
+            ("quic-go", file, ("quic-go-0.59", True, False, 3_000)),
+            ("OpenSSL/3.5.9 (x)", "0.3", ("openssl", True, False, 1_000)),
+            ("neqo-Client", "0.3", ("neqo", False, False, 1_000)),
+            ("ngtcp2", "0.3", ("ngtcp2", True, True, 3_000)),
+        ):
+            line = converted([sent(0, 0)], name=name, schema=schema).lines[0]
+            self.assertEqual(tuple(line[key] for key in keys), values, name)
+
     def test_the_window_is_newrenos_where_none_is_logged(self) -> None:
         line = converted([sent(0, 0), metrics(0, bytes_in_flight=1200)]).lines[0]
         self.assertEqual(line["window"], "newreno")

@@ -26,6 +26,18 @@ def round_trips(count: int, order: str, **more: Any) -> list[Event]:
     return events
 
 
+def samples(count: int, order: str) -> list[Event]:
+    """So many packets with round-trip times of their own, in reports of nothing else."""
+    events: list[Event] = []
+    for turn in range(count):
+        start, rtt = 1000 * turn, 50 + 10 * turn
+        ack = received(start + rtt, [[turn]], delay=4)
+        report = metrics(start + rtt, latest_rtt=rtt, smoothed_rtt=rtt, min_rtt=rtt)
+        events.append(sent(start, turn))
+        events += {"behind": [ack, report], "before": [report, ack]}[order]
+    return events
+
+
 def found(end: End) -> list[str]:
     """What --notes says was found."""
     return [line for line in end.errors.splitlines() if line.startswith("found: ")]
@@ -105,6 +117,24 @@ class OtherOrders(unittest.TestCase):
             self.assertEqual(end.lines[1:], expected.lines[1:])
             self.assertIn("its order is not that of quic-go-0.50", end.errors)
 
+    def test_round_trip_times_say_it_if_no_bytes_in_flight_do(self) -> None:
+        expected = converted(samples(7, "behind"), name="quic-go")
+        self.assertEqual(expected.errors, "")
+        end = converted(samples(7, "before"), name="quic-go")
+        self.assertEqual(end.lines[1:], expected.lines[1:])
+        self.assertIn("its order is not that of quic-go: losses and metrics", end.errors)
+        unknown = [converted(samples(7, it), "--notes", name="x") for it in ("behind", "before")]
+        self.assertEqual(unknown[0].text, unknown[1].text)
+        self.assertIn("; round-trip times behind 6, before 0)", found(unknown[0])[0])
+        self.assertIn("; round-trip times behind 0, before 7)", found(unknown[1])[0])
+
+    def test_a_round_trip_time_less_the_delay_is_of_its_packet(self) -> None:
+        events = samples(7, "before")
+        for event in events:
+            if "latest_rtt" in event["data"]:
+                event["data"]["latest_rtt"] -= 4
+        self.assertIn("its order is not that", converted(events, name="quic-go").errors)
+
     def test_losses_alone_do_not_say_that_a_dialect_is_wrong(self) -> None:
         end = converted(round_trips(6, "behind"), name="ngtcp2")
         self.assertNotIn("x_note", end.lines[0])
@@ -120,6 +150,14 @@ class OtherOrders(unittest.TestCase):
             self.assertRegex(note, "of 6 reports beside acknowledgments [0-2] agree with the pack")
             self.assertIn("not the sender's", note)
             self.assertIn(note, end.errors)
+
+    def test_round_trip_times_that_agree_with_no_order(self) -> None:
+        events = samples(7, "behind")
+        for event in events:
+            if "latest_rtt" in event["data"]:
+                event["data"]["latest_rtt"] += 30
+        note = converted(events, name="quic-go").lines[0]["x_note"][-1]
+        self.assertIn("of 6 reports of latest_rtt 0 agree with the times of the packets", note)
 
     def test_a_log_that_is_read_right_has_no_note(self) -> None:
         for name, order in (("quic-go", "behind"), ("ngtcp2", "losses before")):

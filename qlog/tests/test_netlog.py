@@ -18,6 +18,8 @@ TYPES = {
     "QUIC_SESSION_HANDSHAKE_DONE_FRAME_RECEIVED": 9,
     "QUIC_SESSION_CONNECTION_CLOSE_FRAME_SENT": 10,
     "URL_REQUEST_START_JOB": 11,
+    "QUIC_SESSION_PACKET_RECEIVED": 12,
+    "QUIC_SESSION_CRYPTO_FRAME_SENT": 13,
 }
 # The moment at which the log begins, in milliseconds.
 START = 3_118_714
@@ -121,6 +123,19 @@ class Netlogs(unittest.TestCase):
         events += [*sent(31, 3), event("CONNECTION_CLOSE_FRAME_SENT", 40), *sent(41, 4)]
         kinds = ["header", "sent", "keys", "discard", "sent", "confirmed", "discard", "sent"]
         self.assertEqual(End(netlog(events)).kinds, kinds)
+
+    def test_a_retry_shows_by_initial_packets_that_go_out_again(self) -> None:
+        level: Event = {"encryption_level": "ENCRYPTION_INITIAL"}
+        again: Event = {**level, "transmission_type": "HANDSHAKE_RETRANSMISSION"}
+        first, second = sent(0, 1, "CRYPTO", **level), sent(20, 2, "CRYPTO", **again)
+        came = event("PACKET_RECEIVED", 20, size=131)
+        end = End(netlog(first, came, second, sent(40, 3)))
+        self.assertEqual([line["number"] for line in end.only("sent")], [2, 3])
+        self.assertIn("the trace begins behind the Retry at byte", end.errors)
+        # A packet with a header is none.
+        head = acked(20, 1, 1)[0]
+        end = End(netlog(first, came, head, second))
+        self.assertEqual([line["number"] for line in end.only("sent")], [1, 2])
 
     def test_the_session_with_most_packets_is_the_first(self) -> None:
         end = End(netlog(sent(0, 1, source=7, size=1001), self.FIVE))

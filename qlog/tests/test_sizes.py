@@ -62,6 +62,33 @@ class ByFrames(unittest.TestCase):
         self.assertEqual(sizes(log), [53, 33, 1198, 33])
 
 
+class Probes(unittest.TestCase):
+    """A probe of OpenSSL keeps a byte for a PING, which the data behind it does not fill then."""
+
+    FULL = 1165
+
+    def log(self, came: int) -> list[Event]:
+        """Packets 0 to 5, of which 3 is one byte short; an acknowledgment comes before one."""
+        log = [packet(it, [stream(it * self.FULL - (it > 3))]) for it in range(6)]
+        for event, time in zip(log, (0, 0, 50, 900, 960, 960), strict=True):
+            event["time"] = time
+        first, second = received(50, [[0]]), received(log[came]["time"], [[0, 2]])
+        return [*log[:2], first, *log[2:came], second, *log[came:]]
+
+    def test_a_probe_that_no_packet_came_before(self) -> None:
+        found = converted(self.log(4), name="OpenSSL/3.5.9")
+        self.assertEqual(found.kinds[5:8], ["timer", "sent", "ack"])
+        timer, probe = found.lines[5:7]
+        self.assertEqual((timer["time"], timer["kind"], timer["space"]), (900_000, "pto", "app"))
+        self.assertIn("room for a PING", timer["x_guess"][0])
+        self.assertEqual((probe["size"], probe["leave"]), (1197, "probe"))
+
+    def test_a_packet_may_have_to_elicit_for_a_packet_that_came(self) -> None:
+        found = converted(self.log(3), name="OpenSSL/3.5.9")
+        self.assertEqual(found.only("timer"), [])
+        self.assertEqual(found.only("sent")[3]["size"], 1197)
+
+
 class ByOtherValues(unittest.TestCase):
     """Sizes by the payload and by the header."""
 
@@ -86,6 +113,21 @@ class ByOtherValues(unittest.TestCase):
             log = [*self.without_length(**values), metrics(0, bytes_in_flight=1200)]
             log += [received(5, [[0]])]
             self.assertEqual(converted(log).only("sent")[0]["size"], 1200)
+
+    def test_packets_of_a_datagram_that_is_padded(self) -> None:
+        # The size of the second is that of the datagram so far, and its bytes are reported first.
+        datagram = [sent(0, 0, "initial", 163), sent(0, 0, "0RTT", 504)]
+        datagram += [metrics(0, bytes_in_flight=341), metrics(0, bytes_in_flight=1252)]
+        found = converted(datagram, name="neqo", role="client")
+        self.assertEqual([line["size"] for line in found.only("sent")], [911, 341])
+        self.assertEqual(found.kinds, ["header", "sent", "sent", "metrics"])
+
+    def test_packets_of_a_datagram_with_one_report(self) -> None:
+        # The bytes of the Initial packet are gone with its keys once the report is written.
+        datagram = [sent(0, 0, "initial", 99), sent(0, 0, "handshake", 194)]
+        found = converted([*datagram, metrics(0, bytes_in_flight=95)], name="neqo", role="client")
+        self.assertEqual([line["size"] for line in found.only("sent")], [99, 95])
+        self.assertEqual(found.kinds, ["header", "sent", "discard", "sent", "metrics"])
 
     def test_nothing_says_it(self) -> None:
         end = converted(self.without_length())

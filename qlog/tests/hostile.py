@@ -1,0 +1,195 @@
+"""Logs that nobody would write: real ones in which a value, a byte or the end is another."""
+
+import json
+import random
+import signal
+import sys
+import traceback
+from collections.abc import Iterator
+from pathlib import Path
+from types import FrameType
+from typing import Any, NamedTuple
+
+from .made import TOP, End
+
+sys.path.append(str(TOP / "conformance"))
+
+from faults import fault_of  # noqa: E402
+from structs import NoStructError, header  # noqa: E402
+
+REAL = TOP / "conformance" / "real" / "traces"
+MARK = b"\x1e"
+# Of a log so many records are kept, so that a case takes milliseconds.
+RECORDS = 60
+# How long a case may take.
+SECONDS = 5.0
+# Texts that take the place of a value; some are no JSON.
+VALUES = (
+    *("null", "true", "false", "0", "-1", "1", "1.5", "-0.0", '""', '"x"', "[]", "{}", "[[]]"),
+    *("18446744073709551615", "18446744073709551616", "4611686018427387904", "65528", "1e40"),
+    *("1000000000000000000", "1e999999999", "1e-999999999", '"1e999999999"', "NaN", "Infinity"),
+    *("9" * 5000, f'"{"9" * 5000}"', f"0.{'9' * 5000}", f'"{"x" * 70_000}"'),
+    *(f"{'[' * 3000}{']' * 3000}", "[" * 3000, '{"a":' * 3000, "[[0,1000000000000000000]]"),
+    *("[[5,1]]", "[[1,2,3]]", "[[-1,2]]", '[["a","b"]]', "[1,2]", '[{"a":1}]', '{"length":5}'),
+    *(r'"\u001b[31m\u0007"', r'"\u202e\u2066"', r'"\udb40\udc41"', r'"\ud800"', r'"a\nb"'),
+    *('"packet_sent"', '"transport:packet_sent"', '"recovery:metrics_updated"', '"1RTT"'),
+    *('"initial"', '"retry"', '"0RTT"', '"ack"', '"expired"', '"pto"', '"delta"', '"relative"'),
+)
+# Bytes that are put in somewhere.
+BYTES = (b"\x00", b"\x1b[2J", b"\xff", b"\xed\xa0\x80", MARK, b"\n", b'"', b"{", b"}", b"[", b",")
+# What stands for a value until the log is written.
+PLACE = "\u0001place\u0001"
+
+
+class Case(NamedTuple):
+    """A log, and how it came about."""
+
+    name: str
+    data: bytes
+
+
+class TooSlowError(Exception):
+    """A case takes too long."""
+
+
+class Seed:
+    """A log whose values can be others."""
+
+    def __init__(self, path: Path) -> None:
+        self.name = path.name
+        data = path.read_bytes()
+        first = data.partition(b"\n")[0]
+        self.is_marked = data.startswith(MARK)
+        self.is_sequence = self.is_marked or b'"traces"' not in data[:400] and self._is_whole(first)
+        if self.is_sequence:
+            texts = data.split(MARK) if self.is_marked else data.split(b"\n")
+            self.value: Any = [json.loads(it) for it in texts if it.strip()][:RECORDS]
+        else:
+            self.value = json.loads(data)
+            place = self.value if "events" in self.value else self.value["traces"][0]
+            place["events"] = place["events"][:RECORDS]
+
+    @staticmethod
+    def _is_whole(text: bytes) -> bool:
+        try:
+            json.loads(text)
+        except ValueError:
+            return False
+        return True
+
+    def text(self, value: Any) -> bytes:
+        """The log as bytes."""
+        if not self.is_sequence:
+            return json.dumps(value).encode()
+        mark = MARK if self.is_marked else b""
+        return b"".join(mark + json.dumps(it).encode() + b"\n" for it in value)
+
+    def mutated(self, chance: random.Random) -> Case:
+        """A case."""
+        if chance.random() < 0.2:
+            return self._with_other_bytes(chance)
+        value = json.loads(json.dumps(self.value))
+        told = []
+        for _ in range(chance.choice((1, 1, 1, 2, 4))):
+            told.append(self._change(value, chance))
+        data = self.text(value)
+        for _, text in told:
+            data = data.replace(json.dumps(PLACE).encode(), text.encode(), 1)
+        return Case(f"{self.name}: {told}"[:300], data)
+
+    def _change(self, value: Any, chance: random.Random) -> tuple[str, str]:
+        """Puts another value somewhere, or takes one away."""
+        parent: Any = value
+        key: Any = None
+        path = ""
+        found = chance.randrange(len(value)) if isinstance(value, list) and value else None
+        if found is not None and chance.random() < 0.95:
+            parent, key = value, found
+        while True:
+            child = parent if key is None else parent[key]
+            keys: Any = ()
+            if isinstance(child, dict | list):
+                keys = list(child) if isinstance(child, dict) else range(len(child))
+            if not keys or (key is not None and chance.random() < 0.15):
+                break
+            parent, key = child, chance.choice(keys)
+            path += f".{key}"
+        if key is None:
+            return path, ""
+        if chance.random() < 0.1:
+            del parent[key]
+            return f"without {path}", ""
+        text = chance.choice(VALUES)
+        parent[key] = PLACE
+        return path, text
+
+    def _with_other_bytes(self, chance: random.Random) -> Case:
+        """A torn log, or one with a byte more or less."""
+        data = self.text(self.value)
+        place = chance.randrange(len(data))
+        match chance.randrange(3):
+            case 0:
+                return Case(f"{self.name}: torn at byte {place}", data[:place])
+            case 1:
+                return Case(f"{self.name}: without byte {place}", data[:place] + data[place + 1 :])
+        more = chance.choice(BYTES)
+        return Case(f"{self.name}: {more!r} at byte {place}", data[:place] + more + data[place:])
+
+
+def seeds() -> list[Seed]:
+    """The real logs."""
+    return [Seed(path) for path in sorted([*REAL.glob("*.qlog"), *REAL.glob("*.netlog")])]
+
+
+def cases(seed: int) -> Iterator[Case]:
+    """Cases without an end."""
+    chance, logs = random.Random(seed), seeds()
+    while True:
+        yield chance.choice(logs).mutated(chance)
+
+
+def too_slow(_: int, __: FrameType | None) -> None:
+    """What the alarm does."""
+    raise TooSlowError
+
+
+def failure_of(case: Case) -> str | None:
+    """How the converter fails on a case; nothing if it does not."""
+    signal.signal(signal.SIGALRM, too_slow)
+    signal.setitimer(signal.ITIMER_REAL, SECONDS)
+    try:
+        end = End(case.data)
+    except TooSlowError:
+        return f"it takes more than {SECONDS} seconds"
+    except BaseException:
+        return traceback.format_exc()
+    finally:
+        signal.setitimer(signal.ITIMER_REAL, 0)
+    return failure_of_end(end)
+
+
+def failure_of_end(end: End) -> str | None:
+    """What is wrong with how the converter has ended; nothing if it is right."""
+    told = end.errors.splitlines()
+    if not all(line.startswith("qlog-to-trace: LOG: ") for line in told):
+        return f"a line of others on standard error: {end.errors!r}"
+    if not end.errors.replace("\n", "").isprintable():
+        return f"what cannot be printed on standard error: {end.errors!r}"
+    if end.status == 2:
+        return None if len(told) == 1 else f"status 2 with {len(told)} lines on standard error"
+    return f"status {end.status}" if end.status else fault_of_trace(end.text.encode())
+
+
+def fault_of_trace(trace: bytes) -> str | None:
+    """Why a trace cannot be read; nothing if it can."""
+    first, *lines = trace.splitlines()
+    said = {key: it for key, it in json.loads(first).items() if it is not None}
+    try:
+        header({key: it for key, it in said.items() if key != "event" and not key.startswith("x_")})
+    except NoStructError:
+        return f"a header that cannot be read: {first!r}"
+    for number, line in enumerate(lines, 2):
+        fault = fault_of(line)
+        if fault:
+            return f"line {number}: {fault}: {line[:300]!r}"
+    return None
