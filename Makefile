@@ -26,18 +26,18 @@ library_shared := bin/libqaudit.so
 examples := examples/ten-packets.trace examples/eleven-packets.trace
 # The tests of the programs of conformance/, which mostly wait for one another's processes.
 runner_tests := test_run test_trials test_mutations test_rows test_departures test_simulate test_links test_made_up \
-	test_contracts test_crates test_edits test_unproved
+	test_contracts test_crates test_edits test_unproved test_words test_commands
 # The tests and checks that need no proof, the longest first.
-tests_in_python := test_page test_qlog test_captures $(runner_tests) test_release links made_up contracts crates
+tests_in_python := test_page test_qlog test_captures $(runner_tests) test_release links made_up contracts crates words commands
 
 # All programs in Python, by the places where their names are unlike each other.
 python := $(addprefix conformance/,allocations contracts crates cuts failing large library links made_up malicious memory mutations reasons \
-	refusals run simulate unproved) \
+	refusals run simulate unproved words commands) \
 	conformance/fuzz/instrument conformance/lines/make.py $(wildcard conformance/*.py)
 python_of_fuzz := conformance/fuzz/run
 # The pages, and what measures and tests them.
 python_of_page := page/qaudit-page page/qaudit-matrix $(wildcard page/qaudit_page/*.py)
-python_of_page_tests := page/measure $(wildcard page/*.py page/tests/*.py)
+python_of_page_tests := page/measure page/picture $(wildcard page/*.py page/tests/*.py)
 python_of_qlog := qlog/qlog-to-trace $(wildcard qlog/qlog_to_trace/*.py qlog/tests/*.py)
 # captures/transfer.py runs where aioquic is, and is checked for style alone.
 python_of_captures := captures/audit.py captures/causes.py captures/run captures/stacks.py captures/table captures/test_causes.py examples/delay.py examples/logger.py
@@ -54,7 +54,7 @@ conformance := conformance-cuts conformance-failing conformance-refusals conform
 bindings := conformance-library bindings-rust bindings-go bindings-python
 
 .PHONY: help run build quick lib one_byte lines test test_library gate conformance $(bindings) $(conformance) \
-	links made_up contracts crates unproved $(runner_tests) test_qlog test_captures test_release test_page lint edits tried bench install dist clean
+	links made_up contracts crates words commands unproved $(runner_tests) test_qlog test_captures test_release test_page lint edits tried bench install dist clean
 
 help:
 	@echo 'make run       audits $(examples)'
@@ -107,7 +107,7 @@ test:
 	@echo 'make test proves all crates and tries their must-fail edits, and runs the tests in Python beside that;'
 	@echo 'then it runs the programs over conformance/, and last the tests of the pages:'
 	@release/minutes --say test
-	$(MAKE) --no-print-directory -j 2 gate links made_up contracts crates $(runner_tests) test_qlog test_captures test_release
+	$(MAKE) --no-print-directory -j 2 gate links made_up contracts crates words commands $(runner_tests) test_qlog test_captures test_release
 	$(MAKE) --no-print-directory -j 4 --output-sync=target $(conformance)
 	QAUDIT_WHY='$(abspath $(program_why))' $(MAKE) --no-print-directory test_page
 	if [ -f $(library) ]; then $(MAKE) --no-print-directory test_library; else \
@@ -130,7 +130,7 @@ test_library: $(bindings)
 gate:
 	rt ci
 
-conformance: $(conformance) links made_up contracts crates $(runner_tests) test_qlog test_captures test_release
+conformance: $(conformance) links made_up contracts crates words commands $(runner_tests) test_qlog test_captures test_release
 
 conformance-cuts:
 	conformance/cuts $(program)
@@ -217,6 +217,14 @@ contracts:
 crates:
 	conformance/crates
 
+# No page and no text of a program in Python may have words that an engineer would not write.
+words:
+	conformance/words
+
+# The commands in the pages must run, those that can without a proof and without a network.
+commands:
+	conformance/commands
+
 # The edits that the gate does not try. A release needs them tried on the same crates.
 edits:
 	release/edits
@@ -258,11 +266,12 @@ lint:
 	MYPYPATH=page mypy $(python_of_page_tests)
 	MYPYPATH=conformance mypy --config-file= --strict conformance/rows
 	MYPYPATH=conformance mypy --config-file= --strict conformance/departures
+	MYPYPATH=conformance:page mypy --config-file= --strict conformance/stand_in
 	if command -v ruff > /dev/null; then ruff check; else \
 		flake8 --max-line-length 100 --extend-ignore E203,W503 \
 			--per-file-ignores '*/test_*.py:N802' $(python) $(python_of_fuzz) $(python_of_bench) \
 			$(python_of_qlog) $(python_of_release) $(python_of_captures) captures/transfer.py \
-			$(python_of_page) $(python_of_page_tests) conformance/rows conformance/departures; fi
+			$(python_of_page) $(python_of_page_tests) conformance/rows conformance/departures conformance/stand_in; fi
 
 # No part of `test`, for no number of seconds is right on every machine.
 bench: build

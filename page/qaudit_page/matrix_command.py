@@ -36,9 +36,8 @@ from .program import find
 from .texts import plural, visible
 
 DESCRIPTION = """\
-Audits many traces and writes a table of their verdicts, an HTML page, to standard output. What is
-found in a directory is each file in it, and below it, that ends in .trace, or in .trace.gz,
-.trace.xz or .trace.zst."""
+Audits many traces and writes an HTML table of their verdicts to standard output. In a directory it
+finds each file, at any depth, that ends in .trace, .trace.gz, .trace.xz or .trace.zst."""
 ENDING = """\
 The exit status is 0 if all are accepted, 1 if one is refused, 2 if one cannot be read, 3 if a file
 or a program is missing or failed, and 64 if the arguments are wrong. With --against it is 0 if
@@ -61,25 +60,25 @@ def arguments() -> argparse.Namespace:
     parser = Parser(prog="qaudit-matrix", description=DESCRIPTION, epilog=ENDING)
     text = "how traces are named without .trace, such as CLIENT_SERVER_CASE: CASE makes the rows"
     parser.add_argument("--pattern", type=a_pattern, metavar="PATTERN", help=text)
-    text = "a directory for a page of each trace, to which the table has links"
+    text = "a directory for a page of each trace, with links from the table"
     parser.add_argument("--pages", type=Path, metavar="DIR", help=text)
-    text = "where the verdicts are written as JSON too, for a later --against"
+    text = "also writes the verdicts as JSON, for a later --against"
     parser.add_argument("--json", type=Path, metavar="FILE", help=text)
-    text = "what --json wrote at a run before: says what is new and what is gone"
+    text = "what --json wrote in an earlier run: shows what is new and what is gone"
     parser.add_argument("--against", type=Path, metavar="OLD.json", help=text)
     text = "violations that are known, by case, stacks, rule and field: only new ones fail"
     parser.add_argument("--known", type=Path, metavar="FILE", help=text)
     text = "writes all violations of this run into the file of --known"
     parser.add_argument("--write-known", action="store_true", help=text)
-    text = "where JUnit XML is written: a test case for each trace"
+    text = "writes JUnit XML: a test case for each trace"
     parser.add_argument("--junit", type=Path, metavar="FILE", help=text)
-    text = "where SARIF 2.1.0 is written: a result for each violation, at its line"
+    text = "writes SARIF 2.1.0: a result for each violation, at its line"
     parser.add_argument("--sarif", type=Path, metavar="FILE", help=text)
     text = "prints an annotation for each violation, as GitHub Actions shows it; needs --output"
     parser.add_argument("--annotate", action="store_true", help=text)
-    text = "where the table is written; without it on standard output"
+    text = "the file for the table (default: standard output)"
     parser.add_argument("--output", type=Path, metavar="FILE", help=text)
-    text = "how many traces at a time; without it as many as there are cores"
+    text = "how many traces at a time (default: one per core)"
     parser.add_argument(
         "--jobs", type=int, default=len(os.sched_getaffinity(0)), metavar="N", help=text
     )

@@ -39,7 +39,7 @@ def behind(retry: Retry, events: Iterable[Event], notes: Notes) -> Iterator[Even
             continue
         yield event
     notes.warnings.append(
-        f"the trace begins behind the Retry at {retry.place}; packets before it: {count}"
+        f"the trace begins after the Retry at {retry.place}; packets before it: {count}"
     )
 
 

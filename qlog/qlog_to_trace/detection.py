@@ -43,6 +43,6 @@ def form_of(file: BinaryIO) -> Form:
     if not isinstance(header, dict):
         return Document(file)
     if header.get("event") == "header":
-        raise Unusable("this is a trace already, as qaudit reads it, and no log")
+        raise Unusable("this is already a trace, as qaudit reads it")
     is_sequence = "traces" not in header and any(mark in header for mark in MARKS_OF_SEQUENCE)
     return Sequence(file) if is_sequence else Document(file)

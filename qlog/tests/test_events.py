@@ -113,7 +113,7 @@ class Events(unittest.TestCase):
         end = converted(first + [retry] + rest, "--notes", name="OpenSSL/3.6.5", role="client")
         self.assertEqual(end.kinds, ["header", "sent", "ack"])
         self.assertEqual(end.only("sent")[0]["number"], 2)
-        self.assertIn("the trace begins behind the Retry at line 4; packets before", end.errors)
+        self.assertIn("the trace begins after the Retry at line 4; packets before", end.errors)
         self.assertIn("left out 2: a loss of a packet that was sent before a Retry", end.errors)
 
     def test_a_rise_of_the_count_is_a_probe_timeout(self) -> None:

@@ -51,7 +51,7 @@ class NoLogs(unittest.TestCase):
         self.refused(b"\x28\xb5\x2f\xfd" + log.encode(), "compressed by zstd")
         self.refused(b"\xef\xbb\xbf" + log.encode(), "it begins with a byte order mark")
         self.refused(b"\xd4\xc3\xb2\xa1\x02\x00", "a capture of packets and no log")
-        self.refused(converted(EVENTS).text, "this is a trace already, as qaudit reads it")
+        self.refused(converted(EVENTS).text, "this is already a trace, as qaudit reads it")
 
     def test_packets_without_frames(self) -> None:
         no_frames = [without_frames(event) for event in EVENTS]
