@@ -41,7 +41,7 @@ python_of_page_tests := page/measure page/picture $(wildcard page/*.py page/test
 python_of_qlog := qlog/qlog-to-trace $(wildcard qlog/qlog_to_trace/*.py qlog/tests/*.py)
 # captures/transfer.py runs where aioquic is, and is checked for style alone.
 python_of_captures := captures/audit.py captures/causes.py captures/run captures/stacks.py captures/table captures/test_causes.py examples/delay.py examples/logger.py
-python_of_release := $(addprefix release/,edits minutes prove unproved) $(wildcard release/*.py)
+python_of_release := $(addprefix release/,archive edits minutes prove unproved) $(wildcard release/*.py)
 python_of_bindings := $(wildcard bindings/python/*.py)
 python_of_bench := $(addprefix bench/,instructions library peers run trace) $(wildcard bench/*.py) bench/programs/read.py
 
@@ -53,7 +53,7 @@ conformance := conformance-cuts conformance-failing conformance-refusals conform
 # What is handed to the library for C, in each language.
 bindings := conformance-library bindings-rust bindings-go bindings-python
 
-.PHONY: help run build quick lib one_byte lines test test_library gate conformance $(bindings) $(conformance) \
+.PHONY: deb help run build quick lib one_byte lines test test_library gate conformance $(bindings) $(conformance) \
 	links made_up contracts crates words commands unproved $(runner_tests) test_qlog test_captures test_release test_page lint edits tried bench install dist clean
 
 help:
@@ -74,6 +74,7 @@ help:
 	@echo 'make install   builds it and installs it in $$(DESTDIR)$$(PREFIX), with its man page, completions and docs;'
 	@echo '               PREFIX is $(PREFIX)'
 	@echo 'make dist      builds it and packs dist/$(release).tar.gz, which needs no kit, after `make edits`'
+	@echo 'make deb       makes a Debian package of that, dist/qaudit_*_amd64.deb'
 	@echo 'make clean     removes what was built'
 
 # The first thing to try in a clone. It proves nothing.
@@ -288,9 +289,12 @@ install: build lib
 
 dist: tried build lib
 	release/pack $(built) $(built_why) $(library) $(library_shared) bin/$(release)
-	mkdir -p dist
-	tar --sort=name --owner=0 --group=0 --numeric-owner -C bin -czf dist/$(release).tar.gz $(release)
+	release/tarball bin/$(release) dist/$(release).tar.gz
 	@echo dist/$(release).tar.gz
+
+deb: dist
+	release/deb bin/$(release) dist/qaudit_$(shell cat VERSION)-1_amd64.deb
+	@echo dist/qaudit_$(shell cat VERSION)-1_amd64.deb
 
 clean:
 	rm -rf crates/*/out bin dist
