@@ -274,8 +274,9 @@ class Releases(unittest.TestCase):
             ended = subprocess.run(command, capture_output=True, text=True, check=True)
             self.assertEqual(ended.stdout, f"{name} {version}\n")
         log = HERE.parent / "conformance/real/traces/ngtcp2-past-window.qlog"
-        ended = subprocess.run([to / "bin/qlog-to-trace", log], capture_output=True, check=True)
-        self.assertTrue(ended.stdout.startswith(b'{"event":"header"'))
+        command = [str(to / "bin/qlog-to-trace"), str(log)]
+        ended = subprocess.run(command, capture_output=True, text=True, check=True)
+        self.assertTrue(ended.stdout.startswith('{"event":"header"'))
         self.assertTrue((there / "ci/audit").exists())
         self.assertTrue((to / "share/doc/qaudit/PROVED").exists())
 
