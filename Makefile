@@ -28,11 +28,11 @@ examples := examples/ten-packets.trace examples/eleven-packets.trace
 runner_tests := test_run test_trials test_mutations test_rows test_departures test_simulate test_links test_made_up \
 	test_contracts test_crates test_edits test_unproved test_words test_commands
 # The tests and checks that need no proof, the longest first.
-tests_in_python := test_page test_qlog test_captures $(runner_tests) test_release links made_up contracts crates words commands
+tests_in_python := test_page test_qlog test_captures $(runner_tests) test_release links made_up contracts crates words wrong commands
 
 # All programs in Python, by the places where their names are unlike each other.
 python := $(addprefix conformance/,allocations contracts crates cuts failing large library links made_up malicious memory mutations reasons \
-	refusals run simulate unproved words commands) \
+	refusals run simulate unproved words wrong commands) \
 	conformance/fuzz/instrument conformance/lines/make.py $(wildcard conformance/*.py)
 python_of_fuzz := conformance/fuzz/run
 # The pages, and what measures and tests them.
@@ -54,7 +54,7 @@ conformance := conformance-cuts conformance-failing conformance-refusals conform
 bindings := conformance-library bindings-rust bindings-go bindings-python
 
 .PHONY: deb help run build quick lib one_byte lines test test_library gate conformance $(bindings) $(conformance) \
-	links made_up contracts crates words commands unproved $(runner_tests) test_qlog test_captures test_release test_page lint edits tried bench install dist clean
+	links made_up contracts crates words wrong commands unproved $(runner_tests) test_qlog test_captures test_release test_page lint edits tried bench install dist clean
 
 help:
 	@echo 'make run       audits $(examples)'
@@ -108,7 +108,7 @@ test:
 	@echo 'make test proves all crates and tries their must-fail edits, and runs the tests in Python beside that;'
 	@echo 'then it runs the programs over conformance/, and last the tests of the pages:'
 	@release/minutes --say test
-	$(MAKE) --no-print-directory -j 2 gate links made_up contracts crates words commands $(runner_tests) test_qlog test_captures test_release
+	$(MAKE) --no-print-directory -j 2 gate links made_up contracts crates words wrong commands $(runner_tests) test_qlog test_captures test_release
 	$(MAKE) --no-print-directory -j 4 --output-sync=target $(conformance)
 	QAUDIT_WHY='$(abspath $(program_why))' $(MAKE) --no-print-directory test_page
 	if [ -f $(library) ]; then $(MAKE) --no-print-directory test_library; else \
@@ -131,7 +131,7 @@ test_library: $(bindings)
 gate:
 	rt ci
 
-conformance: $(conformance) links made_up contracts crates words commands $(runner_tests) test_qlog test_captures test_release
+conformance: $(conformance) links made_up contracts crates words wrong commands $(runner_tests) test_qlog test_captures test_release
 
 conformance-cuts:
 	conformance/cuts $(program)
@@ -221,6 +221,10 @@ crates:
 # No page and no text of a program in Python may have words that an engineer would not write.
 words:
 	conformance/words
+
+# docs/wrong-definitions.md must have the counts of what was tried.
+wrong:
+	conformance/wrong
 
 # The commands in the pages must run, those that can without a proof and without a network.
 commands:
