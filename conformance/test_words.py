@@ -101,6 +101,15 @@ class Found(unittest.TestCase):
         said = json.loads((self.folder / "conformance/words.json").read_text())
         self.assertEqual(said["not_revised"], {"page.md": 1})
 
+    def test_a_page_that_is_too_long(self) -> None:
+        self.listed(most_words={"page.md": 2})
+        self.put("page.md", "One two.\n")
+        self.assertEqual(self.run_check()[0], 0)
+        self.put("page.md", "One two three.\n")
+        status, told = self.run_check()
+        self.assertEqual(status, 1)
+        self.assertIn("FAILED page.md: has 3 words, and 2 at most", told)
+
     def test_a_number_of_a_page_that_is_gone(self) -> None:
         self.listed(not_revised={"gone.md": 2})
         self.put("page.md", "Bar.\n")

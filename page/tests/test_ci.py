@@ -1,5 +1,6 @@
 """What the table of many traces writes for CI: known violations, JUnit, SARIF, annotations."""
 
+import gzip
 import json
 import os
 import re
@@ -290,7 +291,9 @@ class Recipes(unittest.TestCase):
         real = PROJECT / "conformance" / "real" / "traces"
         logs = self.folder / "logs" / "ngtcp2" / "loss"
         logs.mkdir(parents=True)
-        shutil.copyfile(real / "ngtcp2-past-window.qlog", logs / "client.qlog")
+        log = (real / "ngtcp2-past-window.qlog").read_bytes()
+        (logs / "client.qlog").write_bytes(log)
+        (logs / "packed.sqlog.gz").write_bytes(gzip.compress(log))
         shutil.copyfile(TRACES / "eleventh-past-window.trace", logs / "own.trace")
         (logs / "note.txt").write_text("no log")
 
@@ -318,7 +321,8 @@ class Recipes(unittest.TestCase):
         listed = json.loads((self.folder / "out/verdicts.json").read_text())["traces"]
         self.assertEqual({it["case"] for it in listed}, {"loss"})
         self.assertEqual(
-            {it["key"] for it in listed}, {"ngtcp2/loss/client", "ngtcp2/loss/own"}
+            {it["key"] for it in listed},
+            {f"ngtcp2/loss/{name}" for name in ("client", "own", "packed")},
         )
 
     def test_options_of_the_converter_and_known_violations(self) -> None:

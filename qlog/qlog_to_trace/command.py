@@ -12,6 +12,7 @@ from dataclasses import dataclass
 from pathlib import Path
 from typing import BinaryIO, TextIO
 
+from .compressed import COPIED_AT_ONCE, decompressed
 from .connections import Connections, chosen_of, others
 from .conversion import Conversion
 from .detection import form_of
@@ -41,15 +42,14 @@ EVENTS_OF_PROGRESS = 20_000
 MOST_OF_RECORDS = 3
 TRACES, CONNECTIONS = "traces", "connections or paths"
 LONGEST_LINE = 65_536
-COPIED_AT_ONCE = 1 << 20
 ENCODER = json.JSONEncoder(separators=(",", ":"))
 
 DESCRIPTION = """Turns the qlog of one QUIC connection into a trace that `qaudit check` reads.
 
 Reads qlog 0.3 and 0.4 and drafts before them: one JSON object, JSON-SEQ, or a JSON text a
-line. It also reads netlogs of Chromium. Each guess is at the key `x_guess` of its line, which
-qaudit ignores. A log whose end is torn off is converted up to there, and a line on standard
-error says so."""
+line. It also reads netlogs of Chromium, and logs that are compressed by gzip, xz or zstd. Each
+guess is at the key `x_guess` of its line, which qaudit ignores. A log whose end is torn off is
+converted up to there, and a line on standard error says so."""
 EPILOG = """The exit status is 0 for a trace, 2 if the input gives none, 3 if a file or a stream
 failed, 64 for wrong arguments, and 130 after Ctrl-C."""
 
@@ -351,16 +351,17 @@ class Converter:
 
 
 def opened(name: str | None) -> BinaryIO:
-    """The input, which is copied where it cannot be read twice."""
+    """The input, which is copied if it cannot be read twice, and decompressed if it has to be."""
     source: BinaryIO = sys.stdin.buffer if name is None else Path(name).open("rb")
     if name is None and source.isatty():
         complain(f"reading {STANDARD_INPUT}")
     if source.seekable():
-        return source
+        return decompressed(source)
     copy: BinaryIO = tempfile.TemporaryFile()  # type: ignore[assignment]
     while piece := source.read(COPIED_AT_ONCE):
         copy.write(piece)
-    return copy
+    copy.seek(0)
+    return decompressed(copy)
 
 
 def complain(text: str) -> None:

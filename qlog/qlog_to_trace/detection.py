@@ -12,9 +12,6 @@ LONGEST_HEADER = 1 << 20
 MARKS_OF_SEQUENCE = ("trace", "qlog_format", "file_schema", "serialization_format")
 # By their first bytes, files that are no log.
 KINDS_OF_FILE = {
-    b"\x1f\x8b": "compressed by gzip: unpack it first",
-    b"\x28\xb5\x2f\xfd": "compressed by zstd: unpack it first",
-    b"\xfd7zXZ": "compressed by xz: unpack it first",
     b"BZh": "compressed by bzip2: unpack it first",
     b"PK\x03\x04": "a zip archive: unpack it first",
     b"\xef\xbb\xbf": "it begins with a byte order mark, which JSON has not: take it off first",

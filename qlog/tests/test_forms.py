@@ -203,9 +203,12 @@ class Ends(unittest.TestCase):
         with tempfile.TemporaryDirectory() as folder:
             pipe = Path(folder) / "pipe"
             os.mkfifo(pipe)
-            words = [PROGRAM, pipe]
             with subprocess.Popen(
-                words, stdout=subprocess.PIPE, stderr=subprocess.PIPE
+                [PROGRAM, pipe],
+                stdout=subprocess.PIPE,
+                stderr=subprocess.PIPE,
+                # A job in the background ignores interrupts, and what it starts does too.
+                preexec_fn=lambda: signal.signal(signal.SIGINT, signal.SIG_DFL),
             ) as running, pipe.open("wb") as log:
                 # The program has opened the pipe, and waits for the rest of the log.
                 log.write(b"{")
