@@ -30,7 +30,6 @@ from .version import version
 BAD_INPUT = 2
 FAILED = 3
 WRONG_ARGUMENTS = 64
-INTERRUPTED = 128 + signal.SIGINT
 ROLES = ("client", "server")
 # The versions of the format of traces.
 FORMATS = (1, 2, 3)
@@ -51,7 +50,7 @@ line. It also reads netlogs of Chromium, and logs that are compressed by gzip, x
 guess is at the key `x_guess` of its line, which qaudit ignores. A log whose end is torn off is
 converted up to there, and a line on standard error says so."""
 EPILOG = """The exit status is 0 for a trace, 2 if the input gives none, 3 if a file or a stream
-failed, 64 for wrong arguments, and 130 after Ctrl-C."""
+failed, and 64 for wrong arguments."""
 
 
 class Version(argparse.Action):
@@ -430,9 +429,7 @@ def program() -> None:
     """Runs the command and ends."""
     # Values of JSON make no cycles, so there is nothing to look for among them.
     gc.disable()
-    try:
-        status = main()
-    except KeyboardInterrupt:
-        # What is still buffered is the part of a line, so it is not written.
-        os._exit(INTERRUPTED)
-    sys.exit(status)
+    if signal.getsignal(signal.SIGINT) is signal.default_int_handler:
+        # Ctrl-C ends it at once and quietly, also while it waits for input.
+        signal.signal(signal.SIGINT, signal.SIG_DFL)
+    sys.exit(main())

@@ -215,7 +215,7 @@ class Ends(unittest.TestCase):
                 log.flush()
                 running.send_signal(signal.SIGINT)
                 output, errors = running.communicate(timeout=60)
-        self.assertEqual((running.returncode, output, errors), (130, b"", b""))
+        self.assertEqual((running.returncode, output, errors), (-signal.SIGINT, b"", b""))
 
     def test_a_pipe_that_is_named(self) -> None:
         log = sequence(header(), [sent(0, 0)]).encode()
