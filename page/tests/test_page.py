@@ -205,7 +205,7 @@ class Departures(unittest.TestCase):
         self.assertEqual(links, [f"#line={line}" for line in (13, 13, 15, 17, 22, 24)])
         told_of_all = " ".join(page.by_id["departures"].split())
         self.assertIn("The sender breaks rules 5 times in 22 events.", told_of_all)
-        self.assertIn("All else that the trace tells keeps to RFC 9002.", told_of_all)
+        self.assertIn("Everything else in the trace follows RFC 9002.", told_of_all)
 
     def test_the_verdict_stays_the_first_departure(self) -> None:
         page = self.page("several-departures")
