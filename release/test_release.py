@@ -9,6 +9,7 @@ a stand-in for `rt`.
 import hashlib
 import json
 import os
+import re
 import shutil
 import signal
 import subprocess
@@ -279,6 +280,12 @@ class Releases(unittest.TestCase):
         self.assertTrue(ended.stdout.startswith('{"event":"header"'))
         self.assertTrue((there / "ci/audit").exists())
         self.assertTrue((to / "share/doc/qaudit/PROVED").exists())
+
+    def test_pages_name_this_version(self) -> None:
+        version = (HERE.parent / "VERSION").read_text().strip()
+        for name in ("README.md", "Dockerfile", "docs/ci.md", "ci/gitlab.yml"):
+            named = re.findall(r"qaudit-(\d+\.\d+\.\d+)", (HERE.parent / name).read_text())
+            self.assertEqual(set(named), {version}, name)
 
     def test_what_was_not_proved_is_not_packed(self) -> None:
         self.programs[1].write_text("another")
