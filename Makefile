@@ -26,22 +26,22 @@ library_shared := bin/libqaudit.so
 examples := examples/ten-packets.trace examples/eleven-packets.trace
 # The tests of the programs of conformance/, which mostly wait for one another's processes.
 runner_tests := test_run test_trials test_mutations test_rows test_departures test_simulate test_links test_made_up \
-	test_contracts test_crates test_edits test_unproved
+	test_contracts test_crates test_edits test_unproved test_words test_commands
 # The tests and checks that need no proof, the longest first.
-tests_in_python := test_page test_qlog test_captures $(runner_tests) test_release links made_up contracts crates
+tests_in_python := test_page test_qlog test_captures $(runner_tests) test_release links made_up contracts crates words wrong commands
 
 # All programs in Python, by the places where their names are unlike each other.
 python := $(addprefix conformance/,allocations contracts crates cuts failing large library links made_up malicious memory mutations reasons \
-	refusals run simulate unproved) \
+	refusals run simulate unproved words wrong commands) \
 	conformance/fuzz/instrument conformance/lines/make.py $(wildcard conformance/*.py)
 python_of_fuzz := conformance/fuzz/run
 # The pages, and what measures and tests them.
 python_of_page := page/qaudit-page page/qaudit-matrix $(wildcard page/qaudit_page/*.py)
-python_of_page_tests := page/measure $(wildcard page/*.py page/tests/*.py)
+python_of_page_tests := page/measure page/picture $(wildcard page/*.py page/tests/*.py)
 python_of_qlog := qlog/qlog-to-trace qlog/fuzz $(wildcard qlog/qlog_to_trace/*.py qlog/tests/*.py)
 # captures/transfer.py runs where aioquic is, and is checked for style alone.
 python_of_captures := captures/audit.py captures/causes.py captures/run captures/stacks.py captures/table captures/test_causes.py captures/test_upload.py examples/delay.py examples/logger.py
-python_of_release := $(addprefix release/,edits minutes prove unproved) $(wildcard release/*.py)
+python_of_release := $(addprefix release/,archive edits minutes prove unproved) $(wildcard release/*.py)
 python_of_bindings := $(wildcard bindings/python/*.py)
 python_of_bench := $(addprefix bench/,instructions library peers run trace) $(wildcard bench/*.py) bench/programs/read.py
 
@@ -53,8 +53,8 @@ conformance := conformance-cuts conformance-failing conformance-refusals conform
 # What is handed to the library for C, in each language.
 bindings := conformance-library bindings-rust bindings-go bindings-python
 
-.PHONY: help run build quick lib one_byte lines test test_library gate conformance $(bindings) $(conformance) \
-	links made_up contracts crates unproved $(runner_tests) test_qlog fuzz test_captures test_release test_page lint edits tried bench install dist clean
+.PHONY: deb help run build quick lib one_byte lines test test_library gate conformance $(bindings) $(conformance) \
+	links made_up contracts crates words wrong commands unproved $(runner_tests) test_qlog fuzz test_captures test_release test_page lint edits tried bench install dist clean
 
 help:
 	@echo 'make run       audits $(examples)'
@@ -74,6 +74,7 @@ help:
 	@echo 'make install   builds it and installs it in $$(DESTDIR)$$(PREFIX), with its man page, completions and docs;'
 	@echo '               PREFIX is $(PREFIX)'
 	@echo 'make dist      builds it and packs dist/$(release).tar.gz, which needs no kit, after `make edits`'
+	@echo 'make deb       makes a Debian package of that, dist/qaudit_*_amd64.deb'
 	@echo 'make clean     removes what was built'
 
 # The first thing to try in a clone. It proves nothing.
@@ -107,7 +108,7 @@ test:
 	@echo 'make test proves all crates and tries their must-fail edits, and runs the tests in Python beside that;'
 	@echo 'then it runs the programs over conformance/, and last the tests of the pages:'
 	@release/minutes --say test
-	$(MAKE) --no-print-directory -j 2 gate links made_up contracts crates $(runner_tests) test_qlog test_captures test_release
+	$(MAKE) --no-print-directory -j 2 gate links made_up contracts crates words wrong commands $(runner_tests) test_qlog test_captures test_release
 	$(MAKE) --no-print-directory -j 4 --output-sync=target $(conformance)
 	QAUDIT_WHY='$(abspath $(program_why))' $(MAKE) --no-print-directory test_page
 	if [ -f $(library) ]; then $(MAKE) --no-print-directory test_library; else \
@@ -130,7 +131,7 @@ test_library: $(bindings)
 gate:
 	rt ci
 
-conformance: $(conformance) links made_up contracts crates $(runner_tests) test_qlog test_captures test_release
+conformance: $(conformance) links made_up contracts crates words wrong commands $(runner_tests) test_qlog test_captures test_release
 
 conformance-cuts:
 	conformance/cuts $(program)
@@ -217,6 +218,18 @@ contracts:
 crates:
 	conformance/crates
 
+# No page and no text of a program in Python may have words that an engineer would not write.
+words:
+	conformance/words
+
+# docs/wrong-definitions.md must have the counts of what was tried.
+wrong:
+	conformance/wrong
+
+# The commands in the pages must run, those that can without a proof and without a network.
+commands:
+	conformance/commands
+
 # The edits that the gate does not try. A release needs them tried on the same crates.
 edits:
 	release/edits
@@ -263,11 +276,12 @@ lint:
 	MYPYPATH=page mypy $(python_of_page_tests)
 	MYPYPATH=conformance mypy --config-file= --strict conformance/rows
 	MYPYPATH=conformance mypy --config-file= --strict conformance/departures
+	MYPYPATH=conformance:page mypy --config-file= --strict conformance/stand_in
 	if command -v ruff > /dev/null; then ruff check; else \
 		flake8 --max-line-length 100 --extend-ignore E203,W503 \
 			--per-file-ignores '*/test_*.py:N802' $(python) $(python_of_fuzz) $(python_of_bench) \
 			$(python_of_qlog) $(python_of_release) $(python_of_captures) captures/transfer.py \
-			$(python_of_page) $(python_of_page_tests) conformance/rows conformance/departures; fi
+			$(python_of_page) $(python_of_page_tests) conformance/rows conformance/departures conformance/stand_in; fi
 
 # No part of `test`, for no number of seconds is right on every machine.
 bench: build
@@ -284,9 +298,12 @@ install: build lib
 
 dist: tried build lib
 	release/pack $(built) $(built_why) $(library) $(library_shared) bin/$(release)
-	mkdir -p dist
-	tar --sort=name --owner=0 --group=0 --numeric-owner -C bin -czf dist/$(release).tar.gz $(release)
+	release/tarball bin/$(release) dist/$(release).tar.gz
 	@echo dist/$(release).tar.gz
+
+deb: dist
+	release/deb bin/$(release) dist/qaudit_$(shell cat VERSION)-1_amd64.deb
+	@echo dist/qaudit_$(shell cat VERSION)-1_amd64.deb
 
 clean:
 	rm -rf crates/*/out bin dist

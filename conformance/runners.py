@@ -49,7 +49,7 @@ class Parser(argparse.ArgumentParser):
     def add_corpus(self) -> None:
         """The folder with the traces, which may be left out."""
         text = (
-            "a folder with traces/ and all else that lies here; it is this one where none is given"
+            "a folder with traces/ and everything else here; it is this one if none is given"
         )
         self.add_argument(
             "corpus", metavar="CORPUS", type=Path, nargs="?", default=FOLDER, help=text

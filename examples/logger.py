@@ -1,5 +1,5 @@
 #!/usr/bin/env python3
-"""A logger for a sender in Python. Run by itself it writes the trace of a short transfer.
+"""Example logger for a sender in Python. Run it to print a short trace.
 
 Times and durations are in whole microseconds from the start of the connection.
 """

@@ -1,5 +1,5 @@
-//! A logger for a sender in Rust: a module that needs no crate. Its `main` writes the trace of a
-//! short transfer. Times and durations are in whole microseconds from the start of the connection.
+//! Example logger for a sender in Rust: a module that needs no crate. Its `main` prints a short
+//! trace. Times and durations are in whole microseconds from the start of the connection.
 
 use std::fmt::Write;
 

@@ -1,10 +1,9 @@
 /* qaudit.h: an auditor of QUIC loss recovery (RFC 9002), for C and C++.
  *
- * A test of a sender hands in what the sender did, while it runs, and is told at the first departure from
- * the standard. What is handed in is either the text of a trace, in any pieces (qaudit_feed), or one event
- * after another as structs (qaudit_header, qaudit_sent, qaudit_ack, ..), which need no text. Both may be
- * mixed: an event is judged as the line of a trace that says it. docs/format.md of the repository says what
- * each line means, and docs/machine.md by which rules it is judged.
+ * A test passes in what a sender does, while it runs, and learns of the first violation of the standard: as
+ * the text of a trace, in pieces of any size (qaudit_feed), or as one struct per event (qaudit_header,
+ * qaudit_sent, qaudit_ack, ..). You can mix both: an event is judged as the line of a trace that says the
+ * same. docs/format.md of the repository says what each line means, and docs/machine.md has the rules.
  *
  *     qaudit q = {0};
  *     qaudit_trace_header header = {.max_datagram_size = 1200, .role = QAUDIT_SERVER};
@@ -12,7 +11,7 @@
  *     qaudit_header(&q, &header);
  *     qaudit_packet packet = {.time = 0, .number = 0, .size = 1200, .space = QAUDIT_APP,
  *                             .leave = QAUDIT_WINDOW, .eliciting = true, .in_flight = true};
- *     if (qaudit_sent(&q, &packet) != QAUDIT_OPEN) return departure(&q);
+ *     if (qaudit_sent(&q, &packet) != QAUDIT_OPEN) return violation(&q);
  *     qaudit_finish(&q);
  *     qaudit_verdict(&q, &verdict);
  *     qaudit_close(&q);
@@ -20,13 +19,13 @@
  * Link libqaudit.a. It needs malloc, realloc, free, memcpy, memmove and memset of the C library, and nothing
  * else. No function here prints, exits, blocks, starts a thread or keeps a global variable.
  *
- * What a caller must keep to, and nothing checks:
+ * Caller's obligations, which are not checked:
  *   - A `qaudit` is all zero (`qaudit q = {0};`), or what these functions last left in it.
  *   - One that is open is not copied, and is given to one call at a time. It may go from thread to thread
- *     where something orders that: a lock, a join, a queue.
- *   - Pointers are not NULL, also where no byte stands there, and lead to as much as the function says.
- *     What is written does not overlap what is read. A `bool` is 0 or 1.
- * Each order of calls has an answer, which the functions below say.
+ *     if something orders that: a lock, a join, a queue.
+ *   - Pointers are not NULL, even for 0 bytes, and point to as much as the function says. Output does not
+ *     overlap input. A `bool` is 0 or 1.
+ * Any order of calls has an answer, which the functions below document.
  */
 #ifndef QAUDIT_H
 #define QAUDIT_H
@@ -62,7 +61,7 @@ enum {
 };
 
 /* Opens `q` for a new audit. What was open before is closed.
- * Returns QAUDIT_OPEN, or QAUDIT_CLOSED where there is no memory. */
+ * Returns QAUDIT_OPEN, or QAUDIT_CLOSED if there is no memory. */
 qaudit_status_t qaudit_open(qaudit *q);
 
 /* Closes `q` and gives its memory back. A closed one stays closed. */
@@ -70,15 +69,15 @@ void qaudit_close(qaudit *q);
 
 /* ---- text */
 
-/* Takes the next `count` bytes of a trace. They may be any part of it: pieces need not end where lines do.
+/* Takes the next `count` bytes of a trace. Pieces need not end at the end of a line.
  * Returns how far the audit is then, 0 to 3, or QAUDIT_CLOSED. Once the verdict is fixed, and after
  * qaudit_finish, it changes nothing. */
 qaudit_status_t qaudit_feed(qaudit *q, const uint8_t *bytes, size_t count);
 
 /* ---- events
  *
- * Each of these takes one line of a trace by what it says, and is judged as that line is. Each returns how
- * far the audit is then, 0 to 3, QAUDIT_CLOSED, QAUDIT_OUT_OF_RANGE or QAUDIT_INSIDE_LINE, and qaudit_ack
+ * Each of these takes an event, which is judged as the line of a trace that says it. Each returns how far
+ * the audit is then, 0 to 3, QAUDIT_CLOSED, QAUDIT_OUT_OF_RANGE or QAUDIT_INSIDE_LINE, and qaudit_ack
  * and qaudit_lost also QAUDIT_NOT_TAKEN. Once the verdict is fixed, and after qaudit_finish, they change
  * nothing. The header comes first: an event before it fixes the verdict, as it does in a trace.
  *
@@ -91,11 +90,11 @@ enum { QAUDIT_INITIAL = 0, QAUDIT_HANDSHAKE = 1, QAUDIT_APP = 2 };  /* packet nu
 enum { QAUDIT_CLIENT = 0, QAUDIT_SERVER = 1 };                      /* roles */
 enum { QAUDIT_MICROSECONDS = 0, QAUDIT_NANOSECONDS = 1 };           /* units of times */
 enum { QAUDIT_NEWRENO = 0, QAUDIT_REPORTED = 1 };                   /* whose congestion window counts */
-enum { QAUDIT_MUST = 0, QAUDIT_MAY = 1 };                           /* packets that lie behind are lost, or may be */
+enum { QAUDIT_MUST = 0, QAUDIT_MAY = 1 };                           /* packets past the threshold are lost, or may be */
 
-/* A header (docs/format.md, "Header"), which is one of version 3. A value with a `has_` flag counts where the
- * flag is set, and is the default elsewhere. So all zero, but for max_datagram_size, asks what a header of
- * version 1 asks of a client. */
+/* A header (docs/format.md, "Header"), of version 3. A value with a `has_` flag counts if the flag is set;
+ * otherwise it is the default. So all zero, except for max_datagram_size, means the same as a header of
+ * version 1 of a client. */
 typedef struct qaudit_trace_header {
     uint64_t max_datagram_size;  /* in bytes, 1200 to 65527 */
     uint64_t max_ack_delay;      /* of the peer, 0 to 16383000 microseconds in the unit; else 25000 */
@@ -109,21 +108,21 @@ typedef struct qaudit_trace_header {
     uint32_t role;               /* QAUDIT_CLIENT or QAUDIT_SERVER */
     uint32_t unit;               /* QAUDIT_MICROSECONDS or QAUDIT_NANOSECONDS */
     uint32_t window;             /* QAUDIT_NEWRENO or QAUDIT_REPORTED */
-    uint32_t loss_by_number;     /* QAUDIT_MUST, or QAUDIT_MAY where the window is a reported one */
+    uint32_t loss_by_number;     /* QAUDIT_MUST, or QAUDIT_MAY if the window is a reported one */
     bool has_max_ack_delay;
     bool has_initial_rtt;
     bool has_initial_window;
     bool has_timer_late_us;
     bool has_packet_threshold;
     bool refresh_min_rtt;        /* persistent congestion sets min_rtt to the latest sample */
-    bool window_overshoot;       /* a packet may go out wherever the bytes in flight are below the window */
+    bool window_overshoot;       /* a packet may be sent whenever the bytes in flight are below the window */
     bool sample_eliciting_only;  /* a sample of the RTT needs an ack-eliciting largest packet */
 } qaudit_trace_header;
 
 /* Takes the header. */
 qaudit_status_t qaudit_header(qaudit *q, const qaudit_trace_header *header);
 
-/* By whose leave an in-flight packet goes out. */
+/* Why an in-flight packet was allowed out. */
 enum { QAUDIT_WINDOW = 0, QAUDIT_PROBE = 1, QAUDIT_RECOVERY = 2 };
 
 typedef struct qaudit_packet {
@@ -139,7 +138,7 @@ typedef struct qaudit_packet {
 /* Takes a packet that was sent. */
 qaudit_status_t qaudit_sent(qaudit *q, const qaudit_packet *packet);
 
-/* The packet numbers from `least` to `greatest`, both among them. */
+/* The packet numbers from `least` to `greatest`, inclusive. */
 typedef struct qaudit_range {
     uint64_t least;
     uint64_t greatest; /* not below least */
@@ -152,10 +151,10 @@ typedef struct qaudit_acknowledgment {
     bool app_limited; /* the sender did not use the window that it had (RFC 9002, section 7.8) */
 } qaudit_acknowledgment;
 
-/* Takes an acknowledgment that came, of `count` ranges in any order, at least one. */
+/* Records an acknowledgment that came, of `count` ranges in any order, at least one. */
 qaudit_status_t qaudit_ack(qaudit *q, const qaudit_acknowledgment *ack, const qaudit_range *ranges, size_t count);
 
-/* Takes packets that the sender declared lost, by `count` ranges in any order, at least one. */
+/* Records packets that the sender declared lost, as `count` ranges in any order, at least one. */
 qaudit_status_t qaudit_lost(qaudit *q, uint64_t time, uint32_t space, const qaudit_range *ranges, size_t count);
 
 /* What the loss detection timer fired for: a packet old enough to be lost, or a probe timeout. */
@@ -167,19 +166,19 @@ typedef struct qaudit_fired_timer {
     uint32_t space;
 } qaudit_fired_timer;
 
-/* Takes a timer that fired. */
+/* Records a timer that fired. */
 qaudit_status_t qaudit_timer(qaudit *q, const qaudit_fired_timer *timer);
 
-/* Takes that the keys of a space were discarded: QAUDIT_INITIAL or QAUDIT_HANDSHAKE. */
+/* Records that a space's keys were discarded: QAUDIT_INITIAL or QAUDIT_HANDSHAKE. */
 qaudit_status_t qaudit_discard(qaudit *q, uint64_t time, uint32_t space);
 
-/* Takes that the handshake was confirmed. */
+/* Records that the handshake was confirmed. */
 qaudit_status_t qaudit_confirmed(qaudit *q, uint64_t time);
 
-/* Takes that the keys of the Handshake space are there. */
+/* Records that the keys of the Handshake space are available. */
 qaudit_status_t qaudit_keys(qaudit *q, uint64_t time);
 
-/* What a sender reports of itself, to be compared. A value counts where its flag is set. */
+/* What a sender reports of itself, to be compared. A value counts if its flag is set. */
 typedef struct qaudit_metrics_report {
     uint64_t time;
     uint64_t window;          /* in bytes, as the two below */
@@ -198,12 +197,12 @@ typedef struct qaudit_metrics_report {
     bool has_rttvar;
 } qaudit_metrics_report;
 
-/* Takes a report of the sender. */
+/* Records a report of the sender. */
 qaudit_status_t qaudit_metrics(qaudit *q, const qaudit_metrics_report *metrics);
 
 /* ---- the verdict */
 
-/* Says that nothing follows: the verdict is that of all that was handed in.
+/* Says that nothing follows: the verdict is that of everything so far.
  * Returns QAUDIT_FINISHED, QAUDIT_OUT_OF_MEMORY or QAUDIT_CLOSED. */
 qaudit_status_t qaudit_finish(qaudit *q);
 
@@ -212,11 +211,11 @@ qaudit_status_t qaudit_status(qaudit *q);
 
 enum { QAUDIT_ACCEPTED = 1, QAUDIT_REFUSED = 2, QAUDIT_UNREADABLE = 3 };
 
-/* The state of the machine after the good lines (docs/machine.md); bytes, and times in the unit. */
+/* The state of the model after the good lines (docs/machine.md); bytes, and times in the unit. */
 typedef struct qaudit_totals {
     uint64_t events;
     uint64_t window;
-    uint64_t ssthresh; /* 0 where there is none */
+    uint64_t ssthresh; /* 0 if there is none */
     uint64_t bytes_in_flight;
     uint64_t latest_rtt;
     uint64_t min_rtt;
@@ -233,20 +232,20 @@ typedef struct qaudit_told {
     uint64_t line;        /* the first line that is not good, counted from 1, each event a line; or 0 */
     uint32_t subject;     /* the key or the reported value that it is about, for qaudit_key_name; or 0 */
     qaudit_totals totals; /* those before that line */
-    bool has_totals;      /* not where no header was read; all totals are 0 then */
+    bool has_totals;      /* false if no header was read; all totals are 0 then */
 } qaudit_told;
 
-/* Writes the verdict to `out` where it is known: at QAUDIT_FIXED and QAUDIT_FINISHED.
- * Returns whether it is; `out` is left as it was where not. */
+/* Writes the verdict to `out` if it is known: at QAUDIT_FIXED and QAUDIT_FINISHED.
+ * Returns whether it is; if not, `out` stays as it was. */
 bool qaudit_verdict(qaudit *q, qaudit_told *out);
 
 /* ---- texts
  *
- * Each of these returns how many bytes its text has, and writes it to the front of `out` where `room` is at
- * least that; else it leaves `out` as it was. No NUL is written. 0 means that there is no text. */
+ * Each of these returns how many bytes its text has, and writes it to the front of `out` if `room` is at
+ * least that; otherwise `out` stays as it was. No NUL is written. 0 means that there is no text. */
 
-/* The report, as `qaudit check` writes it: at most 400 bytes. 0 where no verdict is known, or no memory is
- * there for the text. */
+/* The report, as `qaudit check` writes it: at most 400 bytes. 0 if no verdict is known, or there is no
+ * memory for the text. */
 size_t qaudit_report(qaudit *q, uint8_t *out, size_t room);
 
 /* The first line of the report, with its LF: at most 100 bytes. */

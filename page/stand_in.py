@@ -3,7 +3,7 @@
 
 It knows `--json` and `--rows` of standard input, each with `--all` and without: of a trace of the
 corpus by its report, and of any other by what sender.py makes of it, whose lines are only as good
-as Python's reader of JSON finds them up to the first departure. The tests of pages run it where no
+as Python's reader of JSON finds them up to the first violation. The tests of pages run it if no
 program that was proved is named.
 """
 

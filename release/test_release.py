@@ -1,11 +1,15 @@
 #!/usr/bin/env python3
-"""Shows what `prove`, `unproved` and `minutes` make of the answers of a kit.
+"""Shows what `prove`, `unproved` and `minutes` make of the answers of a kit, and what a release is
+made of.
 
-Each test has a small repository in a temporary folder, and a stand-in for `rt`.
+Each test has a small repository in a temporary folder, or programs that are no more than that, and
+a stand-in for `rt`.
 """
 
+import hashlib
 import json
 import os
+import re
 import shutil
 import signal
 import subprocess
@@ -13,6 +17,7 @@ import sys
 import time
 import unittest
 from pathlib import Path
+from typing import Any
 
 HERE = Path(__file__).resolve().parent
 sys.path.append(str(HERE.parent / "conformance"))
@@ -179,6 +184,136 @@ class Proving(Repository):
         words = ("release/prove", "--write-seconds", "seconds", "bin", "other")
         self.assertEqual(self.run_program(*words)[0], 0)
         self.assertIsInstance(json.loads((self.top / "seconds").read_text()), dict)
+
+
+class Proofs(Repository):
+    """What is said of the proofs."""
+
+    def test_from_nothing_and_again(self) -> None:
+        self.run_program("release/prove", "bin", "the_program")
+        lines = (self.top / "bin/PROVED").read_text().splitlines()
+        self.assertEqual(lines[0], "kit: said version")
+        self.assertEqual(lines[1], "commit: unknown")
+        self.assertEqual(lines[2], "result: rt ci of 3 crates: 3 passed, 0 failed")
+        digest = hashlib.sha256(b"a program").hexdigest()
+        self.assertEqual(lines[3:], [f"the-program: sha256 {digest}"])
+        self.folder("crates/qa_base/out/incremental")
+        self.run_program("release/prove", "bin", "the_program")
+        text = (self.top / "bin/PROVED").read_text()
+        self.assertIn("result: rt all check of 3 crates, over what earlier checks left", text)
+
+
+class Releases(unittest.TestCase):
+    """Releases of programs that are given: nothing is proved here."""
+
+    def setUp(self) -> None:
+        self.top = new_folder(self)
+        (self.top / "kit").mkdir()
+        write_program(self.top / "kit/rt", "print('a kit')\n")
+        made = self.top / "bin"
+        made.mkdir()
+        source = self.top / "main.c"
+        source.write_text("int main(void) { return 0; }\n")
+        self.programs = [made / name for name in ("qaudit", "qaudit-why", "lib.a", "lib.so")]
+        program, why, library, shared = self.programs
+        subprocess.run(["cc", "-o", program, source], check=True)
+        shutil.copy(program, why)
+        subprocess.run(["cc", "-c", "-o", self.top / "main.o", source], check=True)
+        subprocess.run(["ar", "rcsD", library, self.top / "main.o"], check=True)
+        subprocess.run(["cc", "-shared", "-fPIC", "-o", shared, source], check=True)
+        digest = hashlib.sha256(program.read_bytes()).hexdigest()
+        (made / "PROVED").write_text(f"kit: a kit\nqaudit: sha256 {digest}\n")
+
+    def run_words(self, *words: object, umask: int = 0o022, **names: str) -> Any:
+        """How a command of the repository ends."""
+        path = f"{self.top / 'kit'}:{os.environ['PATH']}"
+        names = {"DEBEMAIL": "someone@lists.debian.org", **names}
+        return subprocess.run(
+            [str(it) for it in words],
+            cwd=HERE.parent,
+            env={**os.environ, "PATH": path, "SOURCE_DATE_EPOCH": "1700000000", **names},
+            umask=umask,
+            capture_output=True,
+            text=True,
+            check=False,
+        )
+
+    def packed(self, place: str, umask: int) -> Path:
+        """A release."""
+        folder = self.top / place / "qaudit-0-x86_64-linux"
+        folder.parent.mkdir()
+        ended = self.run_words("release/pack", *self.programs, folder, umask=umask)
+        self.assertEqual((ended.returncode, ended.stderr), (0, ""))
+        return folder
+
+    def test_two_builds_give_one_tarball(self) -> None:
+        tarballs = []
+        for place, umask, zone in (("one", 0o022, "UTC"), ("two", 0o077, "Asia/Tokyo")):
+            folder = self.packed(place, umask)
+            file = self.top / f"{place}.tar.gz"
+            ended = self.run_words("release/tarball", folder, file, umask=umask, TZ=zone)
+            self.assertEqual((ended.returncode, ended.stderr), (0, ""))
+            told = (self.top / f"{place}.tar.gz.sha256").read_text().split()[0]
+            self.assertEqual(told, hashlib.sha256(file.read_bytes()).hexdigest())
+            tarballs.append(file.read_bytes())
+            time.sleep(1.1)
+        self.assertEqual(tarballs[0], tarballs[1])
+
+    def test_a_tarball_installs(self) -> None:
+        file, there, to = self.top / "one.tar.gz", self.top / "there", self.top / "installed"
+        self.run_words("release/tarball", self.packed("one", 0o077), file)
+        there.mkdir()
+        subprocess.run(["tar", "xzf", file, "--strip-components", "1"], cwd=there, check=True)
+        checked = ["sha256sum", "--check", "--quiet", "--strict", "SHA256SUMS"]
+        subprocess.run(checked, cwd=there, check=True)
+        told = (there / "PROVED").read_text()
+        self.assertTrue(told.startswith("kit: a kit\nqaudit: sha256 "))
+        subprocess.run([there / "install", to], check=True)
+        version = (HERE.parent / "VERSION").read_text().strip()
+        for name in ("qaudit-page", "qaudit-matrix", "qlog-to-trace"):
+            command = [str(to / "bin" / name), "--version"]
+            ended = subprocess.run(command, capture_output=True, text=True, check=True)
+            self.assertEqual(ended.stdout, f"{name} {version}\n")
+        log = HERE.parent / "conformance/real/traces/ngtcp2-past-window.qlog"
+        command = [str(to / "bin/qlog-to-trace"), str(log)]
+        ended = subprocess.run(command, capture_output=True, text=True, check=True)
+        self.assertTrue(ended.stdout.startswith('{"event":"header"'))
+        self.assertTrue((there / "ci/audit").exists())
+        self.assertTrue((to / "share/doc/qaudit/PROVED").exists())
+
+    def test_pages_name_this_version(self) -> None:
+        version = (HERE.parent / "VERSION").read_text().strip()
+        for name in ("README.md", "Dockerfile", "docs/ci.md", "ci/gitlab.yml"):
+            named = re.findall(r"qaudit-(\d+\.\d+\.\d+)", (HERE.parent / name).read_text())
+            self.assertEqual(set(named), {version}, name)
+
+    def test_what_was_not_proved_is_not_packed(self) -> None:
+        self.programs[1].write_text("another")
+        ended = self.run_words("release/pack", *self.programs, self.top / "folder")
+        self.assertEqual(ended.returncode, 1)
+        self.assertIn("does not say that", ended.stderr)
+        self.assertFalse((self.top / "folder").exists())
+
+    @unittest.skipUnless(shutil.which("dpkg-deb"), "there is no dpkg-deb")
+    def test_a_debian_package(self) -> None:
+        packages = []
+        for place, umask in (("one", 0o022), ("two", 0o077)):
+            file = self.top / f"{place}.deb"
+            folder = self.packed(place, umask)
+            ended = self.run_words("release/deb", folder, file, umask=umask)
+            self.assertEqual((ended.returncode, ended.stderr), (0, ""))
+            packages.append(file.read_bytes())
+        self.assertEqual(packages[0], packages[1])
+        self.run_words("dpkg-deb", "--extract", self.top / "one.deb", self.top / "root")
+        ended = self.run_words(self.top / "root/usr/bin/qlog-to-trace", "--version")
+        self.assertTrue(ended.stdout.startswith("qlog-to-trace "), ended.stderr)
+
+    @unittest.skipUnless(shutil.which("lintian"), "there is no lintian")
+    def test_lintian_has_no_errors(self) -> None:
+        file = self.top / "qaudit_0.3.0-1_amd64.deb"
+        self.run_words("release/deb", self.packed("one", 0o022), file)
+        ended = self.run_words("lintian", "--allow-root", "--fail-on", "error", file)
+        self.assertEqual(ended.returncode, 0, ended.stdout + ended.stderr)
 
 
 class Estimates(Repository):

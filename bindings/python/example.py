@@ -1,8 +1,8 @@
 #!/usr/bin/env python3
-"""An example: an auditor hooked into a small sender, and a test that fails at the first departure.
+"""An example: an auditor hooked into a small sender, and a test that fails at the first violation.
 
-The sender knows its window and nothing else of loss recovery. It tells its hook what it does, in the
-lines where a real one would.
+The sender knows its window and nothing else of loss recovery. It tells its hook what it does, in
+the lines where a real one would.
 """
 
 import unittest

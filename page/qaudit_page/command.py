@@ -13,11 +13,11 @@ from .texts import visible
 from .version import version
 
 DESCRIPTION = """\
-Makes a page of a trace: one HTML file that says the verdict of qaudit and shows the run. It opens
-in any browser, with no server and no network."""
+Makes a page of a trace: one HTML file with the verdict of qaudit and diagrams of the run. It opens
+in any browser, without a server or a network."""
 ENDING = """\
-The exit status is 0 where the page is written, 2 where the trace is more than a page takes, 3 where
-a file, a program or dygraphs is missing or failed, and 64 where the arguments are wrong."""
+The exit status is 0 if the page is written, 2 if the trace is more than a page takes, 3 if a file,
+a program or dygraphs is missing or failed, and 64 for wrong arguments."""
 
 
 class Parser(argparse.ArgumentParser):
@@ -39,9 +39,9 @@ def line(text: str) -> int:
 
 def add_shared(parser: argparse.ArgumentParser) -> None:
     """The options that both commands have."""
-    text = "the script of dygraphs 2.2; without it that of Debian's package libjs-dygraphs"
+    text = "path to dygraphs 2.2 (default: the one from Debian's libjs-dygraphs)"
     parser.add_argument("--dygraphs", type=Path, metavar="FILE", help=text)
-    text = "the program qaudit-why; without it the one on the path, or beside this command"
+    text = "path to qaudit-why (default: the one on the path, or next to this command)"
     parser.add_argument("--program", type=Path, metavar="FILE", help=text)
     told = f"%(prog)s {version()}"
     text = "prints the version and ends"
@@ -51,16 +51,16 @@ def add_shared(parser: argparse.ArgumentParser) -> None:
 def arguments() -> argparse.Namespace:
     """What the command is told."""
     parser = Parser(prog="qaudit-page", description=DESCRIPTION, epilog=ENDING)
-    text = "the first line that is shown"
+    text = "the first line to show"
     parser.add_argument("--from", dest="first", type=line, metavar="N", help=text)
-    text = "the last line that is shown"
+    text = "the last line to show"
     parser.add_argument("--to", dest="last", type=line, metavar="N", help=text)
-    text = "the title of the page; without it the name of the file"
+    text = "the title of the page (default: the name of the file)"
     parser.add_argument("--title", metavar="TEXT", help=text)
-    text = "where the page is written; without it on standard output"
+    text = "the file to write (default: standard output)"
     parser.add_argument("--output", type=Path, metavar="FILE", help=text)
     add_shared(parser)
-    text = "the trace, also compressed by gzip, xz or zstd; without it standard input"
+    text = "the trace, which gzip, xz or zstd may have compressed (default: standard input)"
     parser.add_argument("trace", type=Path, metavar="TRACE", nargs="?", help=text)
     return parser.parse_args()
 

@@ -32,7 +32,7 @@ def departures_of(verdict: Verdict) -> list[Departures]:
     try:
         return [departures(said) for said in verdict.said.get("departures", [])]
     except (KeyError, TypeError, ValueError, AttributeError) as fault:
-        raise Failure(f"qaudit-why wrote unknown departures: {fault!r}") from fault
+        raise Failure(f"qaudit-why wrote unknown violations: {fault!r}") from fault
 
 
 def departures(said: Object) -> Departures:
@@ -63,8 +63,8 @@ def section_of(verdict: Verdict, unit: str) -> str:
     head = "".join(f'<th scope="col">{name}</th>' for name in names)
     rows = "".join(map(row_of, kinds))
     return (
-        '<section id="departures"><h2>All departures <small>from what a sender should do; behind'
-        f" each the audit goes on</small></h2><p>{sentence_of(verdict, kinds)}</p>"
+        '<section id="departures"><h2>All violations <small>the audit continues after each'
+        f"</small></h2><p>{sentence_of(verdict, kinds)}</p>"
         f"{end_of(verdict.end, unit)}"
         f"<table><thead><tr>{head}</tr></thead><tbody>{rows}</tbody></table></section>"
     )
@@ -75,14 +75,14 @@ def sentence_of(verdict: Verdict, kinds: Iterable[Departures]) -> str:
     total, events = sum(kind.count for kind in kinds), verdict.said.get("events")
     times = "once" if total == 1 else f"{count(total)} times"
     among = f" in {plural(events, 'event')}" if isinstance(events, int) else ""
-    begins = f"The sender departs <b>{times}{among}</b>."
+    begins = f"The sender breaks rules <b>{times}{among}</b>."
     end = verdict.end
     if end.kind == "accepted":
-        return f"{begins} All else that the trace tells keeps to RFC 9002."
+        return f"{begins} Everything else in the trace follows RFC 9002."
     line = link(end.line, f"line {count(end.line)}")
     ends = "is refused" if end.kind == "refused" else "cannot be read"
     what = f"{html(end.rule)} {html(end.name)}"
-    return f"{begins} Past that the trace {ends} at {line}: <b>{what}.</b> {meaning_of(end.rule)}"
+    return f"{begins} After that the trace {ends} at {line}: <b>{what}.</b> {meaning_of(end.rule)}"
 
 
 def end_of(end: Verdict, unit: str) -> str:

@@ -125,7 +125,7 @@ def of_losses(amounts: Amounts) -> Facts:
 def of_numbers(amounts: Amounts) -> Facts:
     """The number that decides."""
     if amounts.has("greatest_sent"):
-        return [("greatest sent in its space", str(amounts.number("greatest_sent")))]
+        return [("highest sent in its space", str(amounts.number("greatest_sent")))]
     return [("never sent", f"{amounts.said['space']} {amounts.number('unsent')}")]
 
 
@@ -162,11 +162,11 @@ def of_probe(amounts: Amounts) -> Facts:
 
 
 def of_recovery(amounts: Amounts) -> Facts:
-    """How many packets went out by leave of recovery."""
+    """How many recovery packets were sent."""
     if not amounts.has("spent_packets"):
         return [("entries into recovery before it", "none")]
     spent = str(amounts.number("spent_packets"))
-    return [("packets by leave of recovery since the last entry", spent), ("allowed", "1")]
+    return [("recovery packets since the last entry", spent), ("allowed", "1")]
 
 
 def set_for(amounts: Amounts) -> Facts:
@@ -232,7 +232,7 @@ def of_report(amounts: Amounts) -> Facts:
         differs = f", {shown['difference']} apart" if shown["difference"] else ""
         allowed = f", {shown['slack']} allowed" if it[f"slack_{unit}"] else ""
         told.append(
-            (name, f"reported {shown['reported']}, the machine has {held}" f"{differs}{allowed}")
+            (name, f"reported {shown['reported']}, expected {held}" f"{differs}{allowed}")
         )
     return told
 

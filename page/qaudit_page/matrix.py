@@ -5,7 +5,7 @@ import os
 import re
 from collections import Counter
 from collections.abc import Iterable, Iterator
-from dataclasses import asdict, dataclass, replace
+from dataclasses import dataclass, replace
 from pathlib import Path
 from typing import Any
 from urllib.parse import quote
@@ -16,8 +16,9 @@ from .failure import Failure
 from .files import as_text, name_of, read, write
 from .library import resource
 from .page import MARKS, Wanted, filled, page_of, policy
-from .program import find, verdict_of
+from .program import find, verdict_of, whole_verdict_of
 from .texts import count, html, plural
+from .violations import Violation, violations_of
 
 OTHER = "other"
 FAILED = "failed"
@@ -25,6 +26,7 @@ KINDS = ("accepted", "refused", "unreadable", FAILED)
 ENDING = ".trace"
 # The form of the file of verdicts that later ones are compared with.
 VERSION = 1
+RECORDED = ("key", "kind", "line", "rule", "name", "fault", "page")
 
 
 @dataclass(frozen=True)
@@ -42,6 +44,9 @@ class Result:
     page: str = ""
     # Whether it is refused, and the conversion of its log may be the cause.
     is_doubtful: bool = False
+    # The path of the trace, and every violation in it, if they were asked for.
+    trace: str = ""
+    violations: tuple[Violation, ...] = ()
 
     @property
     def told(self) -> str:
@@ -58,32 +63,44 @@ class Job:
     page: Path | None = None
     program: Path | None = None
     dygraphs: Path | None = None
+    # Whether every violation is wanted, and not only the first.
+    is_whole: bool = False
 
 
 def judged(job: Job) -> Result:
     """Audits a trace, and writes its page where one is asked for."""
     try:
         if job.page is None:
+            ask = whole_verdict_of if job.is_whole else verdict_of
             data = read(job.trace)
-            verdict = verdict_of(find(job.program), data)
+            verdict, fault = ask(find(job.program), data), ""
             notes = notes_of(data.split(b"\n", FIRST_LINES), verdict)
         else:
             # Other traces have the other processors.
-            made = page_of(Wanted(job.trace, job.program, job.dygraphs, job.key, readers=0))
+            wanted = Wanted(job.trace, job.program, job.dygraphs, job.key, readers=0)
+            made = page_of(wanted)
             write(job.page, made.text)
-            verdict, notes = made.verdict, made.notes
+            verdict, notes, fault = made.verdict, made.notes, ""
+        found = violations_of(verdict) if job.is_whole else ()
     except Failure as failure:
         return unshown(job, failure)
-    page, doubt = str(job.page or ""), verdict.kind == "refused" and bool(notes)
     told = (verdict.kind, verdict.line, verdict.rule, verdict.name)
-    return Result(job.key, *told, page=page, is_doubtful=doubt)
+    return Result(
+        job.key,
+        *told,
+        fault=fault,
+        page=str(job.page or ""),
+        is_doubtful=verdict.kind == "refused" and bool(notes),
+        trace=as_text(job.trace),
+        violations=found,
+    )
 
 
 def unshown(job: Job, failure: Failure) -> Result:
     """What became of a trace that has no page: its verdict, where there is one."""
     if job.page is None:
-        return Result(job.key, FAILED, fault=str(failure))
-    found = judged(Job(job.trace, job.key, None, job.program))
+        return Result(job.key, FAILED, fault=str(failure), trace=as_text(job.trace))
+    found = judged(replace(job, page=None))
     return replace(found, fault=found.fault or f"no page: {failure}")
 
 
@@ -165,7 +182,8 @@ def recorded(results: list[Result], named: re.Pattern[str] | None) -> str:
     listed = []
     for result in results:
         case, stacks = place_of(result.key, named)
-        listed.append({**asdict(result), "case": case, "stacks": stacks})
+        told = {name: getattr(result, name) for name in RECORDED}
+        listed.append({**told, "case": case, "stacks": stacks})
     return json.dumps({"version": VERSION, "traces": listed}, indent=1) + "\n"
 
 

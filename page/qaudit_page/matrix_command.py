@@ -11,9 +11,12 @@ from concurrent.futures.process import BrokenProcessPool
 from pathlib import Path
 from typing import NoReturn
 
+from .ci import Listed, annotations, junit, sarif
 from .command import Parser, add_shared
 from .failure import Failure, Status
 from .files import as_text, reason_of, write
+from .known import Known, Seen, compared, known_by, known_in
+from .known import written as known_text
 from .library import dygraphs
 from .matrix import (
     FAILED,
@@ -23,23 +26,23 @@ from .matrix import (
     changes_of,
     judged,
     pattern,
+    place_of,
     recorded,
     table,
     told_before,
     traces_of,
 )
 from .program import find
-from .texts import visible
+from .texts import plural, visible
 
 DESCRIPTION = """\
-Audits many traces and writes a table of their verdicts, an HTML page, to standard output. What is
-found in a directory is each file in it, and below it, that ends in .trace, or in .trace.gz,
-.trace.xz or .trace.zst."""
+Audits many traces and writes an HTML table of their verdicts to standard output. In a directory it
+finds each file, at any depth, that ends in .trace, .trace.gz, .trace.xz or .trace.zst."""
 ENDING = """\
-The exit status is 0 where all are accepted, 1 where one is refused, 2 where one cannot be read, 3
-where a file or a program is missing or failed, and 64 where the arguments are wrong. With --against
-it is 0 where nothing is refused that was not before, and 1 where something is, or by another
-rule."""
+The exit status is 0 if all are accepted, 1 if one is refused, 2 if one cannot be read, 3 if a file
+or a program is missing or failed, and 64 if the arguments are wrong. With --against it is 0 if
+nothing is refused that was not before, and 1 if something is, or by another rule. With --known it
+is 0 if every violation is known, and 1 if one is new."""
 WIDTH = 40
 BAD_IN_NAMES = re.compile(r"[^A-Za-z0-9._-]+")
 
@@ -57,22 +60,42 @@ def arguments() -> argparse.Namespace:
     parser = Parser(prog="qaudit-matrix", description=DESCRIPTION, epilog=ENDING)
     text = "how traces are named without .trace, such as CLIENT_SERVER_CASE: CASE makes the rows"
     parser.add_argument("--pattern", type=a_pattern, metavar="PATTERN", help=text)
-    text = "a directory for a page of each trace, to which the table has links"
+    text = "a directory for a page of each trace, with links from the table"
     parser.add_argument("--pages", type=Path, metavar="DIR", help=text)
-    text = "where the verdicts are written as JSON too, for a later --against"
+    text = "also writes the verdicts as JSON, for a later --against"
     parser.add_argument("--json", type=Path, metavar="FILE", help=text)
-    text = "what --json wrote at a run before: says what is new and what is gone"
+    text = "what --json wrote in an earlier run: shows what is new and what is gone"
     parser.add_argument("--against", type=Path, metavar="OLD.json", help=text)
-    text = "where the table is written; without it on standard output"
+    text = "violations that are known, by case, stacks, rule and field: only new ones fail"
+    parser.add_argument("--known", type=Path, metavar="FILE", help=text)
+    text = "writes all violations of this run into the file of --known"
+    parser.add_argument("--write-known", action="store_true", help=text)
+    text = "writes JUnit XML: a test case for each trace"
+    parser.add_argument("--junit", type=Path, metavar="FILE", help=text)
+    text = "writes SARIF 2.1.0: a result for each violation, at its line"
+    parser.add_argument("--sarif", type=Path, metavar="FILE", help=text)
+    text = "prints an annotation for each violation, as GitHub Actions shows it; needs --output"
+    parser.add_argument("--annotate", action="store_true", help=text)
+    text = "the file for the table (default: standard output)"
     parser.add_argument("--output", type=Path, metavar="FILE", help=text)
-    text = "how many traces at a time; without it as many as there are cores"
+    text = "how many traces at a time (default: one per core)"
     parser.add_argument(
         "--jobs", type=int, default=len(os.sched_getaffinity(0)), metavar="N", help=text
     )
     add_shared(parser)
     text = "traces, or directories of traces"
     parser.add_argument("traces", type=Path, metavar="TRACE|DIRECTORY", nargs="+", help=text)
-    return parser.parse_args()
+    given = parser.parse_args()
+    if given.write_known and not given.known:
+        parser.error("--write-known needs --known FILE")
+    if given.annotate and not given.output:
+        parser.error("--annotate needs --output FILE, since it prints on standard output")
+    return given
+
+
+def is_whole(given: argparse.Namespace) -> bool:
+    """Whether every violation is wanted, and not only the first of each trace."""
+    return bool(given.known or given.junit or given.sarif or given.annotate)
 
 
 def jobs_of(given: argparse.Namespace) -> list[Job]:
@@ -89,7 +112,7 @@ def jobs_of(given: argparse.Namespace) -> list[Job]:
             pages[plain] += 1
             again = "" if pages[plain] == 1 else f"-{pages[plain]}"
             page = given.pages / f"{plain}{again}.html"
-        jobs.append(Job(trace, key, page, given.program, given.dygraphs))
+        jobs.append(Job(trace, key, page, given.program, given.dygraphs, is_whole(given)))
     return jobs
 
 
@@ -127,13 +150,16 @@ def results_of(given: argparse.Namespace) -> list[Result]:
         raise Failure("a process of the audit was killed: is there memory enough?") from fault
 
 
-def status_of(results: list[Result], changes: list[Change] | None) -> Status:
-    """The worst of all verdicts, or whether anything is worse than before."""
+def status_of(
+    results: list[Result], changes: list[Change] | None, new: list[Seen] | None
+) -> Status:
+    """The worst of all verdicts, or whether anything is worse than before or not known."""
     kinds = {result.kind for result in results}
     if FAILED in kinds:
         return Status.FAULT
-    if changes is not None:
-        return Status.REFUSED if any(it.is_worse for it in changes) else Status.WRITTEN
+    if changes is not None or new is not None:
+        is_worse = any(it.is_worse for it in changes or [])
+        return Status.REFUSED if is_worse or new else Status.WRITTEN
     if "unreadable" in kinds:
         return Status.UNSHOWN
     return Status.REFUSED if "refused" in kinds else Status.WRITTEN
@@ -147,22 +173,68 @@ def tell(changes: list[Change]) -> None:
             print(f"{visible(it.key)}: {visible(it.now)}, before {before}", file=sys.stderr)
 
 
+class Ci:
+    """What the options for CI ask for."""
+
+    def __init__(self, given: argparse.Namespace) -> None:
+        self.given = given
+        self.known: set[Known] | None = None
+        if given.known and not given.write_known:
+            self.known = known_in(given.known)
+
+    def place(self, result: Result) -> tuple[str, str]:
+        """The case and the stacks of a trace."""
+        return place_of(result.key, self.given.pattern)
+
+    def write(self, results: list[Result]) -> list[Seen] | None:
+        """Writes all files, and says what is new or gone. Returns the new violations, or None if
+        nothing says which are known."""
+        given = self.given
+        seen = [
+            Seen(result.key, it, known_by(*self.place(result), it))
+            for result in results
+            for it in result.violations
+        ]
+        failed = sum(result.kind == FAILED for result in results)
+        if given.write_known and failed:
+            text = f"{plural(failed, 'trace')} failed, so {as_text(given.known)} is not written"
+            raise Failure(text)
+        if given.write_known:
+            write(given.known, known_text(seen))
+            self.known = {it.as_known for it in seen}
+        listed = Listed(results, self.place, self.known)
+        if given.junit:
+            write(given.junit, junit(listed))
+        if given.sarif:
+            write(given.sarif, sarif(listed))
+        if given.annotate:
+            write(None, annotations(listed))
+        if self.known is None:
+            return None
+        found = compared(seen, map(self.place, results), self.known)
+        for line in found.lines():
+            print(visible(line), file=sys.stderr)
+        return found.new
+
+
 def main() -> Status:
     """Writes the table."""
     given = arguments()
     try:
         before = told_before(given.against) if given.against else None
+        ci = Ci(given)
         results = results_of(given)
         changes = None if before is None else changes_of(results, before)
         beside = given.output.parent if given.output else Path()
         write(given.output, table(results, given.pattern, beside, changes))
         if given.json:
             write(given.json, recorded(results, given.pattern))
+        new = ci.write(results)
     except Failure as failure:
         print(f"qaudit-matrix: {visible(str(failure))}", file=sys.stderr)
         return failure.status
     tell(changes or [])
-    return status_of(results, changes)
+    return status_of(results, changes, new)
 
 
 def program() -> NoReturn:

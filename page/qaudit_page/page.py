@@ -165,7 +165,7 @@ def html_of_lines(text: str) -> str:
 def sentence(verdict: Verdict) -> str:
     """The verdict in a sentence."""
     if verdict.kind == "accepted":
-        told = "In all that the trace tells, the sender kept to RFC 9002."
+        told = "In everything that the trace shows, the sender followed RFC 9002."
         return f"<b>Accepted.</b> {told}"
     word = verdict.kind.capitalize()
     line = link(verdict.line, f"line {count(verdict.line)}")

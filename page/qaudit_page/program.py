@@ -176,3 +176,12 @@ def verdict_of(program: str, data: bytes) -> Verdict:
     """What the program says of the bytes of a trace."""
     with Run(program, STRICT.verdict, data) as run:
         return verdict_by(run)
+
+
+def whole_verdict_of(program: str, data: bytes) -> Verdict:
+    """The same with every violation, if the program can go on after one."""
+    try:
+        with Run(program, PAST.verdict, data) as run:
+            return verdict_by(run)
+    except UnknownOptionError:
+        return verdict_of(program, data)

@@ -16,13 +16,13 @@ class Meaning(NamedTuple):
 FORMAT = "trace format"
 # fmt: off
 RULES = {
-    "V1": Meaning("time-back", "An event has an earlier time than the event before it.", FORMAT),
-    "V2": Meaning("loss-owed", "Packets were found lost, and something else happened before they"
-                  " were declared lost.", "RFC 9002, 6.1, A.10"),
-    "V3": Meaning("loss-not-owed", "Packets were declared lost in a space where none had been found"
-                  " lost.", "RFC 9002, 6.1, A.10"),
-    "V4": Meaning("loss-set", "The packets that were declared lost are not those that had been"
-                  " found lost.", "RFC 9002, 6.1, A.10"),
+    "V1": Meaning("time-back", "Time goes back.", FORMAT),
+    "V2": Meaning("loss-owed", "Something else happened after a loss was detected and before it"
+                  " was declared.", "RFC 9002, 6.1, A.10"),
+    "V3": Meaning("loss-not-owed", "Packets were declared lost in a space that had none detected"
+                  " as lost.", "RFC 9002, 6.1, A.10"),
+    "V4": Meaning("loss-set", "The packets that were declared lost are not those that were"
+                  " detected as lost.", "RFC 9002, 6.1, A.10"),
     "V5": Meaning("space-gone", "A packet number space was used after its keys had been"
                   " discarded.", "RFC 9002, 6.4"),
     "V6": Meaning("number-not-higher", "A packet number is not above all that were sent in its"
@@ -35,7 +35,7 @@ RULES = {
                   " allows, and the entry is spent or there was none.", "RFC 9002, 7.3.2"),
     "V10": Meaning("ack-unsent", "An acknowledgment covers a packet that was never sent.",
                    "RFC 9000, 13.1"),
-    "V11": Meaning("timer-not-set", "A timer fired where no timer is set.",
+    "V11": Meaning("timer-not-set", "A timer fired although no timer is set.",
                    "RFC 9002, 6.2, A.8"),
     "V12": Meaning("timer-other", "A timer fired that is not the one that is set.",
                    "RFC 9002, A.8, A.9"),
@@ -45,13 +45,13 @@ RULES = {
                    " due.", "RFC 9002, 6.2.4"),
     "V15": Meaning("not-confirmed", "Handshake keys were discarded before the handshake was"
                    " confirmed.", "RFC 9001, 4.9.2"),
-    "V16": Meaning("metric", "A value that the sender reports differs from the machine's.", FORMAT),
-    "V17": Meaning("owed-at-end", "The trace ends while packets that were found lost are not"
-                   " declared lost.", "RFC 9002, 6.1, A.10"),
-    "V18": Meaning("timer-late", "An event comes later behind the deadline of a timer than the"
+    "V16": Meaning("metric", "A reported value differs from the model's.", FORMAT),
+    "V17": Meaning("owed-at-end", "The trace ends before a detected loss is declared.",
+                   "RFC 9002, 6.1, A.10"),
+    "V18": Meaning("timer-late", "An event comes later after the deadline of a timer than the"
                    " header allows.", "RFC 9002, 6.2"),
-    "V19": Meaning("collapse-missing", "The window that is reported behind persistent congestion is"
-                   " too great.", "RFC 9002, 7.6.2"),
+    "V19": Meaning("collapse-missing", "The window was not reduced after persistent congestion.",
+                   "RFC 9002, 7.6.2"),
 }
 FAULTS = {
     "F1": Meaning("not-json", "The line is not JSON.", FORMAT),

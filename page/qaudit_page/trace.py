@@ -221,6 +221,6 @@ def trace_of(data: bytes, rows: Iterable[Rows]) -> Trace:
         for piece in rows:
             trace.take(piece)
     except (KeyError, TypeError, ValueError, IndexError, AttributeError) as fault:
-        text = f"qaudit-why wrote an unknown row behind line {trace.next_line - 1}: {fault!r}"
+        text = f"qaudit-why wrote an unknown row after line {trace.next_line - 1}: {fault!r}"
         raise Failure(text) from fault
     return trace

@@ -136,7 +136,7 @@ class Using(Browsing):
         self.show(self.page)
         self.assertEqual(self.selected(), 84)
         self.assertIn("refused V16 metric window", self.text("tr.selected"))
-        self.assertIn("the machine stops before", self.text("tr.selected"))
+        self.assertIn("the model stops before", self.text("tr.selected"))
         self.assertIn("not judged", self.text("tr.selected + tr"))
         self.assertLessEqual(
             self.browser.run("return document.querySelectorAll('#rows tr').length"), 24
@@ -377,8 +377,8 @@ class Past(Browsing):
         for line in (15, 17, 22, 24, 24):
             self.key("n")
             self.assertEqual(self.selected(), line)
-        self.assertEqual(self.tags(), ["departure V13 timer-early"])
-        self.assertIn("departure V13 timer-early", self.text("#said"))
+        self.assertEqual(self.tags(), ["violation V13 timer-early"])
+        self.assertIn("violation V13 timer-early", self.text("#said"))
         self.key("p")
         self.assertEqual(self.selected(), 22)
         self.browser.run("document.getElementById('departure-before').click()")
@@ -392,13 +392,13 @@ class Past(Browsing):
         self.corpus("several-departures")
         self.browser.run("document.querySelector('#departures a[href=\"#line=24\"]').click()")
         self.browser.wait("return qauditPage.selected() === 24")
-        self.assertEqual(self.tags(), ["departure V13 timer-early"])
+        self.assertEqual(self.tags(), ["violation V13 timer-early"])
 
     def test_several_rules_at_one_line(self) -> None:
         self.corpus("two-departures-at-one-event")
-        self.assertEqual(self.tags(), ["refused V13 timer-early", "departure V14 probe-owed"])
+        self.assertEqual(self.tags(), ["refused V13 timer-early", "violation V14 probe-owed"])
         self.key("n")
-        names = [f"departure V16 metric {it}" for it in ("window", "ssthresh", "smoothed_rtt")]
+        names = [f"violation V16 metric {it}" for it in ("window", "ssthresh", "smoothed_rtt")]
         self.assertEqual(self.tags(), names)
 
     def test_behind_the_end_nothing_is_judged(self) -> None:
@@ -409,7 +409,7 @@ class Past(Browsing):
         self.key("ArrowLeft")
         self.assertEqual(self.selected(), 15)
         self.assertEqual(self.tags(), ["refused V4 loss-set"])
-        self.assertIn("the machine stops before this line", self.text("tr.selected"))
+        self.assertIn("the model stops before this line", self.text("tr.selected"))
         self.key("ArrowLeft")
         self.assertIn("3: app 0-2", self.text("tr.selected"))
 

@@ -204,8 +204,8 @@ class Departures(unittest.TestCase):
         links = [found["href"] for tag, found in page.tags if tag == "a"]
         self.assertEqual(links, [f"#line={line}" for line in (13, 13, 15, 17, 22, 24)])
         told_of_all = " ".join(page.by_id["departures"].split())
-        self.assertIn("The sender departs 5 times in 22 events.", told_of_all)
-        self.assertIn("All else that the trace tells keeps to RFC 9002.", told_of_all)
+        self.assertIn("The sender breaks rules 5 times in 22 events.", told_of_all)
+        self.assertIn("Everything else in the trace follows RFC 9002.", told_of_all)
 
     def test_the_verdict_stays_the_first_departure(self) -> None:
         page = self.page("several-departures")
@@ -239,7 +239,7 @@ class Departures(unittest.TestCase):
         ):
             with self.subTest(name):
                 page = self.page(name)
-                self.assertIn(f"Past that {words}", " ".join(page.by_id["departures"].split()))
+                self.assertIn(f"After that {words}", " ".join(page.by_id["departures"].split()))
                 self.assertIn(f"judged up to line {line}", page.by_id["overview"])
 
     def test_the_end_has_its_amounts(self) -> None:
@@ -288,7 +288,7 @@ class Departures(unittest.TestCase):
     def test_unknown_departures_are_a_failure(self) -> None:
         for said in ({}, {"rule": "V7"}, 5, {"rule": "V7", "name": "x", "count": 1, "lines": [[]]}):
             verdict = Verdict({"verdict": "refused", "line": 2, "departures": [said]})
-            with self.subTest(said), self.assertRaisesRegex(Failure, "unknown departures"):
+            with self.subTest(said), self.assertRaisesRegex(Failure, "unknown violations"):
                 departures_of(verdict)
 
 

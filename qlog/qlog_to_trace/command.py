@@ -5,6 +5,7 @@ import gc
 import json
 import os
 import re
+import signal
 import sys
 import tempfile
 from collections.abc import Iterator
@@ -12,6 +13,7 @@ from dataclasses import dataclass
 from pathlib import Path
 from typing import BinaryIO, TextIO
 
+from .compressed import COPIED_AT_ONCE, decompressed
 from .connections import Connections, chosen_of, others
 from .conversion import Conversion
 from .detection import form_of
@@ -24,11 +26,14 @@ from .lines import Line, Lines
 from .looking import order_of
 from .notes import Notes
 from .survey import Survey
+from .version import version
 
 BAD_INPUT = 2
 FAILED = 3
 WRONG_ARGUMENTS = 64
 ROLES = ("client", "server")
+# The versions of the format of traces.
+FORMATS = (1, 2, 3)
 STANDARD_INPUT = "standard input"
 # From how many bytes on a line of progress is worth its place, and how many events lie between two.
 LARGE = 20_000_000
@@ -41,16 +46,34 @@ LONGEST_LINE = 65_536
 MOST_TOLD = 4_000
 # What Python calls printable and nobody sees: fillers and selectors of variations.
 UNSEEN = re.compile("[\u034f\u115f\u1160\u17b4\u17b5\u180b-\u180f\u2800\u3164\ufe00-\ufe0f\uffa0]")
-COPIED_AT_ONCE = 1 << 20
 ENCODER = json.JSONEncoder(separators=(",", ":"))
 
 DESCRIPTION = """Turns the qlog of one QUIC connection into a trace that `qaudit check` reads.
 
 Reads qlog 0.3 and 0.4 and drafts before them: one JSON object, JSON-SEQ, or a JSON text a
-line. Each guess stands at the key `x_guess` of its line; qaudit ignores that key. A log
-whose end is torn off is converted up to there, and a line on standard error says so."""
-EPILOG = """The exit status is 0 for a trace, 2 where the input gives none, 3 where a file or a
-stream failed, and 64 where the arguments are wrong."""
+line. It also reads netlogs of Chromium, and logs that are compressed by gzip, xz or zstd. Each
+guess is at the key `x_guess` of its line, which qaudit ignores. A log whose end is torn off is
+converted up to there, and a line on standard error says so."""
+EPILOG = """The exit status is 0 for a trace, 2 if the input gives none, 3 if a file or a stream
+failed, and 64 for wrong arguments."""
+
+
+class Version(argparse.Action):
+    """Prints the version of the program. With a number it is the older name of --format."""
+
+    def __call__(
+        self,
+        parser: argparse.ArgumentParser,
+        namespace: argparse.Namespace,
+        values: object,
+        option_string: str | None = None,
+    ) -> None:
+        if values is None:
+            print(f"{parser.prog} {version()}")
+            parser.exit()
+        if values not in [str(it) for it in FORMATS]:
+            parser.error(f"argument --version: {values} is none of {FORMATS}; --format sets it")
+        namespace.format = int(str(values))
 
 
 class Parser(argparse.ArgumentParser):
@@ -66,26 +89,32 @@ def arguments() -> argparse.ArgumentParser:
     parser = Parser(prog="qlog-to-trace", description=DESCRIPTION, epilog=EPILOG)
     parser.formatter_class = argparse.RawDescriptionHelpFormatter
     add = parser.add_argument
-    add("file", nargs="?", metavar="FILE", help="the qlog; standard input where it is missing")
+    add("file", nargs="?", metavar="FILE", help="the qlog (default: standard input)")
+    add(
+        "--format",
+        type=int,
+        choices=FORMATS,
+        default=FORMATS[-1],
+        help=f"trace format version (default: {FORMATS[-1]})",
+    )
     add(
         "--version",
-        type=int,
-        choices=(1, 2, 3),
-        default=3,
-        help="of the format of traces, 3 where nothing is said",
+        action=Version,
+        nargs="?",
+        help="prints the version and ends; with a number it is --format",
     )
-    add("--vantage", choices=ROLES, help="which side, where the log has both or says neither")
+    add("--vantage", choices=ROLES, help="which side, if the log has both or says neither")
     add(
         "--connection",
         type=natural,
         metavar="N",
-        help="which connection, trace or path, from 1 on, where the log has several",
+        help="which connection, trace or path, from 1 on, if the log has several",
     )
     names = [dialect.name for dialect in DIALECTS]
-    add("--dialect", choices=names, help="the kind of log, where the log does not say it")
+    add("--dialect", choices=names, help="the kind of log, if the log does not say it")
     add("--notes", action="store_true", help="count the guesses on standard error")
     group = parser.add_argument_group(
-        "keys of the header", "They take the place of what is known of the kind of log."
+        "keys of the header", "They replace what is known of the kind of log."
     )
     for key in KEYS:
         key.add_to(group)
@@ -147,7 +176,7 @@ def choices_of(args: argparse.Namespace) -> Choices:
     """What the arguments say of the header."""
     said = ((key.name, key.value_of(args)) for key in KEYS)
     options = tuple((name, value) for name, value in said if value is not None)
-    return Choices(args.version, options)
+    return Choices(args.format, options)
 
 
 def wrong_in(args: argparse.Namespace) -> str | None:
@@ -156,8 +185,8 @@ def wrong_in(args: argparse.Namespace) -> str | None:
         value = key.value_of(args)
         if value is None:
             continue
-        if key.version > args.version:
-            return f"{key.option} needs --version {key.version}"
+        if key.version > args.format:
+            return f"{key.option} needs --format {key.version}"
         if key.numbers is not None and value not in key.numbers:
             return f"{key.option} is {key.numbers.start} to {key.numbers.stop - 1}"
     return None
@@ -255,7 +284,7 @@ class Converter:
     def _write(self, line: Line) -> None:
         text = ENCODER.encode(line)
         if len(text) > LONGEST_LINE:
-            raise Unusable(f"a line of {len(text)} bytes, where a trace has {LONGEST_LINE} at most")
+            raise Unusable(f"a line of {len(text)} bytes; a trace has {LONGEST_LINE} at most")
         self._output.write(text + "\n")
         self.written += 1
 
@@ -321,16 +350,17 @@ class Converter:
 
 
 def opened(name: str | None) -> BinaryIO:
-    """The input, which is copied where it cannot be read twice."""
-    if name is not None:
-        return Path(name).open("rb")
-    source = sys.stdin.buffer
+    """The input, which is copied if it cannot be read twice, and decompressed if it has to be."""
+    source: BinaryIO = sys.stdin.buffer if name is None else Path(name).open("rb")
+    if name is None and source.isatty():
+        complain(f"reading {STANDARD_INPUT}")
     if source.seekable():
-        return source
+        return decompressed(source)
     copy: BinaryIO = tempfile.TemporaryFile()  # type: ignore[assignment]
     while piece := source.read(COPIED_AT_ONCE):
         copy.write(piece)
-    return copy
+    copy.seek(0)
+    return decompressed(copy)
 
 
 def visible(text: str) -> str:
@@ -365,13 +395,18 @@ def convert(args: argparse.Namespace) -> int:
     name = args.file or STANDARD_INPUT
     converter = None
     try:
-        with opened(args.file) as file:
+        try:
+            opening = opened(args.file)
+        except FileNotFoundError:
+            complain(f"cannot open {name}: no such file")
+            return FAILED
+        with opening as file:
             converter = Converter(file, args, sys.stdout)
             converter.convert()
             sys.stdout.flush()
     except Unusable as error:
         written = converter.written if converter else 0
-        rest = f"; the trace ends behind its line {written}" if written else ""
+        rest = f"; the trace ends after its line {written}" if written else ""
         complain(f"{name}: {error}{rest}")
         return BAD_INPUT
     except BrokenPipeError:
@@ -403,4 +438,7 @@ def program() -> None:
     """Runs the command and ends."""
     # Values of JSON make no cycles, so there is nothing to look for among them.
     gc.disable()
+    if signal.getsignal(signal.SIGINT) is signal.default_int_handler:
+        # Ctrl-C ends it at once and quietly, also while it waits for input.
+        signal.signal(signal.SIGINT, signal.SIG_DFL)
     sys.exit(main())

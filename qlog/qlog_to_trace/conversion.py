@@ -37,7 +37,7 @@ def behind(retry: Retry, events: Iterable[Event], notes: Notes) -> Iterator[Even
             count += event.name == "packet_sent" and event.space is not None
             continue
         if not is_told:
-            told = f"the trace begins behind {retry.told}; packets before it: {count}"
+            told = f"the trace begins after {retry.told}; packets before it: {count}"
             notes.warnings.append(told)
             is_told = True
         is_lost = event.name == "packet_lost" and event.space is not None

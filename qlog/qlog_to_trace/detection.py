@@ -10,9 +10,6 @@ from .scanner import DECODER, LONGEST_RECORD
 MARKS_OF_SEQUENCE = ("trace", "qlog_format", "file_schema", "serialization_format")
 # By their first bytes, files that are no log.
 KINDS_OF_FILE = {
-    b"\x1f\x8b": "compressed by gzip: unpack it first",
-    b"\x28\xb5\x2f\xfd": "compressed by zstd: unpack it first",
-    b"\xfd7zXZ": "compressed by xz: unpack it first",
     b"BZh": "compressed by bzip2: unpack it first",
     b"PK\x03\x04": "a zip archive: unpack it first",
     b"\xef\xbb\xbf": "it begins with a byte order mark, which JSON has not: take it off first",
@@ -41,6 +38,6 @@ def form_of(file: BinaryIO) -> Form:
     if not isinstance(header, dict):
         return Document(file)
     if header.get("event") == "header":
-        raise Unusable("this is a trace already, as qaudit reads it, and no log")
+        raise Unusable("this is already a trace, as qaudit reads it")
     is_sequence = "traces" not in header and any(mark in header for mark in MARKS_OF_SEQUENCE)
     return Sequence(file) if is_sequence else Document(file)

@@ -47,7 +47,7 @@ def options_of(dialect: Dialect, survey: Survey, choices: Choices) -> dict[str, 
         has_window = survey.has_window or dialect.hides_window
         window = said.get("window", REPORTED if has_window else "newreno")
         if window != REPORTED and said.get("loss_by_number") == MAY:
-            raise Unusable("its losses may be declared only where it has a window that is reported")
+            raise Unusable("its losses may be declared only if it has a reported window")
         threshold = survey.recovery.get("packet_threshold")
         if threshold not in PACKET_THRESHOLDS:
             threshold = dialect.packet_threshold
@@ -101,7 +101,7 @@ def warn(dialect: Dialect, survey: Survey, options: dict[str, Any], notes: Notes
     time_threshold = survey.time_threshold or dialect.time_threshold
     if time_threshold and abs(time_threshold - TIME_THRESHOLD) > ROUNDING_OF_THRESHOLD:
         notes.warnings.append(
-            f"its time_threshold is {float(time_threshold):.4g}, and traces know 9/8 alone; losses"
+            f"its time_threshold is {float(time_threshold):.4g}, and traces know only 9/8; losses"
             " by time may be refused"
         )
 

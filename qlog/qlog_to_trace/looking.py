@@ -34,9 +34,9 @@ EARLY_OF_MILLISECONDS = 3_000
 class Order(Enum):
     """Where losses and reports stand beside the packet that came and caused them."""
 
-    BEHIND = "losses and metrics stand behind the packet_received that caused them"
-    LOSSES_BEFORE = "losses stand before the packet_received that shows them, metrics behind it"
-    BEFORE = "losses and metrics stand before the packet_received that caused them"
+    BEHIND = "losses and metrics come after the packet_received that caused them"
+    LOSSES_BEFORE = "losses come before the packet_received that shows them, metrics after it"
+    BEFORE = "losses and metrics come before the packet_received that caused them"
 
 
 def order_of(dialect: Dialect) -> Order:
@@ -338,9 +338,9 @@ class Looking:
         counts = self.counts
         told = [
             f"{order_of(dialect).value} (acknowledgments with a report: {counts.acknowledgments},"
-            f" of which agree behind {counts.behind}, before {counts.before};"
-            f" losses behind {counts.losses_behind}, before {counts.losses_before};"
-            f" round-trip times behind {self.samples.behind}, before {self.samples.before})",
+            f" of which agree after {counts.behind}, before {counts.before};"
+            f" losses after {counts.losses_behind}, before {counts.losses_before};"
+            f" round-trip times after {self.samples.behind}, before {self.samples.before})",
             f"a value that metrics leave out: {dialect.absent.value}",
         ]
         times = "whole milliseconds" if has_milliseconds else "finer than milliseconds"

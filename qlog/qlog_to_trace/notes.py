@@ -58,7 +58,7 @@ class Limit(Enum):
         " the sender's has whole milliseconds too: what times decide may be refused"
     )
     ACK_FREQUENCY = (
-        "ACK_FREQUENCY frames change the peer's max_ack_delay, of which a trace has one alone:"
+        "ACK_FREQUENCY frames change the peer's max_ack_delay, of which a trace has only one:"
         " probe timeouts may be refused"
     )
     TIME_THRESHOLD = (
@@ -67,7 +67,7 @@ class Limit(Enum):
     )
     SAME_TICK = (
         "a packet is lost that was sent in the same tick in which a loss was declared before: by"
-        " such times it does not enter recovery anew, and what follows may be refused"
+        " such times it does not enter recovery again, and what follows may be refused"
     )
 
 

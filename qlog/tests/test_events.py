@@ -113,11 +113,11 @@ class Events(unittest.TestCase):
         end = converted(first + [retry] + rest, "--notes", name="OpenSSL/3.6.5", role="client")
         self.assertEqual(end.kinds, ["header", "sent", "ack"])
         self.assertEqual(end.only("sent")[0]["number"], 2)
-        self.assertIn("the trace begins behind the Retry at line 4; packets before", end.errors)
+        self.assertIn("the trace begins after the Retry at line 4; packets before", end.errors)
         self.assertIn("left out 2: a loss of a packet that was sent before a Retry", end.errors)
         closing = sent(120, 3, frames=("connection_close",))
         end = converted([*first, *rest, closing], name="OpenSSL/3.6.5", role="client")
-        self.assertIn("the trace begins behind the Retry at line 4; packets before", end.errors)
+        self.assertIn("the trace begins after the Retry at line 4; packets before", end.errors)
 
     def test_a_retry_that_is_not_logged_shows_by_where_initial_packets_go(self) -> None:
         first, second, third = (sent(it * 40, it, "initial") for it in range(3))
@@ -128,7 +128,7 @@ class Events(unittest.TestCase):
         end = converted([first, measured, second, *rest], name="neqo", role="client")
         self.assertEqual([line["number"] for line in end.only("sent")], [1, 2])
         self.assertEqual(end.lines[0]["initial_rtt"], 38_000)
-        self.assertIn("behind a Retry that is not in the log, at line 4; packets", end.errors)
+        self.assertIn("after a Retry that is not in the log, at line 4; packets", end.errors)
         # The server names itself in its first packet.
         end = converted([first, received(39, [[0]], "initial"), third], name="neqo", role="client")
         self.assertEqual((len(end.only("sent")), end.errors), (2, ""))

@@ -1,13 +1,19 @@
 """The forms of logs, their times, and what is at their ends."""
 
 import json
+import os
+import pty
+import signal
 import subprocess
+import tempfile
 import unittest
+from pathlib import Path
 
 from .made import (
     End,
     Event,
     PROGRAM,
+    TOP,
     converted,
     document,
     header,
@@ -150,19 +156,19 @@ class Ends(unittest.TestCase):
     def test_a_trace_that_stops_midway_is_told(self) -> None:
         end = converted([sent(0, 0), received(1, [[0]]), metrics(1, congestion_window="wide")])
         self.assertEqual(end.status, 2)
-        self.assertRegex(end.errors, "line 4: .*congestion_window.*; the trace ends behind ")
+        self.assertRegex(end.errors, "line 4: .*congestion_window.*; the trace ends after ")
 
     def test_traces_that_nobody_could_read_are_not_written(self) -> None:
         many = [[number, number] for number in range(0, 12_000, 2)]
         slow = received(1, [[0]], delay=10**14)
         for event, reason in (
             (sent(10**12 + 1, 1), "it goes on past 1000000000000000 us, the last time of a trace"),
-            (received(1, many), "a line of [0-9]+ bytes, where a trace has 65536 at most"),
+            (received(1, many), "a line of [0-9]+ bytes; a trace has 65536 at most"),
             (slow, "line 3: packet_received: ack_delay is out of range"),
         ):
             end = converted([sent(0, 0), event])
             self.assertEqual(end.status, 2)
-            self.assertRegex(end.errors, f"LOG: {reason}; the trace ends behind its line 2\n$")
+            self.assertRegex(end.errors, f"LOG: {reason}; the trace ends after its line 2\n$")
 
     def test_arguments(self) -> None:
         for words in (
@@ -173,6 +179,8 @@ class Ends(unittest.TestCase):
             ["--slack-us", "1000000001"],
             ["--packet-threshold", "2"],
             ["--version", "9"],
+            ["--format", "9"],
+            ["--format", "2", "--unit", "ns"],
             ["--window", "cubic"],
             ["--window-overshoot", "maybe"],
         ):
@@ -181,6 +189,50 @@ class Ends(unittest.TestCase):
             self.assertEqual((end.returncode, end.stdout), (64, ""))
         end = subprocess.run([PROGRAM, "--help"], capture_output=True, text=True, check=True)
         self.assertIn("--notes", end.stdout)
+
+    def test_the_version_of_the_program_and_of_the_format(self) -> None:
+        told = (TOP / "VERSION").read_text().strip()
+        end = subprocess.run([PROGRAM, "--version"], capture_output=True, text=True, check=True)
+        self.assertEqual(end.stdout, f"qlog-to-trace {told}\n")
+        for option in ("--format", "--version"):
+            lines = converted([sent(0, 0)], option, "2").lines
+            self.assertEqual(lines[0]["version"], 2)
+        self.assertEqual(converted([sent(0, 0)]).lines[0]["version"], 3)
+
+    def test_an_interrupt_is_quiet(self) -> None:
+        with tempfile.TemporaryDirectory() as folder:
+            pipe = Path(folder) / "pipe"
+            os.mkfifo(pipe)
+            with subprocess.Popen(
+                [PROGRAM, pipe],
+                stdout=subprocess.PIPE,
+                stderr=subprocess.PIPE,
+                # A job in the background ignores interrupts, and what it starts does too.
+                preexec_fn=lambda: signal.signal(signal.SIGINT, signal.SIG_DFL),
+            ) as running, pipe.open("wb") as log:
+                # The program has opened the pipe, and waits for the rest of the log.
+                log.write(b"{")
+                log.flush()
+                running.send_signal(signal.SIGINT)
+                output, errors = running.communicate(timeout=60)
+        self.assertEqual((running.returncode, output, errors), (-signal.SIGINT, b"", b""))
+
+    def test_a_pipe_that_is_named(self) -> None:
+        log = sequence(header(), [sent(0, 0)]).encode()
+        words = f"{PROGRAM} <(cat)"
+        end = subprocess.run(["bash", "-c", words], input=log, capture_output=True, check=True)
+        self.assertEqual(end.stdout.count(b"\n"), 2)
+
+    def test_a_terminal_is_told_what_is_read(self) -> None:
+        main, other = pty.openpty()
+        try:
+            os.write(main, b"\x04")
+            end = subprocess.run([PROGRAM], stdin=other, capture_output=True, check=False)
+        finally:
+            os.close(main)
+            os.close(other)
+        self.assertEqual(end.returncode, 2)
+        self.assertTrue(end.stderr.startswith(b"qlog-to-trace: reading standard input\n"))
 
     def test_a_reader_that_has_gone(self) -> None:
         log = sequence(header(), [sent(number, number) for number in range(2000)]).encode()
@@ -192,4 +244,4 @@ class Ends(unittest.TestCase):
     def test_a_file_that_is_not_there(self) -> None:
         end = subprocess.run([PROGRAM, "/none"], capture_output=True, text=True, check=False)
         self.assertEqual(end.returncode, 3)
-        self.assertEqual(end.stderr, "qlog-to-trace: /none: No such file or directory\n")
+        self.assertEqual(end.stderr, "qlog-to-trace: cannot open /none: no such file\n")

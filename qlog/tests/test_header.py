@@ -34,7 +34,7 @@ class Header(unittest.TestCase):
 
     def test_parameters_of_recovery_that_a_header_cannot_say(self) -> None:
         for said, word in (
-            ({"time_threshold": 1.25}, "its time_threshold is 1.25, and traces know 9/8 alone"),
+            ({"time_threshold": 1.25}, "its time_threshold is 1.25, and traces know only 9/8"),
             ({"reordering_threshold": 2}, "its reordering_threshold is 2, which the header does"),
         ):
             event = {"time": 0, "name": "recovery:parameters_set", "data": said}
@@ -148,7 +148,7 @@ class Header(unittest.TestCase):
             self.assertEqual((line["window"], line["loss_by_number"]), ("newreno", "must"))
             may = converted(events, *options, "--loss-by-number", "may", name="ngtcp2")
             self.assertEqual((may.status, may.lines), (2, []))
-            self.assertIn("its losses may be declared only where", may.errors)
+            self.assertIn("its losses may be declared only if", may.errors)
         must = converted(with_window, "--loss-by-number", "must", name="ngtcp2")
         self.assertEqual(must.lines[0]["loss_by_number"], "must")
 

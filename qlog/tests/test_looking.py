@@ -48,9 +48,9 @@ class Orders(unittest.TestCase):
 
     def test_each_order_gives_the_same_trace(self) -> None:
         texts = {
-            "behind": "losses and metrics stand behind the packet_received",
-            "losses before": "losses stand before the packet_received that shows them",
-            "before": "losses and metrics stand before the packet_received",
+            "behind": "losses and metrics come after the packet_received",
+            "losses before": "losses come before the packet_received that shows them",
+            "before": "losses and metrics come before the packet_received",
         }
         expected = converted(round_trips(3, "behind"), name="something").text
         for order, text in texts.items():
@@ -61,7 +61,7 @@ class Orders(unittest.TestCase):
 
     def test_a_log_of_which_too_little_says_its_order(self) -> None:
         end = converted(round_trips(1, "before"), "--notes", name="something")
-        self.assertIn("stand behind the packet_received", found(end)[0])
+        self.assertIn("come after the packet_received", found(end)[0])
 
     def test_zeros_that_are_left_out(self) -> None:
         events = round_trips(3, "behind", smoothed_rtt=50, min_rtt=50, latest_rtt=50)
@@ -106,7 +106,7 @@ class OtherOrders(unittest.TestCase):
         end = converted(round_trips(6, "before"), name="quic-go")
         self.assertEqual(end.lines[1:], expected.lines[1:])
         note = end.lines[0]["x_note"][0]
-        self.assertIn("its order is not that of quic-go: losses and metrics stand before", note)
+        self.assertIn("its order is not that of quic-go: losses and metrics come before", note)
         self.assertEqual(end.errors, f"qlog-to-trace: LOG: {note}\n")
 
     def test_a_dialect_of_the_new_order_too(self) -> None:
@@ -125,8 +125,8 @@ class OtherOrders(unittest.TestCase):
         self.assertIn("its order is not that of quic-go: losses and metrics", end.errors)
         unknown = [converted(samples(7, it), "--notes", name="x") for it in ("behind", "before")]
         self.assertEqual(unknown[0].text, unknown[1].text)
-        self.assertIn("; round-trip times behind 6, before 0)", found(unknown[0])[0])
-        self.assertIn("; round-trip times behind 0, before 7)", found(unknown[1])[0])
+        self.assertIn("; round-trip times after 6, before 0)", found(unknown[0])[0])
+        self.assertIn("; round-trip times after 0, before 7)", found(unknown[1])[0])
 
     def test_a_round_trip_time_less_the_delay_is_of_its_packet(self) -> None:
         events = samples(7, "before")

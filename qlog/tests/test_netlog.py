@@ -131,7 +131,7 @@ class Netlogs(unittest.TestCase):
         came = event("PACKET_RECEIVED", 20, size=131)
         end = End(netlog(first, came, second, sent(40, 3)))
         self.assertEqual([line["number"] for line in end.only("sent")], [2, 3])
-        self.assertIn("the trace begins behind the Retry at byte", end.errors)
+        self.assertIn("the trace begins after the Retry at byte", end.errors)
         # A packet with a header is none.
         head = acked(20, 1, 1)[0]
         end = End(netlog(first, came, head, second))

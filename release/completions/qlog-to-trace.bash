@@ -4,7 +4,7 @@ _qlog_to_trace() {
     local current=${COMP_WORDS[COMP_CWORD]} before=${COMP_WORDS[COMP_CWORD - 1]}
     local words=
     case $before in
-        --version) words='1 2 3' ;;
+        --format) words='1 2 3' ;;
         --vantage) words='client server' ;;
         --dialect) words='quic-go quic-go-0.50 quic-go-0.59 ngtcp2 aioquic openssl-3.5 openssl quinn neqo chromium quiche mvfst generic' ;;
         --unit) words='us ns' ;;
@@ -14,7 +14,7 @@ _qlog_to_trace() {
         --connection | --timer-late-us | --slack-us | --slack-bytes | --packet-threshold | --timer-early-us) return ;;
     esac
     if [ -z "$words" ] && [[ $current == -* ]]; then
-        words='--version --vantage --connection --dialect --notes --timer-late-us --refresh-min-rtt --slack-us
+        words='--format --version --vantage --connection --dialect --notes --timer-late-us --refresh-min-rtt --slack-us
             --slack-bytes --unit --window --window-overshoot --sample-eliciting-only
             --packet-threshold --timer-early-us --loss-by-number --help'
     fi

@@ -1,7 +1,8 @@
 # Completion of qlog-to-trace for fish.
 
 complete -c qlog-to-trace -F
-complete -c qlog-to-trace -l version -x -a '1 2 3' -d 'Of the format of traces'
+complete -c qlog-to-trace -l format -x -a '1 2 3' -d 'Trace format version'
+complete -c qlog-to-trace -l version -d 'Prints the version'
 complete -c qlog-to-trace -l vantage -x -a 'client server' -d 'Which side'
 complete -c qlog-to-trace -l connection -x -d 'Which of several'
 complete -c qlog-to-trace -l dialect -x -a 'quic-go quic-go-0.50 quic-go-0.59 ngtcp2 aioquic openssl-3.5 openssl quinn neqo chromium quiche mvfst generic' -d 'The kind of log'

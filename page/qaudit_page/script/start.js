@@ -74,7 +74,7 @@ function makeCharts() {
     ...toneOfAxes(), series: seriesOfRtt(), axes: {x, y: {...y, ...formatter}},
   }));
   isDrawing = false;
-  const departed = trace.departed.size ? `, ${grouped(trace.departed.size)} lines depart` : '';
+  const departed = trace.departed.size ? `, ${grouped(trace.departed.size)} lines with violations` : '';
   const about = `${grouped(trace.packets.count)} packets, ${trace.verdict.kind}${departed}`;
   byId('chart-packets').setAttribute('aria-label', `Packet numbers over time: ${about}`);
 }
@@ -145,10 +145,10 @@ function fillKeys() {
       level(c, colors.lost, 1, [3, 3]);
       stroked(c, colors.lost, 2, [], () => cross(c, 21, 8, 3.5));
     }],
-    [any(p => trace.packets.how[p] === 'open'), 'never answered', c => level(c, tone, 1.3, [1, 4])],
+    [any(p => trace.packets.how[p] === 'open'), 'no ack', c => level(c, tone, 1.3, [1, 4])],
     [any(p => trace.packets.how[p] === 'gone'), 'until its keys are discarded', c =>
       level(c, tone, 1, [1, 3])],
-    [trace.acks.at.length, 'greatest acknowledged', c => stroked(c, tone, 1.4, [], () => {
+    [trace.acks.at.length, 'largest acknowledged', c => stroked(c, tone, 1.4, [], () => {
       c.moveTo(1, 13); c.lineTo(10, 13); c.lineTo(10, 4); c.lineTo(25, 4);
     }, 0.6)],
     [timerLane || trace.state.timer.some(code => code !== NO_SPACE), 'timer set',
@@ -159,7 +159,7 @@ function fillKeys() {
     [has('discard'), 'keys discarded', c => standingLine(c, colors.soft, 1.3, DASHES.discard)],
     [trace.verdictAt >= 0, 'line of the verdict', c =>
       standingLine(c, toneOfVerdict(trace.verdict), 2.5, [])],
-    [trace.departed.size > 1, 'departs too', c =>
+    [trace.departed.size > 1, 'other violation', c =>
       standingLine(c, colors.refused, 1.3, DASHES.departed)],
     [trace.limit < trace.count, 'not judged', c => hatched(c, 1, 1, 24, 14, 1)],
   ]);
@@ -169,7 +169,7 @@ function fillKeys() {
 function fillKeysOfState() {
   const {reports, culprits, state} = trace;
   const reported = name => reports[name].some(value => value === value);
-  const refused = chart => [culprits.some(it => it.chart === chart), 'what is refused',
+  const refused = chart => [culprits.some(it => it.chart === chart), 'refused value',
     c => shaped(c, colors.refused, 3, cross, 5)];
   fillKey('key-window', [
     refused('window'),
@@ -187,9 +187,9 @@ function fillKeysOfState() {
     refused('rtt'),
     [isSampled, 'smoothed', c => level(c, colors.initial, 2.2, [])],
     [isSampled, 'latest', c => level(c, colors.latest, 1, [])],
-    [isSampled, 'least', c => level(c, colors.least, 1.4, DASHES.least)],
+    [isSampled, 'min', c => level(c, colors.least, 1.4, DASHES.least)],
     [isSampled, 'loss delay', c => level(c, colors.lost, 1.4, DASHES.lossDelay)],
-    [isSampled, 'PTO, before it is doubled', c => level(c, colors.timer, 1.4, DASHES.timeout)],
+    [isSampled, 'PTO (no backoff)', c => level(c, colors.timer, 1.4, DASHES.timeout)],
     [trace.firstSample > 0, 'assumed', c => level(c, colors.initial, 1.6, [2, 3])],
     [reported('smoothed_rtt'), 'smoothed as reported', c =>
       shaped(c, colors.initial, 1.3, diamond, 5)],

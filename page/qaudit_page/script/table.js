@@ -9,7 +9,7 @@ let tableFrom = 0;
 const COLUMNS = [
   ['window', i => bytes('window', i)], ['in flight', i => bytes('in_flight', i)],
   ['ssthresh', i => bytes('ssthresh', i) || 'none'], ['latest', i => timeOf('latest_rtt', i)],
-  ['least', i => timeOf('min_rtt', i)], ['smoothed', i => timeOf('smoothed_rtt', i)],
+  ['min', i => timeOf('min_rtt', i)], ['smoothed', i => timeOf('smoothed_rtt', i)],
   ['rttvar', i => timeOf('rttvar', i)], ['PTOs', i => digitsOf('pto_count', i)],
   ['owed', owedAt], ['timer', timerAt],
 ];
@@ -48,7 +48,7 @@ function judgements(place) {
     if (at >= 0 && at === place) said.push(`${it.kind} ${named(it)}`);
   for (const it of trace.departed.get(place) || []) {
     const isVerdict = place === trace.verdictAt && named(it) === named(trace.verdict);
-    if (!isVerdict) said.push(`departure ${named(it)}`);
+    if (!isVerdict) said.push(`violation ${named(it)}`);
   }
   return said;
 }
@@ -98,7 +98,7 @@ function cellOf(name, text) {
 
 function cellWithout(place) {
   const isEnd = place === trace.stopAt, isBefore = place < trace.limit;
-  const words = isEnd ? 'the machine stops before this line' : isBefore ? '' : 'not judged';
+  const words = isEnd ? 'the model stops before this line' : isBefore ? '' : 'not judged';
   const cell = element('td', words, 'without');
   cell.colSpan = 2;
   return cell;
@@ -157,7 +157,7 @@ function fateOf(packet) {
     const after = isShown ? ` after ${milliseconds(trace.time[end] - trace.time[at[packet]])}` : '';
     told.push(`${word} at line ${trace.first + end}${after}`);
   }
-  if (told.length === 1 || trace.packets.how[packet] === 'open') told.push('never answered');
+  if (told.length === 1 || trace.packets.how[packet] === 'open') told.push('no ack');
   return told.join(', ');
 }
 

@@ -1,0 +1,179 @@
+"""The results of many traces for CI systems: JUnit XML, SARIF, and annotations of GitHub."""
+
+import json
+from collections.abc import Callable
+from pathlib import Path
+from typing import Any
+from urllib.parse import quote
+from xml.etree import ElementTree
+
+from .known import Known, known_by
+from .matrix import FAILED, OTHER, Result
+from .rules import FAULTS, RULES
+from .texts import visible
+from .version import version
+from .violations import Violation
+
+SCHEMA = "https://json.schemastore.org/sarif-2.1.0.json"
+NAME = "qaudit"
+ANNOTATED = {"%": "%25", "\r": "%0D", "\n": "%0A"}
+ANNOTATED_NAMES = {**ANNOTATED, ":": "%3A", ",": "%2C"}
+
+# The case and the stacks of a result.
+Places = Callable[[Result], tuple[str, str]]
+
+
+class Listed:
+    """Results with what is known of them."""
+
+    def __init__(self, results: list[Result], place: Places, known: set[Known] | None) -> None:
+        self.results, self.place, self.known = results, place, known
+
+    def is_known(self, result: Result, violation: Violation) -> bool:
+        """Whether a violation is known."""
+        return self.known is not None and self.as_known(result, violation) in self.known
+
+    def as_known(self, result: Result, violation: Violation) -> Known:
+        """A violation as it would be known."""
+        return known_by(*self.place(result), violation)
+
+
+# JUnit.
+
+
+def junit(listed: Listed) -> str:
+    """A test case for each trace. One whose violations are all known counts as skipped."""
+    suites = ElementTree.Element("testsuites")
+    suite = ElementTree.SubElement(suites, "testsuite", name=NAME)
+    counts = dict.fromkeys(("tests", "failures", "errors", "skipped"), 0)
+    for result in listed.results:
+        counts["tests"] += 1
+        stacks = listed.place(result)[1]
+        case = ElementTree.SubElement(
+            suite,
+            "testcase",
+            classname=NAME if stacks == OTHER else visible(stacks),
+            name=visible(result.key),
+            file=visible(result.trace),
+        )
+        kind = outcome(listed, result, case)
+        if kind:
+            counts[kind] += 1
+    for name, number in counts.items():
+        suite.set(name, str(number))
+    ElementTree.indent(suites)
+    text = ElementTree.tostring(suites, encoding="unicode")
+    return f'<?xml version="1.0" encoding="UTF-8"?>\n{text}\n'
+
+
+def outcome(listed: Listed, result: Result, case: ElementTree.Element) -> str:
+    """Says in a test case what became of it; the count that it belongs to, if any."""
+    if result.kind == FAILED:
+        ElementTree.SubElement(case, "error", message=visible(result.fault))
+        return "errors"
+    new = [it for it in result.violations if not listed.is_known(result, it)]
+    told = new or list(result.violations)
+    if not told:
+        return ""
+    text = "\n".join(f"{result.trace}:{it.line}: {it.text}" for it in told)
+    message = "known: " * (not new) + ", ".join(it.title for it in told)
+    name = "failure" if new else "skipped"
+    element = ElementTree.SubElement(case, name, message=visible(message))
+    if new:
+        element.set("type", told[0].rule)
+    element.text = "\n".join(map(visible, text.split("\n")))
+    return "failures" if new else "skipped"
+
+
+# SARIF.
+
+
+def sarif(listed: Listed) -> str:
+    """A result for each violation, at its first line. Known ones are notes, and suppressed."""
+    rules = [
+        {
+            "id": rule,
+            "name": meaning.name,
+            "shortDescription": {"text": meaning.sentence},
+            "help": {"text": meaning.source},
+        }
+        for rule, meaning in {**RULES, **FAULTS}.items()
+    ]
+    failed = [
+        {"level": "error", "message": {"text": f"{visible(it.key)}: {visible(it.fault)}"}}
+        for it in listed.results
+        if it.kind == FAILED
+    ]
+    run = {
+        "tool": {"driver": {"name": NAME, "version": version(), "rules": rules}},
+        "invocations": [
+            {"executionSuccessful": not failed, "toolExecutionNotifications": failed}
+        ],
+        "results": [
+            sarif_of(listed, result, violation)
+            for result in listed.results
+            for violation in result.violations
+        ],
+    }
+    whole = {"$schema": SCHEMA, "version": "2.1.0", "runs": [run]}
+    return json.dumps(whole, indent=1, ensure_ascii=False) + "\n"
+
+
+def sarif_of(listed: Listed, result: Result, violation: Violation) -> dict[str, Any]:
+    """A violation at its first line."""
+    is_known = listed.is_known(result, violation)
+    said: dict[str, Any] = {
+        "ruleId": violation.rule,
+        "level": "note" if is_known else "error",
+        "message": {"text": visible(violation.text)},
+        "locations": [
+            {
+                "physicalLocation": {
+                    "artifactLocation": {"uri": uri(result.trace)},
+                    "region": {"startLine": violation.line},
+                }
+            }
+        ],
+        "occurrenceCount": violation.count,
+        "partialFingerprints": {f"{NAME}/v1": "/".join(listed.as_known(result, violation))},
+    }
+    if listed.known is not None:
+        said["baselineState"] = "unchanged" if is_known else "new"
+        said["suppressions"] = (
+            [{"kind": "external", "justification": "known"}] if is_known else []
+        )
+    return said
+
+
+def uri(path: str) -> str:
+    """A path as a URI, relative if the path is."""
+    return Path(path).as_uri() if Path(path).is_absolute() else quote(path)
+
+
+# Annotations.
+
+
+def annotations(listed: Listed) -> str:
+    """A command of GitHub's runner for each violation, and for each trace that failed."""
+    lines = []
+    for result in listed.results:
+        if result.kind == FAILED:
+            lines.append(annotation("error", result.trace, 0, NAME, result.fault))
+        for it in result.violations:
+            level = "notice" if listed.is_known(result, it) else "error"
+            title = f"{NAME} {it.title}"
+            lines.append(annotation(level, result.trace, it.line, title, it.text))
+    return "".join(f"{line}\n" for line in lines)
+
+
+def annotation(level: str, path: str, line: int, title: str, text: str) -> str:
+    """A command that shows a text at a line of a file."""
+    place = f",line={line}" if line else ""
+    names = f"file={escaped(path, ANNOTATED_NAMES)}{place}"
+    title = escaped(visible(title), ANNOTATED_NAMES)
+    return f"::{level} {names},title={title}::{escaped(visible(text), ANNOTATED)}"
+
+
+def escaped(text: str, by: dict[str, str]) -> str:
+    """A text with escapes for what ends a command or a name in it."""
+    return "".join(by.get(char, char) for char in text)
