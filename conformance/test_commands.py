@@ -5,6 +5,8 @@ Each test has a page and a list of its own in a temporary folder.
 """
 
 import json
+import re
+import shutil
 import subprocess
 import sys
 import unittest
@@ -76,6 +78,31 @@ class Commands(unittest.TestCase):
         )
         listed = {"begins": "qaudit-why", "prints": "^1\naccepted\n$"}
         self.assertEqual(self.run_check(page, listed)[0], 0)
+
+
+class Examples(unittest.TestCase):
+    """The examples of docs/embedding.md that need no library to be checked."""
+
+    def setUp(self) -> None:
+        text = (FOLDER.parent / "docs/embedding.md").read_text()
+        self.blocks = dict(re.findall(r"^```(\w+)\n(.*?)^```", text, re.MULTILINE | re.DOTALL))
+
+    def test_c_and_c_plus_plus(self) -> None:
+        lines = self.blocks["c"].splitlines()
+        heads = [it for it in lines if it.startswith("#include")]
+        body = [it for it in lines if it not in heads]
+        source = ["#include <stdio.h>", *heads, "void f(void);", "void f(void) {", *body, "}"]
+        for compiler, language, standard in (("cc", "c", "c11"), ("c++", "c++", "c++20")):
+            if shutil.which(compiler) is None:
+                continue
+            options = [f"-std={standard}", "-fsyntax-only", "-x", language]
+            command = [compiler, *options, "-I", str(FOLDER.parent / "include"), "-"]
+            text = "\n".join(source) + "\n"
+            ended = subprocess.run(command, input=text, capture_output=True, text=True, check=False)
+            self.assertEqual((ended.returncode, ended.stderr), (0, ""))
+
+    def test_python(self) -> None:
+        compile(self.blocks["python"], "docs/embedding.md", "exec")
 
 
 if __name__ == "__main__":
