@@ -286,7 +286,8 @@ class Conversion:
                 self._write_timer(group.first, "pto", str(group.first.space))
             return
         if self._dialect.probes_by_room:
-            if group.first.is_probe and not self._has_come:
+            last = self._last_eliciting.get(str(group.first.space), -1)
+            if group.first.is_probe and not self._has_come and group.first.time > last:
                 self._notes.guess(Guess.PROBE_BY_ROOM)
                 self._write_timer(group.first, "pto", str(group.first.space))
             return

@@ -83,6 +83,12 @@ class Probes(unittest.TestCase):
         self.assertIn("room for a PING", timer["x_guess"][0])
         self.assertEqual((probe["size"], probe["leave"]), (1197, "probe"))
 
+    def test_a_probe_is_not_in_the_tick_of_the_packet_before(self) -> None:
+        log = self.log(4)
+        log[4]["time"] = log[3]["time"]
+        found = converted(log, name="OpenSSL/3.5.9")
+        self.assertEqual(found.only("timer"), [])
+
     def test_a_packet_may_have_to_elicit_for_a_packet_that_came(self) -> None:
         found = converted(self.log(3), name="OpenSSL/3.5.9")
         self.assertEqual(found.only("timer"), [])
