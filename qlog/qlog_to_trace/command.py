@@ -21,7 +21,7 @@ from .dialects import BY_NAME, DIALECTS, GENERIC, Dialect, dialect_of
 from .errors import Unusable
 from .events import Event, events_of
 from .forms import Form
-from .header import Choices, options_of, write_header
+from .header import NO_LIMIT, Choices, options_of, write_header
 from .lines import Line, Lines
 from .looking import order_of
 from .notes import Notes
@@ -129,6 +129,11 @@ def natural(text: str) -> int:
     return value
 
 
+def limit(text: str) -> int | str:
+    """A whole number from 0, or none."""
+    return text if text == NO_LIMIT else natural(text)
+
+
 @dataclass(frozen=True)
 class Key:
     """A key of the header that the command line may say."""
@@ -140,11 +145,16 @@ class Key:
     # The strings that it may have. Without any it is `yes` or `no`, or a number of these.
     values: tuple[str, ...] = ()
     numbers: range | None = None
+    # An older name of an option that is a number, or `no` for none.
+    older: str = ""
 
     def add_to(self, group: argparse._ArgumentGroup) -> None:
         """Makes an option of it."""
         about = f"{self.name}, of version {self.version}"
-        if self.numbers is not None:
+        if self.older:
+            names, about = (self.option, self.older), f"{about}; no: without it"
+            group.add_argument(*names, dest=self.name, type=limit, metavar="N", help=about)
+        elif self.numbers is not None:
             group.add_argument(self.option, dest=self.name, type=natural, metavar="N", help=about)
         else:
             values = self.values or tuple(YES_OR_NO)
@@ -153,12 +163,13 @@ class Key:
     def value_of(self, args: argparse.Namespace) -> int | str | None:
         """What the arguments say, if they do."""
         said: int | str | None = getattr(args, self.name)
-        return YES_OR_NO.get(said, said) if isinstance(said, str) else said
+        is_answer = isinstance(said, str) and self.numbers is None
+        return YES_OR_NO.get(str(said), said) if is_answer else said
 
 
 YES_OR_NO = {"yes": True, "no": False}
 KEYS = (
-    Key("--timer-late-us", "timer_late_us", 2, numbers=range(10**15 + 1)),
+    Key("--timer-late", "timer_late_us", 2, numbers=range(10**15 + 1), older="--timer-late-us"),
     Key("--refresh-min-rtt", "refresh_min_rtt", 2),
     Key("--slack-us", "report_slack_us", 2, numbers=range(10**9 + 1)),
     Key("--slack-bytes", "report_slack_bytes", 2, numbers=range(1 << 32)),
@@ -187,7 +198,7 @@ def wrong_in(args: argparse.Namespace) -> str | None:
             continue
         if key.version > args.format:
             return f"{key.option} needs --format {key.version}"
-        if key.numbers is not None and value not in key.numbers:
+        if key.numbers is not None and value != NO_LIMIT and value not in key.numbers:
             return f"{key.option} is {key.numbers.start} to {key.numbers.stop - 1}"
     return None
 
@@ -294,7 +305,7 @@ class Converter:
         dialect = self._dialect()
         survey = self._survey(dialect)
         dialect = self._looked_at(dialect, survey)
-        options = options_of(dialect, survey, choices)
+        options = options_of(dialect, survey, choices, self.notes)
         lines = Lines(self._write, self.notes, options.get("unit", "us"))
         size = write_header(lines, self.notes, self._role, dialect, survey, options)
         conversion = Conversion(dialect, self._role, survey, lines, self.notes, size)

@@ -287,8 +287,9 @@ class Conversion:
             return
         if self._dialect.probes_by_room:
             last = self._last_eliciting.get(str(group.first.space), -1)
-            if group.first.is_probe and not self._has_come and group.first.time > last:
-                self._notes.guess(Guess.PROBE_BY_ROOM)
+            guess = self._guess_of_probe(group.first)
+            if guess and not self._has_come and group.first.time > last:
+                self._notes.guess(guess)
                 self._write_timer(group.first, "pto", str(group.first.space))
             return
         if self._dialect.probes_by_ping:
@@ -303,6 +304,13 @@ class Conversion:
         for _ in range(count - self._pto_count):
             self._notes.guess(Guess.PROBE_BY_COUNT)
             self._write_timer(group.first, "pto", self._probed_space())
+
+    @staticmethod
+    def _guess_of_probe(event: Event) -> Guess | None:
+        """By what a packet is a probe where one keeps room for a PING, or has it."""
+        if event.is_probe:
+            return Guess.PROBE_BY_ROOM
+        return Guess.PROBE_BY_PING if event.has_ping_of_handshake else None
 
     def _is_ping_of_probe(self, event: Event) -> bool:
         every = self._dialect.packets_between_pings

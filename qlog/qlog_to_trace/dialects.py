@@ -9,6 +9,11 @@ from fractions import Fraction
 from typing import Any
 
 MICROSECONDS_OF_INITIAL_RTT = 333_000
+# How late a timer may be, in microseconds. Of the logs at hand those that keep to the RFC have
+# timers that are at most 30 ms late (captures/lateness). Where a log does not show each probe
+# timeout it may be more: of one that does not show, the next one is late by a probe timeout.
+TIMER_LATE = 100_000
+TIMER_LATE_UNSEEN = 500_000
 
 
 class Limited(Enum):
@@ -94,6 +99,8 @@ class Dialect:
     may_spare: bool = False
     # How early a timer can be by the log, since its times are rounded or read late.
     timer_early_us: int = 10
+    # How late a timer may be.
+    timer_late_us: int = TIMER_LATE
 
 
 GENERIC = Dialect("generic")
@@ -127,7 +134,8 @@ QUIC_GO_0_50 = replace(QUIC_GO, name="quic-go-0.50", schemas=("0.",), received_s
 # 3.6: JSON-SEQ, 0.3, delta times of which the first is the time of day. Each is cut to a whole ms,
 # so that the clock of the log loses up to one an event, unless the sender's own has whole ms. No
 # sizes, no metrics, no timers, no keys. A STREAM frame without a length fills its packet, but for
-# the two bytes of that length, and one that a probe keeps for a PING. NewReno.
+# the two bytes of that length, and one that a probe keeps for a PING. A probe that does not fill
+# its packet shows in the handshake alone, by a PING. NewReno.
 OPENSSL = Dialect(
     "openssl",
     ("openssl/",),
@@ -140,6 +148,7 @@ OPENSSL = Dialect(
     unit="us",
     window_overshoot=True,
     timer_early_us=1_000,
+    timer_late_us=TIMER_LATE_UNSEEN,
 )
 
 DIALECTS = (

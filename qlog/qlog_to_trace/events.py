@@ -316,6 +316,12 @@ class Event:
         return self.keeps_room or self.data.get("trigger") == "pto_probe"
 
     @property
+    def has_ping_of_handshake(self) -> bool:
+        """Whether it is an Initial or Handshake packet with a PING: one of 1-RTT may be that of a
+        program, or keep the connection alive."""
+        return self.space in ("initial", "handshake") and "ping" in self.frame_types
+
+    @property
     def repeats(self) -> bool:
         """Whether a packet_lost names what a probe sends again, which is no loss."""
         return self.name == "packet_lost" and self.data.get("trigger") == "pto_expired"

@@ -152,9 +152,16 @@ class Groups:
         if self._dialect.metrics_stand_before:
             return Group(Kind.SENT, [event])
         packets = [event]
-        while (following := self._ahead.peek()) and is_sent(following) and not following.is_probe:
+        while is_sent(self._ahead.peek()) and not self._may_be_probe():
             packets.append(self._ahead.take())
         return Group(Kind.SENT, packets, self._beside(BESIDE_SENT))
+
+    def _may_be_probe(self) -> bool:
+        """Whether the next packet, which is sent, may be that of a probe timeout."""
+        event = self._ahead.peek()
+        if event is None:
+            return False
+        return event.is_probe or (self._dialect.probes_by_room and event.has_ping_of_handshake)
 
     def _lost(self, event: Event) -> Group:
         if not self._dialect.losses_stand_before:

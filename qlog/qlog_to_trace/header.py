@@ -4,12 +4,13 @@ from dataclasses import dataclass
 from fractions import Fraction
 from typing import Any
 
-from .dialects import Dialect
+from .dialects import MICROSECONDS_OF_INITIAL_RTT, TIMER_LATE_UNSEEN, Dialect
 from .errors import Unusable
 from .events import GREATEST_SIZE, NANOSECONDS
 from .lines import Lines
-from .notes import Guess, Limit, Notes
-from .survey import LEAST_DATAGRAM, Survey
+from .notes import Guess, Limit, Notes, Omission
+from .survey import Survey
+from .validation import LEAST_DATAGRAM
 
 # The ranges of the header's keys.
 GREATEST_INITIAL_RTT = 10**12
@@ -21,6 +22,10 @@ ROUNDING_OF_THRESHOLD = Fraction(1, 100)
 # Of the keys `window` and `loss_by_number`.
 REPORTED = "reported"
 MAY = "may"
+# In place of a number of microseconds.
+NO_LIMIT = "no"
+# RFC 9002, 6.2.1 and 6.2.2: the first probe timeout, in initial round-trip times.
+RTTS_OF_FIRST_TIMEOUT = 3
 
 
 @dataclass(frozen=True)
@@ -32,11 +37,14 @@ class Choices:
     options: tuple[tuple[str, int | str], ...] = ()
 
 
-def options_of(dialect: Dialect, survey: Survey, choices: Choices) -> dict[str, Any]:
+def options_of(dialect: Dialect, survey: Survey, choices: Choices, notes: Notes) -> dict[str, Any]:
     """The version, and the options of the versions behind the first."""
     found: dict[str, Any] = {"version": choices.version}
     said = dict(choices.options)
     if choices.version >= 2:
+        late = said.pop("timer_late_us", None)
+        late = limit_of(dialect, survey, notes) if late is None else late
+        found |= {} if late in (None, NO_LIMIT) else {"timer_late_us": late}
         found |= {
             "report_slack_us": dialect.slack_us,
             "report_slack_bytes": dialect.slack_bytes,
@@ -61,6 +69,36 @@ def options_of(dialect: Dialect, survey: Survey, choices: Choices) -> dict[str, 
             "loss_by_number": MAY if dialect.may_spare and window == REPORTED else "must",
         }
     return found | said
+
+
+def limit_of(dialect: Dialect, survey: Survey, notes: Notes) -> int | None:
+    """How late a timer may be, in microseconds, if the log lets it be judged."""
+    by_packets = (dialect.probes_by_ping, dialect.probes_by_room, dialect.probes_by_trigger)
+    by_log = (dialect.logs_timers, survey.has_timers, survey.has_pto_counts)
+    limit = dialect.timer_late_us
+    if not any(by_packets) and not any(by_log):
+        limit = max(limit, TIMER_LATE_UNSEEN)
+        notes.findings.append(
+            f"no probe timeouts; of one that does not show, the next one is late, so timers may be"
+            f" {limit} microseconds late"
+        )
+    if is_past(dialect, survey, limit):
+        notes.omit(Omission.LIMIT)
+        return None
+    return limit
+
+
+def is_past(dialect: Dialect, survey: Survey, limit: int) -> bool:
+    """Whether a server that may not send is silent for longer than a probe timeout and a limit."""
+    rtt = survey.recovery.get("initial_rtt", survey.first_smoothed)
+    if not rtt:
+        rtt = (dialect.initial_rtt or MICROSECONDS_OF_INITIAL_RTT) * NANOSECONDS["us"]
+    validation = survey.validation
+    late = max(
+        validation.longest_silence - RTTS_OF_FIRST_TIMEOUT * rtt,
+        validation.longest_silence_behind_ack,
+    )
+    return late > limit * NANOSECONDS["us"]
 
 
 def initial_rtt_of(dialect: Dialect, survey: Survey, notes: Notes) -> int | None:

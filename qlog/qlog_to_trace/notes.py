@@ -44,6 +44,10 @@ class Omission(Enum):
     IDLE_TIMER = "a timer that had been moved: it expired, and did nothing"
     BARE_TIMER = "a loss timer that found only packets that are not in flight"
     OTHER_TIMER = "a timer of another kind than loss and pto"
+    LIMIT = (
+        "the limit for late timers: the server may not send before the client's address is"
+        " validated (RFC 9000, 8.1), and a trace does not show that"
+    )
 
 
 class Limit(Enum):

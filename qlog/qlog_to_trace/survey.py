@@ -10,8 +10,8 @@ from .events import NANOSECONDS, Event
 from .looking import DEFAULT_DELAY_EXPONENT, Looking
 from .notes import Guess
 from .sizes import Sizes
+from .validation import LEAST_DATAGRAM, Validation
 
-LEAST_DATAGRAM = 1200
 # What fits in an Ethernet frame. A part of the window that is larger, and larger than each packet,
 # is of a window of more datagrams.
 USUAL_DATAGRAM = 1500
@@ -49,6 +49,7 @@ class Survey:
         self._role = role
         self.sizes = Sizes(dialect.full_packet)
         self.looking = Looking()
+        self.validation = Validation(role)
         self.retry: Retry | None = None
         self._last_numbers: dict[str, int] = {}
         # Where Initial packets go, as long as none has come, and the round-trip time so far.
@@ -72,6 +73,8 @@ class Survey:
         # The spaces of whose discard the log tells.
         self.retired: set[str] = set()
         self.has_timers = False
+        # Whether it counts probe timeouts.
+        self.has_pto_counts = False
         # Whether a congestion window is logged, and whether a time is no whole microsecond.
         self.has_window = self.has_nanoseconds = False
         # Whether packets were marked by CE, and whether the peer was asked for another delay.
@@ -119,6 +122,7 @@ class Survey:
         elif event.has_expired:
             self.has_timers = self._is_after_timer = True
         self.looking.see(event)
+        self.validation.see(event)
 
     def _see_lost(self, event: Event) -> None:
         if event.space:
@@ -210,8 +214,9 @@ class Survey:
 
     def _see_metrics(self, event: Event) -> None:
         self.has_window = self.has_window or event.has_window
-        if self._is_after_timer and event.pto_count() is not None:
-            self.counts_at_timers = True
+        if event.pto_count() is not None:
+            self.has_pto_counts = True
+            self.counts_at_timers |= self._is_after_timer
         if self._has_ack:
             return
         values = event.metrics()

@@ -62,7 +62,8 @@ class Header(unittest.TestCase):
             number: set(converted([sent(0, 0)], "--version", str(number)).lines[0])
             for number in (1, 2, 3)
         }
-        self.assertEqual(keys[2] - keys[1], {"report_slack_us", "report_slack_bytes"})
+        exact = {"timer_late_us", "report_slack_us", "report_slack_bytes"}
+        self.assertEqual(keys[2] - keys[1], exact)
         choices = {"unit", "window", "window_overshoot", "sample_eliciting_only"}
         choices |= {"packet_threshold", "timer_early_us", "loss_by_number"}
         self.assertEqual(keys[3] - keys[2], choices)

@@ -32,7 +32,8 @@ class Pages(unittest.TestCase):
 
 
 class Real(unittest.TestCase):
-    """Each log of conformance/real/traces gives the trace beside it."""
+    """Each log of conformance/real/traces gives the trace beside it, which sets no limit for late
+    timers."""
 
     def test_real(self) -> None:
         paths = [*sorted(REAL.glob("*.qlog")), *sorted(REAL.glob("*.netlog"))]
@@ -41,7 +42,7 @@ class Real(unittest.TestCase):
             with self.subTest(path.name):
                 expected = path.with_suffix(".trace").read_text()
                 version = json.loads(expected.partition("\n")[0])["version"]
-                words = ("--version", str(version))
+                words = ("--version", str(version), *(("--timer-late", "no") * (version >= 2)))
                 self.assertEqual(End(path.read_bytes(), *words).text, expected)
 
 

@@ -11,11 +11,11 @@ _qlog_to_trace() {
         --window) words='newreno reported' ;;
         --loss-by-number) words='must may' ;;
         --window-overshoot | --sample-eliciting-only | --refresh-min-rtt) words='yes no' ;;
-        --connection | --timer-late-us | --slack-us | --slack-bytes | --packet-threshold | --timer-early-us) return ;;
+        --connection | --timer-late | --timer-late-us | --slack-us | --slack-bytes | --packet-threshold | --timer-early-us) return ;;
     esac
     if [ -z "$words" ] && [[ $current == -* ]]; then
-        words='--format --version --vantage --connection --dialect --notes --timer-late-us --refresh-min-rtt --slack-us
-            --slack-bytes --unit --window --window-overshoot --sample-eliciting-only
+        words='--format --version --vantage --connection --dialect --notes --timer-late --timer-late-us --refresh-min-rtt
+            --slack-us --slack-bytes --unit --window --window-overshoot --sample-eliciting-only
             --packet-threshold --timer-early-us --loss-by-number --help'
     fi
     if [ -n "$words" ]; then
