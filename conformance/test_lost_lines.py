@@ -24,7 +24,7 @@ REAL = FOLDER / "real" / "traces"
 HEADING = "### A log that lost lines"
 # Of reports, which mostly change nothing, one of so many is dropped.
 REPORTS = 8
-TIMER_LATE = 100_000
+TIMER_LATE = 200_000
 NOTHING = "nothing"
 # What a row names: a rule, with the value if it is about one, or that nothing is seen.
 NAMED = re.compile(r"\b(nothing|V16 of another value|V16 `\w+`|V\d+)")

@@ -152,8 +152,8 @@ class Key:
         """Makes an option of it."""
         about = f"{self.name}, of version {self.version}"
         if self.older:
-            names, about = (self.option, self.older), f"{about}; no: without it"
-            group.add_argument(*names, dest=self.name, type=limit, metavar="N", help=about)
+            names, about, unit = (self.option, self.older), f"{about}, or no", "MICROSECONDS"
+            group.add_argument(*names, dest=self.name, type=limit, metavar=unit, help=about)
         elif self.numbers is not None:
             group.add_argument(self.option, dest=self.name, type=natural, metavar="N", help=about)
         else:

@@ -87,6 +87,8 @@ class Conversion:
         # Bytes that the last probe timeout still allows, and packets until an acknowledgment comes.
         self._probe_left = 0
         self._probes_left = 0
+        # When the last probe timeout fired.
+        self._last_timer = 0
         # Whether the window fell, and whether a packet came, since the last packet that was sent.
         self._has_fallen = self._has_come = False
         # When losses were last declared.
@@ -281,7 +283,8 @@ class Conversion:
         if self._logs_timers:
             return
         if self._dialect.probes_by_trigger:
-            if group.first.is_probe and self._probes_left <= 0:
+            is_next = group.first.time > self._last_timer + LATE_BY_PROGRAM
+            if group.first.is_probe and (self._probes_left <= 0 or is_next):
                 self._notes.guess(Guess.PROBE_BY_TRIGGER)
                 self._write_timer(group.first, "pto", str(group.first.space))
             return
@@ -589,6 +592,7 @@ class Conversion:
         if kind == "pto":
             self._probe_left = DATAGRAMS_OF_PROBE * self._datagram
             self._probes_left = DATAGRAMS_OF_PROBE
+            self._last_timer = event.time
             if not self._logs_timers:
                 self._pto_count += 1
 

@@ -195,21 +195,21 @@ class Unvalidated(unittest.TestCase):
 
     def test_the_silence_is_measured_from_the_probe_timeout(self) -> None:
         # quic-go's is 200 milliseconds.
-        for time, limit in ((300, TIMER_LATE), (303, None)):
+        for time, limit in ((400, TIMER_LATE), (403, None)):
             self.assertEqual(self.limit(*self.FULL, sent(time, 3, "initial")), limit)
         # Others have one of 999, or that of a round-trip time that they say.
-        for time, limit in ((1_099, TIMER_LATE), (1_102, None)):
+        for time, limit in ((1_199, TIMER_LATE), (1_202, None)):
             events = (*self.FULL, metrics(1, pto_count=0), sent(time, 3, "initial"))
             self.assertEqual(self.limit(*events, name="ngtcp2"), limit)
         report = metrics(1, pto_count=0, smoothed_rtt=50)
-        for time, limit in ((250, TIMER_LATE), (252, None)):
+        for time, limit in ((350, TIMER_LATE), (352, None)):
             events = (*self.FULL, report, sent(time, 3, "initial"))
             self.assertEqual(self.limit(*events, name="ngtcp2"), limit)
 
     def test_behind_an_acknowledgment(self) -> None:
         acked = received(30, [[0]], "initial")
         full = (*self.FULL, acked, *(sent(31, it, "initial") for it in range(3, 6)))
-        for time, limit in ((131, TIMER_LATE), (132, None)):
+        for time, limit in ((231, TIMER_LATE), (232, None)):
             self.assertEqual(self.limit(*full, received(time, [[1]], "initial")), limit)
 
     def test_an_address_that_is_validated(self) -> None:

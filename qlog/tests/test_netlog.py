@@ -107,6 +107,14 @@ class Netlogs(unittest.TestCase):
             self.assertEqual(end.only("timer")[0]["time"], 300_000)
             self.assertIn("a packet is its probe", end.only("timer")[0]["x_guess"][0])
 
+    def test_the_next_probe_timeout_is_another(self) -> None:
+        again = {"transmission_type": "PTO_RETRANSMISSION"}
+        # Two packets of a timeout, and one of the next.
+        probes = [sent(300, 7, **again), sent(301, 8, **again), sent(900, 10, **again)]
+        end = End(netlog(self.FIVE, *probes))
+        self.assertEqual(end.kinds[6:], ["timer", "sent", "sent", "timer", "sent"])
+        self.assertEqual([line["time"] for line in end.only("timer")], [300_000, 900_000])
+
     def test_packets_of_another_path_are_left_out(self) -> None:
         end = End(netlog(self.FIVE, sent(5, 6, "PATH_CHALLENGE"), sent(6, 7, "ACK")))
         self.assertEqual([line["number"] for line in end.only("sent")], [1, 2, 3, 4, 5, 7])
