@@ -308,12 +308,15 @@ class Conversion:
             self._notes.guess(Guess.PROBE_BY_COUNT)
             self._write_timer(group.first, "pto", self._probed_space())
 
-    @staticmethod
-    def _guess_of_probe(event: Event) -> Guess | None:
-        """By what a packet is a probe where one keeps room for a PING, or has it."""
+    def _guess_of_probe(self, event: Event) -> Guess | None:
+        """By what a packet is a probe where one keeps room for a PING, or has it.
+
+        It has one for other causes too, but not as long as nothing was acknowledged.
+        """
         if event.is_probe:
             return Guess.PROBE_BY_ROOM
-        return Guess.PROBE_BY_PING if event.has_ping_of_handshake else None
+        awaits = event.space in self._last_eliciting and not self._largest
+        return Guess.PROBE_BY_PING if event.has_ping_of_handshake and awaits else None
 
     def _is_ping_of_probe(self, event: Event) -> bool:
         every = self._dialect.packets_between_pings

@@ -135,7 +135,7 @@ QUIC_GO_0_50 = replace(QUIC_GO, name="quic-go-0.50", schemas=("0.",), received_s
 # so that the clock of the log loses up to one an event, unless the sender's own has whole ms. No
 # sizes, no metrics, no timers, no keys. A STREAM frame without a length fills its packet, but for
 # the two bytes of that length, and one that a probe keeps for a PING. A probe that does not fill
-# its packet shows in the handshake alone, by a PING. NewReno.
+# its packet shows only before an acknowledgment, by a PING. NewReno.
 OPENSSL = Dialect(
     "openssl",
     ("openssl/",),

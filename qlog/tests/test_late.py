@@ -30,6 +30,7 @@ from sender import Sender, report_of  # noqa: E402
 
 REAL = TOP / "conformance" / "real" / "traces"
 SEQUENTIAL = "urn:ietf:params:qlog:file:sequential"
+PING = ("ping", "padding")
 GOOD = "accepted"
 LATE = "refused line 3 V18 timer-late"
 MICROSECONDS = 1000
@@ -249,14 +250,11 @@ class ProbesOfOpenssl(unittest.TestCase):
 
     def test_a_ping_is_a_probe(self) -> None:
         first = sent(0, 0, "initial")
-        for kind, space in (("initial", "initial"), ("handshake", "handshake")):
-            ping = sent(999, 1, kind, frames=("ping", "padding"))
-            kinds = self.kinds(first, ping)
-            packets = [it for it in kinds if it in ("sent", "timer")]
-            self.assertEqual(packets, ["sent", "timer", "sent"])
-            timer = converted([first, ping], name="OpenSSL/3.6", role="client").only("timer")[0]
-            self.assertEqual((timer["space"], timer["kind"]), (space, "pto"))
-            self.assertIn("a PING was sent", timer["x_guess"][0])
+        ping = sent(999, 1, "initial", frames=("ping", "padding"))
+        self.assertEqual(self.kinds(first, ping), ["sent", "timer", "sent"])
+        timer = converted([first, ping], name="OpenSSL/3.6", role="client").only("timer")[0]
+        self.assertEqual((timer["space"], timer["kind"]), ("initial", "pto"))
+        self.assertIn("a PING was sent", timer["x_guess"][0])
 
     def test_the_count_doubles_the_next_timeout(self) -> None:
         pings = [sent(it, at, "initial", frames=("ping",)) for at, it in ((1, 999), (2, 2997))]
@@ -270,6 +268,12 @@ class ProbesOfOpenssl(unittest.TestCase):
         self.assertEqual(self.kinds(first, received(999, kind="initial"), ping), ["sent", "sent"])
         self.assertEqual(self.kinds(first, sent(0, 1, "initial", frames=("ping",))), ["sent"] * 2)
         self.assertEqual(self.kinds(sent(0, 0), sent(999, 1, frames=("ping",))), ["sent"] * 2)
+        # Once something was acknowledged, or where nothing is to be.
+        acked = received(20, [[0]], "initial")
+        kinds = self.kinds(first, sent(0, 1, "initial"), acked, sent(999, 2, "initial", 1200, PING))
+        self.assertEqual(kinds, ["sent", "sent", "ack", "sent"])
+        ack = sent(0, 0, "initial", frames=("ack", "padding"))
+        self.assertEqual(self.kinds(ack, sent(999, 1, "initial", 1200, PING)), ["sent"] * 2)
         # Other logs show probe timeouts by their count.
         head = {"name": "ngtcp2", "role": "client"}
         self.assertEqual(converted([first, ping], **head).kinds, ["header", "sent", "sent"])
