@@ -108,7 +108,7 @@ class Netlogs(unittest.TestCase):
             self.assertIn("a packet is its probe", end.only("timer")[0]["x_guess"][0])
 
     def test_the_next_probe_timeout_is_another(self) -> None:
-        again = {"transmission_type": "PTO_RETRANSMISSION"}
+        again: Event = {"transmission_type": "PTO_RETRANSMISSION"}
         # Two packets of a timeout, and one of the next.
         probes = [sent(300, 7, **again), sent(301, 8, **again), sent(900, 10, **again)]
         end = End(netlog(self.FIVE, *probes))
