@@ -36,9 +36,8 @@ fn push_object(out: &mut Object, event: &Event) -> Result<(), AllocError>
 {
     match event {
         Event::Sent(packet) => push_packet(out, packet),
-        Event::Ack(Ack { space, .. })
-        | Event::Lost { space, .. }
-        | Event::Discard { space, .. } => out.string("space", space.name()),
+        Event::Ack(Ack { space, .. }) | Event::Lost { space, .. } | Event::Discard { space, .. } =>
+            out.string("space", space.name()),
         Event::Timer { kind, space, .. } => {
             out.string("kind", kind.name())?;
             out.string("space", space.name())
