@@ -26,7 +26,7 @@ KINDS = ("accepted", "refused", "unreadable", FAILED)
 ENDING = ".trace"
 # The form of the file of verdicts that later ones are compared with.
 VERSION = 1
-RECORDED = ("key", "kind", "line", "rule", "name", "fault", "page")
+RECORDED = ("key", "kind", "line", "rule", "name", "fault", "page", "is_doubtful")
 
 
 @dataclass(frozen=True)

@@ -293,7 +293,7 @@ class Netlog(Form):
             if not isinstance(member, dict):
                 continue
             source = member.get("source")
-            source = source.get("id") if isinstance(source, dict) else None
+            source = str(source.get("id")) if isinstance(source, dict) else None
             yield place, names.get(str(member.get("type")), ""), source, member
 
 

@@ -75,6 +75,12 @@ class Limits(unittest.TestCase):
             end = End(text.replace('"time": 7', f'"time": {number}'))
             self.assertEqual((end.status, len(end.errors.splitlines())), (2, 1))
 
+    def test_sources_of_a_netlog(self) -> None:
+        types = {"QUIC_SESSION_PACKET_SENT": 1}
+        event = {"type": 1, "time": 7, "source": {"id": [1, {}]}, "params": {}}
+        end = End(json.dumps({"constants": {"logEventTypes": types}, "events": [event]}))
+        self.assertEqual((end.status, len(end.errors.splitlines())), (2, 1))
+
 
 class Terminals(unittest.TestCase):
     """Nothing of others is written to a terminal as it is."""

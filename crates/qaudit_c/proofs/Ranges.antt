@@ -1,12 +1,17 @@
 -- Ranges behind ranges.
-use Rattle.std.proofs.Common.{◌≡◌, ◌∙◌, ℕ, ◌≤◌, Bool, true, false, List, [], ◌∷◌, ◌++◌, Option, Some, None, refl, ap, subst, arith}
+use Rattle.std.proofs.Common.{◌≡◌, ◌∙◌, ℕ, ◌≤◌, Bool, true, false, List, [], ◌∷◌, ◌++◌, Option, Some, None, refl, sym, ap, subst, arith}
 use Rattle.std.proofs.lemmas.Bool.{and_parts, leb-true}
 use Rattle.std.specs.List.{AllByRecursion}
 use Rattle.std.specs.Prelude.{nat_le, ◌&&◌, if◌then◌else◌}
 use Rattle.qa_base.specs.values.Limits.{max_packet_number, max_time}
+use Rattle.qa_base.specs.declared.event.Event.TheVariants as events
+use Rattle.qa_format.proofs.format.Lengths.{ack_has_line, lost_has_line}
+use Rattle.qa_format.specs.declared.line.Line.{Line}
+use Rattle.qa_format.specs.declared.line.Line.TheVariants as lines
 use Rattle.qa_format.specs.format.Proper.{IsRange}
+use Rattle.qa_format.specs.format.Written.{few_ranges}
 use Rattle.qaudit_c.specs.declared.structs.PacketRange.{PacketRange}
-use Rattle.qaudit_c.specs.Events.{range_said, cons_of, ranges_of, time_of}
+use Rattle.qaudit_c.specs.Events.{SaysProperRanges, cons_of, is_said, range_count, range_said, ranges_of, time_of}
 
 -- both, one behind the other, where both are there
 abbrev pub join_of : Option (List (ℕ × ℕ)) → Option (List (ℕ × ℕ)) → Option (List (ℕ × ℕ))
@@ -80,3 +85,12 @@ time_by t time false is same = absurd cc
 -- and a time is one
 pub is_time : (t time : ℕ) → time_of t ≡ Some time → time ≤ max_time
 is_time t time is = time_by t time (nat_le 0 t && nat_le t max_time) refl is
+
+-- ---- lines with few ranges
+
+pub few_are_said : (x : Line) → SaysProperRanges x → range_count x ≤ few_ranges → true ≡ is_said x
+few_are_said lines.Blank are few = refl
+few_are_said (lines.Header s) are few = refl
+few_are_said (lines.Event (events.Ack ack)) are few = sym (ack_has_line ack are.0 are.1 are.2 few)
+few_are_said (lines.Event (events.Lost t s ranges)) are few = sym (lost_has_line s t ranges are.0 are.1 few)
+few_are_said (lines.Event e) are few = refl

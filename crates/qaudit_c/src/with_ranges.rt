@@ -1,6 +1,6 @@
 //! What the calls do that hand in ranges of packet numbers: the ranges lie in memory that the
 //! session keeps from one such call to the next.
-ghost use Rattle.std.specs.Prelude.{◌≡◌, IfOk, Some, true};
+ghost use Rattle.std.specs.Prelude.{◌≡◌, ◌<◌, ◌^◌, IfOk, Some, true};
 ghost use Rattle.qa_format.specs.format.Written.{line_fits};
 ghost use Rattle.qaudit_c.specs.Calls as calls;
 ghost use Rattle.qaudit_c.specs.Events as said;
@@ -79,6 +79,16 @@ fn hand_line(alloc: Global, session: &mut Session, line: Line) -> u32
     status
 }
 
+/// The number, which has 64 bits: a contract knows that of a value, and not of a field behind a
+/// reference.
+#[inline(always)]
+fn word(number: u64) -> u64
+    ensures same { result ≡ number }
+    ensures bound { number < 2 ^ 64 }
+{
+    number
+}
+
 /// Hands in an acknowledgment.
 #[inline(always)]
 pub fn ack_to(
@@ -90,6 +100,7 @@ pub fn ack_to(
     ensures { calls.HandsRun
         (said.line_of_event (said.ack_said ack.now ranges.now)) result session.old session.new }
 {
+    let delay = word(ack.delay);
     let Some((time, space)) = moment_of(ack.time, ack.space) else {
         return refusal(session, OUT_OF_RANGE);
     };
@@ -99,7 +110,7 @@ pub fn ack_to(
                 time,
                 space,
                 ranges,
-                delay: ack.delay,
+                delay,
                 app_limited: ack.app_limited,
             });
             hand_and_keep(alloc, session, event)

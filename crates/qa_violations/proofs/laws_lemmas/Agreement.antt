@@ -45,7 +45,7 @@ EndsAt n header h s v = stop_at first_untolerated n header h s ≡ Some v
 -- the line says an event past which the machine goes on, and that breaks this rule first
 pub record GoesOnAt (n : ℕ) (header : Option Settings) (h : List Event) (s : Result Line Fault) (m : ℕ) (r : Rule) : Type 0 where
   pub good : stop_at first_untolerated n header h s ≡ None
-  pub line : m ≡ n
+  pub there : m ≡ n
   pub settings : Settings
   pub event : Event
   pub headed : header ≡ Some settings
@@ -71,7 +71,7 @@ at_event : (n : ℕ) (c : Settings) (h : List Event) (e : Event) (r : Rule) (b :
     → AtEvent b n (Some c) h (Ok (line.Event e)) n r (totals c h)
 at_event n c h e r true breaks passed = record {
   good = ap (λ (o : Option Rule). option_map (λ r. Refused n r (totals c h)) o) (passed_over c h e r breaks passed);
-  line = refl;
+  there = refl;
   settings = c;
   event = e;
   headed = refl;
@@ -183,7 +183,7 @@ comes_first before ls l m r at =
     let read = said_reading reading (length before) l at.says in
     let here = on_line (length before + 1) before l (header_in reading before) (history_in before) at.settings at.event r at.headed read at.breaks
     (violated_after (before ++ l ∷ []) (front (before ++ l ∷ []) ls)) in
-    subst (λ (n : ℕ). ComesFirst n r (violated_after before (front before (l ∷ ls)))) (sym at.line)
+    subst (λ (n : ℕ). ComesFirst n r (violated_after before (front before (l ∷ ls)))) (sym at.there)
     (subst (λ (ls : List (List ℕ)). ComesFirst (length before + 1) r (violated_after before ls)) (sym (front_more before ls l good)) here)
 
 rule_here : (b : Bool) (before ls : List (List ℕ)) (l : List ℕ) (m : ℕ) (r : Rule) (t : Totals)

@@ -1,5 +1,5 @@
 -- The first of the rules that tests name, and past which of them the machine goes on.
-use Rattle.std.proofs.Common.{◌≡◌, ◌∙◌, Bool, true, false, ◌&&◌, not, List, [], ◌∷◌, ◌++◌, Option, Some, None, refl, ap}
+use Rattle.std.proofs.Common.{◌≡◌, ◌∙◌, Bool, true, false, ◌&&◌, not, List, [], ◌∷◌, ◌++◌, Option, Some, None, refl, sym, subst, ap}
 use Rattle.std.specs.Prelude.{if◌then◌else◌, map, nat_lt}
 use Rattle.qa_base.specs.declared.event.Event.{Event}
 use Rattle.qa_base.specs.declared.event.Event.TheVariants.{Ack, Timer, Discard}
@@ -72,7 +72,7 @@ timer_passed : (c : Settings) (h : List Event) (b : Bool) (r : Rule) (rest : Opt
     → (if b then Some rule.TimerEarly else rest) ≡ Some r → (b && not (nat_lt (pto_count c h) most_doublings)) ≡ false
 timer_passed c h true r rest passed first =
     let same : rule.TimerEarly ≡ r = cc in
-    let few : is_tolerated c h rule.TimerEarly ≡ true = rw same passed in
+    let few : nat_lt (pto_count c h) most_doublings ≡ true = subst (λ (s : Rule). is_tolerated c h s ≡ true) (sym same) passed in
     rw few refl
 timer_passed c h false r rest passed first = refl
 
