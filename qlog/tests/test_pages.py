@@ -27,8 +27,9 @@ class Pages(unittest.TestCase):
                     continue
                 word = {".1": f"Fl {option[1:]}", ".fish": f"-l {option[2:]} "}.get(path.suffix)
                 self.assertIn(word or option, text, path.name)
-            for dialect in DIALECTS if path.suffix != ".1" else ():
-                self.assertIn(dialect.name, text, path.name)
+            if path.suffix != ".1":
+                names = " ".join(dialect.name for dialect in DIALECTS)
+                self.assertRegex(text, rf"[(']{names}[)']", path.name)
 
 
 class Real(unittest.TestCase):

@@ -6,7 +6,7 @@ _qlog_to_trace() {
     case $before in
         --format) words='1 2 3' ;;
         --vantage) words='client server' ;;
-        --dialect) words='quic-go quic-go-0.50 quic-go-0.59 ngtcp2 aioquic openssl-3.5 openssl quinn neqo chromium quiche mvfst generic' ;;
+        --dialect) words='quic-go quic-go-0.50 quic-go-0.59 ngtcp2 aioquic openssl neqo chromium quinn quiche mvfst generic' ;;
         --unit) words='us ns' ;;
         --window) words='newreno reported' ;;
         --loss-by-number) words='must may' ;;
