@@ -55,7 +55,7 @@ enum {
     QAUDIT_FINISHED = 2,      /* the verdict is known: nothing follows */
     QAUDIT_OUT_OF_MEMORY = 3, /* there is no verdict, and never will be; qaudit_close it */
     QAUDIT_CLOSED = 4,        /* it is not open */
-    QAUDIT_OUT_OF_RANGE = 5,  /* a value of the struct is outside its range, or no line says it: nothing was taken */
+    QAUDIT_OUT_OF_RANGE = 5,  /* a value of the struct is outside its range, or its line is too long: nothing was taken */
     QAUDIT_NOT_TAKEN = 6,     /* no memory for the ranges: nothing was taken, and the call may be tried again */
     QAUDIT_INSIDE_LINE = 7    /* the bytes that were fed end inside a line: nothing was taken */
 };
@@ -81,8 +81,8 @@ qaudit_status_t qaudit_feed(qaudit *q, const uint8_t *bytes, size_t count);
  * and qaudit_lost also QAUDIT_NOT_TAKEN. Once the verdict is fixed, and after qaudit_finish, they change
  * nothing. The header comes first: an event before it fixes the verdict, as it does in a trace.
  *
- * A line of a trace has 65,536 bytes at most. An acknowledgment or a loss whose line would have more is
- * out of range, and nothing is taken; 1,024 ranges fit whatever their numbers are.
+ * A line of a trace has 65,536 bytes at most. An acknowledgment or a loss whose line, with every key,
+ * would have more is out of range, and nothing is taken; 1,024 ranges fit whatever their numbers are.
  *
  * Times are in the unit of the header, from 0 to 10^15, and packet numbers from 0 to 2^62 - 1. */
 
