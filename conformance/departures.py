@@ -198,7 +198,9 @@ class Follower:
         if self.sender.owed:
             head = head_of(self.name, last, "refused", Rule.OWED_AT_END)
             facts = {"line": last} | owed_at_end(self.facts)
-            self.end_as("refused", head + refused_end(self.sender), facts)
+            end = caveats.Refusal(last, Rule.OWED_AT_END, b"")
+            behind = caveats.text_of(self.lines, end)
+            self.end_as("refused", head + refused_end(self.sender) + behind, facts)
         else:
             events = self.sender.events
             self.end_as("accepted", accepted(self.name, events), {"events": events})
@@ -228,7 +230,10 @@ class Follower:
         unborne = next((it for it in rules if not is_borne(self.sender, it)), None)
         if unborne is not None:
             facts = {"line": number} | broken(self.facts, event, unborne)
-            self.end_as("refused", self.text_of(number, event, "refused", unborne), facts)
+            refusal = caveats.Refusal(number, unborne, line)
+            behind = caveats.text_of(self.lines[: number - 1], refusal)
+            text = self.text_of(number, event, "refused", unborne)
+            self.end_as("refused", text + behind, facts)
             return True
         for what in rules:
             self.depart(number, event, what)

@@ -1,16 +1,18 @@
 //! What is told of a verdict, by the judge of the events before.
 ghost use Rattle.std.specs.Prelude.{◌≡◌, List, ℕ, false, true, Some, Option, IfOk, IfErr, IfSome};
-ghost use Rattle.std.specs.Prelude.{IsSome, option_map};
+ghost use Rattle.std.specs.Prelude.{IsSome, OnOk, option_map};
 ghost use Rattle.std.specs.Option.{ForSome, option_copied};
 ghost use Rattle.qa_base.specs.declared.event.Event.{Event as AnEvent};
 ghost use Rattle.qa_base.specs.values.Settings.{Settings};
 ghost use Rattle.qa_check.specs.Standing.{HoldsRun, by};
 ghost use Rattle.qa_check.specs.Walking.{IsEnd};
 ghost use Rattle.qa_why.specs.Ending.{CanRefuse, IsEvent, event_of, refusal_of, told_of_end};
-ghost use Rattle.qa_why.specs.Why.{TellsBy};
+ghost use Rattle.qa_why.specs.Why.{TellsBy, good_lines};
+ghost use Rattle.qa_why.specs.caveats.Caveats.{AreCaveats};
 ghost use Rattle.qa_why.specs.Objects.{object_line as object_line_of};
 ghost use Rattle.qa_why.specs.Why as defined;
 
+use crate::caveats::Caveats;
 use crate::objects::{
     accepted_members, object_line, owed_at_end_members, refused_members, unreadable_members,
 };
@@ -218,7 +220,27 @@ fn of_verdict<J: Reasons + Drop>(
     }
 }
 
-/// What is told of the verdict that a walk has come to, which kept the line that ended it.
+/// Appends what a refusal may rest on besides the sender, in a text.
+fn push_caveats<J>(
+    form: Form,
+    ended: &Ended<J>,
+    caveats: &Caveats,
+    out: &mut Vec<u8>,
+) -> Result<(), AllocError>
+    ensures { OnOk result ((ls : List (List ℕ)) → AreCaveats caveats.now ls → out.new.items
+        ≡ defined.with_caveats ended.now.verdict form
+        (ls, option_map (λ line. line.bytes.items) ended.now.line) out.old.items) }
+{
+    match (form, &ended.verdict) {
+        (Form::Text, Verdict::Refused(n, rule, _)) => {
+            caveats.push(out, *n, *rule, line_of(ended).unwrap_or(&[]))
+        }
+        _ => Ok(()),
+    }
+}
+
+/// What is told of the verdict that a walk has come to, which kept the line that ended it, and of
+/// whose good lines these are the caveats.
 ///
 /// `AuditFault::OutOfMemory` comes where it is out of memory.
 pub fn why_of<J: Reasons + Drop>(
@@ -226,14 +248,19 @@ pub fn why_of<J: Reasons + Drop>(
     form: Form,
     name: &str,
     ended: &Ended<J>,
+    caveats: &Caveats,
 ) -> Result<Why, AuditFault>
     requires works { ForSome ended.now.judge (λ j. J.has_failed j ≡ false) }
     requires end { (bytes : List ℕ) × IsEnd J.judges true ended.now bytes }
     ensures told { IfOk result (λ why. (bytes : List ℕ) → IsEnd J.judges true ended.now bytes
+        → AreCaveats caveats.now (good_lines (by J.judges) bytes)
         → TellsBy (by J.judges) form name.now why.outcome why.text.items bytes) }
     ensures memory { IfErr result (λ fault. fault ≡ AuditFault.OutOfMemory) }
 {
-    let Ok(text) = of_verdict(alloc, form, name, ended) else {
+    let Ok(mut text) = of_verdict(alloc, form, name, ended) else {
+        return Err(AuditFault::OutOfMemory);
+    };
+    let Ok(()) = push_caveats(form, ended, caveats, &mut text) else {
         return Err(AuditFault::OutOfMemory);
     };
     let outcome = Outcome::of(&ended.verdict);

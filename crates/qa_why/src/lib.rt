@@ -6,6 +6,7 @@
 #![tactic(auto)]
 
 mod causes;
+mod caveats;
 mod faults;
 mod hints;
 mod json_rows;
@@ -20,6 +21,7 @@ mod texts;
 mod values;
 
 pub use causes::{Why, whole, why_of};
+pub use caveats::Caveats;
 pub use json_rows::{object, row, rows};
 pub use lines::{extend, first_bytes, printed};
 pub use notes::{Both, NoNotes, Notes};
