@@ -10,8 +10,9 @@ use crate::fields;
 use crate::fields::both;
 use crate::ranges::ranges;
 use qa_base::{
-    Ack, Controller, Event, Field, Header, Key, LossByNumber, MetricValues, Options, PacketNumber,
-    Permission, RangeFault, Role, SentPacket, Space, Spans, Ticks, TimeUnit, TimerKind, Version,
+    Ack, ConnectionValues, Controller, Event, Field, Header, Key, LossByNumber, MetricValues,
+    Options, PacketNumber, Permission, RangeFault, Role, SentPacket, Space, Spans, Ticks, TimeUnit,
+    TimerKind, Version,
 };
 use qa_format::Fault;
 use serde_json::Value;
@@ -217,19 +218,22 @@ pub fn header_of(object: &Value) -> Result<Header, Fault>
     let ((version, role), ((unit, controller), (most, initial))) = fields;
     let (max_datagram_size, max_ack_delay) = most;
     let (initial_rtt, initial_window) = initial;
-    let header = Header::in_unit(
-        unit,
+    let values = ConnectionValues {
         role,
         max_datagram_size,
         max_ack_delay,
         initial_rtt,
         initial_window,
-    );
+    };
     let options = Options {
         controller,
         ..options
     };
-    let header = of_version(version, options, out_of_range(header)?)?;
+    let header = of_version(
+        version,
+        options,
+        out_of_range(Header::in_unit(unit, values))?,
+    )?;
     with_losses(losses, header)
 }
 
