@@ -5,7 +5,7 @@ use Rattle.qa_sent_packets.proofs.Counted.{count_removed}
 use Rattle.qa_sent_packets.proofs.Entries.{first_alone}
 use Rattle.qa_sent_packets.proofs.Newly.{nothing_new, with_none}
 use Rattle.qa_sent_packets.proofs.Rising.{clear_none, first_in, none_from, none_in}
-use Rattle.qa_sent_packets.proofs.covering.cover_span.Goals as goal
+use Rattle.qa_sent_packets.proofs.queue.PacketQueue.cover_span.Goals as goal
 
 pub cover_one-requires-clause-there : goal.cover_one-requires-clause-there
 cover_one-requires-clause-there c =
@@ -35,6 +35,7 @@ loop-number-preserved c =
     let found = first_in lo hi es (c.in-Some.number, c.in-Some.place) (sym c.first_from.ensures.first ∙ c.in-Some.is) (omega (arith, high)) in
     let at = first_alone lo hi es c.in-Some.number c.in-Some.place found in
     record {
+      dropped = c.cover_one.ensures.dropped ∙ c.loop-number.invariant.dropped;
       indexed = c.cover_one.ensures.indexed;
       packets = c.cover_one.ensures.packets lo hi at.1 at.2 ∙ c.loop-number.invariant.packets;
       new = c.cover_one.ensures.new lo hi found ∙ c.loop-number.invariant.new;
@@ -59,10 +60,10 @@ returns-then-hi-number-clause-packets c =
     let lo = c.get-lo.result in
     let hi = c.get-hi.result in
     let none : first_between lo hi c.loop-number.space_packets.unacknowledged.entries ≡ None = none_in lo hi c.in-Some.number c.loop-number.space_packets.unacknowledged.entries c.in-Some.ensures.clear c.if-hi-number.true in
-    sym (nothing_left s c.args.dropped lo hi c.loop-number.packets.items (ap (first_between lo hi) (sym c.loop-number.invariant.indexed.entries) ∙ none))
+    sym (nothing_left s c.loop-number.self.dropped lo hi c.loop-number.self.packets.items (ap (first_between lo hi) (sym c.loop-number.invariant.indexed.entries) ∙ none))
     ∙ (c.loop-number.invariant.packets
-    ∙ (ap (λ n. map (covered_in s n hi) c.args.packets.now.items) (c.get-lo.ensures.value ∙ c.lo.ensures.value)
-    ∙ ap (λ n. map (covered_in s c.args.span.0 n) c.args.packets.now.items) (c.get-hi.ensures.value ∙ c.hi.ensures.value)))
+    ∙ (ap (λ n. map (covered_in s n hi) c.args.self.now.packets.items) (c.get-lo.ensures.value ∙ c.lo.ensures.value)
+    ∙ ap (λ n. map (covered_in s c.args.span.0 n) c.args.self.now.packets.items) (c.get-hi.ensures.value ∙ c.hi.ensures.value)))
 
 pub returns-then-hi-number-clause-new : goal.returns-then-hi-number-clause-new
 returns-then-hi-number-clause-new c =
@@ -71,11 +72,11 @@ returns-then-hi-number-clause-new c =
     let hi = c.get-hi.result in
     let before = c.args.found.now.items in
     let none : first_between lo hi c.loop-number.space_packets.unacknowledged.entries ≡ None = none_in lo hi c.in-Some.number c.loop-number.space_packets.unacknowledged.entries c.in-Some.ensures.clear c.if-hi-number.true in
-    let nothing = nothing_new s c.args.dropped lo hi c.loop-number.packets.items (ap (first_between lo hi) (sym c.loop-number.invariant.indexed.entries) ∙ none) in
-    sym (with_none c.loop-number.found.items (filter (is_new_in s lo hi) c.loop-number.packets.items) nothing)
+    let nothing = nothing_new s c.loop-number.self.dropped lo hi c.loop-number.self.packets.items (ap (first_between lo hi) (sym c.loop-number.invariant.indexed.entries) ∙ none) in
+    sym (with_none c.loop-number.found.items (filter (is_new_in s lo hi) c.loop-number.self.packets.items) nothing)
     ∙ (c.loop-number.invariant.new
-    ∙ (ap (λ n. before ++ filter (is_new_in s n hi) c.args.packets.now.items) (c.get-lo.ensures.value ∙ c.lo.ensures.value)
-    ∙ ap (λ n. before ++ filter (is_new_in s c.args.span.0 n) c.args.packets.now.items) (c.get-hi.ensures.value ∙ c.hi.ensures.value)))
+    ∙ (ap (λ n. before ++ filter (is_new_in s n hi) c.args.self.now.packets.items) (c.get-lo.ensures.value ∙ c.lo.ensures.value)
+    ∙ ap (λ n. before ++ filter (is_new_in s c.args.span.0 n) c.args.self.now.packets.items) (c.get-hi.ensures.value ∙ c.hi.ensures.value)))
 
 -- ---- where there is no more
 
@@ -85,10 +86,10 @@ returns-clause-packets c =
     let lo = c.get-lo.result in
     let hi = c.get-hi.result in
     let none : first_between lo hi c.loop-number.space_packets.unacknowledged.entries ≡ None = none_from lo hi c.loop-number.space_packets.unacknowledged.entries (sym c.first_from.ensures.first ∙ c.in_default.is) in
-    sym (nothing_left s c.args.dropped lo hi c.loop-number.packets.items (ap (first_between lo hi) (sym c.loop-number.invariant.indexed.entries) ∙ none))
+    sym (nothing_left s c.loop-number.self.dropped lo hi c.loop-number.self.packets.items (ap (first_between lo hi) (sym c.loop-number.invariant.indexed.entries) ∙ none))
     ∙ (c.loop-number.invariant.packets
-    ∙ (ap (λ n. map (covered_in s n hi) c.args.packets.now.items) (c.get-lo.ensures.value ∙ c.lo.ensures.value)
-    ∙ ap (λ n. map (covered_in s c.args.span.0 n) c.args.packets.now.items) (c.get-hi.ensures.value ∙ c.hi.ensures.value)))
+    ∙ (ap (λ n. map (covered_in s n hi) c.args.self.now.packets.items) (c.get-lo.ensures.value ∙ c.lo.ensures.value)
+    ∙ ap (λ n. map (covered_in s c.args.span.0 n) c.args.self.now.packets.items) (c.get-hi.ensures.value ∙ c.hi.ensures.value)))
 
 pub returns-clause-new : goal.returns-clause-new
 returns-clause-new c =
@@ -97,11 +98,11 @@ returns-clause-new c =
     let hi = c.get-hi.result in
     let before = c.args.found.now.items in
     let none : first_between lo hi c.loop-number.space_packets.unacknowledged.entries ≡ None = none_from lo hi c.loop-number.space_packets.unacknowledged.entries (sym c.first_from.ensures.first ∙ c.in_default.is) in
-    let nothing = nothing_new s c.args.dropped lo hi c.loop-number.packets.items (ap (first_between lo hi) (sym c.loop-number.invariant.indexed.entries) ∙ none) in
-    sym (with_none c.loop-number.found.items (filter (is_new_in s lo hi) c.loop-number.packets.items) nothing)
+    let nothing = nothing_new s c.loop-number.self.dropped lo hi c.loop-number.self.packets.items (ap (first_between lo hi) (sym c.loop-number.invariant.indexed.entries) ∙ none) in
+    sym (with_none c.loop-number.found.items (filter (is_new_in s lo hi) c.loop-number.self.packets.items) nothing)
     ∙ (c.loop-number.invariant.new
-    ∙ (ap (λ n. before ++ filter (is_new_in s n hi) c.args.packets.now.items) (c.get-lo.ensures.value ∙ c.lo.ensures.value)
-    ∙ ap (λ n. before ++ filter (is_new_in s c.args.span.0 n) c.args.packets.now.items) (c.get-hi.ensures.value ∙ c.hi.ensures.value)))
+    ∙ (ap (λ n. before ++ filter (is_new_in s n hi) c.args.self.now.packets.items) (c.get-lo.ensures.value ∙ c.lo.ensures.value)
+    ∙ ap (λ n. before ++ filter (is_new_in s c.args.span.0 n) c.args.self.now.packets.items) (c.get-hi.ensures.value ∙ c.hi.ensures.value)))
 
 pub returns-clause-clear : goal.returns-clause-clear
 returns-clause-clear c =

@@ -14,19 +14,20 @@ use Rattle.qa_sent_packets.proofs.Parts.{each_drop, each_more, each_weaker}
 use Rattle.qa_sent_packets.proofs.Passing.{covers_none, finds_none}
 use Rattle.qa_sent_packets.proofs.Rising.{clear_all}
 use Rattle.qa_sent_packets.proofs.Stretches.{left_from, length_turned}
-use Rattle.qa_sent_packets.proofs.covering.cover_spans.Goals as goal
+use Rattle.qa_sent_packets.proofs.queue.PacketQueue.cover_spans.Goals as goal
 
 pub loop-at-init : goal.loop-at-init
 loop-at-init c =
     let s = c.args.space in
-    let ps = c.args.packets.now.items in
+    let ps = c.args.self.now.packets.items in
     let front = take c.passed-passed.result (turned c.args.falling c.args.spans.now) in
-    let none : AllByRecursion (NamesNone (unacknowledged_in s c.args.dropped ps)) front =
+    let none : AllByRecursion (NamesNone (unacknowledged_in s c.args.self.now.dropped ps)) front =
     subst (λ (es : List (ℕ × ℕ)). AllByRecursion (NamesNone es) front) c.requires.indexed.entries c.passed-passed.ensures.none in record {
+      dropped = refl;
       indexed = c.requires.indexed;
-      packets = sym (covers_none s c.args.dropped front ps none);
-      new = c.requires.none ∙ sym (finds_none s c.args.dropped front ps none);
-      forward = each_weaker (NamesNone (unacknowledged_in s c.args.dropped ps)) (λ (r : ℕ × ℕ). r.0 ≤ r.1) (λ r names. names.0) front none;
+      packets = sym (covers_none s c.args.self.now.dropped front ps none);
+      new = c.requires.none ∙ sym (finds_none s c.args.self.now.dropped front ps none);
+      forward = each_weaker (NamesNone (unacknowledged_in s c.args.self.now.dropped ps)) (λ (r : ℕ × ℕ). r.0 ≤ r.1) (λ r names. names.0) front none;
       clear = λ r within is. clear_all r.0 c.args.space_packets.now.unacknowledged.entries;
       room = each_drop (λ range. vec_len c.args.found.now + count_to range.1 c.args.space_packets.now.unacknowledged.entries ≤ vec_capacity c.args.found.now) (turned c.args.falling c.args.spans.now) c.passed-passed.result c.requires.room;
       next = refl;
@@ -52,16 +53,17 @@ loop-at-preserved c =
     let s = c.args.space in
     let spans = turned c.args.falling c.args.spans.now in
     let span = c.nth-span.result in
-    let ps = c.args.packets.now.items in
+    let ps = c.args.self.now.packets.items in
     let within : i < length spans = subst (λ count. i < count) (sym (length_turned c.args.falling c.args.spans.now)) c.loop-at-test.true in
     let is = c.nth-span.ensures in
     let below = ends_below spans i span c.requires.apart c.loop-at.invariant.forward within is in
     let step : take (i + 1) spans ≡ take i spans ++ span ∷ [] = take_more i spans span within is in
     record {
+      dropped = c.pass_span-least.ensures.dropped ∙ c.loop-at.invariant.dropped;
       indexed = c.pass_span-least.ensures.indexed;
-      packets = cover_next s spans i span.0 span.1 span ps c.loop-at.packets.items c.pass_span-least.new.packets.items within is refl refl c.loop-at.invariant.packets c.pass_span-least.ensures.packets;
+      packets = cover_next s spans i span.0 span.1 span ps c.loop-at.self.packets.items c.pass_span-least.new.self.packets.items within is refl refl c.loop-at.invariant.packets c.pass_span-least.ensures.packets;
       new = c.pass_span-least.ensures.new
-          ∙ (ap (λ xs. xs ++ filter (is_new_in s span.0 span.1) c.loop-at.packets.items) c.loop-at.invariant.new
+          ∙ (ap (λ xs. xs ++ filter (is_new_in s span.0 span.1) c.loop-at.self.packets.items) c.loop-at.invariant.new
           ∙ (ap (λ qs. filter (is_new s (take i spans)) ps ++ filter (is_new_in s span.0 span.1) qs) c.loop-at.invariant.packets
           ∙ (ap (λ qs. filter (is_new s (take i spans)) ps ++ qs) (new_apart s span.0 span.1 (take i spans) ps below)
           ∙ (new_more s (take i spans) span ps below c.requires.ordered
