@@ -17,8 +17,8 @@ use crate::objects::{
     accepted_members, object_line, owed_at_end_members, refused_members, unreadable_members,
 };
 use crate::reasons::Reasons;
-use crate::texts::{accepted, broken, owed_at_end, unreadable};
-use qa_base::{Event, Rule, Totals};
+use crate::texts::{Heading, accepted, broken, owed_at_end, unreadable};
+use qa_base::{Rule, Totals};
 use qa_check::{AuditFault, Ended, LastLine, Outcome};
 use qa_format::{Fault, Form, Line, Verdict};
 use std::alloc::{AllocError, Global};
@@ -59,27 +59,13 @@ fn in_line(alloc: Global, name: &str, told: &Why) -> Result<Why, AuditFault>
     Ok(Why { outcome, text })
 }
 
-/// Why the judge refuses the event, by the rule.
-fn of_event<J: Reasons + Drop>(
-    alloc: Global,
-    form: Form,
-    name: &str,
-    ledger: &J,
+/// Where a trace is refused, and by what.
+#[derive(Clone, Copy)]
+struct Refusal {
+    /// The line whose event is refused, or the last line where the end of the trace is.
     n: u64,
+    /// The rule that is broken.
     rule: Rule,
-    event: &Event,
-    line: &[u8],
-) -> Result<Vec<u8>, AllocError>
-    ensures { J.has_failed ledger.now ≡ false → IfOk result (λ text. (c : Settings)
-        (h : List AnEvent) → J.judges.stands ledger.now c h
-        → text.items ≡ defined.event_text form name.now n rule (Some c) h
-        (Some event.now) line.now) }
-{
-    let cause = ledger.reason(event, rule)?;
-    match form {
-        Form::Text => broken(alloc, "refused", name, n, rule, event, &cause, line),
-        Form::Json => refused_members(alloc, ledger.time_unit(), n, rule, event, &cause),
-    }
 }
 
 /// Why the judge refuses the event that this line says.
@@ -88,19 +74,31 @@ fn of_line<J: Reasons + Drop>(
     form: Form,
     name: &str,
     ledger: &J,
-    n: u64,
-    rule: Rule,
+    refusal: Refusal,
     line: &LastLine,
 ) -> Result<Vec<u8>, AllocError>
     requires event { IfSome line.now.said IsEvent × IsSome line.now.said }
     ensures { J.has_failed ledger.now ≡ false → IfOk result (λ text. (c : Settings)
         (h : List AnEvent) → J.judges.stands ledger.now c h
-        → text.items ≡ defined.event_text form name.now n rule (Some c) h
+        → text.items ≡ defined.event_text form name.now refusal.n refusal.rule (Some c) h
         (event_of line.now.said) line.now.bytes.items) }
 {
+    let Refusal { n, rule } = refusal;
     match &line.said {
         Some(Line::Event(event)) => {
-            of_event(alloc, form, name, ledger, n, rule, event, &line.bytes)
+            let cause = ledger.reason(event, rule)?;
+            match form {
+                Form::Text => {
+                    let heading = Heading {
+                        name,
+                        n,
+                        word: "refused",
+                        rule,
+                    };
+                    broken(alloc, &heading, event, &cause, &line.bytes)
+                }
+                Form::Json => refused_members(alloc, ledger.time_unit(), n, rule, event, &cause),
+            }
         }
         _ => unreachable!(),
     }
@@ -131,19 +129,18 @@ fn of_refusal<J: Reasons + Drop>(
     form: Form,
     name: &str,
     ended: &Ended<J>,
-    n: u64,
-    rule: Rule,
+    refusal: Refusal,
 ) -> Result<Vec<u8>, AllocError>
     requires works { ForSome ended.now.judge (λ j. J.has_failed j ≡ false) }
     requires judged { IsSome ended.now.judge }
     requires event { IfSome ended.now.line (λ line. IfSome line.said IsEvent × IsSome line.said) }
     ensures { IfOk result (λ text. (header : Option Settings) (h : List AnEvent)
         → HoldsRun J.judges ended.now.judge header h
-        → text.items ≡ refusal_of form name.now n rule header h ended.now.line) }
+        → text.items ≡ refusal_of form name.now refusal.n refusal.rule header h ended.now.line) }
 {
     match (&ended.judge, &ended.line) {
-        (Some(ledger), Some(line)) => of_line(alloc, form, name, ledger, n, rule, line),
-        (Some(ledger), None) => of_end(alloc, form, name, ledger, n),
+        (Some(ledger), Some(line)) => of_line(alloc, form, name, ledger, refusal, line),
+        (Some(ledger), None) => of_end(alloc, form, name, ledger, refusal.n),
         (None, _) => unreachable!(),
     }
 }
@@ -163,19 +160,30 @@ fn of_accepted(
     }
 }
 
-/// Why line n cannot be read.
+/// A line that cannot be read.
+#[derive(Clone, Copy)]
+struct Unread {
+    /// Which it is, counted from 1.
+    n: u64,
+    /// Why not.
+    fault: Fault,
+    /// Whether a header stands before it.
+    headed: bool,
+}
+
+/// Why the line cannot be read, by its bytes.
 fn of_fault(
     alloc: Global,
     form: Form,
     name: &str,
-    n: u64,
-    fault: Fault,
-    headed: bool,
+    unread: Unread,
     line: Option<&[u8]>,
 ) -> Result<Vec<u8>, AllocError>
     ensures { IfOk result (λ text. text.items
-        ≡ defined.unreadable_in form name.now n fault headed (option_copied line.entry)) }
+        ≡ defined.unreadable_in form name.now unread.n unread.fault unread.headed
+        (option_copied line.entry)) }
 {
+    let Unread { n, fault, headed } = unread;
     match form {
         Form::Text => unreadable(alloc, name, n, fault, headed, line),
         Form::Json => unreadable_members(alloc, n, fault, headed),
@@ -207,16 +215,18 @@ fn of_verdict<J: Reasons + Drop>(
 {
     match &ended.verdict {
         Verdict::Accepted(totals) => of_accepted(alloc, form, name, totals),
-        Verdict::Refused(n, rule, _) => of_refusal(alloc, form, name, ended, *n, *rule),
-        Verdict::Unreadable(n, fault, totals) => of_fault(
-            alloc,
-            form,
-            name,
-            *n,
-            *fault,
-            totals.is_some(),
-            line_of(ended),
-        ),
+        Verdict::Refused(n, rule, _) => {
+            let refusal = Refusal { n: *n, rule: *rule };
+            of_refusal(alloc, form, name, ended, refusal)
+        }
+        Verdict::Unreadable(n, fault, totals) => {
+            let unread = Unread {
+                n: *n,
+                fault: *fault,
+                headed: totals.is_some(),
+            };
+            of_fault(alloc, form, name, unread, line_of(ended))
+        }
     }
 }
 

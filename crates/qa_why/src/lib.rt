@@ -29,5 +29,5 @@ pub use objects::{push_rule, refused_members};
 pub use reasons::Reasons;
 pub use suggest::{is_key, keys_of, near, stands_for};
 pub use telling::{find, unless_accepted};
-pub use texts::broken;
+pub use texts::{Heading, broken};
 pub use values::data_of;
