@@ -24,6 +24,8 @@ class Guess(Enum):
     LOSS_TIMER = "a loss timer: no acknowledgment shows the losses"
     DISCARD = "discard: the log tells of none"
     CONFIRMED = "confirmed: the log does not say when"
+    DELAY = "delay: that by which it is subtracted as the report after it shows, to 2 ms"
+    MOMENT = "time: part of a millisecond earlier, so that a packet is not lost yet"
     LIMITED_BY_WINDOW = "limited: the window stayed as it was"
     LEAVE_PROBE = "leave probe: a probe timeout allowed it"
     LEAVE_RECOVERY = "leave recovery: the first packet past the window after it fell"

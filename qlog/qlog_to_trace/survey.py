@@ -91,6 +91,11 @@ class Survey:
             self._see(event)
         self._check(dialect)
 
+    @property
+    def has_cut_times(self) -> bool:
+        """Whether its times are those of the sender without the parts of a millisecond."""
+        return self.has_milliseconds and self.looking.samples.cut > 0
+
     def _check(self, dialect: Dialect) -> None:
         """Whether a trace can be made of the log."""
         if self.largest_size == 0:
