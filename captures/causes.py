@@ -12,6 +12,8 @@ from typing import Any
 
 Event = dict[str, Any]
 
+# The rule that is judged after the last event.
+AT_THE_END = "V17"
 # `refused line 12 V7 past-window`, and behind V16 `metric latest_rtt`.
 WORDS_OF_REFUSAL = 3
 MICROSECONDS_IN_A_MILLISECOND = 1000
@@ -47,6 +49,9 @@ class Before:
     sample: Sample | None = None
     reports: dict[str, int] = field(default_factory=dict)
     timers: list[str] = field(default_factory=list)
+    # When the last probe timeout fired, and whether the sender takes packets out of flight then.
+    probed_at: int = -1
+    forgets_at_probes: bool = False
     last_kind: str = "header"
     last_time: int = 0
     # Whether packets left the bytes in flight with no event.
@@ -59,6 +64,7 @@ class Before:
         kind = event["event"]
         if kind == "header":
             self.unit = UNITS_IN_A_MICROSECOND[event.get("unit", "us")]
+            self.forgets_at_probes = str(event.get("x_dialect")).startswith("quic-go")
             self.slack = event.get("report_slack_us", 0) * self.unit
             self.longest_delay = event.get("max_ack_delay", LONGEST_DELAY_US * self.unit)
             # A log in nanoseconds has whole milliseconds only if they are exact.
@@ -98,6 +104,8 @@ class Before:
 
     def _take_timer(self, event: Event) -> None:
         self.timers.append(event["kind"])
+        if event["kind"] == "pto":
+            self.probed_at = event["time"]
 
     def _take_metrics(self, event: Event) -> None:
         self.reports |= reported_by(event)
@@ -139,7 +147,19 @@ def is_probe_forgotten(before: Before, event: Event) -> bool:
 def is_probed_packet_owed(before: Before, event: Event) -> bool:
     """Whether packets left the bytes in flight after a probe timeout, whose loss is then owed."""
     is_less = int(event.get("bytes_in_flight", before.in_flight)) < before.in_flight
-    return "pto" in before.timers and (is_less or before.has_forgotten)
+    is_gone = is_less or before.has_forgotten or is_left_out(before, event)
+    return "pto" in before.timers and is_gone
+
+
+def is_left_out(before: Before, event: Event) -> bool:
+    """Whether a packet is not declared lost that such a sender may have taken out of flight: one of
+    before its probe timeout that is below the largest acknowledged number."""
+    named = event if event["event"] == "lost" else {"space": "", "ranges": []}
+    return before.forgets_at_probes and any(
+        packet["in_flight"] and packet["time"] <= before.probed_at and not is_named(key, named)
+        for key, packet in before.sent.items()
+        if key[1] < before.largest.get(key[0], 0)
+    )
 
 
 def padded_in_flight(before: Before) -> int:
@@ -236,7 +256,8 @@ CAUSES: dict[str, list[tuple[Question, str]]] = {
         (is_declared_unasked, "packets of the handshake are declared lost"),
         (is_age_rounded, OLD_ENOUGH),
     ],
-    "V4 loss-set": [(is_age_rounded, OLD_ENOUGH)],
+    "V4 loss-set": [(is_probed_packet_owed, PROBED), (is_age_rounded, OLD_ENOUGH)],
+    "V17 owed-at-end": [(is_probed_packet_owed, PROBED)],
 }
 
 
@@ -256,6 +277,8 @@ def cause_of(trace: bytes, verdict: str) -> str:
     before = Before()
     for number, event in events_of(trace):
         if number == refused:
+            if rule.startswith(AT_THE_END):
+                before.take(event)
             named = (cause for asks, cause in CAUSES.get(rule, []) if asks(before, event))
             return next((f"{words[WORDS_OF_REFUSAL]}: {cause}" for cause in named), rule)
         before.take(event)

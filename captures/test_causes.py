@@ -157,6 +157,35 @@ class Causes(unittest.TestCase):
                 line = len(trace.splitlines())
                 self.assertEqual(cause_of(trace.encode(), f"refused line {line} {rule}"), cause)
 
+    def test_probed_packet_is_not_declared_lost(self) -> None:
+        """One of before the probe timeout, by a sender of which that is known, and others."""
+        first, packet, _, later = SAMPLES.splitlines()
+        known = {"dialect": "quic-go-0.59", "sent": 0, "ranges": [[1, 1]]}
+        for changed, are_named in (
+            ({}, True),
+            ({"dialect": "ngtcp2"}, False),
+            ({"sent": 60000}, False),
+            ({"ranges": [[0, 0]]}, False),
+        ):
+            said = known | changed
+            header = json.loads(first) | {"x_dialect": said["dialect"]}
+            lost = json.loads(packet) | {"time": said["sent"]}
+            timer = {"event": "timer", "time": 50000, "kind": "pto", "space": "app"}
+            probe = json.loads(later) | {"time": 61000}
+            ack = {"event": "ack", "time": 90000, "space": "app", "ranges": said["ranges"]}
+            report = {"event": "metrics", "time": 90000}
+            part = {"event": "lost", "time": 90000, "space": "app", "ranges": [[7, 7]]}
+            for rule, lines in (
+                ("V2 loss-owed", (header, timer, lost, probe, ack, report)),
+                ("V4 loss-set", (header, timer, lost, probe, ack, part)),
+                ("V17 owed-at-end", (header, timer, lost, probe, ack)),
+            ):
+                trace = "".join(json.dumps(line) + "\n" for line in lines)
+                found = cause_of(trace.encode(), f"refused line {len(lines)} {rule}")
+                cause = f"{rule.split()[0]}: a probe timeout takes packets out of flight"
+                with self.subTest(rule=rule, **changed):
+                    self.assertEqual(found, cause if are_named else rule)
+
     def test_age_by_whole_milliseconds(self) -> None:
         """A packet whose age is the loss delay within two, and others."""
         for rule in ("V2 loss-owed", "V3 loss-not-owed", "V4 loss-set"):

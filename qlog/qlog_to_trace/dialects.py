@@ -97,6 +97,8 @@ class Dialect:
     # Whether a packet so many numbers behind may be spared, as where the threshold adapts.
     # Said only where the window is a reported one.
     may_spare: bool = False
+    # Whether the packet threshold counts packets, so that a number that was skipped does not count.
+    counts_packets: bool = False
     # How early a timer can be by the log, since its times are rounded or read late.
     timer_early_us: int = 10
     # How late a timer may be.
@@ -162,6 +164,7 @@ DIALECTS = (
         schemas=("urn:",),
         absent=Absent.SAME_OR_ZERO,
         sample_eliciting_only=False,
+        counts_packets=True,
     ),
     # 0.12: JSON-SEQ, 0.3, all times in whole ms, rounded down. No timers and no keys. Metrics have
     # all values. The delay of Initial and Handshake acknowledgments is logged as 0. The packet

@@ -52,6 +52,8 @@ class Survey:
         self.validation = Validation(role)
         self.retry: Retry | None = None
         self._last_numbers: dict[str, int] = {}
+        # Whether a number was passed over between two packets of a space.
+        self.has_skipped = False
         # Where Initial packets go, as long as none has come, and the round-trip time so far.
         self._destination: object = None
         self._smoothed = 0
@@ -167,6 +169,7 @@ class Survey:
             return
         assert event.number >= 0
         self._see_destination(event)
+        self.has_skipped |= event.number > self._last_numbers.get(event.space, event.number) + 1
         self._last_numbers[event.space] = event.number
         self._see_frames(event)
         if not event.has_size:
