@@ -139,6 +139,14 @@ def is_less_the_delay(before: Before, event: Event) -> bool:
     return any(abs(sample.latest - delay - reported) <= before.slack for delay in delays)
 
 
+def is_less_to_the_minimum(before: Before, event: Event) -> bool:
+    """Whether the minimum is reported, which is what the delay would leave or more."""
+    sample, reported = before.sample, int(event["latest_rtt"])
+    if not sample or reported != before.reports.get("min_rtt"):
+        return False
+    return reported + before.slack < sample.latest <= reported + sample.delay
+
+
 def is_probe_forgotten(before: Before, event: Event) -> bool:
     """Whether less is reported in flight than is, after a probe timeout."""
     return "pto" in before.timers and int(event["bytes_in_flight"]) < before.in_flight
@@ -232,12 +240,14 @@ def is_declared_unasked(before: Before, event: Event) -> bool:
 
 # For what a rule refuses: the questions in their order, and what a yes means.
 Question = Callable[[Before, Event], bool]
+LESS = "`latest_rtt` is less the delay"
 PROBED = "a probe timeout takes packets out of flight"
 OLD_ENOUGH = "whole milliseconds decide whether a packet is old enough"
 CAUSES: dict[str, list[tuple[Question, str]]] = {
     "V16 metric latest_rtt": [
+        (is_less_to_the_minimum, LESS),
         (is_sample_left_out, "a sample is not taken"),
-        (is_less_the_delay, "`latest_rtt` is less the delay"),
+        (is_less_the_delay, LESS),
     ],
     "V16 metric bytes_in_flight": [
         (is_padding_forgotten, "a padded ACK is not in flight"),

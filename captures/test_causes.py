@@ -90,6 +90,19 @@ class Causes(unittest.TestCase):
                 found = cause_behind_sample(rule, 3000, {"latest_rtt": reported})
                 self.assertEqual(found, LESS_THE_DELAY if reported in less else rule)
 
+    def test_sample_is_no_less_than_the_minimum(self) -> None:
+        """A report of the minimum, which the delay would pass, after the same one; and others."""
+        rule = "V16 metric latest_rtt"
+        for latest, minimum, delay, cause in (
+            (21000, 21000, 3000, LESS_THE_DELAY),
+            (21000, 21000, 1000, NOT_TAKEN),
+            (21000, 20000, 3000, NOT_TAKEN),
+        ):
+            before = {"latest_rtt": latest, "min_rtt": minimum}
+            with self.subTest(minimum=minimum, delay=delay):
+                found = cause_behind_sample(rule, delay, {"latest_rtt": latest}, before=before)
+                self.assertEqual(found, cause)
+
     def test_sample_is_not_taken(self) -> None:
         """A report that has the sample from before, though it also fits another cause."""
         rule, reported = "V16 metric latest_rtt", {"latest_rtt": 20000}

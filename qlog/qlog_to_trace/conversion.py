@@ -5,7 +5,7 @@ from collections.abc import Callable, Iterable, Iterator
 from fractions import Fraction
 
 from .dialects import Absent, Dialect, Limited
-from .events import SPACE_OF_NAME, SPACES, UNKNOWN_METRICS, Event
+from .events import NANOSECONDS, SPACE_OF_NAME, SPACES, UNKNOWN_METRICS, Event
 from .flight import Bare, Flight, as_ranges
 from .groups import Group, Groups, Kind
 from .handshake import Handshake
@@ -482,6 +482,8 @@ class Conversion:
         if sent is None or time - sent < smoothed:
             time = self._moment(event, space, top, lost)
         delay = self._delay(event, frame)
+        if sent is not None and self._dialect.is_read_late:
+            time = self._arrival(time, sent, delay, held)
         if sent is not None and self._survey.has_cut_times:
             delay = self._settled(time - sent, delay, held)
         self._lines.event(
@@ -515,6 +517,22 @@ class Conversion:
                 self._notes.guess(Guess.MOMENT)
                 return earlier
         return event.time
+
+    def _arrival(self, time: int, sent: int, delay: int, held: dict[str, int]) -> int:
+        """When an acknowledgment came, in nanoseconds, in a log whose times are read late.
+
+        If the sample by the log is longer than the reported one, by more than the delay that may
+        have been taken off, then the log is late by that.
+        """
+        latest = self._metrics.get("latest_rtt", 0)
+        is_new = latest != held.get("latest_rtt", 0)
+        late = time - sent - latest
+        least = self._dialect.slack_us * NANOSECONDS["us"] + delay
+        is_late = is_new and least < late <= LATE_BY_PROGRAM
+        if not is_late or not self._lines.may_be(sent + latest):
+            return time
+        self._notes.guess(Guess.ARRIVAL)
+        return sent + latest
 
     def _delay(self, event: Event, frame: dict[str, object]) -> int:
         """The delay of an acknowledgment by the log, in nanoseconds."""

@@ -51,6 +51,8 @@ class Dialect:
     sizes_by_growth: bool = False
     # The delay of acknowledgments is as on the wire, not yet multiplied (RFC 9000, 19.3).
     delay_is_encoded: bool = False
+    # Its times are read after the event, on a busy computer by milliseconds.
+    is_read_late: bool = False
     # Each difference of its times is cut to a whole millisecond.
     cuts_times: bool = False
     # What to do where its logs give no trace.
@@ -120,6 +122,7 @@ QUIC_GO = Dialect(
     is_tried=True,
     initial_rtt=66_666,
     initial_datagrams=32,
+    is_read_late=True,
     logs_timers=True,
     delay_spaces=("app",),
     slack_us=1_000,

@@ -25,6 +25,7 @@ class Guess(Enum):
     DISCARD = "discard: the log tells of none"
     CONFIRMED = "confirmed: the log does not say when"
     DELAY = "delay: that by which it is subtracted as the report after it shows, to 2 ms"
+    ARRIVAL = "time: that by which the sample is the reported one, for the log's is read late"
     MOMENT = "time: part of a millisecond earlier, so that a packet is not lost yet"
     LIMITED_BY_WINDOW = "limited: the window stayed as it was"
     LEAVE_PROBE = "leave probe: a probe timeout allowed it"
