@@ -144,7 +144,7 @@ def is_less_to_the_minimum(before: Before, event: Event) -> bool:
     sample, reported = before.sample, int(event["latest_rtt"])
     if not sample or reported != before.reports.get("min_rtt"):
         return False
-    return reported + before.slack < sample.latest <= reported + sample.delay
+    return before.slack < sample.latest - reported <= sample.delay + before.slack
 
 
 def is_probe_forgotten(before: Before, event: Event) -> bool:
