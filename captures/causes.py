@@ -49,9 +49,10 @@ class Before:
     sample: Sample | None = None
     reports: dict[str, int] = field(default_factory=dict)
     timers: list[str] = field(default_factory=list)
-    # When the last probe timeout fired, and whether the sender takes packets out of flight then.
+    # When the last probe timeout fired.
     probed_at: int = -1
-    forgets_at_probes: bool = False
+    # Whether the log is one of quic-go.
+    is_quic_go: bool = False
     last_kind: str = "header"
     last_time: int = 0
     # Whether packets left the bytes in flight with no event.
@@ -64,7 +65,7 @@ class Before:
         kind = event["event"]
         if kind == "header":
             self.unit = UNITS_IN_A_MICROSECOND[event.get("unit", "us")]
-            self.forgets_at_probes = str(event.get("x_dialect")).startswith("quic-go")
+            self.is_quic_go = str(event.get("x_dialect")).startswith("quic-go")
             self.slack = event.get("report_slack_us", 0) * self.unit
             self.longest_delay = event.get("max_ack_delay", LONGEST_DELAY_US * self.unit)
             # A log in nanoseconds has whole milliseconds only if they are exact.
@@ -142,7 +143,7 @@ def is_less_the_delay(before: Before, event: Event) -> bool:
 def is_less_to_the_minimum(before: Before, event: Event) -> bool:
     """Whether the minimum is reported, which is what the delay would leave or more."""
     sample, reported = before.sample, int(event["latest_rtt"])
-    if not sample or reported != before.reports.get("min_rtt"):
+    if not sample or not before.is_quic_go or reported != before.reports.get("min_rtt"):
         return False
     return before.slack < sample.latest - reported <= sample.delay + before.slack
 
@@ -163,7 +164,7 @@ def is_left_out(before: Before, event: Event) -> bool:
     """Whether a packet is not declared lost that such a sender may have taken out of flight: one of
     before its probe timeout that is below the largest acknowledged number."""
     named = event if event["event"] == "lost" else {"space": "", "ranges": []}
-    return before.forgets_at_probes and any(
+    return before.is_quic_go and any(
         packet["in_flight"] and packet["time"] <= before.probed_at and not is_named(key, named)
         for key, packet in before.sent.items()
         if key[1] < before.largest.get(key[0], 0)

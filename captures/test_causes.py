@@ -59,13 +59,18 @@ def verdict_on(trace: bytes) -> str:
 
 
 def cause_behind_sample(
-    rule: str, delay: int, reported: dict[str, int], before: dict[str, int] | None = None
+    rule: str,
+    delay: int,
+    reported: dict[str, int],
+    before: dict[str, int] | None = None,
+    dialect: str = "generic",
 ) -> str:
     """The cause where a report behind a second sample, of 23 ms, is refused."""
     earlier = {"event": "metrics", "time": 20000, **(before or {})}
     ack = {"event": "ack", "time": 43000, "space": "app", "ranges": [[1, 1]], "delay": delay}
     report = {"event": "metrics", "time": 43000, **reported}
-    trace = SAMPLES + "".join(json.dumps(line) + "\n" for line in (earlier, ack, report))
+    samples = SAMPLES.replace('"version":2', f'"version":2,"x_dialect":"{dialect}"')
+    trace = samples + "".join(json.dumps(line) + "\n" for line in (earlier, ack, report))
     return cause_of(trace.encode(), f"refused line 7 {rule}")
 
 
@@ -99,9 +104,11 @@ class Causes(unittest.TestCase):
             (21000, 20000, 3000, NOT_TAKEN),
         ):
             before = {"latest_rtt": latest, "min_rtt": minimum}
-            with self.subTest(minimum=minimum, delay=delay):
-                found = cause_behind_sample(rule, delay, {"latest_rtt": latest}, before=before)
-                self.assertEqual(found, cause)
+            said = {"latest_rtt": latest}
+            for dialect, named in (("quic-go-0.59", cause), ("ngtcp2", NOT_TAKEN)):
+                with self.subTest(minimum=minimum, delay=delay, dialect=dialect):
+                    found = cause_behind_sample(rule, delay, said, before, dialect)
+                    self.assertEqual(found, named)
 
     def test_sample_is_not_taken(self) -> None:
         """A report that has the sample from before, though it also fits another cause."""
