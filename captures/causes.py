@@ -70,7 +70,7 @@ class Before:
             self.longest_delay = event.get("max_ack_delay", LONGEST_DELAY_US * self.unit)
             # A log in nanoseconds has whole milliseconds only if they are exact.
             self.in_whole_milliseconds = self.unit == 1
-        elif event["time"] % (MICROSECONDS_IN_A_MILLISECOND * self.unit):
+        elif event["time"] % (MICROSECONDS_IN_A_MILLISECOND * self.unit) and not is_guessed(event):
             self.in_whole_milliseconds = False
         taker = getattr(self, f"_take_{kind}", None)
         if taker:
@@ -111,6 +111,11 @@ class Before:
     def _take_metrics(self, event: Event) -> None:
         self.reports |= reported_by(event)
         self.has_forgotten |= "x_forgot" in event
+
+
+def is_guessed(event: Event) -> bool:
+    """Whether the time of an event is not the log's."""
+    return any(guess.startswith("time: ") for guess in event.get("x_guess", []))
 
 
 def reported_by(event: Event) -> dict[str, int]:

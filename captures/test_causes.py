@@ -220,6 +220,21 @@ class Causes(unittest.TestCase):
                 with self.subTest(rule=rule, time=time):
                     self.assertEqual(self.cause_of_age(rule, rtt, time), wanted)
 
+    def test_times_that_are_guessed(self) -> None:
+        """One that the converter puts earlier is no sign of a log with finer times."""
+        guess = ["time: part of a millisecond earlier, so that a packet is not lost yet"]
+        for said, cause in (({"x_guess": guess}, f"V2: {AGE}"), ({}, "V2 loss-owed")):
+            early = {"event": "metrics", "time": 20001, **said}
+            lines = SAMPLES.splitlines()
+            packet = json.loads(lines[-1]) | {"number": 2, "time": 21000}
+            lines[-1] = json.dumps(json.loads(lines[-1]) | {"time": 21000})
+            ack = {"event": "ack", "time": 50000, "space": "app", "ranges": [[2, 2]], "delay": 0}
+            report = {"event": "metrics", "time": 50000, "latest_rtt": 24000}
+            added = [json.dumps(it) for it in (early, packet, ack, report)]
+            trace = "\n".join([*lines[:-1], added[0], lines[-1], *added[1:]])
+            with self.subTest(**said):
+                self.assertEqual(cause_of(trace.encode(), "refused line 8 V2 loss-owed"), cause)
+
     def cause_of_age(self, rule: str, rtt: int, time: int) -> str:
         """The cause where packet 1, of 20 ms, lies below an acknowledged one of a later time."""
         packet = json.loads(SAMPLES.splitlines()[-1]) | {"number": 2}
