@@ -12,6 +12,8 @@ from typing import Any
 
 Event = dict[str, Any]
 
+# The rule that is judged after the last event.
+AT_THE_END = "V17"
 # `refused line 12 V7 past-window`, and behind V16 `metric latest_rtt`.
 WORDS_OF_REFUSAL = 3
 MICROSECONDS_IN_A_MILLISECOND = 1000
@@ -47,6 +49,10 @@ class Before:
     sample: Sample | None = None
     reports: dict[str, int] = field(default_factory=dict)
     timers: list[str] = field(default_factory=list)
+    # When the last probe timeout fired.
+    probed_at: int = -1
+    # Whether the log is one of quic-go.
+    is_quic_go: bool = False
     last_kind: str = "header"
     last_time: int = 0
     # Whether packets left the bytes in flight with no event.
@@ -59,11 +65,12 @@ class Before:
         kind = event["event"]
         if kind == "header":
             self.unit = UNITS_IN_A_MICROSECOND[event.get("unit", "us")]
+            self.is_quic_go = str(event.get("x_dialect")).startswith("quic-go")
             self.slack = event.get("report_slack_us", 0) * self.unit
             self.longest_delay = event.get("max_ack_delay", LONGEST_DELAY_US * self.unit)
             # A log in nanoseconds has whole milliseconds only if they are exact.
             self.in_whole_milliseconds = self.unit == 1
-        elif event["time"] % (MICROSECONDS_IN_A_MILLISECOND * self.unit):
+        elif event["time"] % (MICROSECONDS_IN_A_MILLISECOND * self.unit) and not is_guessed(event):
             self.in_whole_milliseconds = False
         taker = getattr(self, f"_take_{kind}", None)
         if taker:
@@ -98,10 +105,17 @@ class Before:
 
     def _take_timer(self, event: Event) -> None:
         self.timers.append(event["kind"])
+        if event["kind"] == "pto":
+            self.probed_at = event["time"]
 
     def _take_metrics(self, event: Event) -> None:
         self.reports |= reported_by(event)
         self.has_forgotten |= "x_forgot" in event
+
+
+def is_guessed(event: Event) -> bool:
+    """Whether the time of an event is not the log's."""
+    return any(guess.startswith("time: ") for guess in event.get("x_guess", []))
 
 
 def reported_by(event: Event) -> dict[str, int]:
@@ -131,6 +145,14 @@ def is_less_the_delay(before: Before, event: Event) -> bool:
     return any(abs(sample.latest - delay - reported) <= before.slack for delay in delays)
 
 
+def is_less_to_the_minimum(before: Before, event: Event) -> bool:
+    """Whether the minimum is reported, which is what the delay would leave or more."""
+    sample, reported = before.sample, int(event["latest_rtt"])
+    if not sample or not before.is_quic_go or reported != before.reports.get("min_rtt"):
+        return False
+    return before.slack < sample.latest - reported <= sample.delay + before.slack
+
+
 def is_probe_forgotten(before: Before, event: Event) -> bool:
     """Whether less is reported in flight than is, after a probe timeout."""
     return "pto" in before.timers and int(event["bytes_in_flight"]) < before.in_flight
@@ -139,7 +161,19 @@ def is_probe_forgotten(before: Before, event: Event) -> bool:
 def is_probed_packet_owed(before: Before, event: Event) -> bool:
     """Whether packets left the bytes in flight after a probe timeout, whose loss is then owed."""
     is_less = int(event.get("bytes_in_flight", before.in_flight)) < before.in_flight
-    return "pto" in before.timers and (is_less or before.has_forgotten)
+    is_gone = is_less or before.has_forgotten or is_left_out(before, event)
+    return "pto" in before.timers and is_gone
+
+
+def is_left_out(before: Before, event: Event) -> bool:
+    """Whether a packet is not declared lost that such a sender may have taken out of flight: one of
+    before its probe timeout that is below the largest acknowledged number."""
+    named = event if event["event"] == "lost" else {"space": "", "ranges": []}
+    return before.is_quic_go and any(
+        packet["in_flight"] and packet["time"] <= before.probed_at and not is_named(key, named)
+        for key, packet in before.sent.items()
+        if key[1] < before.largest.get(key[0], 0)
+    )
 
 
 def padded_in_flight(before: Before) -> int:
@@ -212,12 +246,14 @@ def is_declared_unasked(before: Before, event: Event) -> bool:
 
 # For what a rule refuses: the questions in their order, and what a yes means.
 Question = Callable[[Before, Event], bool]
+LESS = "`latest_rtt` is less the delay"
 PROBED = "a probe timeout takes packets out of flight"
 OLD_ENOUGH = "whole milliseconds decide whether a packet is old enough"
 CAUSES: dict[str, list[tuple[Question, str]]] = {
     "V16 metric latest_rtt": [
+        (is_less_to_the_minimum, LESS),
         (is_sample_left_out, "a sample is not taken"),
-        (is_less_the_delay, "`latest_rtt` is less the delay"),
+        (is_less_the_delay, LESS),
     ],
     "V16 metric bytes_in_flight": [
         (is_padding_forgotten, "a padded ACK is not in flight"),
@@ -236,7 +272,8 @@ CAUSES: dict[str, list[tuple[Question, str]]] = {
         (is_declared_unasked, "packets of the handshake are declared lost"),
         (is_age_rounded, OLD_ENOUGH),
     ],
-    "V4 loss-set": [(is_age_rounded, OLD_ENOUGH)],
+    "V4 loss-set": [(is_probed_packet_owed, PROBED), (is_age_rounded, OLD_ENOUGH)],
+    "V17 owed-at-end": [(is_probed_packet_owed, PROBED)],
 }
 
 
@@ -256,6 +293,8 @@ def cause_of(trace: bytes, verdict: str) -> str:
     before = Before()
     for number, event in events_of(trace):
         if number == refused:
+            if rule.startswith(AT_THE_END):
+                before.take(event)
             named = (cause for asks, cause in CAUSES.get(rule, []) if asks(before, event))
             return next((f"{words[WORDS_OF_REFUSAL]}: {cause}" for cause in named), rule)
         before.take(event)

@@ -59,13 +59,18 @@ def verdict_on(trace: bytes) -> str:
 
 
 def cause_behind_sample(
-    rule: str, delay: int, reported: dict[str, int], before: dict[str, int] | None = None
+    rule: str,
+    delay: int,
+    reported: dict[str, int],
+    before: dict[str, int] | None = None,
+    dialect: str = "generic",
 ) -> str:
     """The cause where a report behind a second sample, of 23 ms, is refused."""
     earlier = {"event": "metrics", "time": 20000, **(before or {})}
     ack = {"event": "ack", "time": 43000, "space": "app", "ranges": [[1, 1]], "delay": delay}
     report = {"event": "metrics", "time": 43000, **reported}
-    trace = SAMPLES + "".join(json.dumps(line) + "\n" for line in (earlier, ack, report))
+    samples = SAMPLES.replace('"version":2', f'"version":2,"x_dialect":"{dialect}"')
+    trace = samples + "".join(json.dumps(line) + "\n" for line in (earlier, ack, report))
     return cause_of(trace.encode(), f"refused line 7 {rule}")
 
 
@@ -89,6 +94,21 @@ class Causes(unittest.TestCase):
             with self.subTest(reported):
                 found = cause_behind_sample(rule, 3000, {"latest_rtt": reported})
                 self.assertEqual(found, LESS_THE_DELAY if reported in less else rule)
+
+    def test_sample_is_no_less_than_the_minimum(self) -> None:
+        """A report of the minimum, which the delay would pass, after the same one; and others."""
+        rule = "V16 metric latest_rtt"
+        for latest, minimum, delay, cause in (
+            (21000, 21000, 3000, LESS_THE_DELAY),
+            (21000, 21000, 1000, NOT_TAKEN),
+            (21000, 20000, 3000, NOT_TAKEN),
+        ):
+            before = {"latest_rtt": latest, "min_rtt": minimum}
+            said = {"latest_rtt": latest}
+            for dialect, named in (("quic-go-0.59", cause), ("ngtcp2", NOT_TAKEN)):
+                with self.subTest(minimum=minimum, delay=delay, dialect=dialect):
+                    found = cause_behind_sample(rule, delay, said, before, dialect)
+                    self.assertEqual(found, named)
 
     def test_sample_is_not_taken(self) -> None:
         """A report that has the sample from before, though it also fits another cause."""
@@ -157,6 +177,35 @@ class Causes(unittest.TestCase):
                 line = len(trace.splitlines())
                 self.assertEqual(cause_of(trace.encode(), f"refused line {line} {rule}"), cause)
 
+    def test_probed_packet_is_not_declared_lost(self) -> None:
+        """One of before the probe timeout, by a sender of which that is known, and others."""
+        first, packet, _, later = SAMPLES.splitlines()
+        known = {"dialect": "quic-go-0.59", "sent": 0, "ranges": [[1, 1]]}
+        for changed, are_named in (
+            ({}, True),
+            ({"dialect": "ngtcp2"}, False),
+            ({"sent": 60000}, False),
+            ({"ranges": [[0, 0]]}, False),
+        ):
+            said = known | changed
+            header = json.loads(first) | {"x_dialect": said["dialect"]}
+            lost = json.loads(packet) | {"time": said["sent"]}
+            timer = {"event": "timer", "time": 50000, "kind": "pto", "space": "app"}
+            probe = json.loads(later) | {"time": 61000}
+            ack = {"event": "ack", "time": 90000, "space": "app", "ranges": said["ranges"]}
+            report = {"event": "metrics", "time": 90000}
+            part = {"event": "lost", "time": 90000, "space": "app", "ranges": [[7, 7]]}
+            for rule, lines in (
+                ("V2 loss-owed", (header, timer, lost, probe, ack, report)),
+                ("V4 loss-set", (header, timer, lost, probe, ack, part)),
+                ("V17 owed-at-end", (header, timer, lost, probe, ack)),
+            ):
+                trace = "".join(json.dumps(line) + "\n" for line in lines)
+                found = cause_of(trace.encode(), f"refused line {len(lines)} {rule}")
+                cause = f"{rule.split()[0]}: a probe timeout takes packets out of flight"
+                with self.subTest(rule=rule, **changed):
+                    self.assertEqual(found, cause if are_named else rule)
+
     def test_age_by_whole_milliseconds(self) -> None:
         """A packet whose age is the loss delay within two, and others."""
         for rule in ("V2 loss-owed", "V3 loss-not-owed", "V4 loss-set"):
@@ -170,6 +219,21 @@ class Causes(unittest.TestCase):
                 wanted = f"{rule[:2]}: {AGE}" if cause is AGE else rule
                 with self.subTest(rule=rule, time=time):
                     self.assertEqual(self.cause_of_age(rule, rtt, time), wanted)
+
+    def test_times_that_are_guessed(self) -> None:
+        """One that the converter puts earlier is no sign of a log with finer times."""
+        guess = ["time: part of a millisecond earlier, so that a packet is not lost yet"]
+        for said, cause in (({"x_guess": guess}, f"V2: {AGE}"), ({}, "V2 loss-owed")):
+            early = {"event": "metrics", "time": 20001, **said}
+            lines = SAMPLES.splitlines()
+            packet = json.loads(lines[-1]) | {"number": 2, "time": 21000}
+            lines[-1] = json.dumps(json.loads(lines[-1]) | {"time": 21000})
+            ack = {"event": "ack", "time": 50000, "space": "app", "ranges": [[2, 2]], "delay": 0}
+            report = {"event": "metrics", "time": 50000, "latest_rtt": 24000}
+            added = [json.dumps(it) for it in (early, packet, ack, report)]
+            trace = "\n".join([*lines[:-1], added[0], lines[-1], *added[1:]])
+            with self.subTest(**said):
+                self.assertEqual(cause_of(trace.encode(), "refused line 8 V2 loss-owed"), cause)
 
     def cause_of_age(self, rule: str, rtt: int, time: int) -> str:
         """The cause where packet 1, of 20 ms, lies below an acknowledged one of a later time."""

@@ -32,16 +32,11 @@ top
 low
 ```
 
-**Below**
-
-| Crate | What it is for | Stands on |
+| Crate | What it is for | Built on |
 |---|---|---|
+| **Below** | | |
 | `low` | What stands below, in two lines. |  |
-
-**Above**
-
-| Crate | What it is for | Stands on |
-|---|---|---|
+| **Above** | | |
 | `top` | The program. | `low` |
 """
 

@@ -9,7 +9,6 @@ import sys
 import unittest
 from pathlib import Path
 
-from constants import METRICS
 from runners import FOLDER
 from testing import new_folder
 
@@ -53,10 +52,10 @@ and `limited` is a key. So is `2 * time`, which is no name.
 
 Code stands in `crates/qa/src/rules.rt`; `owes_now` is a function.
 
-| Rule | Definition | Code | Traces |
-|---|---|---|---|
-| V1 `time-back` | `Breaches.is_time_back` | `is_time_back` | `back`, `differing-` and each field |
-| V17 `owed` | `Due` | `owes_now` in `others.rt` | [`owed`](../conformance/traces/owed.trace) |
+| Rule | Definition | Code |
+|---|---|---|
+| V1 `time-back` | `Breaches.is_time_back` | `is_time_back` |
+| V17 `owed` | `Due` | `owes_now` in `others.rt` |
 
 | RFC 9002 | In `specs/` |
 |---|---|
@@ -76,9 +75,7 @@ class LinksTest(unittest.TestCase):
         self.write("crates/qa/specs/machine/Breaches.antt", SPECS)
         self.write("crates/qa/src/rules.rt", CODE)
         self.write("crates/qa/src/others.rt", CODE)
-        fields = (f"differing-{metric}".replace("_", "-") for metric in METRICS)
-        for name in ("back", *fields):
-            self.write_trace(name, "V1 time-back")
+        self.write_trace("back", "V1 time-back")
         self.write_trace("owed", "V17 owed-at-end")
         self.write("docs/format.md", "# Lines\n\nThe key `limited`.\n")
         self.write("docs/machine.md", MACHINE)
@@ -208,21 +205,13 @@ class LinksTest(unittest.TestCase):
         file = "crates/qa/src/rules.rt"
         self.assert_page_passes("`others.rt`", f"`{file}`")
 
-    def test_trace_that_there_is_not(self) -> None:
-        self.assert_page_fails("| `back`,", "| `back`, `forth`,", "`forth`: there is no such trace")
+    def test_rule_that_refuses_no_trace(self) -> None:
+        (self.top / "conformance/traces/owed.report").unlink()
+        self.assert_fails("V17: no trace is refused by it")
 
-    def test_trace_of_a_field_that_there_is_not(self) -> None:
-        (self.top / "conformance/traces/differing-window.trace").unlink()
-        (self.top / "conformance/traces/differing-window.report").unlink()
-        self.assert_fails("`differing-window`: there is no such trace")
-
-    def test_trace_that_another_rule_refuses(self) -> None:
-        self.write_trace("back", "V2 loss-owed")
-        self.assert_fails("`back`: not refused by V1")
-
-    def test_trace_that_is_not_named(self) -> None:
-        self.write_trace("again-back", "V1 time-back")
-        self.assert_fails("`again-back`: is refused by V1, and is not named")
+    def test_rule_that_has_no_row(self) -> None:
+        self.write_trace("early", "V2 loss-owed")
+        self.assert_fails("V2: it refuses traces, and has no row")
 
     # Names that are links.
 
@@ -236,11 +225,6 @@ class LinksTest(unittest.TestCase):
             self.assert_page_passes(function, f"| [`is_time_back`]({target}) |")
             self.assert_page_passes(function, f"| [`rules::is_time_back`]({target}) |")
         self.assert_page_passes("(`Due`, ", f"([`Due`]({specs}), ")
-
-    def test_linked_trace_that_another_rule_refuses(self) -> None:
-        self.write_trace("owed", "V1 time-back")
-        printed = self.lines(1)
-        self.assertTrue(any("`owed`: not refused by V17" in line for line in printed), printed)
 
     def test_linked_name_that_is_not_in_the_file(self) -> None:
         code = "../crates/qa/src/rules.rt"

@@ -5,17 +5,17 @@ from collections.abc import Callable, Iterable, Iterator
 from fractions import Fraction
 
 from .dialects import Absent, Dialect, Limited
-from .events import SPACE_OF_NAME, SPACES, UNKNOWN_METRICS, Event
+from .events import NANOSECONDS, SPACE_OF_NAME, SPACES, UNKNOWN_METRICS, Event
 from .flight import Bare, Flight, as_ranges
 from .groups import Group, Groups, Kind
 from .handshake import Handshake
 from .lines import RTTS, Lines
 from .notes import Guess, Limit, Notes, Omission
+from .rounding import EARLIER, TIME_THRESHOLD, Age, Delays
 from .survey import Retry, Survey
 
-# RFC 9002, 6.1: kPacketThreshold, kTimeThreshold, and 6.2.4: packets of a probe.
+# RFC 9002, 6.1: kPacketThreshold, and 6.2.4: packets of a probe.
 PACKET_THRESHOLD = 3
-TIME_THRESHOLD = (9, 8)
 DATAGRAMS_OF_PROBE = 2
 # Losses that are later than this behind a packet are those of a timer. Nanoseconds.
 GAP_OF_LOSSES = 1_000_000
@@ -79,6 +79,7 @@ class Conversion:
         self._flight = Flight()
         self._bare = Bare()
         self._handshake = Handshake(role, survey, lines, self._flight, notes)
+        self._delays = Delays()
         # The latest values of each metric, RTTs in nanoseconds.
         self._metrics: dict[str, int] = {}
         self._has_sample = False
@@ -410,7 +411,7 @@ class Conversion:
         if self._handshake.awaits_discard:
             self._settle_received(event, lost)
         for frame in event.acks:
-            self._write_ack(event, frame, held.get("window"), lost)
+            self._write_ack(event, frame, held, lost)
             lost = []
         self._lost_alone(lost)
         if is_reported and self._flight.bytes < in_flight:
@@ -465,7 +466,7 @@ class Conversion:
         self._handshake.settle(event, self._metrics.get("bytes_in_flight"), change)
 
     def _write_ack(
-        self, event: Event, frame: dict[str, object], before: int | None, lost: list[Event]
+        self, event: Event, frame: dict[str, object], held: dict[str, int], lost: list[Event]
     ) -> None:
         space, ranges = event.space, event.ranges(frame)
         assert space
@@ -473,23 +474,80 @@ class Conversion:
             what = Omission.ACK_OF_NOTHING if not ranges else Omission.ACK_OF_GONE_SPACE
             self._notes.omit(what)
             return
-        delay = 0
-        if space in self._dialect.delay_spaces:
-            delay = event.nanoseconds(frame.get("ack_delay") or 0, "ack_delay")
-            delay <<= self._survey.delay_exponent if self._dialect.delay_is_encoded else 0
+        top = max(high for _, high in ranges)
+        sent = self._flight.time_of(space, top) if self._flight.size_of(space, top) else None
+        self._flight.take(space, self._flight.named(space, ranges))
+        smoothed = self._metrics.get("smoothed_rtt", 0)
+        time = event.time
+        if sent is None or time - sent < smoothed:
+            time = self._moment(event, space, top, lost)
+        delay = self._delay(event, frame)
+        if sent is not None and self._dialect.is_read_late:
+            time = self._arrival(time, sent, delay, held)
+        if sent is not None and self._survey.has_cut_times:
+            delay = self._settled(time - sent, delay, held)
         self._lines.event(
             "ack",
-            event.time,
+            time,
             space=space,
             ranges=ranges,
             delay=self._lines.in_unit(delay),
-            limited=self._is_limited(before) and not lost,
+            limited=self._is_limited(held.get("window")) and not lost,
         )
         self._probes_left = 0
-        top = max(high for _, high in ranges)
         self._largest[space] = max(top, self._largest.get(space, 0))
-        self._flight.take(space, self._flight.named(space, ranges))
         self._write_lost(event, lost)
+
+    def _moment(self, event: Event, space: str, top: int, lost: Iterable[Event]) -> int:
+        """The time of an acknowledgment or a loss timer, in nanoseconds.
+
+        In a log whose times are cut it is part of a millisecond earlier, if a packet that is not
+        declared lost then is only by that younger than the loss delay.
+        """
+        rtt = max(self._metrics.get("latest_rtt", 0), self._metrics.get("smoothed_rtt", 0))
+        earlier = event.time - EARLIER
+        if not self._survey.has_cut_times or not rtt or not self._lines.may_be(earlier):
+            return event.time
+        gone = {it.number for it in lost if it.name == "packet_lost" and it.space == space}
+        for number, sent in self._flight.below(space, top):
+            age = Age(event.time - sent, rtt)
+            if age.is_young:
+                break
+            if age.is_open and number not in gone:
+                self._notes.guess(Guess.MOMENT)
+                return earlier
+        return event.time
+
+    def _arrival(self, time: int, sent: int, delay: int, held: dict[str, int]) -> int:
+        """When an acknowledgment came, in nanoseconds, in a log whose times are read late.
+
+        If the sample by the log is longer than the reported one, by more than the delay that may
+        have been taken off, then the log is late by that.
+        """
+        latest = self._metrics.get("latest_rtt", 0)
+        is_new = latest != held.get("latest_rtt", 0)
+        late = time - sent - latest
+        least = self._dialect.slack_us * NANOSECONDS["us"] + delay
+        is_late = is_new and least < late <= LATE_BY_PROGRAM
+        if not is_late or not self._lines.may_be(sent + latest):
+            return time
+        self._notes.guess(Guess.ARRIVAL)
+        return sent + latest
+
+    def _delay(self, event: Event, frame: dict[str, object]) -> int:
+        """The delay of an acknowledgment by the log, in nanoseconds."""
+        if event.space not in self._dialect.delay_spaces:
+            return 0
+        delay = event.nanoseconds(frame.get("ack_delay") or 0, "ack_delay")
+        return delay << (self._survey.delay_exponent if self._dialect.delay_is_encoded else 0)
+
+    def _settled(self, latest: int, delay: int, held: dict[str, int]) -> int:
+        """The delay by which a sample was computed, as the reports before and after it show."""
+        longest = self._survey.max_ack_delay if self._handshake.is_confirmed else None
+        settled = self._delays.settled(latest, delay, longest, (held, self._metrics))
+        if settled != delay:
+            self._notes.guess(Guess.DELAY)
+        return settled
 
     def _is_limited(self, before: int | None) -> bool:
         """Whether the sender had not used its window."""
@@ -541,7 +599,8 @@ class Conversion:
         space = str(first.space) if first else ""
         if first and not self._logs_timers and first.number < self._largest.get(space, 0):
             self._notes.guess(Guess.LOSS_TIMER)
-            self._write_timer(first, "loss", space)
+            time = self._moment(first, space, self._largest[space], lost)
+            self._write_timer(first, "loss", space, time)
         elif first:
             self._notes.omit(Omission.LOSS_OF_NOTHING)
         self._after_timer(lost[0], lost)
@@ -590,8 +649,10 @@ class Conversion:
         self._notes.guess(Guess.TIMER_SPACE)
         return str(lost[0].space) if kind == "loss" and lost else self._probed_space()
 
-    def _write_timer(self, event: Event, kind: str, space: str) -> None:
-        self._lines.event("timer", event.time, kind=kind, space=space)
+    def _write_timer(
+        self, event: Event, kind: str, space: str, time: int | None = None
+    ) -> None:
+        self._lines.event("timer", event.time if time is None else time, kind=kind, space=space)
         if kind == "pto":
             self._probe_left = DATAGRAMS_OF_PROBE * self._datagram
             self._probes_left = DATAGRAMS_OF_PROBE

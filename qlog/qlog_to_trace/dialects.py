@@ -51,6 +51,8 @@ class Dialect:
     sizes_by_growth: bool = False
     # The delay of acknowledgments is as on the wire, not yet multiplied (RFC 9000, 19.3).
     delay_is_encoded: bool = False
+    # Its times are read after the event, on a busy computer by milliseconds.
+    is_read_late: bool = False
     # Each difference of its times is cut to a whole millisecond.
     cuts_times: bool = False
     # What to do where its logs give no trace.
@@ -97,6 +99,8 @@ class Dialect:
     # Whether a packet so many numbers behind may be spared, as where the threshold adapts.
     # Said only where the window is a reported one.
     may_spare: bool = False
+    # Whether the packet threshold counts packets, so that a number that was skipped does not count.
+    counts_packets: bool = False
     # How early a timer can be by the log, since its times are rounded or read late.
     timer_early_us: int = 10
     # How late a timer may be.
@@ -118,6 +122,7 @@ QUIC_GO = Dialect(
     is_tried=True,
     initial_rtt=66_666,
     initial_datagrams=32,
+    is_read_late=True,
     logs_timers=True,
     delay_spaces=("app",),
     slack_us=1_000,
@@ -162,6 +167,7 @@ DIALECTS = (
         schemas=("urn:",),
         absent=Absent.SAME_OR_ZERO,
         sample_eliciting_only=False,
+        counts_packets=True,
     ),
     # 0.12: JSON-SEQ, 0.3, all times in whole ms, rounded down. No timers and no keys. Metrics have
     # all values. The delay of Initial and Handshake acknowledgments is logged as 0. The packet

@@ -1,7 +1,7 @@
 """The packets in flight, as the log tells of them."""
 
 from bisect import bisect_right
-from collections.abc import Iterable
+from collections.abc import Iterable, Iterator
 
 from .events import SPACES, Ranges
 
@@ -92,6 +92,15 @@ class Flight:
     def time_of(self, space: str, number: int) -> int:
         """When a packet in flight was sent; 0 for another."""
         return self._times[space].get(number, 0)
+
+    def below(self, space: str, top: int) -> Iterator[tuple[int, int]]:
+        """The packets in flight of a space, in the order of sending, up to the first that is not
+        below a number: their numbers, and when they were sent."""
+        times = self._times[space]
+        for number in self._sizes[space]:
+            if number >= top:
+                return
+            yield number, times[number]
 
     def named(self, space: str, ranges: Ranges) -> list[int]:
         """The packets in flight whose numbers are in some range, ascending."""

@@ -51,6 +51,7 @@ def options_of(dialect: Dialect, survey: Survey, choices: Choices, notes: Notes)
         }
     if choices.version >= 3:
         by_log = "ns" if survey.has_nanoseconds else "us"
+        may_spare = dialect.may_spare or (dialect.counts_packets and survey.has_skipped)
         # By which controller a sender has its window is its own choice (RFC 9002, section 7).
         has_window = survey.has_window or dialect.hides_window
         window = said.get("window", REPORTED if has_window else "newreno")
@@ -66,7 +67,7 @@ def options_of(dialect: Dialect, survey: Survey, choices: Choices, notes: Notes)
             "sample_eliciting_only": dialect.sample_eliciting_only,
             "packet_threshold": threshold,
             "timer_early_us": dialect.timer_early_us,
-            "loss_by_number": MAY if dialect.may_spare and window == REPORTED else "must",
+            "loss_by_number": MAY if may_spare and window == REPORTED else "must",
         }
     return found | said
 

@@ -24,6 +24,10 @@ class Lines:
         """A time or a duration as the trace has it, rounded down."""
         return nanoseconds // self._divisor
 
+    def may_be(self, nanoseconds: int) -> bool:
+        """Whether the next line may have this time."""
+        return self.in_unit(nanoseconds) >= self._time
+
     def header(self, line: Line) -> None:
         """The first line."""
         self._write({"event": "header", **line, **self._notes.for_next_line()})

@@ -95,9 +95,14 @@ class Sample:
     delay: int
 
     def agrees(self, reported: int) -> bool:
-        """Whether a report may be of this sample. Some logs have the delay as it is on the wire."""
+        """Whether a report may be of this sample."""
+        return self.distance(reported) <= ROUNDING_OF_TIMES
+
+    def distance(self, reported: int) -> int:
+        """How far a report is from this sample, with the delay or without it. Some logs have it as
+        it is on the wire."""
         delays = (0, self.delay, self.delay << DEFAULT_DELAY_EXPONENT)
-        return any(abs(self.latest - it - reported) <= ROUNDING_OF_TIMES for it in delays)
+        return min(abs(self.latest - it - reported) for it in delays)
 
 
 class Samples:
@@ -108,6 +113,8 @@ class Samples:
         # Reports that agree with the packet before them alone, with the one behind them alone, with
         # either, and with none.
         self.behind = self.before = self.either = self.neither = 0
+        # Reports that agree with the packet before them, and are not its sample to the last digit.
+        self.cut = 0
         self._last: Sample | None = None
         # The last value that was reported, and whether it awaits the sample behind it.
         self._reported = 0
@@ -128,6 +135,8 @@ class Samples:
         if self._is_awaited:
             is_behind = self._last is not None and self._last.agrees(self._reported)
             is_before = sample.agrees(self._reported)
+            is_exact = self._last is not None and self._last.distance(self._reported) == 0
+            self.cut += is_behind and not is_exact
             self.either += is_behind and is_before
             self.behind += is_behind and not is_before
             self.before += is_before and not is_behind

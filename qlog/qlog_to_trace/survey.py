@@ -52,6 +52,8 @@ class Survey:
         self.validation = Validation(role)
         self.retry: Retry | None = None
         self._last_numbers: dict[str, int] = {}
+        # Whether a number was passed over between two packets of a space.
+        self.has_skipped = False
         # Where Initial packets go, as long as none has come, and the round-trip time so far.
         self._destination: object = None
         self._smoothed = 0
@@ -90,6 +92,11 @@ class Survey:
         for event in events:
             self._see(event)
         self._check(dialect)
+
+    @property
+    def has_cut_times(self) -> bool:
+        """Whether its times are those of the sender without the parts of a millisecond."""
+        return self.has_milliseconds and self.looking.samples.cut > 0
 
     def _check(self, dialect: Dialect) -> None:
         """Whether a trace can be made of the log."""
@@ -162,6 +169,7 @@ class Survey:
             return
         assert event.number >= 0
         self._see_destination(event)
+        self.has_skipped |= event.number > self._last_numbers.get(event.space, event.number) + 1
         self._last_numbers[event.space] = event.number
         self._see_frames(event)
         if not event.has_size:

@@ -71,6 +71,28 @@ class Events(unittest.TestCase):
             before = found.lines[: found.kinds.index("sent", 6)]
             self.assertEqual(before[-1]["window"], 6100)
 
+    def test_an_acknowledgment_that_is_logged_late(self) -> None:
+        for name, came, delay, latest, before, time in (
+            # The sample is 20 milliseconds by the log.
+            ("quic-go", 20, 0, 16, (), 16_000),
+            ("quic-go", 20, 0, 19.5, (), 20_000),
+            # The delay was taken off, or may have been; a stall.
+            ("quic-go", 20, 4, 16, (), 20_000),
+            ("quic-go", 20, 2, 16, (), 16_000),
+            ("quic-go", 20, 0, 9, (), 20_000),
+            # Something is logged between, or the values are not reported late.
+            ("quic-go", 20, 0, 16, (sent(17, 1),), 20_000),
+            ("aioquic", 20, 0, 16, (), 20_000),
+        ):
+            report = metrics(came, latest_rtt=latest, min_rtt=latest, smoothed_rtt=latest)
+            events = [sent(0, 0), *before, received(came, [[0]], delay=delay), report]
+            if name == "aioquic":
+                events[-2:] = reversed(events[-2:])
+            found = converted(events, name=name)
+            with self.subTest(name=name, delay=delay, latest=latest, before=len(before)):
+                self.assertEqual(found.only("ack")[0]["time"], time)
+                self.assertEqual("x_guess" in found.only("ack")[0], time != 20_000)
+
     def test_values_behind_a_loss_that_nothing_shows(self) -> None:
         events = [sent(0, 0), lost(20, 0), metrics(20, congestion_window=6000)]
         found = converted(events, name="quic-go")

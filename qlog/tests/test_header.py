@@ -153,6 +153,17 @@ class Header(unittest.TestCase):
         must = converted(with_window, "--loss-by-number", "must", name="ngtcp2")
         self.assertEqual(must.lines[0]["loss_by_number"], "must")
 
+    def test_losses_may_be_declared_where_numbers_were_skipped(self) -> None:
+        file = "urn:ietf:params:qlog:file:sequential"
+        for schema, numbers, said in (
+            (file, (0, 1, 2), "must"),
+            (file, (0, 1, 3), "may"),
+            ("0.3", (0, 1, 3), "must"),
+        ):
+            events = [*(sent(0, it) for it in numbers), metrics(0, congestion_window=12000)]
+            line = converted(events, name="quic-go", schema=schema).lines[0]
+            self.assertEqual(line["loss_by_number"], said, (schema, numbers))
+
     def test_which_side(self) -> None:
         traces = [{**header(role=it), "events": [sent(0, 0)]} for it in ("server", "client")]
         text = json.dumps({"traces": traces})
