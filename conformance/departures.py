@@ -17,6 +17,7 @@ from dataclasses import dataclass, field
 from pathlib import Path
 from typing import NamedTuple
 
+import caveats
 from constants import METRICS, METRICS_IN_BYTES, MOST_DOUBLINGS, OF_CONDUCT, Rule
 from faults import fault_of
 from objects import Facts, Object, broken, owed_at_end, unit_of, unreadable
