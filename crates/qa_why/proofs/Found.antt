@@ -16,7 +16,6 @@ use Rattle.qa_check.specs.Walking.{HandsOut, HoldsGood, IsEnd}
 use Rattle.qa_format.specs.declared.fault.Fault.{Fault}
 use Rattle.qa_format.specs.declared.fault.Fault.TheVariants.{LineTooLong, TooManyLines}
 use Rattle.qa_format.specs.declared.form.Form.{Form}
-use Rattle.qa_format.specs.declared.form.Form.TheVariants as forms
 use Rattle.qa_format.specs.declared.line.Line.{Line}
 use Rattle.qa_format.specs.declared.line.Line.TheVariants as line
 use Rattle.qa_format.specs.declared.verdict.Verdict.{Verdict}

@@ -4,10 +4,8 @@ use Rattle.std.proofs.lemmas.Bool.{lt-ltb}
 use Rattle.std.proofs.lemmas.List.{append-nil}
 use Rattle.std.specs.List.{AllByRecursion}
 use Rattle.std.specs.Prelude.{nat_le, nat_lt, option_map}
-use Rattle.qa_base.specs.declared.event.Event.{Event}
 use Rattle.qa_base.specs.machine.Packets.{history_of}
 use Rattle.qa_base.specs.machine.State.{totals}
-use Rattle.qa_base.specs.values.Settings.{Settings}
 use Rattle.qa_check.specs.Audit.{ReadsEnoughBy}
 use Rattle.qa_format.specs.declared.fault.Fault.{Fault}
 use Rattle.qa_format.specs.declared.fault.Fault.TheVariants.{LineTooLong, TooManyLines}
@@ -21,7 +19,7 @@ use Rattle.qa_format.proofs.verdicts.Stops.{first_stop-snoc, no_stop_or_stop, ve
 use Rattle.qa_read.specs.Stream.{BeginsTooLong}
 use Rattle.qa_why.specs.Texts.{seen, unreadable_text}
 use Rattle.qa_check.specs.Places.{good_lines, judged_at}
-use Rattle.qa_why.specs.Why.{told, told_at, unreadable_in, why_by}
+use Rattle.qa_why.specs.Why.{told_at, unreadable_in, why_by}
 use Rattle.qa_format.specs.declared.form.Form.{Form}
 use Rattle.qa_format.specs.declared.form.Form.TheVariants as forms
 use Rattle.qa_check.proofs.Judged.{judged_stays, place_at_end, place_at_line}

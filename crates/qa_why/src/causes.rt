@@ -8,11 +8,11 @@ ghost use Rattle.qa_check.specs.Standing.{HoldsRun, by};
 ghost use Rattle.qa_check.specs.Walking.{IsEnd};
 ghost use Rattle.qa_why.specs.Ending.{CanRefuse, IsEvent, event_of, refusal_of, told_of_end};
 ghost use Rattle.qa_why.specs.Why.{TellsBy, good_lines};
-ghost use Rattle.qa_why.specs.caveats.Caveats.{AreCaveats};
+ghost use Rattle.qa_why.specs.caveats.Caveats.{AreCaveats, guessed_in};
 ghost use Rattle.qa_why.specs.Objects.{object_line as object_line_of};
 ghost use Rattle.qa_why.specs.Why as defined;
 
-use crate::caveats::Caveats;
+use crate::caveats::{Caveats, Guessed};
 use crate::objects::{
     accepted_members, object_line, owed_at_end_members, refused_members, unreadable_members,
 };
@@ -30,13 +30,15 @@ pub struct Why {
     pub outcome: Outcome,
     /// What is told of it: a text, or the members of an object.
     pub text: Vec<u8>,
+    /// How many of its good lines were guessed.
+    pub guessed: Guessed,
 }
 
 /// What is written of it: members stand in the line of an object, behind the name of its file.
 pub fn whole(alloc: Global, form: Form, name: &str, told: Why) -> Result<Why, AuditFault>
     ensures whole { IfOk result
         (λ why. (why.text.items ≡ defined.whole form name.now told.text.items)
-        × (why.outcome ≡ told.outcome)) }
+        × (why.outcome ≡ told.outcome) × (why.guessed ≡ told.guessed)) }
     ensures memory { IfErr result (λ fault. fault ≡ AuditFault.OutOfMemory) }
 {
     match form {
@@ -49,14 +51,17 @@ pub fn whole(alloc: Global, form: Form, name: &str, told: Why) -> Result<Why, Au
 fn in_line(alloc: Global, name: &str, told: &Why) -> Result<Why, AuditFault>
     ensures whole { IfOk result
         (λ why. (why.text.items ≡ object_line_of name.now told.now.text.items)
-        × (why.outcome ≡ told.now.outcome)) }
+        × (why.outcome ≡ told.now.outcome) × (why.guessed ≡ told.now.guessed)) }
     ensures memory { IfErr result (λ fault. fault ≡ AuditFault.OutOfMemory) }
 {
     let Ok(text) = object_line(alloc, name, &told.text) else {
         return Err(AuditFault::OutOfMemory);
     };
-    let outcome = told.outcome;
-    Ok(Why { outcome, text })
+    Ok(Why {
+        outcome: told.outcome,
+        text,
+        guessed: told.guessed,
+    })
 }
 
 /// Where a trace is refused, and by what.
@@ -264,7 +269,8 @@ pub fn why_of<J: Reasons + Drop>(
     requires end { (bytes : List ℕ) × IsEnd J.judges true ended.now bytes }
     ensures told { IfOk result (λ why. (bytes : List ℕ) → IsEnd J.judges true ended.now bytes
         → AreCaveats caveats.now (good_lines (by J.judges) bytes)
-        → TellsBy (by J.judges) form name.now why.outcome why.text.items bytes) }
+        → TellsBy (by J.judges) form name.now why.outcome why.text.items bytes
+        × (why.guessed ≡ guessed_in (good_lines (by J.judges) bytes))) }
     ensures memory { IfErr result (λ fault. fault ≡ AuditFault.OutOfMemory) }
 {
     let Ok(mut text) = of_verdict(alloc, form, name, ended) else {
@@ -273,6 +279,9 @@ pub fn why_of<J: Reasons + Drop>(
     let Ok(()) = push_caveats(form, ended, caveats, &mut text) else {
         return Err(AuditFault::OutOfMemory);
     };
-    let outcome = Outcome::of(&ended.verdict);
-    Ok(Why { outcome, text })
+    Ok(Why {
+        outcome: Outcome::of(&ended.verdict),
+        text,
+        guessed: caveats.guessed(),
+    })
 }

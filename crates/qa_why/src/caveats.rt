@@ -7,3 +7,4 @@ mod missing;
 mod remarks;
 
 pub use caveats::Caveats;
+pub use guesses::Guessed;

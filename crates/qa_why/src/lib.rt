@@ -21,7 +21,7 @@ mod texts;
 mod values;
 
 pub use causes::{Why, whole, why_of};
-pub use caveats::Caveats;
+pub use caveats::{Caveats, Guessed};
 pub use json_rows::{object, row, rows};
 pub use lines::{extend, first_bytes, printed};
 pub use notes::{Both, NoNotes, Notes};

@@ -43,7 +43,7 @@ pub fn find<J: Reasons + Drop, N: Notes<J>, R: Source>(
         × ReadsEnoughBy (by J.judges) (R.left reader.old) (R.left reader.new)
         (R.last_read reader.new) bytes
         × TellsNoted (by J.judges)
-        (N.covers name.now notes.old) form name.now why.outcome why.text.items notes.new bytes) }
+        (N.covers name.now notes.old) form name.now why notes.new bytes) }
     ensures reads { ReadsBy (by J.judges) (R.left reader.old) (R.left reader.new)
         (R.last_read reader.new) }
     ensures read_failures { R.read_failures reader.new

@@ -198,6 +198,7 @@ impl Kept {
         Ok(Why {
             outcome: outcome_past(&self.table, end.outcome),
             text: self.firsts,
+            guessed: end.guessed,
         })
     }
 }

@@ -1,9 +1,9 @@
 -- Guesses of one line more.
 use Rattle.std.proofs.lemmas.Bool.{ne_eqb}
 use Rattle.std.specs.Prelude.{◌==◌}
-use Rattle.std.proofs.Common.{◌≡◌, ◌∙◌, false, ℕ, suc, ◌+◌, List, [], ◌∷◌, ◌++◌, length, reverse, refl, sym, ap, ap₂, arith, if◌then◌else◌, min, ◌^◌, ◌-◌}
+use Rattle.std.proofs.Common.{◌≡◌, ◌∙◌, false, ℕ, suc, ◌+◌, List, [], ◌∷◌, ◌++◌, length, reverse, refl, sym, ap, arith, if◌then◌else◌, min, ◌^◌, ◌-◌}
 use Rattle.std.proofs.lemmas.List.{append_assoc, append-nil, length-append, reverse-append}
-use Rattle.qa_why.specs.caveats.Guesses.{AreNoted, Guess, counted, first_bytes, first_line, guess_on, guesses, guesses_behind, with_guess}
+use Rattle.qa_why.specs.caveats.Guesses.{Guess, counted, first_bytes, first_line, guess_on, guesses, guesses_behind, with_guess}
 
 behind_snoc : (n : ℕ) (ls : List (List ℕ)) (l : List ℕ) → guesses_behind n (ls ++ l ∷ []) ≡ guesses_behind n ls ++ guess_on (n + length ls + 1) l
 behind_snoc n [] l = append-nil (guess_on (n + 1) l) ∙ ap (λ k. guess_on k l) (omega arith)

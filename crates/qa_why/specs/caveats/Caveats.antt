@@ -16,7 +16,8 @@ use Rattle.qa_format.specs.declared.line.Line.{Line}
 use Rattle.qa_format.specs.declared.line.Line.TheVariants as line
 use Rattle.qa_format.specs.format.Reading.{reading}
 use Rattle.qa_format.specs.verdicts.Verdict.{events_in, header_said}
-use Rattle.qa_why.specs.caveats.Guesses.{AreNoted, guesses, guesses_before}
+use Rattle.qa_why.specs.caveats.Guesses.{AreNoted, guessed_of, guesses, guesses_before}
+use Rattle.qa_why.specs.declared.caveats.guesses.Guessed.{Guessed}
 use Rattle.qa_why.specs.caveats.Missing.{all_missing, missing, missing_texts, with_number}
 use Rattle.qa_why.specs.declared.caveats.missing.Missing.{Missing}
 use Rattle.qa_why.specs.caveats.Remarks.{remarks_at}
@@ -56,6 +57,10 @@ note_text (Some l) = remarks_at (codes "  the converter says: ") (codes "x_note"
 unfoldable pub caveats : List (List ℕ) → ℕ → Rule → List ℕ → List ℕ
 caveats ls n r l =
     guesses_before n l (guesses ls) ++ lost_lines r (history_in ls) ++ note_text (header_line ls)
+
+-- how many lines were guessed
+abbrev pub guessed_in : List (List ℕ) → Guessed
+guessed_in ls = guessed_of (guesses ls)
 
 -- ---- what is kept of them while a trace is judged
 

@@ -4,6 +4,7 @@ use Rattle.std.specs.Prelude.{List, [], ◌∷◌, ◌++◌, ◌&&◌, is_some, 
 use Rattle.memchr.specs.Find.{first_of, matches}
 use Rattle.qa_explain.specs.text.Pieces.{numbered}
 use Rattle.qa_why.specs.caveats.Remarks.{remarks_at}
+use Rattle.qa_why.specs.declared.caveats.guesses.Guessed.{Guessed}
 use Rattle.qa_why.specs.declared.caveats.guesses.Guesses.{Guesses}
 
 -- something on the line was guessed: the key stands there
@@ -48,6 +49,10 @@ abbrev pub AreNoted : Guesses → List Guess → Type 0
 AreNoted noted gs =
     (noted.count ≡ counted (length gs)) × (noted.first ≡ first_line gs)
     × (noted.last ≡ first_line (reverse gs)) × (noted.bytes.items ≡ first_bytes (reverse gs))
+
+-- how many they are, and the line of the first
+abbrev pub guessed_of : List Guess → Guessed
+guessed_of gs = record { count = counted (length gs); first = first_line gs }
 
 -- ---- where a line is refused
 

@@ -8,7 +8,7 @@ ghost use Rattle.qa_why.specs.caveats.Caveats as text;
 ghost use Rattle.qa_why.specs.caveats.Caveats.{AreCaveats, history_in};
 ghost use Rattle.qa_why.specs.caveats.Missing as gaps;
 
-use crate::caveats::guesses::Guesses;
+use crate::caveats::guesses::{Guessed, Guesses};
 use crate::caveats::missing::{Missing, push_missing};
 use crate::caveats::remarks::push_remarks;
 use crate::lines::extend;
@@ -108,6 +108,13 @@ impl Caveats {
             _ => (),
         }
         Ok(())
+    }
+
+    /// How many lines were guessed.
+    pub fn guessed(&self) -> Guessed
+        ensures { (ls : List (List ℕ)) → AreCaveats self.now ls → result ≡ text.guessed_in ls }
+    {
+        self.guesses.guessed()
     }
 
     /// Which numbers the log skips.

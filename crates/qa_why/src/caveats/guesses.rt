@@ -21,6 +21,15 @@ pub(crate) fn is_guessed(line: &[u8]) -> bool
     find(line, QUOTED_KEY).is_some()
 }
 
+/// How many lines of a trace were guessed.
+#[derive(Clone, Copy)]
+pub struct Guessed {
+    /// How many lines; it stays at 2^64 - 1.
+    pub count: u64,
+    /// The first of them, counted from 1; 0 where there is none.
+    pub first: u64,
+}
+
 /// The guesses of a trace in sum: how many lines, the first of them, and the last.
 #[derive(Drop)]
 pub struct Guesses {
@@ -46,6 +55,16 @@ impl Guesses {
             first: 0,
             last: 0,
             bytes: Vec::new(alloc),
+        }
+    }
+
+    /// How many lines were guessed.
+    pub(crate) fn guessed(&self) -> Guessed
+        ensures { (gs : List Guess) → AreNoted self.now gs → result ≡ text.guessed_of gs }
+    {
+        Guessed {
+            count: self.count,
+            first: self.first,
         }
     }
 

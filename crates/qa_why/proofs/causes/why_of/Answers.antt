@@ -10,8 +10,11 @@ of_verdict-requires-clause-refusal g c = can_refuse g.J.Judge.judges c.args.ende
 
 pub returns-clause-told : goal.returns-clause-told
 returns-clause-told g c = λ bytes end held. (
-  c.in-Ok-push_caveats.ensures _ held
-      ∙ (ap (with_caveats c.args.ended.now.verdict c.args.form (good_lines (by g.J.Judge.judges) bytes, line_handed c.args.ended.now.line)) (c.in-Ok.ensures _ _ end.1)
-      ∙ ended_tells g.J.Judge.judges c.args.form c.args.name.now c.args.ended.now bytes end),
-  c.of-outcome.ensures ∙ ap outcome_of end.0,
+  (
+    c.in-Ok-push_caveats.ensures _ held
+        ∙ (ap (with_caveats c.args.ended.now.verdict c.args.form (good_lines (by g.J.Judge.judges) bytes, line_handed c.args.ended.now.line)) (c.in-Ok.ensures _ _ end.1)
+        ∙ ended_tells g.J.Judge.judges c.args.form c.args.name.now c.args.ended.now bytes end),
+    c.of.ensures ∙ ap outcome_of end.0,
+  ),
+  c.guessed.ensures _ held,
 )
