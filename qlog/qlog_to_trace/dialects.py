@@ -152,7 +152,7 @@ OPENSSL = Dialect(
     limited=Limited.NEVER,
     unit="us",
     window_overshoot=True,
-    timer_early_us=1_000,
+    timer_early_us=3_000,
     timer_late_us=TIMER_LATE_UNSEEN,
 )
 

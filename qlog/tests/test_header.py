@@ -90,7 +90,7 @@ class Header(unittest.TestCase):
         for name, schema, values in (
             ("quic-go", "0.3", ("quic-go-0.50", True, True, 3_000)),
             ("quic-go", file, ("quic-go-0.59", True, False, 3_000)),
-            ("OpenSSL/3.5.9 (x)", "0.3", ("openssl", True, False, 1_000)),
+            ("OpenSSL/3.5.9 (x)", "0.3", ("openssl", True, False, 3_000)),
             ("neqo-Client", "0.3", ("neqo", False, False, 1_000)),
             ("ngtcp2", "0.3", ("ngtcp2", True, True, 3_000)),
         ):
