@@ -17,6 +17,7 @@ from dataclasses import dataclass, field
 from pathlib import Path
 from typing import NamedTuple
 
+import caveats
 from constants import METRICS, METRICS_IN_BYTES, MOST_DOUBLINGS, OF_CONDUCT, Rule
 from faults import fault_of
 from objects import Facts, Object, broken, owed_at_end, unit_of, unreadable
@@ -198,7 +199,9 @@ class Follower:
         if self.sender.owed:
             head = head_of(self.name, last, "refused", Rule.OWED_AT_END)
             facts = {"line": last} | owed_at_end(self.facts)
-            self.end_as("refused", head + refused_end(self.sender), facts)
+            end = caveats.Refusal(last, Rule.OWED_AT_END, b"")
+            behind = caveats.text_of(self.lines, end)
+            self.end_as("refused", head + refused_end(self.sender) + behind, facts)
         else:
             events = self.sender.events
             self.end_as("accepted", accepted(self.name, events), {"events": events})
@@ -228,7 +231,10 @@ class Follower:
         unborne = next((it for it in rules if not is_borne(self.sender, it)), None)
         if unborne is not None:
             facts = {"line": number} | broken(self.facts, event, unborne)
-            self.end_as("refused", self.text_of(number, event, "refused", unborne), facts)
+            refusal = caveats.Refusal(number, unborne, line)
+            behind = caveats.text_of(self.lines[: number - 1], refusal)
+            text = self.text_of(number, event, "refused", unborne)
+            self.end_as("refused", text + behind, facts)
             return True
         for what in rules:
             self.depart(number, event, what)

@@ -384,30 +384,58 @@ static int run_orders(void) {
 
 /* ---- very many ranges */
 
-/* What is returned for an acknowledgment of 2,000 numbers, two apart from this one on, behind a header. */
-static qaudit_status_t status_of_many(uint64_t first) {
-    static qaudit_range ranges[2000];
+/* What is returned for an acknowledgment of these ranges, behind a header. One that is out of range leaves the session open. */
+static qaudit_status_t status_of(const qaudit_acknowledgment *ack, const qaudit_range *ranges, size_t count) {
     qaudit q = {NULL, false};
     qaudit_trace_header header;
-    qaudit_acknowledgment ack;
     qaudit_status_t status;
-    size_t i;
     memset(&header, 0, sizeof header);
-    memset(&ack, 0, sizeof ack);
     header.max_datagram_size = 1200;
-    ack.space = QAUDIT_APP;
-    for (i = 0; i < 2000; i++) ranges[i].least = ranges[i].greatest = first + 2 * i;
     if (qaudit_open(&q) != QAUDIT_OPEN || qaudit_header(&q, &header) != QAUDIT_OPEN) return QAUDIT_CLOSED;
-    status = qaudit_ack(&q, &ack, ranges, 2000);
-    if (status == QAUDIT_OUT_OF_RANGE && qaudit_ack(&q, &ack, ranges, 1000) != QAUDIT_FIXED) status = QAUDIT_CLOSED;
+    status = qaudit_ack(&q, ack, ranges, count);
+    if (status == QAUDIT_OUT_OF_RANGE && qaudit_ack(&q, ack, ranges, 1) != QAUDIT_FIXED) status = QAUDIT_CLOSED;
     qaudit_close(&q);
     return status;
 }
 
-/* Of short numbers a line says them, and they were never sent; of long ones no line does, and nothing is taken. */
+/* The same of 2,000 numbers, two apart from this one on. */
+static qaudit_status_t status_of_many(uint64_t first) {
+    static qaudit_range ranges[2000];
+    qaudit_acknowledgment ack;
+    size_t i;
+    memset(&ack, 0, sizeof ack);
+    ack.space = QAUDIT_APP;
+    for (i = 0; i < 2000; i++) ranges[i].least = ranges[i].greatest = first + 2 * i;
+    return status_of(&ack, ranges, 2000);
+}
+
+/* The same of a range from 10 to a greatest number and of 1,559 numbers with 19 digits, with a delay and a limit:
+ *
+ *     {"event":"ack","ranges":[[10,100],[4000000000000000000,4000000000000000000],..],"space":"app","time":0}
+ *
+ * has 65,536 bytes, and "delay":1, or "limited":true, more. */
+static qaudit_status_t status_of_long(uint64_t greatest, uint64_t delay, bool limited) {
+    static qaudit_range ranges[1560];
+    qaudit_acknowledgment ack;
+    size_t i;
+    memset(&ack, 0, sizeof ack);
+    ack.space = QAUDIT_APP;
+    ack.delay = delay;
+    ack.app_limited = limited;
+    ranges[0].least = 10;
+    ranges[0].greatest = greatest;
+    for (i = 1; i < 1560; i++) ranges[i].least = ranges[i].greatest = 4000000000000000000u + 2 * i;
+    return status_of(&ack, ranges, 1560);
+}
+
+/* What a line says is judged, and was never sent; of what no line says nothing is taken. */
 static int run_many(void) {
     if (status_of_many(0) != QAUDIT_FIXED) return fail("an acknowledgment of many short numbers was not judged");
     if (status_of_many(4000000000000000000u) != QAUDIT_OUT_OF_RANGE) return fail("an acknowledgment that no line says was taken");
+    if (status_of_long(100, 0, false) != QAUDIT_FIXED) return fail("an acknowledgment with a line of 65,536 bytes was not judged");
+    if (status_of_long(1000, 0, false) != QAUDIT_OUT_OF_RANGE) return fail("an acknowledgment with a line of 65,537 bytes was taken");
+    if (status_of_long(100, 1, false) != QAUDIT_OUT_OF_RANGE) return fail("a delay was left out of a line");
+    if (status_of_long(100, 0, true) != QAUDIT_OUT_OF_RANGE) return fail("a limit was left out of a line");
     return 0;
 }
 

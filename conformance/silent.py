@@ -37,18 +37,24 @@ def warnings_in(lines: list[bytes]) -> Iterator[tuple[int, bytes]]:
             case "header":
                 version, largest = event["version"], event["max_datagram_size"]
                 for key in names_in(line):
-                    if key not in keys_of_kind("header", version):
+                    if key not in keys_of_kind("header", version) and not is_own(key):
                         yield number, of_header(key, version)
             case "metrics":
                 for key in names_in(line):
-                    if key not in keys_of_kind("metrics", version) and key not in known:
-                        known.add(key)
-                        yield number, of_metrics(key)
+                    if key in keys_of_kind("metrics", version) or is_own(key) or key in known:
+                        continue
+                    known.add(key)
+                    yield number, of_metrics(key)
             case "sent" if largest is not None and event["size"] > largest:
                 packet = f"packet {event['number']} of {event['space']}"
                 size = f"has {event['size']} bytes, more than max_datagram_size {largest}"
                 yield number, f"{packet} {size}".encode()
                 largest = None
+
+
+def is_own(key: str) -> bool:
+    """Whether a key is a logger's own."""
+    return key.startswith("x_")
 
 
 def shown_key(key: str) -> bytes:

@@ -9,6 +9,7 @@ import json
 from collections.abc import Iterable
 from typing import NamedTuple
 
+import caveats
 from constants import (
     K_MINIMUM_WINDOW,
     MAX_LINE_LENGTH,
@@ -163,7 +164,16 @@ def why(name: str, trace: bytes, report: str) -> bytes:
         return accepted(name, int(events.split()[1]))
     if verdict.word == "unreadable":
         return not_read(name, verdict, lines)
-    return head_of(name, verdict.line, verdict.word, verdict.what) + refused(verdict, lines)
+    head = head_of(name, verdict.line, verdict.word, verdict.what)
+    return head + refused(verdict, lines) + caveats.text_of(*refusal_of(verdict, lines))
+
+
+def refusal_of(verdict: Verdict, lines: list[bytes]) -> tuple[list[bytes], caveats.Refusal]:
+    """The good lines before a refusal, and the refusal."""
+    if verdict.what == Rule.OWED_AT_END:
+        return lines, caveats.Refusal(verdict.line, verdict.what, b"")
+    before = lines[: verdict.line - 1]
+    return before, caveats.Refusal(verdict.line, verdict.what, lines[verdict.line - 1])
 
 
 def accepted(name: str, events: int) -> bytes:

@@ -81,8 +81,9 @@ qaudit_status_t qaudit_feed(qaudit *q, const uint8_t *bytes, size_t count);
  * and qaudit_lost also QAUDIT_NOT_TAKEN. Once the verdict is fixed, and after qaudit_finish, they change
  * nothing. The header comes first: an event before it fixes the verdict, as it does in a trace.
  *
- * A line of a trace has 65,536 bytes at most. An acknowledgment or a loss whose line, with every key,
- * would have more is out of range, and nothing is taken; 1,024 ranges fit whatever their numbers are.
+ * A line of a trace has 65,536 bytes at most. An acknowledgment or a loss whose shortest line, without a
+ * delay of 0 and "limited" that is false, would have more is out of range, and nothing is taken; 1,024
+ * ranges fit whatever their numbers are.
  *
  * Times are in the unit of the header, from 0 to 10^15, and packet numbers from 0 to 2^62 - 1. */
 

@@ -200,6 +200,23 @@ impl Model for Header {
     } };
 }
 
+/// What a header says of its connection. Where a value is None the header has the default, which
+/// the table of `Header::new` has beside the ranges.
+#[derive(Clone, Copy, PartialEq, Eq)]
+pub struct ConnectionValues {
+    /// Whether the sender is the client or the server.
+    pub role: Role,
+    /// The sender's maximum datagram size in bytes (RFC 9002, section 7.2).
+    pub max_datagram_size: u64,
+    /// The peer's `max_ack_delay` (RFC 9002, section 5.3), in the unit of the trace.
+    pub max_ack_delay: Option<u64>,
+    /// The RTT that stands before the first sample (RFC 9002, section 6.2.2), in the unit of the
+    /// trace.
+    pub initial_rtt: Option<u64>,
+    /// The congestion window in bytes that the sender begins with (RFC 9002, section 7.2).
+    pub initial_window: Option<u64>,
+}
+
 /// The initial congestion window in bytes where a header names none (RFC 9002, section 7.2).
 fn default_window(max_datagram_size: u64) -> u64
     requires { max_datagram_size ≤ max_packet_size }
@@ -237,49 +254,47 @@ impl Header {
         ensures { result ≡ settings_of role max_datagram_size max_ack_delay initial_rtt
             initial_window }
     {
-        Header::in_unit(
-            TimeUnit::Microseconds,
+        let values = ConnectionValues {
             role,
             max_datagram_size,
             max_ack_delay,
             initial_rtt,
             initial_window,
-        )
+        };
+        Header::in_unit(TimeUnit::Microseconds, values)
     }
 
     /// The same with times in this unit. In nanoseconds the ranges and defaults of times are a
     /// thousand times as great, and the header is one of version 3.
-    pub fn in_unit(
-        unit: TimeUnit,
-        role: Role,
-        max_datagram_size: u64,
-        max_ack_delay: Option<u64>,
-        initial_rtt: Option<u64>,
-        initial_window: Option<u64>,
-    ) -> Result<Header, RangeFault>
-        ensures { result ≡ settings_in unit role max_datagram_size max_ack_delay initial_rtt
-            initial_window }
+    pub fn in_unit(unit: TimeUnit, values: ConnectionValues) -> Result<Header, RangeFault>
+        ensures { result ≡ settings_in unit values.role values.max_datagram_size
+            values.max_ack_delay values.initial_rtt values.initial_window }
     {
         let scale = unit.per_microsecond();
+        let max_datagram_size = values.max_datagram_size;
         if max_datagram_size < MIN_DATAGRAM_SIZE || MAX_PACKET_SIZE < max_datagram_size {
             return Err(RangeFault(Key::MaxDatagramSize));
         }
-        let max_ack_delay = max_ack_delay.unwrap_or(scale * DEFAULT_MAX_ACK_DELAY);
+        let max_ack_delay = values
+            .max_ack_delay
+            .unwrap_or(scale * DEFAULT_MAX_ACK_DELAY);
         if scale * MAX_MAX_ACK_DELAY < max_ack_delay {
             return Err(RangeFault(Key::MaxAckDelay));
         }
-        let initial_rtt = initial_rtt.unwrap_or(scale * DEFAULT_INITIAL_RTT);
+        let initial_rtt = values.initial_rtt.unwrap_or(scale * DEFAULT_INITIAL_RTT);
         if initial_rtt < 1 || scale * MAX_INITIAL_RTT < initial_rtt {
             return Err(RangeFault(Key::InitialRtt));
         }
-        let initial_window = initial_window.unwrap_or(default_window(max_datagram_size));
+        let initial_window = values
+            .initial_window
+            .unwrap_or(default_window(max_datagram_size));
         if initial_window < minimum_window(max_datagram_size)
             || MAX_INITIAL_WINDOW < initial_window
         {
             return Err(RangeFault(Key::InitialWindow));
         }
         Ok(Header {
-            role,
+            role: values.role,
             unit,
             max_datagram_size,
             max_ack_delay,

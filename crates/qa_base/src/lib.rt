@@ -20,7 +20,7 @@ mod totals;
 
 pub use due::Due;
 pub use event::{Ack, Event, MetricValues, SentPacket};
-pub use header::{Header, Options, Version};
+pub use header::{ConnectionValues, Header, Options, Version};
 pub use key::{Key, RangeFault};
 pub use line_kind::LineKind;
 pub use number::{PacketNumber, Span, Spans, Ticks};

@@ -15,7 +15,7 @@ pub use causes::{
     Basis, Cause, Comparison, Explains, Facts, Free, Oldest, Owed, Ranges, cause_of, owed_of,
 };
 pub use ledger::{Ledger, LedgerFault};
-pub use metrics::totals_by;
+pub use metrics::Quantities;
 pub use rules::{first_broken, other_window};
 pub use state::State;
 pub use tolerates::Tolerates;

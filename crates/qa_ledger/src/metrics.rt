@@ -54,30 +54,43 @@ pub(crate) fn differences(
     ]
 }
 
-/// The totals by their parts: how many events there were, the window and `ssthresh`, the RTT, the
-/// bytes in flight, the PTO count and how many packets are owed.
-pub fn totals_by(
-    events: u64,
-    window: u64,
-    ssthresh: Option<u64>,
-    rtt: Rtt,
-    bytes: u64,
-    count: u64,
-    owed: u64,
-) -> Totals
-    ensures { result ≡ totals_of events window ssthresh rtt bytes count owed }
-{
-    Totals {
-        events,
-        window,
-        ssthresh,
-        bytes_in_flight: bytes,
-        latest_rtt: rtt.latest_rtt.get(),
-        min_rtt: rtt.min_rtt.get(),
-        smoothed_rtt: rtt.smoothed_rtt.get(),
-        rttvar: rtt.rttvar.get(),
-        pto_count: count,
-        owed,
+/// The quantities of the machine after a history, each in the type in which a ledger has it.
+#[derive(Clone, Copy)]
+pub struct Quantities {
+    /// How many events there were.
+    pub events: u64,
+    /// The congestion window in bytes.
+    pub window: u64,
+    /// The slow start threshold in bytes, where there is one.
+    pub ssthresh: Option<u64>,
+    /// The estimate of the round-trip time.
+    pub rtt: Rtt,
+    /// The sum of the sizes of open in-flight packets.
+    pub bytes_in_flight: u64,
+    /// How many probe timeouts there were since the last reset.
+    pub pto_count: u64,
+    /// How many packets are detected as lost and not yet declared.
+    pub owed: u64,
+}
+
+impl Quantities {
+    /// The totals, as they are reported.
+    pub fn totals(&self) -> Totals
+        ensures { result ≡ totals_of self.now.events self.now.window self.now.ssthresh self.now.rtt
+            self.now.bytes_in_flight self.now.pto_count self.now.owed }
+    {
+        Totals {
+            events: self.events,
+            window: self.window,
+            ssthresh: self.ssthresh,
+            bytes_in_flight: self.bytes_in_flight,
+            latest_rtt: self.rtt.latest_rtt.get(),
+            min_rtt: self.rtt.min_rtt.get(),
+            smoothed_rtt: self.rtt.smoothed_rtt.get(),
+            rttvar: self.rtt.rttvar.get(),
+            pto_count: self.pto_count,
+            owed: self.owed,
+        }
     }
 }
 

@@ -10,8 +10,9 @@ use crate::fields;
 use crate::fields::both;
 use crate::ranges::ranges;
 use qa_base::{
-    Ack, Controller, Event, Field, Header, Key, LossByNumber, MetricValues, Options, PacketNumber,
-    Permission, RangeFault, Role, SentPacket, Space, Spans, Ticks, TimeUnit, TimerKind, Version,
+    Ack, ConnectionValues, Controller, Event, Field, Header, Key, LossByNumber, MetricValues,
+    Options, PacketNumber, Permission, RangeFault, Role, SentPacket, Space, Spans, Ticks, TimeUnit,
+    TimerKind, Version,
 };
 use qa_format::Fault;
 use serde_json::Value;
@@ -99,8 +100,9 @@ fn choice_fields(object: &Value) -> Result<ChoiceFields, Fault>
     both(flags, rest)
 }
 
-/// The options of a header of version 2, under which losses by number must be declared.
-fn second_options(object: &Value) -> Result<(Options, Option<LossByNumber>), Fault>
+/// The options of a header of version 2, which says nothing of what the sender chooses: losses by
+/// number must be declared.
+fn options_without_choices(object: &Value) -> Result<(Options, Option<LossByNumber>), Fault>
     ensures { result ≡ tables.second_options (view object.now) }
 {
     let (machine, slack) = option_fields(object)?;
@@ -117,7 +119,7 @@ fn second_options(object: &Value) -> Result<(Options, Option<LossByNumber>), Fau
 }
 
 /// What stands at the keys of all options of version 3.
-fn third_fields(object: &Value) -> Result<(OptionFields, ChoiceFields), Fault>
+fn option_and_choice_fields(object: &Value) -> Result<(OptionFields, ChoiceFields), Fault>
     ensures { result ≡ keys.both (tables.option_fields (view object.now))
         (tables.choice_fields (view object.now)) }
 {
@@ -126,10 +128,10 @@ fn third_fields(object: &Value) -> Result<(OptionFields, ChoiceFields), Fault>
 
 /// The options of a header of version 3, but for whose window it is. What its word for losses by
 /// number names, if anything, stands beside them.
-fn third_options(object: &Value) -> Result<(Options, Option<LossByNumber>), Fault>
+fn options_with_choices(object: &Value) -> Result<(Options, Option<LossByNumber>), Fault>
     ensures { result ≡ tables.third_options (view object.now) }
 {
-    let ((machine, slack), (flags, (numbers, losses))) = third_fields(object)?;
+    let ((machine, slack), (flags, (numbers, losses))) = option_and_choice_fields(object)?;
     let (timer_late, refresh_min_rtt) = machine;
     let (report_slack_us, report_slack_bytes) = slack;
     let (window_overshoot, sample_eliciting_only) = flags;
@@ -154,8 +156,8 @@ fn options(object: &Value) -> Result<(Options, Option<LossByNumber>), Fault>
     ensures { result ≡ tables.options (view object.now) }
 {
     match fields::required_integer(Key::Version, object) {
-        Ok(version) if version == Version::Two.number() => second_options(object),
-        Ok(version) if version == Version::Three.number() => third_options(object),
+        Ok(version) if version == Version::Two.number() => options_without_choices(object),
+        Ok(version) if version == Version::Three.number() => options_with_choices(object),
         _ => Ok((Options::default(), Some(LossByNumber::Must))),
     }
 }
@@ -217,19 +219,19 @@ pub fn header_of(object: &Value) -> Result<Header, Fault>
     let ((version, role), ((unit, controller), (most, initial))) = fields;
     let (max_datagram_size, max_ack_delay) = most;
     let (initial_rtt, initial_window) = initial;
-    let header = Header::in_unit(
-        unit,
+    let values = ConnectionValues {
         role,
         max_datagram_size,
         max_ack_delay,
         initial_rtt,
         initial_window,
-    );
+    };
     let options = Options {
         controller,
         ..options
     };
-    let header = of_version(version, options, out_of_range(header)?)?;
+    let header = out_of_range(Header::in_unit(unit, values))?;
+    let header = of_version(version, options, header)?;
     with_losses(losses, header)
 }
 

@@ -1,10 +1,13 @@
 -- Words for what one more event makes of a quantity.
-use Rattle.std.specs.Prelude.{◌∷◌, ℕ, Bool, max, true, false, Option, Some, None, List, []}
+use Rattle.std.specs.Prelude.{◌≡◌, ◌∷◌, ℕ, Bool, max, true, false, Option, Some, None, List, []}
 use Rattle.std.specs.Prelude.{unwrap_or}
 use Rattle.qa_base.specs.declared.event.Event.{Event}
 use Rattle.qa_base.specs.declared.event.Event.TheVariants.{Discard}
+use Rattle.qa_base.specs.machine.Loss.{declared, is_persistent}
 use Rattle.qa_base.specs.machine.Packets.{Packet}
 use Rattle.qa_base.specs.machine.Reno.{Move, CongestionEvent, is_outside_recovery}
+use Rattle.qa_base.specs.values.Settings.{Settings}
+use Rattle.qa_reference.specs.declared.window.Congestion.{Congestion}
 
 -- the greater of the two, where both are there
 abbrev pub raised : Option ℕ → Option ℕ → Option ℕ
@@ -16,6 +19,13 @@ raised (Some n) (Some m) = Some (max n m)
 abbrev pub last_sending : List Packet → Option ℕ
 last_sending [] = None
 last_sending (p ∷ ps) = Some (max p.time (unwrap_or (last_sending ps) 0))
+
+-- when the last of the packets was sent that are lost by the last event, and whether they establish
+-- persistent congestion (RFC 9002, sections 7.3.2 and 7.6)
+abbrev pub IsCongestion : Settings → List Event → Congestion → Type 0
+IsCongestion c h congestion =
+    (congestion.last_sent ≡ last_sending (declared c h))
+    × (congestion.is_persistent ≡ is_persistent c h)
 
 -- the move of a loss, of packets the last of which was sent at a time, where there are any
 abbrev pub hits_at : ℕ → Option ℕ → List Move

@@ -110,29 +110,31 @@ pub fn last_eliciting(events: &[Event], space: Space) -> Option<Ticks>
     last
 }
 
-/// The probe timeout of the space, doubled for each before it; the peer may delay its
-/// acknowledgments.
-#[tactic(auto, using(crate::proofs::Powers::few_doublings, crate::proofs::Refreshed::same_pto_base))]
-fn pto_due(
-    header: &Header,
-    events: &[Event],
-    look: Look,
-    count: u64,
-    peer_delay: u64,
-    space: Space,
-) -> Option<Due>
-    requires seen { IsLook header.now (history_of events.now) look }
-    requires counted { count ≡ timers.pto_count header.now (history_of events.now) }
-    requires few { count ≤ 40 }
-    requires delay { peer_delay ≤ max_max_ack_delay_ns }
-    ensures { result ≡ timers.pto_due header.now (history_of events.now) peer_delay space }
-{
-    if !some_awaits(header, events, look, space) {
-        return None;
+impl Look {
+    /// The probe timeout of the space, doubled for each before it, of which there were `count`. The
+    /// peer may delay its acknowledgments by `peer_delay`.
+    #[tactic(auto, using(crate::proofs::Powers::few_doublings, crate::proofs::Refreshed::same_pto_base))]
+    fn pto_due(
+        self,
+        header: &Header,
+        events: &[Event],
+        count: u64,
+        peer_delay: u64,
+        space: Space,
+    ) -> Option<Due>
+        requires seen { IsLook header.now (history_of events.now) self }
+        requires counted { count ≡ timers.pto_count header.now (history_of events.now) }
+        requires few { count ≤ 40 }
+        requires delay { peer_delay ≤ max_max_ack_delay_ns }
+        ensures { result ≡ timers.pto_due header.now (history_of events.now) peer_delay space }
+    {
+        if !some_awaits(header, events, self, space) {
+            return None;
+        }
+        let sent = last_eliciting(events, space)?;
+        let timeout = self.rtt.pto_base(header.granularity()) + peer_delay;
+        Some(Due::probe_timeout(space, sent, timeout, count))
     }
-    let sent = last_eliciting(events, space)?;
-    let timeout = look.rtt.pto_base(header.granularity()) + peer_delay;
-    Some(Due::probe_timeout(space, sent, timeout, count))
 }
 
 /// The probe timeout of application data, which counts once the handshake is confirmed.
@@ -147,14 +149,7 @@ fn app_pto(header: &Header, events: &[Event], look: Look, count: u64) -> Option<
     if !is_confirmed(events) {
         return None;
     }
-    pto_due(
-        header,
-        events,
-        look,
-        count,
-        header.max_ack_delay(),
-        Space::App,
-    )
+    look.pto_due(header, events, count, header.max_ack_delay(), Space::App)
 }
 
 /// The earliest probe timeout of all spaces.
@@ -165,9 +160,9 @@ fn earliest_pto(header: &Header, events: &[Event], look: Look, count: u64) -> Op
     ensures { result ≡ timers.earliest_pto header.now (history_of events.now) }
 {
     Due::earlier(
-        pto_due(header, events, look, count, 0, Space::Initial),
+        look.pto_due(header, events, count, 0, Space::Initial),
         Due::earlier(
-            pto_due(header, events, look, count, 0, Space::Handshake),
+            look.pto_due(header, events, count, 0, Space::Handshake),
             app_pto(header, events, look, count),
         ),
     )

@@ -219,18 +219,12 @@ pub fn look_by(header: &Header, events: &[Event], rtt: Rtt) -> Look
 
 /// Whether the packet is past a threshold and unsettled, the cheaper test first.
 #[tactic(auto, using(crate::proofs::Owed::and_turned))]
-fn is_late_open(
-    header: &Header,
-    events: &[Event],
-    rtt: Rtt,
-    largest: Option<u64>,
-    now: u64,
-    packet: Packet,
-) -> bool
+fn is_late_open(events: &[Event], look: Look, now: u64, packet: Packet) -> bool
     ensures { result ≡ (detections.is_unsettled (history_of events.now) packet
-        && detections.is_past_threshold header.now rtt now largest packet) }
+        && detections.is_past_threshold look.header look.rtt now look.largest packet) }
 {
-    is_past_threshold(header, rtt, now, largest, packet) && is_unsettled(events, packet)
+    is_past_threshold(&look.header, look.rtt, now, look.largest, packet)
+        && is_unsettled(events, packet)
 }
 
 /// Whether by what is known the last event found the packet lost.
@@ -240,9 +234,7 @@ pub fn is_found(events: &[Event], look: Look, packet: Packet) -> bool
     match look.detection {
         None => false,
         Some((space, now)) => {
-            space == packet.space
-                && packet.in_flight
-                && is_late_open(&look.header, events, look.rtt, look.largest, now, packet)
+            space == packet.space && packet.in_flight && is_late_open(events, look, now, packet)
         }
     }
 }
@@ -260,18 +252,11 @@ pub fn found_of(events: &[Event], look: Look, place: usize, event: &Event) -> Op
 
 /// Whether the packet may be spared and is unsettled, the cheaper test first.
 #[tactic(auto, using(crate::proofs::Owed::and_turned))]
-fn is_spared_open(
-    header: &Header,
-    events: &[Event],
-    rtt: Rtt,
-    largest: Option<u64>,
-    now: u64,
-    packet: Packet,
-) -> bool
+fn is_spared_open(events: &[Event], look: Look, now: u64, packet: Packet) -> bool
     ensures { result ≡ (detections.is_unsettled (history_of events.now) packet
-        && detections.may_be_spared header.now rtt now largest packet) }
+        && detections.may_be_spared look.header look.rtt now look.largest packet) }
 {
-    may_be_spared(header, rtt, now, largest, packet) && is_unsettled(events, packet)
+    may_be_spared(&look.header, look.rtt, now, look.largest, packet) && is_unsettled(events, packet)
 }
 
 /// Whether by what is known the last event left it to the sender whether the packet is lost.
@@ -281,9 +266,7 @@ pub fn is_left(events: &[Event], look: Look, packet: Packet) -> bool
     match look.detection {
         None => false,
         Some((space, now)) => {
-            space == packet.space
-                && packet.in_flight
-                && is_spared_open(&look.header, events, look.rtt, look.largest, now, packet)
+            space == packet.space && packet.in_flight && is_spared_open(events, look, now, packet)
         }
     }
 }

@@ -9,18 +9,16 @@ ghost use Rattle.qa_base.specs.machine.Packets as packets;
 ghost use Rattle.qa_base.specs.machine.Packets.{history_of};
 ghost use Rattle.qa_base.specs.machine.Reno as steps;
 ghost use Rattle.qa_base.specs.machine.Moments.{before_last, detection_of};
-ghost use Rattle.qa_reference.specs.Looks.{AreSeen};
 ghost use Rattle.qa_base.specs.machine.Probes as probes;
 ghost use Rattle.qa_reference.specs.Words as words;
 ghost use Rattle.qa_base.specs.machine.Widths.{Fits};
 ghost use Rattle.qa_base.specs.values.Settings.{Settings};
 
-use crate::declared::Losses;
 use crate::estimates::{losses_after, refreshed_where_asked};
 use crate::sampling::start;
 use crate::settled::acknowledges_new;
 use crate::timer::is_discard;
-use crate::window::{last_lost, reno_after};
+use crate::window::{congestion_of, reno_after};
 use qa_base::{Event, Header, Permission, Space, Ticks};
 use qa_recovery::Reno;
 
@@ -194,32 +192,6 @@ fn before_detection(event: &Event, reno: Reno, earlier: Reno) -> Reno
     }
 }
 
-/// How many recovery packets there were since the last entry, with one more event. `reno` is the
-/// window before the detection of what is lost by it.
-#[tactic(auto, using(crate::proofs::Entries::recovery_spent_is))]
-fn recovery_after(
-    header: &Header,
-    before: &[Event],
-    event: &Event,
-    after: &[Event],
-    losses: Losses,
-    reno: Reno,
-    spent: Option<u64>,
-) -> Option<u64>
-    requires whole { history_of after.now ≡ event.now ∷ history_of before.now }
-    requires seen { AreSeen header.now (history_of after.now) losses }
-    requires window { reno
-        ≡ steps.reno header.now (before_last (detection_of (event.now ∷ history_of before.now))) }
-    requires spent { spent ≡ leaves.recovery_spent header.now (history_of before.now) }
-    requires room { length before.now < 2 ^ 32 }
-    requires few { ForSome spent (λ n. n ≤ length before.now) }
-    ensures value { result ≡ leaves.recovery_spent header.now (event.now ∷ history_of before.now) }
-    ensures few { ForSome result (λ n. n ≤ length before.now + 1) }
-{
-    let entered = enters(reno, last_lost(header, after, losses));
-    spent_after(spent, entered, recovery_mark(event), before.len())
-}
-
 /// How many in-flight packets went out by leave of recovery since the last entry into it; None
 /// without one (RFC 9002, section 7.3.2).
 ///
@@ -237,10 +209,12 @@ pub fn recovery_spent(header: &Header, events: &[Event]) -> Option<u64>
         let before = &events[..place];
         let after = &events[..place + 1];
         let losses = losses_after(header, before, event, after, rtt);
+        let congestion = congestion_of(header, after, losses);
         let detected = before_detection(event, reno, earlier);
-        spent = recovery_after(header, before, event, after, losses, detected, spent);
+        let entered = enters(detected, congestion.last_sent);
+        spent = spent_after(spent, entered, recovery_mark(event), place);
         earlier = reno;
-        reno = reno_after(header, before, event, after, losses, reno);
+        reno = reno_after(header, before, event, congestion, reno);
         rtt = refreshed_where_asked(header, after, losses);
     }
     spent

@@ -3,16 +3,15 @@
 ghost use Rattle.std.specs.Prelude.{◌≡◌, ◌≤◌, ◌<◌, ◌*◌, ◌^◌, ◌&&◌, ◌∷◌, ◌+◌, length, is_some};
 ghost use Rattle.std.specs.Prelude.{option_map, if◌then◌else◌};
 ghost use Rattle.std.specs.List.{All};
+ghost use Rattle.qa_base.specs.machine.Loss as loss;
 ghost use Rattle.qa_base.specs.machine.Moments.{detection_of};
 ghost use Rattle.qa_base.specs.machine.Packets.{history_of};
 ghost use Rattle.qa_base.specs.machine.Packets.{is_newly_acknowledged as is_newly_acknowledged_of};
 ghost use Rattle.qa_base.specs.machine.Widths.{Fits};
 ghost use Rattle.qa_base.specs.machine.Window as windows;
 ghost use Rattle.qa_base.proofs.machine.Collapses.{IsAtMost};
-ghost use Rattle.qa_reference.specs.Looks.{AreSeen};
 
 use crate::congestion::is_persistent;
-use crate::declared::Losses;
 use crate::estimates::{losses_after, refreshed_where_asked};
 use crate::packet::{Packet, packet_of};
 use crate::sampling::start;
@@ -136,26 +135,25 @@ fn more(bytes: u64, sum: Option<u64>) -> Option<u64>
     Some(bytes + sum?)
 }
 
-/// The bytes acknowledged since a collapse after one more event, by those before it and the window
-/// that was last reported.
+/// The bytes acknowledged since a collapse after one more event, by whether it establishes
+/// persistent congestion, those before it and the window that was last reported.
 #[tactic(auto, using(qa_base::proofs::machine::Collapses::since_collapse_after))]
 fn since_collapse_after(
     header: &Header,
     before: &[Event],
     event: &Event,
-    after: &[Event],
-    losses: Losses,
+    persistent: bool,
     sum: Option<u64>,
 ) -> Option<u64>
-    requires whole { history_of after.now ≡ event.now ∷ history_of before.now }
-    requires seen { AreSeen header.now (history_of after.now) losses }
+    requires persistent { persistent
+        ≡ loss.is_persistent header.now (event.now ∷ history_of before.now) }
     requires known { sum ≡ windows.acknowledged_since_collapse header.now (history_of before.now) }
     requires few { length before.now < 2 ^ 32 }
     requires fit { All Fits before.now }
     ensures { result ≡ windows.acknowledged_since_collapse header.now
         (event.now ∷ history_of before.now) }
 {
-    if is_persistent(header, after, losses) {
+    if persistent {
         return Some(detected_bytes(before, event));
     }
     if changes_window(reported_window(header, before), event) {
@@ -179,7 +177,8 @@ pub fn acknowledged_since_collapse(header: &Header, events: &[Event]) -> Option<
         let before = &events[..place];
         let after = &events[..place + 1];
         let losses = losses_after(header, before, event, after, rtt);
-        sum = since_collapse_after(header, before, event, after, losses, sum);
+        let persistent = is_persistent(header, after, losses);
+        sum = since_collapse_after(header, before, event, persistent, sum);
         rtt = refreshed_where_asked(header, after, losses);
     }
     sum

@@ -13,7 +13,7 @@ use crate::reported::{reported_window, ssthresh_by, window_by};
 use crate::timer::pto_count;
 use crate::window::reno;
 use qa_base::{Event, Header, Totals};
-use qa_ledger::totals_by;
+use qa_ledger::Quantities;
 
 /// The bytes in flight, which 64 bits hold.
 #[tactic(auto, using(qa_base::proofs::machine::WindowBound::bytes_bound))]
@@ -44,13 +44,14 @@ pub fn totals(header: &Header, events: &[Event]) -> Totals
 {
     let controller = header.options().controller;
     let reno = reno(header, events);
-    totals_by(
-        events.len() as u64,
-        window_by(controller, reno.window, reported_window(header, events)),
-        ssthresh_by(controller, reno),
-        rtt(header, events),
-        bytes_in_flight(header, events),
-        pto_count(header, events),
-        owed_count(header, events),
-    )
+    let quantities = Quantities {
+        events: events.len() as u64,
+        window: window_by(controller, reno.window, reported_window(header, events)),
+        ssthresh: ssthresh_by(controller, reno),
+        rtt: rtt(header, events),
+        bytes_in_flight: bytes_in_flight(header, events),
+        pto_count: pto_count(header, events),
+        owed: owed_count(header, events),
+    };
+    quantities.totals()
 }

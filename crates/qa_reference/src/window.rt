@@ -11,7 +11,7 @@ ghost use Rattle.qa_base.specs.machine.Widths.{Fits};
 ghost use Rattle.qa_base.specs.values.Constants.{minimum_window};
 ghost use Rattle.qa_base.specs.values.Limits.{max_packet_size};
 ghost use Rattle.qa_base.specs.values.Settings.{AreInRange};
-ghost use Rattle.qa_reference.specs.Words.{last_sending, hits_at};
+ghost use Rattle.qa_reference.specs.Words.{IsCongestion, last_sending, hits_at};
 
 use crate::congestion::is_persistent;
 use crate::declared::{Losses, lost_of};
@@ -33,7 +33,7 @@ fn later(last: Option<Ticks>, time: Ticks) -> Ticks
 }
 
 /// When the last of the packets was sent that are lost by the last event.
-pub fn last_lost(header: &Header, events: &[Event], losses: Losses) -> Option<Ticks>
+fn last_lost(header: &Header, events: &[Event], losses: Losses) -> Option<Ticks>
     requires seen { AreSeen header.now (history_of events.now) losses }
     ensures { result ≡ last_sending (loss.declared header.now (history_of events.now)) }
 {
@@ -44,6 +44,27 @@ pub fn last_lost(header: &Header, events: &[Event], losses: Losses) -> Option<Ti
         }
     }
     last
+}
+
+/// What the packets that are lost by one event say of congestion.
+#[derive(Clone, Copy)]
+pub struct Congestion {
+    /// When the last of them was sent, which may begin a recovery period (RFC 9002, section 7.3.2);
+    /// None where no packet is lost.
+    pub last_sent: Option<Ticks>,
+    /// Whether they establish persistent congestion (section 7.6).
+    pub is_persistent: bool,
+}
+
+/// What the packets say of congestion that are lost by the last event.
+pub fn congestion_of(header: &Header, events: &[Event], losses: Losses) -> Congestion
+    requires seen { AreSeen header.now (history_of events.now) losses }
+    ensures { IsCongestion header.now (history_of events.now) result }
+{
+    Congestion {
+        last_sent: last_lost(header, events, losses),
+        is_persistent: is_persistent(header, events, losses),
+    }
 }
 
 /// The window after a loss, of packets the last of which was sent then.
@@ -154,12 +175,10 @@ pub fn reno_after(
     header: &Header,
     before: &[Event],
     event: &Event,
-    after: &[Event],
-    losses: Losses,
+    congestion: Congestion,
     reno: Reno,
 ) -> Reno
-    requires whole { history_of after.now ≡ event.now ∷ history_of before.now }
-    requires seen { AreSeen header.now (history_of after.now) losses }
+    requires lost { IsCongestion header.now (event.now ∷ history_of before.now) congestion }
     requires known { reno ≡ steps.reno header.now (history_of before.now) }
     requires range { AreInRange header.now }
     requires few { length before.now < 2 ^ 32 }
@@ -167,12 +186,8 @@ pub fn reno_after(
     ensures { result ≡ steps.reno header.now (event.now ∷ history_of before.now) }
 {
     let now = detected_at(before, event);
-    let on_congestion_event = hit_by(header, reno, last_lost(header, after, losses), now);
-    let collapsed = collapsed(
-        header,
-        on_congestion_event,
-        is_persistent(header, after, losses),
-    );
+    let on_congestion_event = hit_by(header, reno, congestion.last_sent, now);
+    let collapsed = collapsed(header, on_congestion_event, congestion.is_persistent);
     grown_unless_app_limited(header, before, event, collapsed)
 }
 
@@ -192,7 +207,8 @@ pub fn reno(header: &Header, events: &[Event]) -> Reno
         let before = &events[..place];
         let after = &events[..place + 1];
         let losses = losses_after(header, before, event, after, rtt);
-        reno = reno_after(header, before, event, after, losses, reno);
+        let congestion = congestion_of(header, after, losses);
+        reno = reno_after(header, before, event, congestion, reno);
         rtt = refreshed_where_asked(header, after, losses);
     }
     reno

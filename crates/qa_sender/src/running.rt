@@ -20,7 +20,7 @@ ghost use Rattle.qa_base.specs.values.Limits.{max_lines};
 
 use crate::machine::Machine;
 use qa_base::{Event, Header, Totals};
-use qa_ledger::{Ledger, LedgerFault, first_broken, totals_by};
+use qa_ledger::{Ledger, LedgerFault, Quantities, first_broken};
 use std::alloc::{AllocError, Global};
 use std::marker::Model;
 
@@ -88,15 +88,16 @@ impl Running {
         ensures events { result.events ≡ self.now.connection.events }
     {
         let connection = &self.machine.connection;
-        totals_by(
-            connection.events,
-            connection.window(),
-            connection.ssthresh(),
-            connection.rtt,
-            self.machine.packets.bytes_in_flight(),
-            connection.timer.pto_count,
-            self.machine.packets.owed_count(),
-        )
+        let quantities = Quantities {
+            events: connection.events,
+            window: connection.window(),
+            ssthresh: connection.ssthresh(),
+            rtt: connection.rtt,
+            bytes_in_flight: self.machine.packets.bytes_in_flight(),
+            pto_count: connection.timer.pto_count,
+            owed: self.machine.packets.owed_count(),
+        };
+        quantities.totals()
     }
 
     /// Whether packets are owed, also where it has failed since.

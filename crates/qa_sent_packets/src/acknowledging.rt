@@ -10,14 +10,12 @@ ghost use Rattle.qa_sent_packets.specs.Held.{AreOrdered, IsSpacePackets};
 ghost use Rattle.qa_sent_packets.specs.Naming.{turned};
 ghost use Rattle.qa_sent_packets.specs.Steps.{covered_by};
 
-use crate::advancing::advance;
-use crate::covering::cover_spans;
 use crate::named::NamedNumbers;
 use crate::packet::SentPacket;
+use crate::queue::PacketQueue;
 use crate::space_packets::SpacePackets;
 use qa_base::{Space, Span};
 use std::alloc::AllocError;
-use std::collections::VecDeque;
 
 /// Whether each span ends below the one before it, as those of an acknowledgment mostly do.
 pub fn are_falling(spans: &[Span]) -> bool
@@ -35,44 +33,40 @@ pub fn are_falling(spans: &[Span]) -> bool
     falling
 }
 
-/// Covers the packets that some span names in what is kept for the space, finds which of them
-/// were open, and raises the space's `next` to the first that is still in flight. The
-/// spans rise, taken from the first to the last or, where they fall, from the last to the first.
-/// `AllocError` comes where it is out of memory, and leaves the packets as they were.
-pub(crate) fn acknowledge_in_space(
-    packets: &mut VecDeque<SentPacket>,
-    dropped: u64,
-    space_packets: &mut SpacePackets,
-    space: Space,
-    spans: &[Span],
-    falling: bool,
-    found: &mut Vec<SentPacket>,
-) -> Result<(), AllocError>
-    requires few { dropped + length packets.old.items ≤ max_lines }
-    requires space_packets { IsSpacePackets space dropped packets.old.items space_packets.old }
-    requires ordered { AreOrdered packets.old.items }
-    requires apart { AreApart (turned falling spans.now) }
-    requires ranges { AreRanges (turned falling spans.now) }
-    requires none { found.old.items ≡ [] }
-    ensures packets { OnOk result (packets.new.items
-        ≡ map (covered_by space spans.now) packets.old.items) }
-    ensures new { OnOk result (found.new.items
-        ≡ filter (is_new space spans.now) packets.old.items) }
-    ensures err { OnErr result (packets.new.items ≡ packets.old.items) }
-    ensures space_packets { IsSpacePackets space dropped packets.new.items space_packets.new }
-{
-    make_ready(space_packets, spans, falling, found)?;
-    cover_spans(
-        packets,
-        dropped,
-        space_packets,
-        space,
-        spans,
-        falling,
-        found,
-    );
-    advance(packets, dropped, space_packets, space);
-    Ok(())
+impl PacketQueue {
+    /// Covers the packets that some span names in what is kept for the space, finds which of them
+    /// were open, and raises the space's `next` to the first that is still in flight. The spans
+    /// rise, taken from the first to the last or, where they fall, from the last to the first.
+    /// `AllocError` comes where it is out of memory, and leaves the packets as they were.
+    pub(crate) fn acknowledge(
+        &mut self,
+        space_packets: &mut SpacePackets,
+        space: Space,
+        spans: &[Span],
+        falling: bool,
+        found: &mut Vec<SentPacket>,
+    ) -> Result<(), AllocError>
+        requires few { self.old.dropped + length self.old.packets.items ≤ max_lines }
+        requires space_packets { IsSpacePackets space self.old.dropped self.old.packets.items
+            space_packets.old }
+        requires ordered { AreOrdered self.old.packets.items }
+        requires apart { AreApart (turned falling spans.now) }
+        requires ranges { AreRanges (turned falling spans.now) }
+        requires none { found.old.items ≡ [] }
+        ensures dropped { self.new.dropped ≡ self.old.dropped }
+        ensures packets { OnOk result (self.new.packets.items
+            ≡ map (covered_by space spans.now) self.old.packets.items) }
+        ensures new { OnOk result (found.new.items
+            ≡ filter (is_new space spans.now) self.old.packets.items) }
+        ensures err { OnErr result (self.new.packets.items ≡ self.old.packets.items) }
+        ensures space_packets { IsSpacePackets space self.new.dropped self.new.packets.items
+            space_packets.new }
+    {
+        make_ready(space_packets, spans, falling, found)?;
+        self.cover_spans(space_packets, space, spans, falling, found);
+        self.advance(space_packets, space);
+        Ok(())
+    }
 }
 
 /// Takes the memory that an acknowledgment needs: for the entries that it passes over, which lie

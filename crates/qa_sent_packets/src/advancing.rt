@@ -5,6 +5,7 @@ ghost use Rattle.qa_sent_packets.specs.Held.{NoneFlies};
 ghost use Rattle.qa_base.specs.values.Limits.{max_lines};
 
 use crate::packet::SentPacket;
+use crate::queue::PacketQueue;
 use crate::space_packets::SpacePackets;
 use qa_base::Space;
 use std::collections::VecDeque;
@@ -23,22 +24,21 @@ fn ends_at(packets: &VecDeque<SentPacket>, space: Space, at: usize) -> bool
     }
 }
 
-/// Raises the space's `next` until the packet there flies or there is none. Each place is
-/// passed once in the life of a space, since `next` never falls.
-pub(crate) fn advance(
-    packets: &VecDeque<SentPacket>,
-    dropped: u64,
-    space_packets: &mut SpacePackets,
-    space: Space,
-)
-    requires few { dropped + length packets.now.items ≤ max_lines }
-    requires indexed { IsIndexed space dropped packets.now.items space_packets.old }
-    requires behind { IsBehind space dropped packets.now.items space_packets.old.next }
-    ensures { IsSpacePackets space dropped packets.now.items space_packets.new }
-{
-    let mut at = (space_packets.next - dropped) as usize;
-    while !ends_at(packets, space, at) {
-        at += 1;
+impl PacketQueue {
+    /// Raises the space's `next` until the packet there flies or there is none. Each place is
+    /// passed once in the life of a space, since `next` never falls.
+    pub(crate) fn advance(&self, space_packets: &mut SpacePackets, space: Space)
+        requires few { self.now.dropped + length self.now.packets.items ≤ max_lines }
+        requires indexed { IsIndexed space self.now.dropped self.now.packets.items
+            space_packets.old }
+        requires behind { IsBehind space self.now.dropped self.now.packets.items
+            space_packets.old.next }
+        ensures { IsSpacePackets space self.now.dropped self.now.packets.items space_packets.new }
+    {
+        let mut at = (space_packets.next - self.dropped) as usize;
+        while !ends_at(&self.packets, space, at) {
+            at += 1;
+        }
+        space_packets.next = self.dropped + at as u64;
     }
-    space_packets.next = dropped + at as u64;
 }

@@ -14,9 +14,9 @@ ghost use Rattle.qa_sent_packets.specs.Steps.{covered_by};
 use crate::fate::Fate;
 use crate::named::NamedNumbers;
 use crate::packet::SentPacket;
+use crate::queue::PacketQueue;
 use crate::space_packets::SpacePackets;
 use qa_base::{Space, Span};
-use std::collections::VecDeque;
 
 /// Adds the packet, if it is open.
 pub(crate) fn push_open(found: &mut Vec<SentPacket>, packet: &SentPacket)
@@ -31,148 +31,161 @@ pub(crate) fn push_open(found: &mut Vec<SentPacket>, packet: &SentPacket)
     }
 }
 
-/// Covers the packet at this place, which has this number, in what is kept for the space, and
-/// adds it to those found, if it was open.
-pub(crate) fn cover_one(
-    packets: &mut VecDeque<SentPacket>,
-    dropped: u64,
-    space_packets: &mut SpacePackets,
-    space: Space,
-    number: u64,
-    place: u64,
-    found: &mut Vec<SentPacket>,
-)
-    requires indexed { IsIndexed space dropped packets.old.items space_packets.old }
-    requires there { first_between number number space_packets.old.unacknowledged.entries
-        ≡ Some (number, place) }
-    requires room { vec_len found.old < vec_capacity found.old }
-    ensures packets { (lo hi : ℕ) → lo ≤ number → number ≤ hi
-        → map (covered_in space lo hi) packets.new.items
-        ≡ map (covered_in space lo hi) packets.old.items }
-    ensures new { (lo hi : ℕ)
-        → first_between lo hi space_packets.old.unacknowledged.entries ≡ Some (number, place)
-        → found.new.items ++ filter (is_new_in space lo hi) packets.new.items
-        ≡ found.old.items ++ filter (is_new_in space lo hi) packets.old.items }
-    ensures fewer { length space_packets.new.unacknowledged.entries + 1
-        ≡ length space_packets.old.unacknowledged.entries }
-    ensures counted { (hi : ℕ) → number ≤ hi
-        → count_to hi space_packets.new.unacknowledged.entries + 1
-        ≡ count_to hi space_packets.old.unacknowledged.entries }
-    ensures len { vec_len found.new ≤ vec_len found.old + 1 }
-    ensures capacity { vec_capacity found.new ≡ vec_capacity found.old }
-    ensures indexed { IsIndexed space dropped packets.new.items space_packets.new }
-    ensures next { space_packets.new.next ≡ space_packets.old.next }
-{
-    let at = (place - dropped) as usize;
-    let packet = &mut packets[at];
-    push_open(found, packet);
-    space_packets.take_off(packet);
-    packet.fate = Fate::Acknowledged;
-    space_packets.unacknowledged.remove(number);
-}
+impl PacketQueue {
+    /// Covers the packet at this place, which has this number, in what is kept for the space, and
+    /// adds it to those found, if it was open.
+    pub(crate) fn cover_one(
+        &mut self,
+        space_packets: &mut SpacePackets,
+        space: Space,
+        number: u64,
+        place: u64,
+        found: &mut Vec<SentPacket>,
+    )
+        requires indexed { IsIndexed space self.old.dropped self.old.packets.items
+            space_packets.old }
+        requires there { first_between number number space_packets.old.unacknowledged.entries
+            ≡ Some (number, place) }
+        requires room { vec_len found.old < vec_capacity found.old }
+        ensures dropped { self.new.dropped ≡ self.old.dropped }
+        ensures packets { (lo hi : ℕ) → lo ≤ number → number ≤ hi
+            → map (covered_in space lo hi) self.new.packets.items
+            ≡ map (covered_in space lo hi) self.old.packets.items }
+        ensures new { (lo hi : ℕ)
+            → first_between lo hi space_packets.old.unacknowledged.entries ≡ Some (number, place)
+            → found.new.items ++ filter (is_new_in space lo hi) self.new.packets.items
+            ≡ found.old.items ++ filter (is_new_in space lo hi) self.old.packets.items }
+        ensures fewer { length space_packets.new.unacknowledged.entries + 1
+            ≡ length space_packets.old.unacknowledged.entries }
+        ensures counted { (hi : ℕ) → number ≤ hi
+            → count_to hi space_packets.new.unacknowledged.entries + 1
+            ≡ count_to hi space_packets.old.unacknowledged.entries }
+        ensures len { vec_len found.new ≤ vec_len found.old + 1 }
+        ensures capacity { vec_capacity found.new ≡ vec_capacity found.old }
+        ensures indexed { IsIndexed space self.new.dropped self.new.packets.items
+            space_packets.new }
+        ensures next { space_packets.new.next ≡ space_packets.old.next }
+    {
+        let at = (place - self.dropped) as usize;
+        let packet = &mut self.packets[at];
+        push_open(found, packet);
+        space_packets.take_off(packet);
+        packet.fate = Fate::Acknowledged;
+        space_packets.unacknowledged.remove(number);
+    }
 
-/// Covers the packets of a span in what is kept for the space, one by one: each leaves the
-/// entries, and one that was open leaves the sums and is added to those found. Returns a number
-/// below which no entry is left of those from the begin of the span on.
-pub(crate) fn cover_span(
-    packets: &mut VecDeque<SentPacket>,
-    dropped: u64,
-    space_packets: &mut SpacePackets,
-    space: Space,
-    span: Span,
-    found: &mut Vec<SentPacket>,
-) -> u64
-    requires indexed { IsIndexed space dropped packets.old.items space_packets.old }
-    requires room { vec_len found.old + count_to span.1 space_packets.old.unacknowledged.entries
-        ≤ vec_capacity found.old }
-    ensures packets { packets.new.items ≡ map (covered_in space span.0 span.1) packets.old.items }
-    ensures new { found.new.items
-        ≡ found.old.items ++ filter (is_new_in space span.0 span.1) packets.old.items }
-    ensures room { (top : ℕ) → span.1 ≤ top
-        → vec_len found.new + count_to top space_packets.new.unacknowledged.entries
-        ≤ vec_len found.old + count_to top space_packets.old.unacknowledged.entries }
-    ensures capacity { vec_capacity found.new ≡ vec_capacity found.old }
-    ensures indexed { IsIndexed space dropped packets.new.items space_packets.new }
-    ensures next { space_packets.new.next ≡ space_packets.old.next }
-    ensures clear { AreClear span.0 result space_packets.new.unacknowledged.entries }
-{
-    let lo = span.lo().get();
-    let hi = span.hi().get();
-    while let Some((number, place)) = space_packets.unacknowledged.first_from(lo) {
-        if hi < number {
-            return number;
+    /// Covers the packets of a span in what is kept for the space, one by one: each leaves the
+    /// entries, and one that was open leaves the sums and is added to those found. Returns a number
+    /// below which no entry is left of those from the begin of the span on.
+    pub(crate) fn cover_span(
+        &mut self,
+        space_packets: &mut SpacePackets,
+        space: Space,
+        span: Span,
+        found: &mut Vec<SentPacket>,
+    ) -> u64
+        requires indexed { IsIndexed space self.old.dropped self.old.packets.items
+            space_packets.old }
+        requires room { vec_len found.old + count_to span.1 space_packets.old.unacknowledged.entries
+            ≤ vec_capacity found.old }
+        ensures dropped { self.new.dropped ≡ self.old.dropped }
+        ensures packets { self.new.packets.items
+            ≡ map (covered_in space span.0 span.1) self.old.packets.items }
+        ensures new { found.new.items
+            ≡ found.old.items ++ filter (is_new_in space span.0 span.1) self.old.packets.items }
+        ensures room { (top : ℕ) → span.1 ≤ top
+            → vec_len found.new + count_to top space_packets.new.unacknowledged.entries
+            ≤ vec_len found.old + count_to top space_packets.old.unacknowledged.entries }
+        ensures capacity { vec_capacity found.new ≡ vec_capacity found.old }
+        ensures indexed { IsIndexed space self.new.dropped self.new.packets.items
+            space_packets.new }
+        ensures next { space_packets.new.next ≡ space_packets.old.next }
+        ensures clear { AreClear span.0 result space_packets.new.unacknowledged.entries }
+    {
+        let lo = span.lo().get();
+        let hi = span.hi().get();
+        while let Some((number, place)) = space_packets.unacknowledged.first_from(lo) {
+            if hi < number {
+                return number;
+            }
+            self.cover_one(space_packets, space, number, place, found);
         }
-        cover_one(packets, dropped, space_packets, space, number, place, found);
+        u64::MAX
     }
-    u64::MAX
-}
 
-/// The same, where no entry from the begin of the span on is below `least`: a span that ends below
-/// it is passed by one comparison. Returns such a number for whatever lies above the span.
-pub(crate) fn pass_span(
-    packets: &mut VecDeque<SentPacket>,
-    dropped: u64,
-    space_packets: &mut SpacePackets,
-    space: Space,
-    span: Span,
-    least: u64,
-    found: &mut Vec<SentPacket>,
-) -> u64
-    requires indexed { IsIndexed space dropped packets.old.items space_packets.old }
-    requires room { vec_len found.old + count_to span.1 space_packets.old.unacknowledged.entries
-        ≤ vec_capacity found.old }
-    requires clear { AreClear span.0 least space_packets.old.unacknowledged.entries }
-    ensures order { span.0 ≤ span.1 }
-    ensures packets { packets.new.items ≡ map (covered_in space span.0 span.1) packets.old.items }
-    ensures new { found.new.items
-        ≡ found.old.items ++ filter (is_new_in space span.0 span.1) packets.old.items }
-    ensures room { (top : ℕ) → span.1 ≤ top
-        → vec_len found.new + count_to top space_packets.new.unacknowledged.entries
-        ≤ vec_len found.old + count_to top space_packets.old.unacknowledged.entries }
-    ensures capacity { vec_capacity found.new ≡ vec_capacity found.old }
-    ensures indexed { IsIndexed space dropped packets.new.items space_packets.new }
-    ensures next { space_packets.new.next ≡ space_packets.old.next }
-    ensures clear { (n : ℕ) → span.1 < n
-        → AreClear n result space_packets.new.unacknowledged.entries }
-{
-    let hi = span.hi().get();
-    if hi < least {
-        return least;
+    /// The same, where no entry from the begin of the span on is below `least`: a span that ends
+    /// below it is passed by one comparison. Returns such a number for whatever lies above the
+    /// span.
+    pub(crate) fn pass_span(
+        &mut self,
+        space_packets: &mut SpacePackets,
+        space: Space,
+        span: Span,
+        least: u64,
+        found: &mut Vec<SentPacket>,
+    ) -> u64
+        requires indexed { IsIndexed space self.old.dropped self.old.packets.items
+            space_packets.old }
+        requires room { vec_len found.old + count_to span.1 space_packets.old.unacknowledged.entries
+            ≤ vec_capacity found.old }
+        requires clear { AreClear span.0 least space_packets.old.unacknowledged.entries }
+        ensures dropped { self.new.dropped ≡ self.old.dropped }
+        ensures order { span.0 ≤ span.1 }
+        ensures packets { self.new.packets.items
+            ≡ map (covered_in space span.0 span.1) self.old.packets.items }
+        ensures new { found.new.items
+            ≡ found.old.items ++ filter (is_new_in space span.0 span.1) self.old.packets.items }
+        ensures room { (top : ℕ) → span.1 ≤ top
+            → vec_len found.new + count_to top space_packets.new.unacknowledged.entries
+            ≤ vec_len found.old + count_to top space_packets.old.unacknowledged.entries }
+        ensures capacity { vec_capacity found.new ≡ vec_capacity found.old }
+        ensures indexed { IsIndexed space self.new.dropped self.new.packets.items
+            space_packets.new }
+        ensures next { space_packets.new.next ≡ space_packets.old.next }
+        ensures clear { (n : ℕ) → span.1 < n
+            → AreClear n result space_packets.new.unacknowledged.entries }
+    {
+        let hi = span.hi().get();
+        if hi < least {
+            return least;
+        }
+        self.cover_span(space_packets, space, span, found)
     }
-    cover_span(packets, dropped, space_packets, space, span, found)
-}
 
-/// Covers the packets that some span names in what is kept for the space, and finds which of
-/// them were open. The spans rise, taken from the first to the last or, where they fall, from the
-/// last to the first.
-pub(crate) fn cover_spans(
-    packets: &mut VecDeque<SentPacket>,
-    dropped: u64,
-    space_packets: &mut SpacePackets,
-    space: Space,
-    spans: &[Span],
-    falling: bool,
-    found: &mut Vec<SentPacket>,
-)
-    requires apart { AreApart (turned falling spans.now) }
-    requires ranges { AreRanges (turned falling spans.now) }
-    requires indexed { IsIndexed space dropped packets.old.items space_packets.old }
-    requires ordered { AreOrdered packets.old.items }
-    requires none { found.old.items ≡ [] }
-    requires room { HasRoom (vec_len found.old)
-        (vec_capacity found.old) space_packets.old.unacknowledged.entries
-        (turned falling spans.now) }
-    ensures packets { packets.new.items
-        ≡ map (covered_by space (turned falling spans.now)) packets.old.items }
-    ensures new { found.new.items
-        ≡ filter (is_new space (turned falling spans.now)) packets.old.items }
-    ensures indexed { IsIndexed space dropped packets.new.items space_packets.new }
-    ensures next { space_packets.new.next ≡ space_packets.old.next }
-{
-    let passed = space_packets.unacknowledged.passed(spans, falling);
-    let mut least = 0;
-    for at in passed..spans.len() {
-        let span = NamedNumbers::nth(spans, falling, at);
-        least = pass_span(packets, dropped, space_packets, space, span, least, found);
+    /// Covers the packets that some span names in what is kept for the space, and finds which of
+    /// them were open. The spans rise, taken from the first to the last or, where they fall, from
+    /// the last to the first.
+    pub(crate) fn cover_spans(
+        &mut self,
+        space_packets: &mut SpacePackets,
+        space: Space,
+        spans: &[Span],
+        falling: bool,
+        found: &mut Vec<SentPacket>,
+    )
+        requires apart { AreApart (turned falling spans.now) }
+        requires ranges { AreRanges (turned falling spans.now) }
+        requires indexed { IsIndexed space self.old.dropped self.old.packets.items
+            space_packets.old }
+        requires ordered { AreOrdered self.old.packets.items }
+        requires none { found.old.items ≡ [] }
+        requires room { HasRoom (vec_len found.old)
+            (vec_capacity found.old) space_packets.old.unacknowledged.entries
+            (turned falling spans.now) }
+        ensures dropped { self.new.dropped ≡ self.old.dropped }
+        ensures packets { self.new.packets.items
+            ≡ map (covered_by space (turned falling spans.now)) self.old.packets.items }
+        ensures new { found.new.items
+            ≡ filter (is_new space (turned falling spans.now)) self.old.packets.items }
+        ensures indexed { IsIndexed space self.new.dropped self.new.packets.items
+            space_packets.new }
+        ensures next { space_packets.new.next ≡ space_packets.old.next }
+    {
+        let passed = space_packets.unacknowledged.passed(spans, falling);
+        let mut least = 0;
+        for at in passed..spans.len() {
+            let span = NamedNumbers::nth(spans, falling, at);
+            least = self.pass_span(space_packets, space, span, least, found);
+        }
     }
 }

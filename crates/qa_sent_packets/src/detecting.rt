@@ -13,6 +13,7 @@ ghost use Rattle.qa_base.specs.values.Limits.{max_lines};
 use crate::fate::Fate;
 use crate::packet::SentPacket;
 use crate::packets::Losses;
+use crate::queue::PacketQueue;
 use crate::space_packets::SpacePackets;
 use qa_base::{Header, PacketNumber, Space};
 use qa_recovery::Rtt;
@@ -87,37 +88,41 @@ pub(crate) fn is_far_below(header: Header, number: u64, largest: u64) -> bool
     header.options().packet_threshold <= largest - number
 }
 
-/// Looks for losses in the space, and raises its `next` to where the walk
-/// ends.
-pub(crate) fn detect_in_space(
-    packets: &mut VecDeque<SentPacket>,
-    dropped: u64,
-    space_packets: &mut SpacePackets,
-    space: Space,
-    thresholds: &Thresholds,
-) -> Losses
-    requires few { dropped + length packets.old.items ≤ max_lines }
-    requires space_packets { IsSpacePackets space dropped packets.old.items space_packets.old }
-    requires settled { NoneOwed packets.old.items }
-    requires ordered { AreOrdered packets.old.items }
-    ensures packets { packets.new.items
-        ≡ map (found_by space thresholds.entry.now) packets.old.items }
-    ensures space_packets { IsSpacePackets space dropped packets.new.items space_packets.new }
-    ensures losses { AreLosses dropped packets.new.items result }
-{
-    let from = space_packets.next;
-    let mut count = 0;
-    let mut at = (from - dropped) as usize;
-    while goes_on(packets, space, thresholds, at) {
-        pass(packets, space_packets, space, at, &mut count);
-        at += 1;
-    }
-    space_packets.next = dropped + at as u64;
-    Losses {
-        space,
-        count,
-        from,
-        to: space_packets.next,
+impl PacketQueue {
+    /// Looks for losses in the space, and raises its `next` to where the walk
+    /// ends.
+    pub(crate) fn detect(
+        &mut self,
+        space_packets: &mut SpacePackets,
+        space: Space,
+        thresholds: &Thresholds,
+    ) -> Losses
+        requires few { self.old.dropped + length self.old.packets.items ≤ max_lines }
+        requires space_packets { IsSpacePackets space self.old.dropped self.old.packets.items
+            space_packets.old }
+        requires settled { NoneOwed self.old.packets.items }
+        requires ordered { AreOrdered self.old.packets.items }
+        ensures dropped { self.new.dropped ≡ self.old.dropped }
+        ensures packets { self.new.packets.items
+            ≡ map (found_by space thresholds.entry.now) self.old.packets.items }
+        ensures space_packets { IsSpacePackets space self.new.dropped self.new.packets.items
+            space_packets.new }
+        ensures losses { AreLosses self.new.dropped self.new.packets.items result }
+    {
+        let from = space_packets.next;
+        let mut count = 0;
+        let mut at = (from - self.dropped) as usize;
+        while goes_on(&self.packets, space, thresholds, at) {
+            pass(&mut self.packets, space_packets, space, at, &mut count);
+            at += 1;
+        }
+        space_packets.next = self.dropped + at as u64;
+        Losses {
+            space,
+            count,
+            from,
+            to: space_packets.next,
+        }
     }
 }
 

@@ -17,6 +17,7 @@ mod owing;
 mod packet;
 mod packets;
 mod pushing;
+mod queue;
 mod space_packets;
 mod spare;
 mod taking;

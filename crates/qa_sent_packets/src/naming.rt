@@ -26,7 +26,7 @@ impl SentPackets {
         let space_packets = self.by_space.of(free.space);
         match space_packets.unacknowledged.entry_at(number) {
             None => false,
-            Some(entry) => free.has(&self.packets[(entry.1 - self.dropped) as usize]),
+            Some(entry) => free.has(&self.queue.packets[(entry.1 - self.queue.dropped) as usize]),
         }
     }
 

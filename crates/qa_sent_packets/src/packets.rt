@@ -24,19 +24,17 @@ ghost use Rattle.std.specs.Prelude.{◌≡◌, [], ◌≤◌, ◌<◌, ◌+◌, 
 ghost use Rattle.std.specs.Prelude.{IfOk, false, Some, map, ◌&&◌, ◌-◌, true, count_by, drop, None};
 ghost use Rattle.std.specs.Prelude.{◌*◌, ◌^◌, find, reverse, sum_by};
 
-use crate::acknowledging::acknowledge_in_space;
 use crate::declaring::declare_in;
-use crate::detecting::{Thresholds, detect_in_space};
+use crate::detecting::Thresholds;
 use crate::discarding::discard_all;
 use crate::free::FreePackets;
 use crate::named::NamedNumbers;
 use crate::naming::{free_numbers_in, nameable_numbers_in};
 use crate::owing::{are_apart_in, last_owed_in, owed_numbers_in};
 use crate::packet::SentPacket;
-use crate::pushing::add;
+use crate::queue::PacketQueue;
 use crate::space_packets::SpacePackets;
 use crate::spare::Spare;
-use crate::taking::take_in_space;
 use qa_base::{PacketNumber, PerSpace, Space, Span, Ticks};
 use std::alloc::{AllocError, Global};
 use std::collections::VecDeque;
@@ -89,8 +87,7 @@ impl Losses {
 #[derive(Drop)]
 pub struct SentPackets {
     pub(crate) alloc: Global,
-    pub(crate) dropped: u64,
-    pub(crate) packets: VecDeque<SentPacket>,
+    pub(crate) queue: PacketQueue,
     pub(crate) by_space: PerSpace<SpacePackets>,
     pub(crate) losses: Losses,
     /// Memory for what the next acknowledgment finds.
@@ -102,9 +99,9 @@ impl Model for SentPackets {
 
     ghost Value = { Held };
 
-    ghost view = { λ s. record { dropped = s.dropped; packets = s.packets.items } };
+    ghost view = { λ s. record { dropped = s.queue.dropped; packets = s.queue.packets.items } };
 
-    ghost invariant = { λ s. IsSound s.dropped s.packets.items s.losses s.by_space };
+    ghost invariant = { λ s. IsSound s.queue.dropped s.queue.packets.items s.losses s.by_space };
 }
 
 impl SentPackets {
@@ -114,8 +111,10 @@ impl SentPackets {
     {
         SentPackets {
             alloc,
-            dropped: 0,
-            packets: VecDeque::new(alloc),
+            queue: PacketQueue {
+                dropped: 0,
+                packets: VecDeque::new(alloc),
+            },
             by_space: PerSpace {
                 initial: SpacePackets::new(alloc),
                 handshake: SpacePackets::new(alloc),
@@ -144,7 +143,7 @@ impl SentPackets {
         ensures err { OnErr result (self.new ≡ self.old) }
     {
         let space_packets = self.by_space.of_mut(packet.space);
-        add(&mut self.packets, self.dropped, space_packets, packet)
+        self.queue.add(space_packets, packet)
     }
 
     /// Covers the packets of a space that some span names: an acknowledgment came for them. Those
@@ -179,15 +178,8 @@ impl SentPackets {
         ensures err { OnErr result (self.new ≡ self.old) }
     {
         let space_packets = self.by_space.of_mut(space);
-        acknowledge_in_space(
-            &mut self.packets,
-            self.dropped,
-            space_packets,
-            space,
-            spans,
-            falling,
-            found,
-        )
+        self.queue
+            .acknowledge(space_packets, space, spans, falling, found)
     }
 
     /// An empty list for what an acknowledgment finds. It has the memory of the list that was
@@ -223,13 +215,7 @@ impl SentPackets {
         } }
     {
         let space_packets = self.by_space.of_mut(space);
-        self.losses = detect_in_space(
-            &mut self.packets,
-            self.dropped,
-            space_packets,
-            space,
-            thresholds,
-        );
+        self.losses = self.queue.detect(space_packets, space, thresholds);
     }
 
     /// Indexes outside of which no packet is owed. There are as many between them as the detection
@@ -237,9 +223,9 @@ impl SentPackets {
     pub(crate) fn owed_part(&self) -> Range<usize>
         ensures { IsOwedPart result.start result.end self.now.packets }
     {
-        let count = self.packets.len() as u64;
-        let end = self.losses.to.saturating_sub(self.dropped).min(count);
-        let start = self.losses.from.saturating_sub(self.dropped).min(end);
+        let count = self.queue.packets.len() as u64;
+        let end = self.losses.to.saturating_sub(self.queue.dropped).min(count);
+        let start = self.losses.from.saturating_sub(self.queue.dropped).min(end);
         start as usize..end as usize
     }
 
@@ -255,7 +241,7 @@ impl SentPackets {
     pub fn owed_numbers(&self) -> Result<Vec<PacketNumber>, AllocError>
         ensures { IfOk result (λ found. found.items ≡ owed_numbers self.now.packets) }
     {
-        owed_numbers_in(self.alloc, &self.packets, self.owed_part())
+        owed_numbers_in(self.alloc, &self.queue.packets, self.owed_part())
     }
 
     /// The numbers of the packets that the next Lost line may name, which are owed or free, in the
@@ -263,7 +249,7 @@ impl SentPackets {
     pub fn nameable_numbers(&self, free: FreePackets) -> Result<Vec<PacketNumber>, AllocError>
         ensures { IfOk result (λ found. found.items ≡ nameable_numbers free self.now.packets) }
     {
-        nameable_numbers_in(self.alloc, &self.packets, free)
+        nameable_numbers_in(self.alloc, &self.queue.packets, free)
     }
 
     /// The numbers of those of them that are free, in the order of sending. `AllocError` comes
@@ -271,7 +257,7 @@ impl SentPackets {
     pub fn free_numbers(&self, free: FreePackets) -> Result<Vec<PacketNumber>, AllocError>
         ensures { IfOk result (λ found. found.items ≡ free_numbers free self.now.packets) }
     {
-        free_numbers_in(self.alloc, &self.packets, free)
+        free_numbers_in(self.alloc, &self.queue.packets, free)
     }
 
     /// The space of the packets that are owed, which is one: a detection looks at the space of its
@@ -301,7 +287,7 @@ impl SentPackets {
         if self.losses.count == 0 {
             return None;
         }
-        last_owed_in(&self.packets, self.owed_part())
+        last_owed_in(&self.queue.packets, self.owed_part())
     }
 
     /// Whether the losses that are owed establish persistent congestion (RFC 9002, section 7.6):
@@ -314,7 +300,7 @@ impl SentPackets {
         if self.losses.count == 0 {
             return false;
         }
-        are_apart_in(&self.packets, self.owed_part(), limit, first)
+        are_apart_in(&self.queue.packets, self.owed_part(), limit, first)
     }
 
     /// Whether a packet is free. Takes constant time: the first in flight is, if any is.
@@ -322,7 +308,7 @@ impl SentPackets {
         ensures { result ≡ list_any (is_free_by free) self.now.packets }
     {
         // What is kept stands in the order of sending.
-        let _kept = self.packets.len();
+        let _kept = self.queue.packets.len();
         match self.first_flying(free.space) {
             None => false,
             Some(packet) => packet.number.get() < free.end,
@@ -342,7 +328,7 @@ impl SentPackets {
             (nameable_numbers free self.now.packets) }
     {
         let mut named = NamedNumbers::start(spans);
-        for packet in self.packets.range(self.owed_part()) {
+        for packet in self.queue.packets.range(self.owed_part()) {
             if !self.comes_by_owed(free, spans, &mut named, packet) {
                 return false;
             }
@@ -368,14 +354,7 @@ impl SentPackets {
             ..self.losses
         };
         let space_packets = self.by_space.of_mut(free.space);
-        self.losses = take_in_space(
-            &mut self.packets,
-            self.dropped,
-            space_packets,
-            losses,
-            free,
-            spans,
-        );
+        self.losses = self.queue.take(space_packets, losses, free, spans);
         before < self.losses.count
     }
 
@@ -388,7 +367,7 @@ impl SentPackets {
         } }
     {
         let part = self.owed_part();
-        declare_in(&mut self.packets, part);
+        declare_in(&mut self.queue.packets, part);
         self.losses.count = 0;
         self.losses.to = self.losses.from;
     }
@@ -405,8 +384,8 @@ impl SentPackets {
           packets = map (discarded_in space) self.old.packets;
         } }
     {
-        discard_all(&mut self.packets, space);
-        let end = self.dropped + self.packets.len() as u64;
+        discard_all(&mut self.queue.packets, space);
+        let end = self.queue.dropped + self.queue.packets.len() as u64;
         let space_packets = self.by_space.of_mut(space);
         space_packets.clear(end);
     }
@@ -437,7 +416,7 @@ impl SentPackets {
     fn is_first_closed(&self) -> bool
         ensures { result ≡ is_first_closed self.now.packets }
     {
-        match self.packets.front() {
+        match self.queue.packets.front() {
             None => false,
             Some(packet) => packet.is_closed(),
         }
@@ -451,18 +430,18 @@ impl SentPackets {
           packets = drop 1 self.old.packets;
         } }
     {
-        let packet = self.packets[0];
-        self.packets.pop_front();
-        self.dropped += 1;
+        let packet = self.queue.packets[0];
+        self.queue.packets.pop_front();
+        self.queue.dropped += 1;
         self.by_space
             .initial
-            .drop_first(Space::Initial, &packet, self.dropped);
+            .drop_first(Space::Initial, &packet, self.queue.dropped);
         self.by_space
             .handshake
-            .drop_first(Space::Handshake, &packet, self.dropped);
+            .drop_first(Space::Handshake, &packet, self.queue.dropped);
         self.by_space
             .app
-            .drop_first(Space::App, &packet, self.dropped);
+            .drop_first(Space::App, &packet, self.queue.dropped);
     }
 
     /// The bytes of the packets of all spaces that are open and in flight (RFC 9002, B.2).
@@ -488,8 +467,8 @@ impl SentPackets {
     pub fn first_flying(&self, space: Space) -> Option<SentPacket>
         ensures { result ≡ find (is_flying space) self.now.packets }
     {
-        let at = (self.by_space.of(space).next - self.dropped) as usize;
-        match self.packets.get(at) {
+        let at = (self.by_space.of(space).next - self.queue.dropped) as usize;
+        match self.queue.packets.get(at) {
             None => None,
             Some(packet) => {
                 if packet.flies_in(space) {
@@ -514,6 +493,6 @@ impl SentPackets {
         let entries = by_space.initial.unacknowledged.len()
             + by_space.handshake.unacknowledged.len()
             + by_space.app.unacknowledged.len();
-        (self.packets.len() + entries) as u64
+        (self.queue.packets.len() + entries) as u64
     }
 }

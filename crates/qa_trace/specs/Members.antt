@@ -25,8 +25,8 @@ with_settings s ms =
     (with key.InitialRtt (integer s.initial_rtt) ms)))
 
 -- the members with the options that a header of version 2 always says
-abbrev pub with_second : Options → Members → Members
-with_second options ms =
+abbrev pub with_refresh_and_slack : Options → Members → Members
+with_refresh_and_slack options ms =
     with key.ReportSlackUs (integer options.report_slack_us)
     (with key.ReportSlackBytes (integer options.report_slack_bytes)
     (with key.RefreshMinRtt (boolean options.refresh_min_rtt) ms))
@@ -34,14 +34,14 @@ with_second options ms =
 -- the same of each version
 abbrev pub with_options : Version → Options → Members → Members
 with_options One options ms = ms
-with_options Two options ms = with_second options ms
-with_options Three options ms = with_second options ms
+with_options Two options ms = with_refresh_and_slack options ms
+with_options Three options ms = with_refresh_and_slack options ms
 
 -- the members with the keys that only a header of version 3 has
-abbrev pub with_third : Version → Settings → Members → Members
-with_third One s ms = ms
-with_third Two s ms = ms
-with_third Three s ms =
+abbrev pub with_unit_and_choices : Version → Settings → Members → Members
+with_unit_and_choices One s ms = ms
+with_unit_and_choices Two s ms = ms
+with_unit_and_choices Three s ms =
     with key.WindowOvershoot (boolean s.options.window_overshoot)
     (with key.Window (string (controller_name s.options.controller))
     (with key.Unit (string (unit_name s.unit))

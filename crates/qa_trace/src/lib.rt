@@ -8,8 +8,9 @@ mod writer;
 
 pub use qa_base::limits::MAX_LINE_LENGTH;
 pub use qa_base::{
-    Ack, Event, Field, Header, Key, LineKind, MetricValues, Options, PacketNumber, Permission,
-    RangeFault, Role, SentPacket, Space, Span, Spans, Ticks, TimeUnit, TimerKind,
+    Ack, ConnectionValues, Event, Field, Header, Key, LineKind, MetricValues, Options,
+    PacketNumber, Permission, RangeFault, Role, SentPacket, Space, Span, Spans, Ticks, TimeUnit,
+    TimerKind,
 };
 pub use qa_format::{Fault, Line};
 pub use qa_read::{LineFault, SplitFault, Splitter, read_line};

@@ -15,7 +15,7 @@ ghost use Rattle.qa_base.specs.values.Settings.{AreInRange};
 ghost use Rattle.qa_format.specs.format.Written.{written, line_fits, object_of, header_pairs};
 ghost use Rattle.qa_format.specs.format.Written.{event_pairs, integer_pairs, integer_pair, integer};
 ghost use Rattle.qa_format.specs.format.Written.{string, boolean};
-ghost use Rattle.qa_trace.specs.Members.{with, with_settings, with_options, with_third};
+ghost use Rattle.qa_trace.specs.Members.{with, with_settings, with_options, with_unit_and_choices};
 ghost use Rattle.qa_trace.specs.Members.{event_members};
 
 use qa_base::{
@@ -67,7 +67,7 @@ fn header_object(alloc: Global, header: &Header) -> Result<Value, AllocError>
     put_settings(&mut map, alloc, header)?;
     put_options(&mut map, alloc, header)?;
     put_text(&mut map, alloc, Key::Role, header.role().name())?;
-    put_third(&mut map, alloc, header)?;
+    put_unit_and_choices(&mut map, alloc, header)?;
     report(
         &mut map,
         alloc,
@@ -117,9 +117,13 @@ fn put_options(
 }
 
 /// Puts the unit and the options that only a header of version 3 says.
-fn put_third(map: &mut Map<String, Value>, alloc: Global, header: &Header) -> Result<(), AllocError>
+fn put_unit_and_choices(
+    map: &mut Map<String, Value>,
+    alloc: Global,
+    header: &Header,
+) -> Result<(), AllocError>
     ensures { OnOk result (members_view map.new.entries
-        ≡ with_third header.now.version header.now (members_view map.old.entries)) }
+        ≡ with_unit_and_choices header.now.version header.now (members_view map.old.entries)) }
 {
     if header.version() != Version::Three {
         return Ok(());

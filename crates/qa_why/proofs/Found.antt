@@ -1,7 +1,7 @@
 -- What is told of a walk that ended.
 use Rattle.std.proofs.Common.{◌≡◌, ◌∙◌, ◌+◌, ℕ, List, [], ◌∷◌, ◌++◌, ◌<◌, length, Bool, true, false, cond, Option, Some, None, Result, Ok, Err, is_some, refl, sym, ap}
 use Rattle.std.specs.Option.{option_or}
-use Rattle.std.specs.Prelude.{IfSome, IsSome, if◌then◌else◌, nat_le, nat_lt, unwrap_or}
+use Rattle.std.specs.Prelude.{IfSome, IsSome, if◌then◌else◌, nat_le, nat_lt, option_map, unwrap_or}
 use Rattle.std.specs.Result.{result_ok}
 use Rattle.qa_base.specs.declared.event.Event.{Event}
 use Rattle.qa_base.specs.declared.rule.Rule.{Rule}
@@ -26,12 +26,9 @@ use Rattle.qa_format.specs.verdicts.Verdict.{Breaking, Judging, end_at, end_of, 
 use Rattle.qa_check.proofs.Judged.{judged_good}
 use Rattle.qa_why.proofs.Told.{hidden_stop, same_hidden}
 use Rattle.qa_why.specs.Ending.{CanRefuse, IsEvent, event_of, told_of_end}
-use Rattle.qa_why.specs.Why.{event_text, told, told_at, why_by}
+use Rattle.qa_why.specs.Why.{Place, event_text, told, told_at, why_by, with_caveats}
 
 -- ---- the verdict of a place
-
-abbrev pub Place : Type 0
-Place = List (List ℕ) × Option (List ℕ)
 
 -- at the line that is not good
 abbrev pub StopsThere : Judging → Place → Option Verdict → Type 0
@@ -175,14 +172,49 @@ told_there judges form name None all (before, None) first v there is hands = tol
 
 told_by : {J : Type 0} (judges : Judges J) (form : Form) (name : List ℕ) (last : Option LastLine) (v : Verdict) (bytes : List ℕ) → v ≡ verdict (by judges) bytes
     → HandsOut last (judged_at (by judges) [] (lines bytes))
-    → told_of_end form name v (header_in reading (good_lines (by judges) bytes)) (history_of (events_in reading (good_lines (by judges) bytes))) last ≡ told_at (by judges) form name v (judged_at (by judges) [] (lines bytes))
+    → told_of_end form name v (header_in reading (good_lines (by judges) bytes)) (history_of (events_in reading (good_lines (by judges) bytes))) last ≡ told form name v (header_in reading (good_lines (by judges) bytes)) (history_of (events_in reading (good_lines (by judges) bytes))) (judged_at (by judges) [] (lines bytes)).1
 unfolding verdict_of
 told_by judges form name last v bytes is hands =
     told_there judges form name last (end_of reading (lines bytes)) (judged_at (by judges) [] (lines bytes)) (first_stop (by judges) [] (lines bytes)) v (stop_of_place (by judges) [] (lines bytes)) (sym is) hands
 
+-- ---- caveats
+
+abbrev pub line_handed : Option LastLine → Option (List ℕ)
+line_handed last = option_map (λ (x : LastLine). x.bytes.items) last
+
+-- a line that is too long is not refused
+caveats_hidden : {J : Type 0} (judges : Judges J) (form : Form) (before : List (List ℕ)) (l : List ℕ) (v : Verdict) (text : List ℕ) → stop_after (by judges) before l ≡ Some v → line_limit < length l
+    → with_caveats v form (before, None) text ≡ with_caveats v form (before, Some l) text
+caveats_hidden judges form before l v text stop long =
+    let hidden = hidden_stop (by judges) before l long in
+    let is : v ≡ unreadable (length before + 1) (header_in reading before) (history_of (events_in reading before)) hidden.0 = some_of (sym stop ∙ hidden.1) in
+    rw is refl
+
+caveats_there : {J : Type 0} (judges : Judges J) (form : Form) (last : Option LastLine) (all : Verdict) (place : Place) (first : Option Verdict) (v : Verdict) (text : List ℕ)
+    → StopsThere (by judges) place first → unwrap_or first all ≡ v → HandsOut last place
+    → with_caveats v form (place.0, line_handed last) text ≡ with_caveats v form place text
+caveats_there judges form (Some x) all (before, Some l) first v text there is hands =
+    let same : l ≡ x.bytes.items = cc in
+    ap (λ (m : List ℕ). with_caveats v form (before, Some m) text) (sym same)
+caveats_there judges form None all (before, Some l) None v text there is hands = cc
+caveats_there judges form None all (before, Some l) (Some w) v text there is hands = caveats_hidden judges form before l v text (there.0 ∙ ap Some is) hands
+caveats_there judges form (Some x) all (before, None) first v text there is hands = cc
+caveats_there judges form None all (before, None) first v text there is hands = refl
+
+caveats_by : {J : Type 0} (judges : Judges J) (form : Form) (last : Option LastLine) (v : Verdict) (bytes text : List ℕ) → v ≡ verdict (by judges) bytes
+    → HandsOut last (judged_at (by judges) [] (lines bytes))
+    → with_caveats v form (good_lines (by judges) bytes, line_handed last) text ≡ with_caveats v form (judged_at (by judges) [] (lines bytes)) text
+unfolding verdict_of
+caveats_by judges form last v bytes text is hands =
+    caveats_there judges form last (end_of reading (lines bytes)) (judged_at (by judges) [] (lines bytes)) (first_stop (by judges) [] (lines bytes)) v text (stop_of_place (by judges) [] (lines bytes)) (sym is) hands
+
 -- what is told of a walk that ended is told of the bytes
 pub ended_tells : {J : Type 0} (judges : Judges J) (form : Form) (name : List ℕ) (ended : Ended J) (bytes : List ℕ) → IsEnd judges true ended bytes
-    → told_of_end form name ended.verdict (header_in reading (good_lines (by judges) bytes)) (history_of (events_in reading (good_lines (by judges) bytes))) ended.line ≡ why_by (by judges) form name bytes
+    → with_caveats ended.verdict form (good_lines (by judges) bytes, line_handed ended.line)
+    (told_of_end form name ended.verdict (header_in reading (good_lines (by judges) bytes)) (history_of (events_in reading (good_lines (by judges) bytes))) ended.line)
+    ≡ why_by (by judges) form name bytes
 unfolding why_by
 ended_tells judges form name ended bytes end =
-    told_by judges form name ended.line ended.verdict bytes end.0 (end.2 refl) ∙ ap (λ v. told_at (by judges) form name v (judged_at (by judges) [] (lines bytes))) end.0
+    caveats_by judges form ended.line ended.verdict bytes _ end.0 (end.2 refl)
+    ∙ (ap (with_caveats ended.verdict form (judged_at (by judges) [] (lines bytes))) (told_by judges form name ended.line ended.verdict bytes end.0 (end.2 refl))
+    ∙ ap (λ v. told_at (by judges) form name v (judged_at (by judges) [] (lines bytes))) end.0)

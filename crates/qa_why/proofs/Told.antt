@@ -4,10 +4,8 @@ use Rattle.std.proofs.lemmas.Bool.{lt-ltb}
 use Rattle.std.proofs.lemmas.List.{append-nil}
 use Rattle.std.specs.List.{AllByRecursion}
 use Rattle.std.specs.Prelude.{nat_le, nat_lt, option_map}
-use Rattle.qa_base.specs.declared.event.Event.{Event}
 use Rattle.qa_base.specs.machine.Packets.{history_of}
 use Rattle.qa_base.specs.machine.State.{totals}
-use Rattle.qa_base.specs.values.Settings.{Settings}
 use Rattle.qa_check.specs.Audit.{ReadsEnoughBy}
 use Rattle.qa_format.specs.declared.fault.Fault.{Fault}
 use Rattle.qa_format.specs.declared.fault.Fault.TheVariants.{LineTooLong, TooManyLines}
@@ -21,7 +19,7 @@ use Rattle.qa_format.proofs.verdicts.Stops.{first_stop-snoc, no_stop_or_stop, ve
 use Rattle.qa_read.specs.Stream.{BeginsTooLong}
 use Rattle.qa_why.specs.Texts.{seen, unreadable_text}
 use Rattle.qa_check.specs.Places.{good_lines, judged_at}
-use Rattle.qa_why.specs.Why.{told, told_at, unreadable_in, why_by}
+use Rattle.qa_why.specs.Why.{told_at, unreadable_in, why_by}
 use Rattle.qa_format.specs.declared.form.Form.{Form}
 use Rattle.qa_format.specs.declared.form.Form.TheVariants as forms
 use Rattle.qa_check.proofs.Judged.{judged_stays, place_at_end, place_at_line}
@@ -32,19 +30,19 @@ pub use Rattle.qa_check.proofs.Judged.{good_at_end, good_at_line, good_stays, to
 -- a line that is not good, behind good ones
 pub why_at_line : (judging : Judging) (form : Form) (name bytes : List ℕ) (ls more : List (List ℕ)) (l : List ℕ) → AreGood judging ls → AreDecided judging (ls ++ l ∷ []) → lines bytes ≡ (ls ++ l ∷ []) ++ more
     → verdict_of judging (ls ++ l ∷ []) ≡ verdict judging bytes
-    → why_by judging form name bytes ≡ told form name (verdict_of judging (ls ++ l ∷ [])) (header_in judging.says ls) (history_of (events_in judging.says ls)) (Some l)
+    → why_by judging form name bytes ≡ told_at judging form name (verdict_of judging (ls ++ l ∷ [])) (ls, Some l)
 unfolding why_by
 why_at_line judging form name bytes ls more l good bad are same =
     let place = place_at_line judging bytes ls more l good bad are in
-    ap (told_at judging form name (verdict judging bytes)) place ∙ ap (λ v. told form name v (header_in judging.says ls) (history_of (events_in judging.says ls)) (Some l)) (sym same)
+    ap (told_at judging form name (verdict judging bytes)) place ∙ ap (λ v. told_at judging form name v (ls, Some l)) (sym same)
 
 -- good lines are all
 pub why_at_end : (judging : Judging) (form : Form) (name bytes : List ℕ) (ls : List (List ℕ)) → AreGood judging ls → lines bytes ≡ ls
-    → why_by judging form name bytes ≡ told form name (verdict_of judging ls) (header_in judging.says ls) (history_of (events_in judging.says ls)) None
+    → why_by judging form name bytes ≡ told_at judging form name (verdict_of judging ls) (ls, None)
 unfolding why_by
 why_at_end judging form name bytes ls good are =
     let place = place_at_end judging bytes ls good are in
-    ap (told_at judging form name (verdict judging bytes)) place ∙ ap (λ (all : List (List ℕ)). told form name (verdict_of judging all) (header_in judging.says ls) (history_of (events_in judging.says ls)) None) are
+    ap (told_at judging form name (verdict judging bytes)) place ∙ ap (λ (all : List (List ℕ)). told_at judging form name (verdict_of judging all) (ls, None)) are
 
 -- ---- lines that are too long
 
@@ -71,9 +69,9 @@ same_hidden forms.Text name n f headed line hides = rw (hides line, hides None) 
 same_hidden forms.Json name n f headed line hides = refl
 
 -- so nothing of it is told
-pub told_long : (judging : Judging) (form : Form) (name : List ℕ) (ls : List (List ℕ)) (l : List ℕ) (header : Option Settings) (h : List Event) (line : Option (List ℕ)) → AreGood judging ls → line_limit < length l
-    → told form name (verdict_of judging (ls ++ l ∷ [])) header h line ≡ told form name (verdict_of judging (ls ++ l ∷ [])) header h None
-told_long judging form name ls l header h line good long =
+pub told_long : (judging : Judging) (form : Form) (name : List ℕ) (ls : List (List ℕ)) (l : List ℕ) (line : Option (List ℕ)) → AreGood judging ls → line_limit < length l
+    → told_at judging form name (verdict_of judging (ls ++ l ∷ [])) (ls, line) ≡ told_at judging form name (verdict_of judging (ls ++ l ∷ [])) (ls, None)
+told_long judging form name ls l line good long =
     let stop = hidden_stop judging ls l long in
     let v = unreadable (length ls + 1) (header_in judging.says ls) (history_of (events_in judging.says ls)) stop.0 in
     let bad : first_stop judging [] (ls ++ l ∷ []) ≡ Some v = first_stop-snoc judging [] ls l good ∙ stop.1 in
@@ -83,13 +81,13 @@ told_long judging form name ls l header h line good long =
 pub why_at_long : (judging : Judging) (form : Form) (name bytes rest : List ℕ) (ls : List (List ℕ)) (b : BeginsTooLong rest) → AllByRecursion IsShortLine ls → AreGood judging ls → bytes ≡ ended ls ++ rest
     → AreDecided judging (ls ++ first_line b.0 (cut b.1) ∷ [])
     → IsFixed judging bytes × (verdict_of judging (ls ++ first_line b.0 (cut b.1) ∷ []) ≡ verdict judging bytes)
-    × (why_by judging form name bytes ≡ told form name (verdict_of judging (ls ++ first_line b.0 (cut b.1) ∷ [])) (header_in judging.says ls) (history_of (events_in judging.says ls)) None)
+    × (why_by judging form name bytes ≡ told_at judging form name (verdict_of judging (ls ++ first_line b.0 (cut b.1) ∷ [])) (ls, None))
     × (good_lines judging bytes ≡ ls)
 why_at_long judging form name bytes rest ls b short good are bad =
     let l = first_line b.0 (cut b.1) in
     let fixed = fixed_by_length judging ls b.0 b.1 rest bytes short are b.4 b.2 b.3 bad in
     let long = first_line_is_long b.0 (cut b.1) b.3 in
-    (fixed.0, fixed.1, why_at_line judging form name bytes ls fixed.2 l good bad fixed.3 fixed.1 ∙ told_long judging form name ls l _ _ (Some l) good long, good_at_line judging bytes ls fixed.2 l good bad fixed.3)
+    (fixed.0, fixed.1, why_at_line judging form name bytes ls fixed.2 l good bad fixed.3 fixed.1 ∙ told_long judging form name ls l (Some l) good long, good_at_line judging bytes ls fixed.2 l good bad fixed.3)
 
 -- ---- bytes behind those that fix the verdict
 
@@ -101,14 +99,14 @@ stays_by_line judging form name f g bad fixed =
     ap (told_at judging form name (verdict judging (f ++ g))) (more ∙ sym own) ∙ ap (λ v. told_at judging form name v (judged_at judging [] (lines f))) (fixed_stays judging f g fixed)
 
 told_of_long : (judging : Judging) (form : Form) (name bytes : List ℕ) (ls more : List (List ℕ)) (l : List ℕ) → AreGood judging ls → line_limit < length l → lines bytes ≡ (ls ++ l ∷ []) ++ more
-    → verdict_of judging (ls ++ l ∷ []) ≡ verdict judging bytes → why_by judging form name bytes ≡ told form name (verdict judging bytes) (header_in judging.says ls) (history_of (events_in judging.says ls)) None
+    → verdict_of judging (ls ++ l ∷ []) ≡ verdict judging bytes → why_by judging form name bytes ≡ told_at judging form name (verdict judging bytes) (ls, None)
 told_of_long judging form name bytes ls more l good long are same =
     let stop = hidden_stop judging ls l long in
     let v = unreadable (length ls + 1) (header_in judging.says ls) (history_of (events_in judging.says ls)) stop.0 in
     let bad : first_stop judging [] (ls ++ l ∷ []) ≡ Some v = first_stop-snoc judging [] ls l good ∙ stop.1 in
     let decided : AreDecided judging (ls ++ l ∷ []) = rw bad refl in
     why_at_line judging form name bytes ls more l good decided are same
-    ∙ (told_long judging form name ls l _ _ (Some l) good long ∙ ap (λ k. told form name k (header_in judging.says ls) (history_of (events_in judging.says ls)) None) same)
+    ∙ (told_long judging form name ls l (Some l) good long ∙ ap (λ k. told_at judging form name k (ls, None)) same)
 
 -- the verdict of lines behind good ones that begin with one that is too long
 verdict_of_long : (judging : Judging) (ls more : List (List ℕ)) (l : List ℕ) → AreGood judging ls → line_limit < length l → verdict_of judging (ls ++ l ∷ []) ≡ verdict_of judging ((ls ++ l ∷ []) ++ more)
@@ -120,7 +118,7 @@ verdict_of_long judging ls more l good long =
     sym (verdict_stays judging (ls ++ l ∷ []) more decided)
 
 told_by_long : (judging : Judging) (form : Form) (name bytes : List ℕ) (ls more : List (List ℕ)) (l : List ℕ) → AreGood judging ls → line_limit < length l → lines bytes ≡ (ls ++ l ∷ []) ++ more
-    → why_by judging form name bytes ≡ told form name (verdict judging bytes) (header_in judging.says ls) (history_of (events_in judging.says ls)) None
+    → why_by judging form name bytes ≡ told_at judging form name (verdict judging bytes) (ls, None)
 told_by_long judging form name bytes ls more l good long are =
     told_of_long judging form name bytes ls more l good long are (verdict_of_long judging ls more l good long ∙ sym (ap (verdict_of judging) are))
 
@@ -132,7 +130,7 @@ stays_by_length judging form name f g long good fixed =
     let longer : lines (f ++ g) ≡ (ls ++ l ∷ []) ++ next.0 = lines_append f g ∙ (ap (λ k. ls ++ k) next.1 ∙ sym (append_assoc ls (l ∷ []) next.0)) in
     let own : lines f ≡ (ls ++ unended f ∷ []) ++ [] = ap (λ k. ls ++ k) (last_line_at (unended f) (omega arith)) ∙ sym (append-nil (ls ++ unended f ∷ [])) in
     told_by_long judging form name (f ++ g) ls next.0 l good (first_line_is_long (unended f) (cut g) long) longer
-    ∙ (ap (λ k. told form name k (header_in judging.says ls) (history_of (events_in judging.says ls)) None) (fixed_stays judging f g fixed)
+    ∙ (ap (λ k. told_at judging form name k (ls, None)) (fixed_stays judging f g fixed)
     ∙ sym (told_by_long judging form name f ls [] (unended f) good long own))
 
 stays : (judging : Judging) (form : Form) (name f g : List ℕ) → IsFixed judging f → IsFixed judging f → why_by judging form name (f ++ g) ≡ why_by judging form name f

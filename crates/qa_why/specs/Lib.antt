@@ -10,3 +10,4 @@ pub mod Ending
 pub mod Noting
 pub mod suggest
 pub mod json_rows
+pub mod caveats

@@ -1,6 +1,7 @@
 -- What is written of the bytes of a trace: why they are refused or cannot be read, or that they are
 -- accepted.
-use Rattle.std.specs.Prelude.{◌≡◌, ℕ, Bool, true, is_some, List, [], Option, Some, None}
+use Rattle.std.specs.Prelude.{◌≡◌, ℕ, Bool, true, is_some, List, [], ◌++◌, Option, Some, None}
+use Rattle.std.specs.Prelude.{unwrap_or}
 use Rattle.std.specs.Io.KnownBytes.{Appends}
 use Rattle.qa_base.specs.declared.event.Event.{Event}
 use Rattle.qa_base.specs.declared.rule.Rule.{Rule}
@@ -22,6 +23,7 @@ use Rattle.qa_format.specs.format.Lines.{lines}
 use Rattle.qa_format.specs.format.Reading.{reading}
 use Rattle.qa_format.specs.verdicts.Verdict.{Judging, event_said, events_in, header_in}
 use Rattle.qa_format.specs.verdicts.Verdict.{strict, verdict}
+use Rattle.qa_why.specs.caveats.Caveats.{caveats}
 use Rattle.qa_why.specs.Objects.{accepted_members, object_line, owed_at_end_members}
 use Rattle.qa_why.specs.Objects.{refused_members, unreadable_members}
 use Rattle.qa_why.specs.Texts.{accepted_text, owed_at_end_text, refused_text, unreadable_text}
@@ -76,10 +78,21 @@ told form name (Unreadable n f t) header h line = unreadable_in form name n f (i
 
 -- ---- where lines are judged
 
-abbrev pub told_at : Judging → Form → List ℕ → Verdict → List (List ℕ) × Option (List ℕ) → List ℕ
+-- the good lines, and behind them the line that is not, or none
+abbrev pub Place : Type 0
+Place = List (List ℕ) × Option (List ℕ)
+
+-- in a text, behind why a line or the end is refused, what that may rest on besides the sender
+abbrev pub with_caveats : Verdict → Form → Place → List ℕ → List ℕ
+with_caveats (Refused n r t) forms.Text place text =
+    text ++ caveats place.0 n r (unwrap_or place.1 [])
+with_caveats v form place text = text
+
+abbrev pub told_at : Judging → Form → List ℕ → Verdict → Place → List ℕ
 told_at judging form name v place =
-    told form name v (header_in judging.says place.0)
-    (history_of (events_in judging.says place.0)) place.1
+    with_caveats v form place
+    (told form name v (header_in judging.says place.0)
+    (history_of (events_in judging.says place.0)) place.1)
 
 -- ---- the bytes
 

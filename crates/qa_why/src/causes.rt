@@ -1,22 +1,24 @@
 //! What is told of a verdict, by the judge of the events before.
 ghost use Rattle.std.specs.Prelude.{◌≡◌, List, ℕ, false, true, Some, Option, IfOk, IfErr, IfSome};
-ghost use Rattle.std.specs.Prelude.{IsSome, option_map};
+ghost use Rattle.std.specs.Prelude.{IsSome, OnOk, option_map};
 ghost use Rattle.std.specs.Option.{ForSome, option_copied};
 ghost use Rattle.qa_base.specs.declared.event.Event.{Event as AnEvent};
 ghost use Rattle.qa_base.specs.values.Settings.{Settings};
 ghost use Rattle.qa_check.specs.Standing.{HoldsRun, by};
 ghost use Rattle.qa_check.specs.Walking.{IsEnd};
 ghost use Rattle.qa_why.specs.Ending.{CanRefuse, IsEvent, event_of, refusal_of, told_of_end};
-ghost use Rattle.qa_why.specs.Why.{TellsBy};
+ghost use Rattle.qa_why.specs.Why.{TellsBy, good_lines};
+ghost use Rattle.qa_why.specs.caveats.Caveats.{AreCaveats, guessed_in};
 ghost use Rattle.qa_why.specs.Objects.{object_line as object_line_of};
 ghost use Rattle.qa_why.specs.Why as defined;
 
+use crate::caveats::{Caveats, Guessed};
 use crate::objects::{
     accepted_members, object_line, owed_at_end_members, refused_members, unreadable_members,
 };
 use crate::reasons::Reasons;
-use crate::texts::{accepted, broken, owed_at_end, unreadable};
-use qa_base::{Event, Rule, Totals};
+use crate::texts::{Heading, accepted, broken, owed_at_end, unreadable};
+use qa_base::{Rule, Totals};
 use qa_check::{AuditFault, Ended, LastLine, Outcome};
 use qa_format::{Fault, Form, Line, Verdict};
 use std::alloc::{AllocError, Global};
@@ -28,13 +30,15 @@ pub struct Why {
     pub outcome: Outcome,
     /// What is told of it: a text, or the members of an object.
     pub text: Vec<u8>,
+    /// How many of its good lines were guessed.
+    pub guessed: Guessed,
 }
 
 /// What is written of it: members stand in the line of an object, behind the name of its file.
 pub fn whole(alloc: Global, form: Form, name: &str, told: Why) -> Result<Why, AuditFault>
     ensures whole { IfOk result
         (λ why. (why.text.items ≡ defined.whole form name.now told.text.items)
-        × (why.outcome ≡ told.outcome)) }
+        × (why.outcome ≡ told.outcome) × (why.guessed ≡ told.guessed)) }
     ensures memory { IfErr result (λ fault. fault ≡ AuditFault.OutOfMemory) }
 {
     match form {
@@ -47,37 +51,26 @@ pub fn whole(alloc: Global, form: Form, name: &str, told: Why) -> Result<Why, Au
 fn in_line(alloc: Global, name: &str, told: &Why) -> Result<Why, AuditFault>
     ensures whole { IfOk result
         (λ why. (why.text.items ≡ object_line_of name.now told.now.text.items)
-        × (why.outcome ≡ told.now.outcome)) }
+        × (why.outcome ≡ told.now.outcome) × (why.guessed ≡ told.now.guessed)) }
     ensures memory { IfErr result (λ fault. fault ≡ AuditFault.OutOfMemory) }
 {
     let Ok(text) = object_line(alloc, name, &told.text) else {
         return Err(AuditFault::OutOfMemory);
     };
-    let outcome = told.outcome;
-    Ok(Why { outcome, text })
+    Ok(Why {
+        outcome: told.outcome,
+        text,
+        guessed: told.guessed,
+    })
 }
 
-/// Why the judge refuses the event, by the rule.
-fn of_event<J: Reasons + Drop>(
-    alloc: Global,
-    form: Form,
-    name: &str,
-    ledger: &J,
+/// Where a trace is refused, and by what.
+#[derive(Clone, Copy)]
+struct Refusal {
+    /// The line whose event is refused, or the last line where the end of the trace is.
     n: u64,
+    /// The rule that is broken.
     rule: Rule,
-    event: &Event,
-    line: &[u8],
-) -> Result<Vec<u8>, AllocError>
-    ensures { J.has_failed ledger.now ≡ false → IfOk result (λ text. (c : Settings)
-        (h : List AnEvent) → J.judges.stands ledger.now c h
-        → text.items ≡ defined.event_text form name.now n rule (Some c) h
-        (Some event.now) line.now) }
-{
-    let cause = ledger.reason(event, rule)?;
-    match form {
-        Form::Text => broken(alloc, "refused", name, n, rule, event, &cause, line),
-        Form::Json => refused_members(alloc, ledger.time_unit(), n, rule, event, &cause),
-    }
 }
 
 /// Why the judge refuses the event that this line says.
@@ -86,19 +79,31 @@ fn of_line<J: Reasons + Drop>(
     form: Form,
     name: &str,
     ledger: &J,
-    n: u64,
-    rule: Rule,
+    refusal: Refusal,
     line: &LastLine,
 ) -> Result<Vec<u8>, AllocError>
     requires event { IfSome line.now.said IsEvent × IsSome line.now.said }
     ensures { J.has_failed ledger.now ≡ false → IfOk result (λ text. (c : Settings)
         (h : List AnEvent) → J.judges.stands ledger.now c h
-        → text.items ≡ defined.event_text form name.now n rule (Some c) h
+        → text.items ≡ defined.event_text form name.now refusal.n refusal.rule (Some c) h
         (event_of line.now.said) line.now.bytes.items) }
 {
+    let Refusal { n, rule } = refusal;
     match &line.said {
         Some(Line::Event(event)) => {
-            of_event(alloc, form, name, ledger, n, rule, event, &line.bytes)
+            let cause = ledger.reason(event, rule)?;
+            match form {
+                Form::Text => {
+                    let heading = Heading {
+                        name,
+                        n,
+                        word: "refused",
+                        rule,
+                    };
+                    broken(alloc, &heading, event, &cause, &line.bytes)
+                }
+                Form::Json => refused_members(alloc, ledger.time_unit(), n, rule, event, &cause),
+            }
         }
         _ => unreachable!(),
     }
@@ -129,19 +134,18 @@ fn of_refusal<J: Reasons + Drop>(
     form: Form,
     name: &str,
     ended: &Ended<J>,
-    n: u64,
-    rule: Rule,
+    refusal: Refusal,
 ) -> Result<Vec<u8>, AllocError>
     requires works { ForSome ended.now.judge (λ j. J.has_failed j ≡ false) }
     requires judged { IsSome ended.now.judge }
     requires event { IfSome ended.now.line (λ line. IfSome line.said IsEvent × IsSome line.said) }
     ensures { IfOk result (λ text. (header : Option Settings) (h : List AnEvent)
         → HoldsRun J.judges ended.now.judge header h
-        → text.items ≡ refusal_of form name.now n rule header h ended.now.line) }
+        → text.items ≡ refusal_of form name.now refusal.n refusal.rule header h ended.now.line) }
 {
     match (&ended.judge, &ended.line) {
-        (Some(ledger), Some(line)) => of_line(alloc, form, name, ledger, n, rule, line),
-        (Some(ledger), None) => of_end(alloc, form, name, ledger, n),
+        (Some(ledger), Some(line)) => of_line(alloc, form, name, ledger, refusal, line),
+        (Some(ledger), None) => of_end(alloc, form, name, ledger, refusal.n),
         (None, _) => unreachable!(),
     }
 }
@@ -161,19 +165,30 @@ fn of_accepted(
     }
 }
 
-/// Why line n cannot be read.
+/// A line that cannot be read.
+#[derive(Clone, Copy)]
+struct Unread {
+    /// Which it is, counted from 1.
+    n: u64,
+    /// Why not.
+    fault: Fault,
+    /// Whether a header stands before it.
+    headed: bool,
+}
+
+/// Why the line cannot be read, by its bytes.
 fn of_fault(
     alloc: Global,
     form: Form,
     name: &str,
-    n: u64,
-    fault: Fault,
-    headed: bool,
+    unread: Unread,
     line: Option<&[u8]>,
 ) -> Result<Vec<u8>, AllocError>
     ensures { IfOk result (λ text. text.items
-        ≡ defined.unreadable_in form name.now n fault headed (option_copied line.entry)) }
+        ≡ defined.unreadable_in form name.now unread.n unread.fault unread.headed
+        (option_copied line.entry)) }
 {
+    let Unread { n, fault, headed } = unread;
     match form {
         Form::Text => unreadable(alloc, name, n, fault, headed, line),
         Form::Json => unreadable_members(alloc, n, fault, headed),
@@ -205,20 +220,42 @@ fn of_verdict<J: Reasons + Drop>(
 {
     match &ended.verdict {
         Verdict::Accepted(totals) => of_accepted(alloc, form, name, totals),
-        Verdict::Refused(n, rule, _) => of_refusal(alloc, form, name, ended, *n, *rule),
-        Verdict::Unreadable(n, fault, totals) => of_fault(
-            alloc,
-            form,
-            name,
-            *n,
-            *fault,
-            totals.is_some(),
-            line_of(ended),
-        ),
+        Verdict::Refused(n, rule, _) => {
+            let refusal = Refusal { n: *n, rule: *rule };
+            of_refusal(alloc, form, name, ended, refusal)
+        }
+        Verdict::Unreadable(n, fault, totals) => {
+            let unread = Unread {
+                n: *n,
+                fault: *fault,
+                headed: totals.is_some(),
+            };
+            of_fault(alloc, form, name, unread, line_of(ended))
+        }
     }
 }
 
-/// What is told of the verdict that a walk has come to, which kept the line that ended it.
+/// Appends what a refusal may rest on besides the sender, in a text.
+fn push_caveats<J>(
+    form: Form,
+    ended: &Ended<J>,
+    caveats: &Caveats,
+    out: &mut Vec<u8>,
+) -> Result<(), AllocError>
+    ensures { OnOk result ((ls : List (List ℕ)) → AreCaveats caveats.now ls → out.new.items
+        ≡ defined.with_caveats ended.now.verdict form
+        (ls, option_map (λ line. line.bytes.items) ended.now.line) out.old.items) }
+{
+    match (form, &ended.verdict) {
+        (Form::Text, Verdict::Refused(n, rule, _)) => {
+            caveats.push(out, *n, *rule, line_of(ended).unwrap_or(&[]))
+        }
+        _ => Ok(()),
+    }
+}
+
+/// What is told of the verdict that a walk has come to, which kept the line that ended it, and of
+/// whose good lines these are the caveats.
 ///
 /// `AuditFault::OutOfMemory` comes where it is out of memory.
 pub fn why_of<J: Reasons + Drop>(
@@ -226,16 +263,25 @@ pub fn why_of<J: Reasons + Drop>(
     form: Form,
     name: &str,
     ended: &Ended<J>,
+    caveats: &Caveats,
 ) -> Result<Why, AuditFault>
     requires works { ForSome ended.now.judge (λ j. J.has_failed j ≡ false) }
     requires end { (bytes : List ℕ) × IsEnd J.judges true ended.now bytes }
     ensures told { IfOk result (λ why. (bytes : List ℕ) → IsEnd J.judges true ended.now bytes
-        → TellsBy (by J.judges) form name.now why.outcome why.text.items bytes) }
+        → AreCaveats caveats.now (good_lines (by J.judges) bytes)
+        → TellsBy (by J.judges) form name.now why.outcome why.text.items bytes
+        × (why.guessed ≡ guessed_in (good_lines (by J.judges) bytes))) }
     ensures memory { IfErr result (λ fault. fault ≡ AuditFault.OutOfMemory) }
 {
-    let Ok(text) = of_verdict(alloc, form, name, ended) else {
+    let Ok(mut text) = of_verdict(alloc, form, name, ended) else {
         return Err(AuditFault::OutOfMemory);
     };
-    let outcome = Outcome::of(&ended.verdict);
-    Ok(Why { outcome, text })
+    let Ok(()) = push_caveats(form, ended, caveats, &mut text) else {
+        return Err(AuditFault::OutOfMemory);
+    };
+    Ok(Why {
+        outcome: Outcome::of(&ended.verdict),
+        text,
+        guessed: caveats.guessed(),
+    })
 }

@@ -6,6 +6,7 @@
 #![tactic(auto)]
 
 mod causes;
+mod caveats;
 mod faults;
 mod hints;
 mod json_rows;
@@ -20,6 +21,7 @@ mod texts;
 mod values;
 
 pub use causes::{Why, whole, why_of};
+pub use caveats::{Caveats, Guessed};
 pub use json_rows::{object, row, rows};
 pub use lines::{extend, first_bytes, printed};
 pub use notes::{Both, NoNotes, Notes};
@@ -27,5 +29,5 @@ pub use objects::{push_rule, refused_members};
 pub use reasons::Reasons;
 pub use suggest::{is_key, keys_of, near, stands_for};
 pub use telling::{find, unless_accepted};
-pub use texts::broken;
+pub use texts::{Heading, broken};
 pub use values::data_of;

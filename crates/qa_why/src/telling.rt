@@ -8,6 +8,7 @@ ghost use Rattle.qa_why.specs.Noting.{TellsNoted};
 ghost use Rattle.qa_why.specs.Why as defined;
 
 use crate::causes::{Why, why_of};
+use crate::caveats::Caveats;
 use crate::notes::Notes;
 use crate::reasons::Reasons;
 use qa_check::{AuditFault, Judge, Outcome, Source, Visitor, memory_or_read, walk};
@@ -42,35 +43,47 @@ pub fn find<J: Reasons + Drop, N: Notes<J>, R: Source>(
         × ReadsEnoughBy (by J.judges) (R.left reader.old) (R.left reader.new)
         (R.last_read reader.new) bytes
         × TellsNoted (by J.judges)
-        (N.covers name.now notes.old) form name.now why.outcome why.text.items notes.new bytes) }
+        (N.covers name.now notes.old) form name.now why notes.new bytes) }
     ensures reads { ReadsBy (by J.judges) (R.left reader.old) (R.left reader.new)
         (R.last_read reader.new) }
     ensures read_failures { R.read_failures reader.new
         ≡ failures_after (is_read_fault result) (R.read_failures reader.old) }
     ensures written { is_write_fault result ≡ false }
 {
-    let mut noting = Noting { name, notes };
+    let mut caveats = Caveats::new(alloc);
+    let mut noting = Noting {
+        name,
+        caveats: &mut caveats,
+        notes,
+    };
     match walk::<J, Noting<'_, '_, N>, R>(alloc, true, reader, &mut noting) {
-        Ok(ended) => why_of(alloc, form, name, &ended),
+        Ok(ended) => why_of(alloc, form, name, &ended, &caveats),
         Err(fault) => Err(memory_or_read(fault)),
     }
 }
 
-/// A visitor that takes notes of the lines of a trace of this name.
+/// A visitor that takes notes of the lines of a trace of this name, and keeps its caveats.
 #[derive(Drop)]
 struct Noting<'n, 'm, N> {
     name: &'n str,
+    caveats: &'m mut Caveats,
     notes: &'m mut N,
 }
 
 impl<'n, 'm, J: Judge, N: Notes<J>> Visitor<J> for Noting<'n, 'm, N> {
     type Fault = AllocError;
 
+    ghost use Rattle.qa_why.specs.caveats.Caveats.{AreCaveats};
+    ghost use Rattle.std.specs.Prelude.{[]};
+
     ghost covers = { λ begun now ls. (now.notes.ghost_name ≡ begun.notes.ghost_name)
         × (now.name ≡ begun.name)
+        × (now.caveats.ghost_name ≡ begun.caveats.ghost_name)
+        × (AreCaveats begun.caveats.now [] → AreCaveats now.caveats.now ls)
         × N.covers begun.name.now begun.notes.now now.notes.now ls };
 
-    ghost fails = { λ begun now ls fault. (now.notes.ghost_name ≡ begun.notes.ghost_name) };
+    ghost fails = { λ begun now ls fault. (now.notes.ghost_name ≡ begun.notes.ghost_name)
+        × (now.caveats.ghost_name ≡ begun.caveats.ghost_name) };
 
     fn looks(&self) -> bool {
         true
@@ -83,6 +96,7 @@ impl<'n, 'm, J: Judge, N: Notes<J>> Visitor<J> for Noting<'n, 'm, N> {
         said: &Line,
         judge: Option<&J>,
     ) -> Result<(), AllocError> {
+        self.caveats.note_line(n, line, said)?;
         self.notes.note(self.name, n, line, said, judge)
     }
 }

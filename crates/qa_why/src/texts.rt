@@ -94,26 +94,38 @@ fn grounds(alloc: Global, rule: Rule, event: &Event, cause: &Cause) -> Result<St
     Ok(grounds)
 }
 
-/// What is told of line n, which says an event that breaks a rule for this cause: with a word for
-/// what follows from it. `AllocError` comes where it is out of memory.
+/// Where a rule is broken, as a text says it first.
+#[derive(Clone, Copy)]
+pub struct Heading<'t> {
+    /// The name of the file.
+    pub name: &'t str,
+    /// The line whose event breaks the rule.
+    pub n: u64,
+    /// A word for what follows from it.
+    pub word: &'t str,
+    /// The rule.
+    pub rule: Rule,
+}
+
+/// What is told of a line, which says an event that breaks a rule for this cause. `AllocError`
+/// comes where it is out of memory.
 #[tactic(auto, unfolding(crate::specs::Texts::broken_text))]
 pub fn broken(
     alloc: Global,
-    word: &str,
-    name: &str,
-    n: u64,
-    rule: Rule,
+    heading: &Heading<'_>,
     event: &Event,
     cause: &Cause,
     line: &[u8],
 ) -> Result<Vec<u8>, AllocError>
     ensures { IfOk result (λ told. told.items
-        ≡ text.broken_text word.now name.now n rule event.now cause.now line.now) }
+        ≡ text.broken_text heading.now.word.now heading.now.name.now heading.now.n heading.now.rule
+        event.now cause.now line.now) }
 {
+    let (n, rule) = (heading.n, heading.rule);
     let what = format!(in alloc; "{rule}")?;
     let sentence = refused_sentence(alloc, rule, event, cause)?;
     let grounds = grounds(alloc, rule, event, cause)?;
-    let mut told = head(alloc, name, n, word, what.as_str())?;
+    let mut told = head(alloc, heading.name, n, heading.word, what.as_str())?;
     extend(&mut told, sentence.as_bytes())?;
     push_line(alloc, &mut told, n, line)?;
     extend(&mut told, grounds.as_bytes())?;

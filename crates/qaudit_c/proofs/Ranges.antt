@@ -1,17 +1,17 @@
 -- Ranges behind ranges.
-use Rattle.std.proofs.Common.{◌≡◌, ◌∙◌, ℕ, ◌≤◌, Bool, true, false, List, [], ◌∷◌, ◌++◌, Option, Some, None, refl, sym, ap, subst, arith}
-use Rattle.std.proofs.lemmas.Bool.{and_parts, leb-true}
+use Rattle.std.proofs.Common.{◌≡◌, ◌∙◌, ℕ, ◌+◌, ◌<◌, ◌≤◌, Bool, true, false, List, [], ◌∷◌, ◌++◌, length, Option, Some, None, refl, sym, ap, subst, arith}
+use Rattle.std.proofs.lemmas.Bool.{and_parts, le-leb, leb-true}
 use Rattle.std.specs.List.{AllByRecursion}
 use Rattle.std.specs.Prelude.{nat_le, ◌&&◌, if◌then◌else◌}
 use Rattle.qa_base.specs.values.Limits.{max_packet_number, max_time}
 use Rattle.qa_base.specs.declared.event.Event.TheVariants as events
-use Rattle.qa_format.proofs.format.Lengths.{ack_has_line, lost_has_line}
+use Rattle.qa_format.proofs.format.Lengths.{ack_has_line, lost_has_line, written_is_longer}
 use Rattle.qa_format.specs.declared.line.Line.{Line}
 use Rattle.qa_format.specs.declared.line.Line.TheVariants as lines
 use Rattle.qa_format.specs.format.Proper.{IsRange}
-use Rattle.qa_format.specs.format.Written.{few_ranges}
+use Rattle.qa_format.specs.format.Written.{few_ranges, shortest, written}
 use Rattle.qaudit_c.specs.declared.structs.PacketRange.{PacketRange}
-use Rattle.qaudit_c.specs.Events.{SaysProperRanges, cons_of, is_said, range_count, range_said, ranges_of, time_of}
+use Rattle.qaudit_c.specs.Events.{SaysProperRanges, cons_of, is_said, left_out_of, range_count, range_said, ranges_of, time_of}
 
 -- both, one behind the other, where both are there
 abbrev pub join_of : Option (List (ℕ × ℕ)) → Option (List (ℕ × ℕ)) → Option (List (ℕ × ℕ))
@@ -94,3 +94,35 @@ few_are_said (lines.Header s) are few = refl
 few_are_said (lines.Event (events.Ack ack)) are few = sym (ack_has_line ack are.0 are.1 are.2 few)
 few_are_said (lines.Event (events.Lost t s ranges)) are few = sym (lost_has_line s t ranges are.0 are.1 few)
 few_are_said (lines.Event e) are few = refl
+
+-- ---- lines with more
+
+shift_not : (s m k : ℕ) (b : Bool) → nat_le s m ≡ false → nat_le (s + k) (m + k) ≡ b → b ≡ false
+shift_not s m k true not is =
+    let le = leb-true (s + k) (m + k) is in
+    absurd (true_or_false (sym (le-leb s m (omega (arith, le))) ∙ not))
+  where
+    true_or_false : true ≡ false → ⊥
+    true_or_false same = cc
+shift_not s m k false not is = refl
+
+shift_by : (s m k : ℕ) (b : Bool) → nat_le s m ≡ b → nat_le (s + k) (m + k) ≡ b
+shift_by s m k true is = let le = leb-true s m is in le-leb (s + k) (m + k) (omega (arith, le))
+shift_by s m k false is = shift_not s m k (nat_le (s + k) (m + k)) is refl
+
+-- what is written fits with what the shortest line leaves out where this fits
+fits_by : (written shortest left : ℕ) → written ≡ shortest + left → nat_le written (65536 + left) ≡ nat_le shortest 65536
+fits_by written shortest left is = rw is (shift_by shortest 65536 left (nat_le shortest 65536) refl)
+
+-- a line with more ranges has not few
+pub not_few : (n : ℕ) (x : Line) → n ≡ range_count x → few_ranges < n → range_count x ≤ few_ranges → ⊥
+not_few n x is many few = omega (arith, is, many, few)
+
+pub said_by_length : (x : Line) (left : ℕ) → (range_count x ≤ few_ranges → ⊥) → left ≡ left_out_of x → nat_le (length (written x)) (65536 + left) ≡ is_said x
+said_by_length lines.Blank left many is = absurd (many (omega arith))
+said_by_length (lines.Header s) left many is = absurd (many (omega arith))
+said_by_length (lines.Event (events.Ack ack)) left many is =
+    fits_by (length (written (lines.Event (events.Ack ack)))) (length (shortest (events.Ack ack))) left (written_is_longer (events.Ack ack) ∙ ap (λ k. length (shortest (events.Ack ack)) + k) (sym is))
+said_by_length (lines.Event (events.Lost t s ranges)) left many is =
+    fits_by (length (written (lines.Event (events.Lost t s ranges)))) (length (shortest (events.Lost t s ranges))) left (written_is_longer (events.Lost t s ranges) ∙ ap (λ k. length (shortest (events.Lost t s ranges)) + k) (sym is))
+said_by_length (lines.Event e) left many is = absurd (many (omega arith))

@@ -21,7 +21,7 @@ use Rattle.qa_base.specs.values.Settings.{Settings, settings_in, choosing_option
 use Rattle.qa_format.specs.declared.line.Line.{Line}
 use Rattle.qa_format.specs.declared.line.Line.TheVariants as lines
 use Rattle.qa_format.specs.format.Proper.{IsRange}
-use Rattle.qa_format.specs.format.Written.{has_line}
+use Rattle.qa_format.specs.format.Written.{has_line, left_out}
 use Rattle.qaudit_c.specs.declared.structs.SentPacket.{SentPacket}
 use Rattle.qaudit_c.specs.declared.structs.PacketRange.{PacketRange}
 use Rattle.qaudit_c.specs.declared.structs.Acknowledgment.{Acknowledgment}
@@ -50,6 +50,11 @@ range_count _ = 0
 abbrev pub is_said : Line → Bool
 is_said (lines.Event e) = has_line e
 is_said _ = true
+
+-- how much shorter it is than what is written of it
+abbrev pub left_out_of : Line → ℕ
+left_out_of (lines.Event e) = left_out e
+left_out_of _ = 0
 
 -- the numbers of an event with ranges are in theirs
 abbrev pub HasProperRanges : Event → Type 0

@@ -13,6 +13,16 @@ use qa_check::Line;
 use qa_embed::{Phase, Session};
 use std::alloc::Global;
 
+// The statuses that `include/qaudit.h` names.
+
+/// What follows can change the verdict.
+pub const OPEN: u32 = 0;
+/// The verdict is known, whatever follows.
+const FIXED: u32 = 1;
+/// The verdict is known, since nothing follows.
+const FINISHED: u32 = 2;
+/// There is no verdict, and never will be.
+const OUT_OF_MEMORY: u32 = 3;
 /// Nothing is open.
 pub const CLOSED: u32 = 4;
 /// A value is outside its range; nothing was taken.
@@ -22,7 +32,7 @@ pub const NOT_TAKEN: u32 = 6;
 /// The bytes that were fed end inside a line; nothing was taken.
 const INSIDE_LINE: u32 = 7;
 
-/// The number of a phase, 0 to 3.
+/// The status of a phase, 0 to 3.
 #[inline(always)]
 pub fn number(phase: Phase) -> u32
     ensures number { result ≡ calls.phase_number phase }
@@ -30,10 +40,10 @@ pub fn number(phase: Phase) -> u32
     ensures memory { result ≢ 6 }
 {
     match phase {
-        Phase::Open => 0,
-        Phase::Fixed(_) => 1,
-        Phase::Finished(_) => 2,
-        Phase::OutOfMemory => 3,
+        Phase::Open => OPEN,
+        Phase::Fixed(_) => FIXED,
+        Phase::Finished(_) => FINISHED,
+        Phase::OutOfMemory => OUT_OF_MEMORY,
     }
 }
 
@@ -54,7 +64,7 @@ fn hand_open(session: &mut Session, line: &Line) -> u32
         return INSIDE_LINE;
     }
     if session.take_said(line) {
-        return 0;
+        return OPEN;
     }
     number(session.phase())
 }
@@ -68,9 +78,9 @@ pub fn hand_to(session: &mut Session, line: &Line) -> u32
 {
     match session.phase() {
         Phase::Open => hand_open(session, line),
-        Phase::Fixed(_) => 1,
-        Phase::Finished(_) => 2,
-        Phase::OutOfMemory => 3,
+        Phase::Fixed(_) => FIXED,
+        Phase::Finished(_) => FINISHED,
+        Phase::OutOfMemory => OUT_OF_MEMORY,
     }
 }
 

@@ -6,7 +6,7 @@ use crate::events::given;
 use crate::numbers::{controller_of, loss_by_number_of, role_of, unit_of};
 use crate::structs::TraceHeader;
 use qa_base::constants::DEFAULT_PACKET_THRESHOLD;
-use qa_base::{Controller, Header, LossByNumber, Options, Role, TimeUnit};
+use qa_base::{ConnectionValues, Controller, Header, LossByNumber, Options, Role, TimeUnit};
 
 /// The header of version 3 with these values.
 pub fn header_of(header: &TraceHeader) -> Option<Header>
@@ -26,15 +26,14 @@ pub fn header_of(header: &TraceHeader) -> Option<Header>
 fn plain_header(header: &TraceHeader, role: Role, unit: TimeUnit) -> Option<Header>
     ensures { result ≡ said.plain_said header.now role unit }
 {
-    Header::in_unit(
-        unit,
+    let values = ConnectionValues {
         role,
-        header.max_datagram_size,
-        given(header.has_max_ack_delay, header.max_ack_delay),
-        given(header.has_initial_rtt, header.initial_rtt),
-        given(header.has_initial_window, header.initial_window),
-    )
-    .ok()
+        max_datagram_size: header.max_datagram_size,
+        max_ack_delay: given(header.has_max_ack_delay, header.max_ack_delay),
+        initial_rtt: given(header.has_initial_rtt, header.initial_rtt),
+        initial_window: given(header.has_initial_window, header.initial_window),
+    };
+    Header::in_unit(unit, values).ok()
 }
 
 /// The options of the header.

@@ -25,7 +25,7 @@ mod telling;
 mod texts;
 mod with_ranges;
 
-use calls::{CLOSED, hand_event, hand_header, number, out_of_range};
+use calls::{CLOSED, OPEN, hand_event, hand_header, number, out_of_range};
 use events::{moment_of, sent_values, timer_values, values_of};
 pub use handle::Handle;
 use header::header_of;
@@ -54,7 +54,7 @@ pub extern "C" fn qaudit_open(alloc: Global, qaudit: &mut Qaudit) -> u32
     match try_open(alloc) {
         Some(session) => {
             put(qaudit, session);
-            0
+            OPEN
         }
         None => CLOSED,
     }

@@ -31,6 +31,20 @@ fn range_count(line: &Line) -> usize
     }
 }
 
+/// How many bytes the shortest line leaves out of what is written for this: `"delay":0,` of an
+/// acknowledgment without a delay, and `"limited":false,` of one that was not limited.
+#[inline(always)]
+fn left_out(line: &Line) -> usize
+    ensures { result ≡ said.left_out_of line.now }
+{
+    let Line::Event(Event::Ack(ack)) = line else {
+        return 0;
+    };
+    let delay = if ack.delay == 0 { 10 } else { 0 };
+    let limited = if ack.app_limited { 0 } else { 16 };
+    delay + limited
+}
+
 /// Whether a line can say this: one with very many ranges may be too long for any. `AllocError`
 /// comes only of more than 1,024 ranges, where it is out of memory.
 #[inline(always)]
@@ -43,7 +57,7 @@ fn is_said(alloc: Global, line: &Line) -> Result<bool, AllocError>
         return Ok(true);
     }
     let text = write_line(alloc, line)?;
-    Ok(text.len() <= MAX_LINE_LENGTH)
+    Ok(text.len() <= MAX_LINE_LENGTH + left_out(line))
 }
 
 /// Hands in the line that says the event, where a line can, and keeps the memory of its ranges.

@@ -66,23 +66,33 @@ fn push_packet_delay(
     out.amount("smoothed_rtt", unit.name(), u128::from(smoothed_rtt))
 }
 
-/// A probe timeout (RFC 9002, section 6.2.1).
-#[tactic(auto, unfolding(crate::specs::members::Deadlines::timeout))]
-fn push_timeout(
-    out: &mut Object,
-    unit: TimeUnit,
+/// What makes a probe timeout (RFC 9002, section 6.2.1), times in the unit of the trace.
+#[derive(Clone, Copy)]
+struct ProbeTimeout {
+    /// The smoothed RTT.
     smoothed_rtt: u64,
+    /// The variation of the RTT.
     rttvar: u64,
+    /// How long the peer may delay its acknowledgments.
     peer_delay: u64,
-    count: u64,
-) -> Result<(), AllocError>
+    /// How many probe timeouts there were before it; each doubles it.
+    pto_count: u64,
+}
+
+#[tactic(auto, unfolding(crate::specs::members::Deadlines::timeout))]
+fn push_timeout(out: &mut Object, unit: TimeUnit, timeout: ProbeTimeout) -> Result<(), AllocError>
     ensures { OnOk result (out.new
-        ≡ out.old ++ text.timeout unit smoothed_rtt rttvar peer_delay count) }
+        ≡ out.old ++ text.timeout unit timeout.smoothed_rtt timeout.rttvar timeout.peer_delay
+        timeout.pto_count) }
 {
-    out.amount("smoothed_rtt", unit.name(), u128::from(smoothed_rtt))?;
-    out.amount("rttvar", unit.name(), u128::from(rttvar))?;
-    out.amount("max_ack_delay", unit.name(), u128::from(peer_delay))?;
-    out.number("pto_count", u128::from(count))
+    out.amount(
+        "smoothed_rtt",
+        unit.name(),
+        u128::from(timeout.smoothed_rtt),
+    )?;
+    out.amount("rttvar", unit.name(), u128::from(timeout.rttvar))?;
+    out.amount("max_ack_delay", unit.name(), u128::from(timeout.peer_delay))?;
+    out.number("pto_count", u128::from(timeout.pto_count))
 }
 
 #[tactic(auto, unfolding(crate::specs::members::Deadlines::some_basis))]
@@ -107,7 +117,13 @@ fn push_some_basis(out: &mut Object, unit: TimeUnit, basis: Basis) -> Result<(),
             pto_count,
         } => {
             push_origin(out, unit, "ack-eliciting packet", sent.get())?;
-            push_timeout(out, unit, smoothed_rtt, rttvar, peer_delay, pto_count)
+            let timeout = ProbeTimeout {
+                smoothed_rtt,
+                rttvar,
+                peer_delay,
+                pto_count,
+            };
+            push_timeout(out, unit, timeout)
         }
         Basis::Kept {
             set,
@@ -116,7 +132,13 @@ fn push_some_basis(out: &mut Object, unit: TimeUnit, basis: Basis) -> Result<(),
             pto_count,
         } => {
             push_origin(out, unit, "timer set", set.get())?;
-            push_timeout(out, unit, smoothed_rtt, rttvar, 0, pto_count)
+            let timeout = ProbeTimeout {
+                smoothed_rtt,
+                rttvar,
+                peer_delay: 0,
+                pto_count,
+            };
+            push_timeout(out, unit, timeout)
         }
     }
 }
@@ -147,23 +169,40 @@ fn push_off_by(
     out.some_amount("allowed", unit.name(), allowed)
 }
 
+/// What the timer is set for, and why then.
+#[derive(Clone, Copy)]
+pub(crate) struct Deadline {
+    /// What it is set for.
+    pub(crate) due: Option<Due>,
+    /// Why then.
+    pub(crate) basis: Option<Basis>,
+}
+
+/// What the timer is set for, and since when.
+#[derive(Clone, Copy)]
+pub(crate) struct SetTimer {
+    /// What it is set for.
+    pub(crate) due: Option<Due>,
+    /// Since when.
+    pub(crate) since: Ticks,
+}
+
 /// V13: what the timer is set for and why then, by how much it fired early, and by how much it may.
 #[tactic(auto, unfolding(crate::specs::members::Deadlines::early_facts))]
 pub(crate) fn push_early(
     out: &mut Object,
     unit: TimeUnit,
     event: &Event,
-    due: &Option<Due>,
-    basis: Option<Basis>,
+    deadline: Deadline,
     early: u64,
 ) -> Result<(), AllocError>
     ensures { OnOk result (out.new
-        ≡ out.old ++ text.early_facts unit event.now due.now basis early) }
+        ≡ out.old ++ text.early_facts unit event.now deadline.due deadline.basis early) }
 {
-    let by = due_time(*due).saturating_sub(u128::from(event.time().get()));
-    push_due(out, unit, *due)?;
+    let by = due_time(deadline.due).saturating_sub(u128::from(event.time().get()));
+    push_due(out, unit, deadline.due)?;
     push_off_by(out, unit, "early", by, Some(u128::from(early)))?;
-    push_basis(out, unit, basis)
+    push_basis(out, unit, deadline.basis)
 }
 
 /// V18: what the timer is set for and since when, by how much the event comes late, and by how much
@@ -173,16 +212,15 @@ pub(crate) fn push_late(
     out: &mut Object,
     unit: TimeUnit,
     event: &Event,
-    due: &Option<Due>,
-    since: Ticks,
+    timer: SetTimer,
     limit: Option<u128>,
 ) -> Result<(), AllocError>
     ensures { OnOk result (out.new
-        ≡ out.old ++ text.late_facts unit event.now due.now since limit) }
+        ≡ out.old ++ text.late_facts unit event.now timer.due timer.since limit) }
 {
-    let from = due_time(*due).max(u128::from(since.get()));
+    let from = due_time(timer.due).max(u128::from(timer.since.get()));
     let by = u128::from(event.time().get()).saturating_sub(from);
-    push_due(out, unit, *due)?;
-    out.amount("set_since", unit.name(), u128::from(since.get()))?;
+    push_due(out, unit, timer.due)?;
+    out.amount("set_since", unit.name(), u128::from(timer.since.get()))?;
     push_off_by(out, unit, "late", by, limit)
 }

@@ -2,7 +2,7 @@
 ghost use Rattle.std.specs.Prelude.{◌≡◌, ◌++◌, OnOk};
 ghost use Rattle.qa_explain.specs.members.Facts as text;
 
-use crate::members::deadlines::{push_due, push_early, push_late};
+use crate::members::deadlines::{Deadline, SetTimer, push_due, push_early, push_late};
 use crate::members::losses::{push_nameable, push_other_set, push_owed, push_space};
 use crate::members::object::Object;
 use crate::members::reports::{push_collapse, push_metrics};
@@ -56,12 +56,20 @@ pub fn push_facts(
         Cause::AckUnsent { unsent } => push_packet_number(out, "unsent", *unsent),
         Cause::TimerOther { due } => push_due(out, unit, *due),
         Cause::TimerEarly { due, basis, early } => {
-            push_early(out, unit, event, due, *basis, *early)
+            let deadline = Deadline {
+                due: *due,
+                basis: *basis,
+            };
+            push_early(out, unit, event, deadline, *early)
         }
         Cause::ProbeOwed { space } => push_space(out, "probe_space", *space),
         Cause::Metric { held, by } => push_metrics(out, unit, event, held, *by),
         Cause::TimerLate { due, since, limit } => {
-            push_late(out, unit, event, due, *since, *limit)
+            let timer = SetTimer {
+                due: *due,
+                since: *since,
+            };
+            push_late(out, unit, event, timer, *limit)
         }
         Cause::CollapseMissing {
             least,

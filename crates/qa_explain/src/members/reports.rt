@@ -34,59 +34,67 @@ fn push_held(out: &mut Object, unit: &str, held: Option<u64>) -> Result<(), Allo
     }
 }
 
+/// A value that a sender reports.
+#[derive(Clone, Copy)]
+struct Metric<'u> {
+    /// Which it is.
+    field: Field,
+    /// Its unit, at the end of a key.
+    unit: &'u str,
+    /// By how much it may differ from the machine's.
+    slack: u128,
+}
+
 #[tactic(auto, unfolding(crate::specs::members::Reports::values_of))]
 fn push_values(
     out: &mut Object,
-    field: Field,
-    unit: &str,
-    slack: u128,
+    metric: &Metric<'_>,
     reported: u64,
     held: Option<u64>,
 ) -> Result<(), AllocError>
     ensures { OnOk result (out.new
-        ≡ out.old ++ text.values_of field unit.now slack reported held) }
+        ≡ out.old ++ text.values_of metric.now.field metric.now.unit.now
+        metric.now.slack reported held) }
 {
-    out.string("field", field.name())?;
-    out.amount("reported", unit, u128::from(reported))?;
-    push_held(out, unit, held)?;
-    out.some_amount("difference", unit, gap(reported, held))?;
-    out.amount("slack", unit, slack)
+    out.string("field", metric.field.name())?;
+    out.amount("reported", metric.unit, u128::from(reported))?;
+    push_held(out, metric.unit, held)?;
+    out.some_amount("difference", metric.unit, gap(reported, held))?;
+    out.amount("slack", metric.unit, metric.slack)
 }
 
 #[tactic(auto, unfolding(crate::specs::members::Reports::difference))]
 fn push_difference(
     out: &mut Object,
-    field: Field,
-    unit: &str,
-    slack: u128,
+    metric: &Metric<'_>,
     reported: u64,
     held: Option<u64>,
 ) -> Result<(), AllocError>
     ensures { OnOk result (out.new
-        ≡ out.old ++ text.difference field unit.now slack reported held) }
+        ≡ out.old ++ text.difference metric.now.field metric.now.unit.now
+        metric.now.slack reported held) }
 {
     out.begin_object()?;
-    push_values(out, field, unit, slack, reported, held)?;
+    push_values(out, metric, reported, held)?;
     out.end_object()
 }
 
 /// An object of a reported value, where it differs.
 fn push_differing(
     out: &mut Object,
-    field: Field,
-    unit: &str,
-    slack: u128,
+    metric: &Metric<'_>,
     reported: Option<u64>,
     held: Option<u64>,
 ) -> Result<(), AllocError>
     ensures { OnOk result (out.new
-        ≡ out.old ++ text.differing field unit.now slack reported held) }
+        ≡ out.old ++ text.differing metric.now.field metric.now.unit.now
+        metric.now.slack reported held) }
 {
     let Some(reported) = reported else {
         return Ok(());
     };
-    if differs(slack, reported, held) {
-        return push_difference(out, field, unit, slack, reported, held);
+    if differs(metric.slack, reported, held) {
+        return push_difference(out, metric, reported, held);
     }
     Ok(())
 }
@@ -100,16 +108,17 @@ fn push_of_controller(
 ) -> Result<(), AllocError>
     ensures { OnOk result (out.new ≡ out.old ++ text.of_controller slack values.now held.now) }
 {
-    let window = Some(held.window);
-    push_differing(out, Field::Window, BYTES, slack, values.window, window)?;
-    push_differing(
-        out,
-        Field::Ssthresh,
-        BYTES,
+    let window = Metric {
+        field: Field::Window,
+        unit: BYTES,
         slack,
-        values.ssthresh,
-        held.ssthresh,
-    )
+    };
+    let ssthresh = Metric {
+        field: Field::Ssthresh,
+        ..window
+    };
+    push_differing(out, &window, values.window, Some(held.window))?;
+    push_differing(out, &ssthresh, values.ssthresh, held.ssthresh)
 }
 
 #[tactic(auto, unfolding(crate::specs::members::Reports::of_bytes))]
@@ -125,14 +134,13 @@ fn push_of_bytes(
     if !by.controller.is_reported() {
         push_of_controller(out, slack, values, held)?;
     }
-    push_differing(
-        out,
-        Field::BytesInFlight,
-        BYTES,
+    let in_flight = Metric {
+        field: Field::BytesInFlight,
+        unit: BYTES,
         slack,
-        values.bytes_in_flight,
-        Some(held.bytes_in_flight),
-    )
+    };
+    let held = Some(held.bytes_in_flight);
+    push_differing(out, &in_flight, values.bytes_in_flight, held)
 }
 
 #[tactic(auto, unfolding(crate::specs::members::Reports::of_samples))]
@@ -146,16 +154,17 @@ fn push_of_samples(
     ensures { OnOk result (out.new
         ≡ out.old ++ text.of_samples unit.now slack values.now held.now) }
 {
-    let (latest, least) = (Some(held.latest_rtt), Some(held.min_rtt));
-    push_differing(
-        out,
-        Field::LatestRtt,
+    let latest = Metric {
+        field: Field::LatestRtt,
         unit,
         slack,
-        values.latest_rtt,
-        latest,
-    )?;
-    push_differing(out, Field::MinRtt, unit, slack, values.min_rtt, least)
+    };
+    let least = Metric {
+        field: Field::MinRtt,
+        ..latest
+    };
+    push_differing(out, &latest, values.latest_rtt, Some(held.latest_rtt))?;
+    push_differing(out, &least, values.min_rtt, Some(held.min_rtt))
 }
 
 #[tactic(auto, unfolding(crate::specs::members::Reports::of_estimates))]
@@ -169,16 +178,17 @@ fn push_of_estimates(
     ensures { OnOk result (out.new
         ≡ out.old ++ text.of_estimates unit.now slack values.now held.now) }
 {
-    let (smoothed, rttvar) = (Some(held.smoothed_rtt), Some(held.rttvar));
-    push_differing(
-        out,
-        Field::SmoothedRtt,
+    let smoothed = Metric {
+        field: Field::SmoothedRtt,
         unit,
         slack,
-        values.smoothed_rtt,
-        smoothed,
-    )?;
-    push_differing(out, Field::Rttvar, unit, slack, values.rttvar, rttvar)
+    };
+    let rttvar = Metric {
+        field: Field::Rttvar,
+        ..smoothed
+    };
+    push_differing(out, &smoothed, values.smoothed_rtt, Some(held.smoothed_rtt))?;
+    push_differing(out, &rttvar, values.rttvar, Some(held.rttvar))
 }
 
 #[tactic(auto, unfolding(crate::specs::members::Reports::differences))]

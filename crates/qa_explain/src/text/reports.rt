@@ -1,5 +1,5 @@
 //! What a sender reports, and what the machine has.
-ghost use Rattle.std.specs.Prelude.{◌≡◌, ◌++◌, OnOk, Some, string_bytes};
+ghost use Rattle.std.specs.Prelude.{◌≡◌, ◌+◌, ◌++◌, OnOk, Some, string_bytes};
 ghost use Rattle.qa_base.specs.machine.Metrics as metrics;
 ghost use Rattle.qa_explain.specs.text.Reports as text;
 
@@ -177,11 +177,12 @@ fn push_collapse_line(
     least: u64,
     acknowledged: u64,
     slack: u64,
-    sum: u128,
 ) -> Result<(), AllocError>
     ensures { OnOk result (string_bytes out.new
-        ≡ string_bytes out.old ++ text.collapse_line reported least acknowledged slack sum) }
+        ≡ string_bytes out.old ++ text.collapse_line reported least acknowledged slack
+        (least + acknowledged + slack)) }
 {
+    let sum = u128::from(least) + u128::from(acknowledged) + u128::from(slack);
     push_number(out, "  window reported ", reported)?;
     push_number(out, ", at most ", least)?;
     push_number(out, " (two datagrams) + ", acknowledged)?;
@@ -208,6 +209,5 @@ pub fn push_collapse(
     let Some(reported) = reported else {
         return Ok(());
     };
-    let sum = u128::from(least) + u128::from(acknowledged) + u128::from(slack);
-    push_collapse_line(out, reported, least, acknowledged, slack, sum)
+    push_collapse_line(out, reported, least, acknowledged, slack)
 }

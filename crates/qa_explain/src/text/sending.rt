@@ -1,5 +1,5 @@
 //! What was sent, and leave to send.
-ghost use Rattle.std.specs.Prelude.{◌≡◌, ◌++◌, OnOk, string_bytes};
+ghost use Rattle.std.specs.Prelude.{◌≡◌, ◌+◌, ◌++◌, OnOk, string_bytes};
 ghost use Rattle.qa_explain.specs.text.Sending as text;
 
 use crate::text::pieces::{push_name, push_number, push_wide, push_words};
@@ -80,13 +80,14 @@ fn push_window_line(
     out: &mut String,
     in_flight: u64,
     size: u64,
-    sum: u128,
     window: u64,
     overshoot: bool,
 ) -> Result<(), AllocError>
     ensures { OnOk result (string_bytes out.new
-        ≡ string_bytes out.old ++ text.window_line in_flight size sum window overshoot) }
+        ≡ string_bytes out.old ++ text.window_line in_flight size (in_flight + size) window
+        overshoot) }
 {
+    let sum = u128::from(in_flight) + u128::from(size);
     push_number(out, "  in flight ", in_flight)?;
     push_number(out, " + ", size)?;
     push_wide(out, " = ", sum)?;
@@ -105,9 +106,7 @@ pub fn push_window(
     ensures { OnOk result (string_bytes out.new
         ≡ string_bytes out.old ++ text.window_text event.now in_flight window overshoot) }
 {
-    let size = size_of(event);
-    let sum = u128::from(in_flight) + u128::from(size);
-    push_window_line(out, in_flight, size, sum, window, overshoot)
+    push_window_line(out, in_flight, size_of(event), window, overshoot)
 }
 
 #[tactic(auto, unfolding(crate::specs::text::Sending::allowance_line))]

@@ -213,6 +213,10 @@ follow j k d ps less ascii kept more = record {
   shallow = omega (arith, kept.shallow, more.shallow);
 }
 
+-- what follows a key follows one that stands before it
+pub follow_later : (j k : List ℕ) (ps : Pairs) → slice_cmp nat_cmp j k ≡ Less → Follow k ps → Follow j ps
+follow_later j k ps less more = record { before = before_more j k (members ps) less more.before; simple = more.simple; shallow = more.shallow }
+
 pub follow_reported : (j : List ℕ) (f : Field) (o : Option ℕ) (ps : Pairs) → slice_cmp nat_cmp j (field_name f) ≡ Less → is_ascii (field_name f) ≡ true → IsWord o → Follow (field_name f) ps
     → Follow j (reported f o ++ ps)
 follow_reported j f None ps less ascii small more = record { before = before_more j (field_name f) (members ps) less more.before; simple = more.simple; shallow = more.shallow }

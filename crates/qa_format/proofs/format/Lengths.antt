@@ -1,10 +1,11 @@
 -- How many bytes the text of a line has at most that names ranges of packet numbers.
-use Rattle.std.proofs.Common.{◌≡◌, ℕ, suc, Option, Some, None, Ok, ◌+◌, ◌*◌, ◌^◌, ◌<◌, ◌≤◌, List, [], ◌∷◌, ◌++◌, Bool, true, false, length, decimal, refl, arith, le-leb}
-use Rattle.std.proofs.lemmas.Fmt.{length-decimal-le}
+use Rattle.std.proofs.Common.{◌≡◌, ℕ, zero, suc, Option, Some, None, Ok, ◌+◌, ◌*◌, ◌^◌, ◌<◌, ◌≤◌, List, [], ◌∷◌, ◌++◌, Bool, true, false, length, decimal, refl, ap, arith, le-leb}
+use Rattle.std.proofs.Math.Dec.{eqb-suc-zero}
+use Rattle.std.proofs.lemmas.Fmt.{decimal_digit, length-decimal-le}
 use Rattle.std.proofs.lemmas.List.{length-append}
 use Rattle.std.specs.List.{AllByRecursion}
 use Rattle.std.proofs.lemmas.Bool.{and_parts, leb-true}
-use Rattle.std.specs.Prelude.{nat_le, ◌&&◌, ◌||◌, not}
+use Rattle.std.specs.Prelude.{nat_le, ◌==◌, ◌&&◌, ◌||◌, not, if◌then◌else◌}
 use Rattle.json.specs.Print.{escape_byte, quoted}
 use Rattle.serde_json.specs.Data as json
 use Rattle.serde_json.specs.Data.{Data}
@@ -30,9 +31,9 @@ use Rattle.qa_base.specs.values.Names.{field_name, key_name, kind_name, line_kin
 use Rattle.qa_format.specs.format.Lines.{IsShortLine, line_limit}
 use Rattle.qa_format.specs.declared.line.Line.TheVariants as line
 use Rattle.qa_format.specs.format.Reading.{reading}
-use Rattle.qa_format.proofs.format.LinesWritten.{written_has_no_lf, written_reads}
+use Rattle.qa_format.proofs.format.LinesWritten.{shortest_has_no_lf, shortest_reads}
 use Rattle.qa_format.specs.format.Proper.{AreWords, IsProperEvent, IsRange, IsWord}
-use Rattle.qa_format.specs.format.Written.{Pairs, boolean, event_pairs, has_line, integer, integer_pair, integer_pairs, is_short, members, object_of, reported, string, few_ranges, written}
+use Rattle.qa_format.specs.format.Written.{Pairs, boolean, delay_pairs, event_pairs, has_line, integer, integer_pair, integer_pairs, left_out, limited_pairs, members, object_of, reported, shortest, string, few_ranges, written}
 
 -- ---- values
 
@@ -235,7 +236,7 @@ metrics_few : (t : ℕ) (values : MetricValues) → length (reported field.Windo
     → length (reported field.SmoothedRtt values.smoothed_rtt) ≤ 1 → length (reported field.Rttvar values.rttvar) ≤ 1 → length (event_pairs (Metrics t values)) ≤ 20
 metrics_few t values a b c d e f g = simp length-append (omega arith)
 
-metrics_short : (t : ℕ) (values : MetricValues) → t ≤ max_time → AreWords values → is_short (Metrics t values) ≡ true
+metrics_short : (t : ℕ) (values : MetricValues) → t ≤ max_time → AreWords values → nat_le (length (written (line.Event (Metrics t values)))) line_limit ≡ true
 metrics_short t values in_time words =
     let window = value_short field.Window values.window words.0 in
     let ssthresh = value_short field.Ssthresh values.ssthresh words.1 in
@@ -260,25 +261,57 @@ metrics_short t values in_time words =
     pairs_short (event_pairs (Metrics t values)) s6
     (metrics_few t values window.1 ssthresh.1 in_flight.1 latest.1 least.1 smoothed.1 rttvar.1)
 
-pub is_short_of : (e : Event) → IsProperEvent e → has_line e ≡ true → is_short e ≡ true
-is_short_of (Sent packet) proper has =
+-- ---- the shortest line of an acknowledgment
+
+-- all its keys, and those that it cannot leave out, before these pairs
+abbrev all_before : ℕ → Bool → Pairs → Pairs
+all_before delay limited ps = (key.Delay, integer delay) ∷ (key.Event, string (line_kind_name kinds.Ack)) ∷ (key.Limited, boolean limited) ∷ ps
+
+abbrev needed_before : ℕ → Bool → Pairs → Pairs
+needed_before delay limited ps = delay_pairs delay ++ (key.Event, string (line_kind_name kinds.Ack)) ∷ limited_pairs limited ++ ps
+
+left_out_before : (delay : ℕ) (limited : Bool) (ps : Pairs)
+    → length (compact_text (object_of (all_before delay limited ps))) ≡ length (compact_text (object_of (needed_before delay limited ps))) + ((if delay == 0 then 10 else 0) + (if limited then 0 else 16))
+unfolding escape_byte
+left_out_before zero true ps = let digit : length (decimal 0) ≡ 1 = ap length (decimal_digit 0 (omega arith)) in simp length-append (omega (arith, digit))
+left_out_before zero false ps = let digit : length (decimal 0) ≡ 1 = ap length (decimal_digit 0 (omega arith)) in simp length-append (omega (arith, digit))
+left_out_before (suc n) true ps = rw (eqb-suc-zero n) (omega arith)
+left_out_before (suc n) false ps = rw (eqb-suc-zero n) (simp length-append (omega arith))
+
+-- what is written is longer than the shortest line by what this leaves out
+pub written_is_longer : (e : Event) → length (written (line.Event e)) ≡ length (shortest e) + left_out e
+written_is_longer (Ack a) = left_out_before a.delay a.app_limited ((key.Ranges, json.array (integer_pairs a.ranges)) ∷ (key.Space, string (space_name a.space)) ∷ (key.Time, integer a.time) ∷ [])
+written_is_longer (Sent packet) = omega arith
+written_is_longer (Lost t s ranges) = omega arith
+written_is_longer (Timer t k s) = omega arith
+written_is_longer (Discard t s) = omega arith
+written_is_longer (Confirmed t) = omega arith
+written_is_longer (Keys t) = omega arith
+written_is_longer (Metrics t values) = omega arith
+
+-- ---- the shortest line of an event
+
+pub shortest_fits : (e : Event) → IsProperEvent e → has_line e ≡ true → nat_le (length (shortest e)) line_limit ≡ true
+shortest_fits (Sent packet) proper has =
     pairs_short (event_pairs (Sent packet))
     (flag_short packet.eliciting, (kind_short kinds.Sent, (flag_short packet.in_flight, (permission_short packet.permission, (integer_short packet.number (number_small packet.number proper.numbers), (integer_short packet.size (size_small packet.size packet.eliciting packet.in_flight proper.fitting), (named_short packet.space, (integer_short packet.time (time_small packet.time proper.in_time), (tt)))))))))
     (omega arith)
-is_short_of (Ack ack) proper has = has
-is_short_of (Lost t s ranges) proper has = has
-is_short_of (Timer t k s) proper has = pairs_short (event_pairs (Timer t k s)) (kind_short kinds.Timer, (timer_short k, (named_short s, (integer_short t (time_small t proper.in_time), (tt))))) (omega arith)
-is_short_of (Discard t s) proper has = pairs_short (event_pairs (Discard t s)) (kind_short kinds.Discard, (named_short s, (integer_short t (time_small t proper.in_time), (tt)))) (omega arith)
-is_short_of (Confirmed t) proper has = pairs_short (event_pairs (Confirmed t)) (kind_short kinds.Confirmed, (integer_short t (time_small t proper.in_time), (tt))) (omega arith)
-is_short_of (Keys t) proper has = pairs_short (event_pairs (Keys t)) (kind_short kinds.Keys, (integer_short t (time_small t proper.in_time), (tt))) (omega arith)
-is_short_of (Metrics t values) proper has = metrics_short t values proper.in_time proper.numbers
+shortest_fits (Ack ack) proper has = has
+shortest_fits (Lost t s ranges) proper has = has
+shortest_fits (Timer t k s) proper has = pairs_short (event_pairs (Timer t k s)) (kind_short kinds.Timer, (timer_short k, (named_short s, (integer_short t (time_small t proper.in_time), (tt))))) (omega arith)
+shortest_fits (Discard t s) proper has = pairs_short (event_pairs (Discard t s)) (kind_short kinds.Discard, (named_short s, (integer_short t (time_small t proper.in_time), (tt)))) (omega arith)
+shortest_fits (Confirmed t) proper has = pairs_short (event_pairs (Confirmed t)) (kind_short kinds.Confirmed, (integer_short t (time_small t proper.in_time), (tt))) (omega arith)
+shortest_fits (Keys t) proper has = pairs_short (event_pairs (Keys t)) (kind_short kinds.Keys, (integer_short t (time_small t proper.in_time), (tt))) (omega arith)
+shortest_fits (Metrics t values) proper has = metrics_short t values proper.in_time proper.numbers
+
 
 -- ---- events with few ranges
 
 pub ack_has_line : (a : AnAck) → a.time ≤ max_time → AllByRecursion IsRange a.ranges → a.delay < 2 ^ 64 → length a.ranges ≤ few_ranges → has_line (Ack a) ≡ true
 ack_has_line a in_time are word few =
     let short = ack_length a in_time are word in
-    le-leb (suc (length (members_text false (members (event_pairs (Ack a)))))) line_limit (omega arith)
+    let longer = written_is_longer (Ack a) in
+    le-leb (length (shortest (Ack a))) line_limit (omega arith)
 
 pub lost_has_line : (s : Space) (t : ℕ) (ranges : List (ℕ × ℕ)) → t ≤ max_time → AllByRecursion IsRange ranges → length ranges ≤ few_ranges → has_line (Lost t s ranges) ≡ true
 lost_has_line s t ranges in_time are few =
@@ -287,7 +320,7 @@ lost_has_line s t ranges in_time are few =
 
 -- ---- the line that says an event
 
--- an event that some line says is said by the line that is written for it
-pub written_says : (e : Event) → IsProperEvent e → has_line e ≡ true → IsShortLine (written (line.Event e)) × (reading (written (line.Event e)) ≡ Ok (line.Event e))
-written_says e proper has =
-    ((written_has_no_lf (line.Event e) proper, leb-true (length (written (line.Event e))) line_limit (is_short_of e proper has)), written_reads (line.Event e) proper)
+-- an event that some line says is said by the shortest line for it
+pub shortest_says : (e : Event) → IsProperEvent e → has_line e ≡ true → IsShortLine (shortest e) × (reading (shortest e) ≡ Ok (line.Event e))
+shortest_says e proper has =
+    ((shortest_has_no_lf e proper, leb-true (length (shortest e)) line_limit (shortest_fits e proper has)), shortest_reads e proper)

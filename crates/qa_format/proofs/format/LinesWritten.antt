@@ -1,5 +1,6 @@
 -- A line that was written is one line, and is read as itself.
-use Rattle.std.proofs.Common.{◌≡◌, ◌∙◌, ℕ, ◌≤◌, ◌*◌, List, [], ◌∷◌, ◌++◌, Bool, true, false, Option, Some, None, Ok, refl, ap, ap₂, append_assoc, Less, ◌&&◌, ◌||◌, not, arith, subst, sym}
+use Rattle.std.proofs.Common.{◌≡◌, ◌∙◌, ℕ, zero, suc, ◌≤◌, ◌<◌, ◌^◌, ◌*◌, List, [], ◌∷◌, ◌++◌, Bool, true, false, Option, Some, None, Ok, refl, ap, ap₂, append_assoc, Less, ◌&&◌, ◌||◌, not, arith, subst, sym}
+use Rattle.std.proofs.Math.Dec.{eqb-suc-zero}
 use Rattle.std.proofs.lemmas.Bool.{and_parts, eqb-true, leb-true, or_from, le-ltb}
 use Rattle.std.specs.Option.{ForSome}
 use Rattle.std.specs.Prelude.{◌==◌, nat_lt, nat_le, codes, option_map, unwrap_or}
@@ -44,7 +45,7 @@ use Rattle.qa_format.specs.format.Written.{Pairs, reported, header_pairs, event_
 use Rattle.qa_format.proofs.format.Compact.{IsSimple, read-compact_text, is_utf8-compact_text}
 use Rattle.qa_format.proofs.format.OneLine.{has_lf-compact_text}
 use Rattle.qa_format.proofs.format.KeysFound.{header_found, first_unit_found, second_unit_found, third_unit_found, first_options_found, second_options_found, third_options_found, sent_found, ack_found, lost_found, timer_found, discard_found, confirmed_found, keys_found, metrics_found}
-use Rattle.qa_format.proofs.format.KeysWritten.{past_reported, reported_stands, past_last, last_stands, IsKept, integer_is_kept, string_is_kept, boolean_is_kept, role_is_kept, unit_is_kept, controller_is_kept, losses_are_kept, space_is_kept, permission_is_kept, kind_is_kept, ranges_are_kept, Follow, none_follow, follow, follow_reported, follow_last}
+use Rattle.qa_format.proofs.format.KeysWritten.{past_reported, reported_stands, past_last, last_stands, IsKept, integer_is_kept, string_is_kept, boolean_is_kept, role_is_kept, unit_is_kept, controller_is_kept, losses_are_kept, space_is_kept, permission_is_kept, kind_is_kept, ranges_are_kept, Follow, none_follow, follow, follow_later, follow_reported, follow_last}
 
 -- ---- a report of the sender's state
 
@@ -596,3 +597,54 @@ pub written_has_no_lf : (x : Line) → IsProperLine x → has_lf (text_of x) ≡
 written_has_no_lf line.Blank proper = refl
 written_has_no_lf (line.Header s) proper = has_lf-compact_text (object_of (header_pairs s)) (header_follows s proper).simple
 written_has_no_lf (line.Event e) proper = has_lf-compact_text (object_of (event_pairs e)) (event_follows e proper).simple
+
+-- ---- the shortest line of an acknowledgment
+
+-- the keys that it cannot leave out rise
+needed_follow : (delay : ℕ) (limited : Bool) (ps : Pairs) → delay < 2 ^ 64 → Follow (codes "limited") ps
+    → Follow [] (written.delay_pairs delay ++ (key.Event, written.string (line_kind_name kinds.Ack)) ∷ written.limited_pairs limited ++ ps)
+needed_follow zero true ps word more =
+    follow _ key.Event _ _ refl refl (string_is_kept _ refl) (follow _ key.Limited _ _ refl refl (boolean_is_kept true) more)
+needed_follow zero false ps word more =
+    follow _ key.Event _ _ refl refl (string_is_kept _ refl) (follow_later (codes "event") (codes "limited") ps refl more)
+needed_follow (suc n) true ps word more = rw (eqb-suc-zero n) (
+    follow _ key.Delay _ _ refl refl (integer_is_kept (suc n) word)
+    (follow _ key.Event _ _ refl refl (string_is_kept _ refl) (follow _ key.Limited _ _ refl refl (boolean_is_kept true) more)))
+needed_follow (suc n) false ps word more = rw (eqb-suc-zero n) (
+    follow _ key.Delay _ _ refl refl (integer_is_kept (suc n) word)
+    (follow _ key.Event _ _ refl refl (string_is_kept _ refl) (follow_later (codes "event") (codes "limited") ps refl more)))
+
+-- the object of these says the acknowledgment
+needed_say : (delay : ℕ) (limited : Bool) (ack : Acknowledgment) → IsProperEvent (Ack (record ack { delay = delay; app_limited = limited }))
+    → object_says reader_named (object_of (written.needed_pairs (record ack { delay = delay; app_limited = limited }))) ≡ Ok (line.Event (Ack (record ack { delay = delay; app_limited = limited })))
+needed_say zero true ack proper = ack_found _ ack None (Some true) refl refl refl refl refl refl proper
+needed_say zero false ack proper = ack_found _ ack None None refl refl refl refl refl refl proper
+needed_say (suc n) true ack proper = rw (eqb-suc-zero n) (ack_found _ ack (Some (suc n)) (Some true) refl refl refl refl refl refl proper)
+needed_say (suc n) false ack proper = rw (eqb-suc-zero n) (ack_found _ ack (Some (suc n)) None refl refl refl refl refl refl proper)
+
+needed_follows : (ack : Acknowledgment) → IsProperEvent (Ack ack) → Follow [] (written.needed_pairs ack)
+needed_follows ack proper =
+    needed_follow ack.delay ack.app_limited _ proper.numbers.1
+    (follow _ key.Ranges _ _ refl refl (ranges_are_kept ack.ranges proper.numbers.0) (space_follows _ ack.space ack.time refl proper.in_time))
+
+-- the shortest line of an event is read as the event
+pub shortest_reads : (e : Event) → IsProperEvent e → reading (written.shortest e) ≡ Ok (line.Event e)
+shortest_reads (Sent packet) proper = written_reads (line.Event (Sent packet)) proper
+shortest_reads (Ack ack) proper = object_reads (written.needed_pairs ack) (line.Event (Ack ack)) (needed_follows ack proper) (needed_say ack.delay ack.app_limited ack proper)
+shortest_reads (Lost t s rs) proper = written_reads (line.Event (Lost t s rs)) proper
+shortest_reads (Timer t k s) proper = written_reads (line.Event (Timer t k s)) proper
+shortest_reads (Discard t s) proper = written_reads (line.Event (Discard t s)) proper
+shortest_reads (Confirmed t) proper = written_reads (line.Event (Confirmed t)) proper
+shortest_reads (Keys t) proper = written_reads (line.Event (Keys t)) proper
+shortest_reads (Metrics t v) proper = written_reads (line.Event (Metrics t v)) proper
+
+-- and is one line
+pub shortest_has_no_lf : (e : Event) → IsProperEvent e → has_lf (written.shortest e) ≡ false
+shortest_has_no_lf (Sent packet) proper = written_has_no_lf (line.Event (Sent packet)) proper
+shortest_has_no_lf (Ack ack) proper = has_lf-compact_text (object_of (written.needed_pairs ack)) (needed_follows ack proper).simple
+shortest_has_no_lf (Lost t s rs) proper = written_has_no_lf (line.Event (Lost t s rs)) proper
+shortest_has_no_lf (Timer t k s) proper = written_has_no_lf (line.Event (Timer t k s)) proper
+shortest_has_no_lf (Discard t s) proper = written_has_no_lf (line.Event (Discard t s)) proper
+shortest_has_no_lf (Confirmed t) proper = written_has_no_lf (line.Event (Confirmed t)) proper
+shortest_has_no_lf (Keys t) proper = written_has_no_lf (line.Event (Keys t)) proper
+shortest_has_no_lf (Metrics t v) proper = written_has_no_lf (line.Event (Metrics t v)) proper

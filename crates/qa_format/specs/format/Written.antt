@@ -1,11 +1,13 @@
 -- The text that is written for a line.
-use Rattle.std.specs.Prelude.{ℕ, nat_le, List, [], ◌∷◌, ◌++◌, length, Bool, true, Option, Some}
-use Rattle.std.specs.Prelude.{None}
+use Rattle.std.specs.Prelude.{ℕ, ◌+◌, ◌==◌, nat_le, List, [], ◌∷◌, ◌++◌, length, Bool, true, false}
+use Rattle.std.specs.Prelude.{Option, Some, None, if◌then◌else◌}
 use Rattle.serde_json.specs.Data as json
 use Rattle.serde_json.specs.Data.{Data, Items, no_items, item, Members, no_members, member}
 use Rattle.serde_json.specs.Written.{compact_text}
+use Rattle.qa_base.specs.declared.event.Ack.{Ack}
 use Rattle.qa_base.specs.declared.event.Event.{Event}
-use Rattle.qa_base.specs.declared.event.Event.TheVariants.{Sent, Ack, Lost, Timer, Discard}
+use Rattle.qa_base.specs.declared.event.Event.TheVariants as events
+use Rattle.qa_base.specs.declared.event.Event.TheVariants.{Sent, Lost, Timer, Discard}
 use Rattle.qa_base.specs.declared.event.Event.TheVariants.{Confirmed, Keys, Metrics}
 use Rattle.qa_base.specs.declared.key.Key.{Key}
 use Rattle.qa_base.specs.declared.key.Key.TheVariants as key
@@ -110,7 +112,7 @@ event_pairs (Sent packet) =
     ∷ (key.Space, string (space_name packet.space))
     ∷ (key.Time, integer packet.time)
     ∷ []
-event_pairs (Ack ack) =
+event_pairs (events.Ack ack) =
     (key.Delay, integer ack.delay)
     ∷ (key.Event, string (line_kind_name kinds.Ack))
     ∷ (key.Limited, boolean ack.app_limited)
@@ -167,14 +169,41 @@ line_fits (line.Event e) = fits e
 
 -- ---- the limit of a line
 
--- the text of the event is no longer than a line may be
-abbrev pub is_short : Event → Bool
-is_short e = nat_le (length (written (line.Event e))) line_limit
+-- what an acknowledgment may leave out: a delay of 0
+abbrev pub delay_pairs : ℕ → Pairs
+delay_pairs delay = if delay == 0 then [] else ((key.Delay, integer delay) ∷ [])
+
+-- and that the application did not limit it
+abbrev pub limited_pairs : Bool → Pairs
+limited_pairs false = []
+limited_pairs true = (key.Limited, boolean true) ∷ []
+
+-- what an acknowledgment cannot leave out
+abbrev pub needed_pairs : Ack → Pairs
+needed_pairs ack =
+    delay_pairs ack.delay
+    ++ (key.Event, string (line_kind_name kinds.Ack))
+    ∷ limited_pairs ack.app_limited
+    ++ (key.Ranges, json.array (integer_pairs ack.ranges))
+    ∷ (key.Space, string (space_name ack.space))
+    ∷ (key.Time, integer ack.time)
+    ∷ []
+
+-- the shortest line that says an acknowledgment or a loss; of other events the line that is written
+abbrev pub shortest : Event → List ℕ
+shortest (events.Ack ack) = compact_text (object_of (needed_pairs ack))
+shortest e = written (line.Event e)
+
+-- how much shorter it is than what is written: by `"delay":0,` and by `"limited":false,`
+abbrev pub left_out : Event → ℕ
+left_out (events.Ack ack) =
+    (if ack.delay == 0 then 10 else 0) + (if ack.app_limited then 0 else 16)
+left_out _ = 0
 
 -- some line says the event: one with very many ranges may be too long for any
 abbrev pub has_line : Event → Bool
-has_line (Ack ack) = is_short (Ack ack)
-has_line (Lost time space ranges) = is_short (Lost time space ranges)
+has_line (events.Ack ack) = nat_le (length (shortest (events.Ack ack))) line_limit
+has_line (Lost time space ranges) = nat_le (length (shortest (Lost time space ranges))) line_limit
 has_line _ = true
 
 -- with so many ranges the text is short, whatever their numbers are

@@ -105,7 +105,8 @@ impl Connection {
     {
         let delay = sampling::limited_delay(&self.header, self.handshake.confirmed, delay);
         let only = self.header.options().sample_eliciting_only;
-        sampling::acknowledge(&mut self.rtt, acknowledged, largest, delay, now, only);
+        let sent = sampling::sampled_at(acknowledged, largest, only);
+        sampling::sample(&mut self.rtt, sent, delay, now);
     }
 
     /// Packets are lost by a detection, the last of which was sent at `last_sent`, where there are

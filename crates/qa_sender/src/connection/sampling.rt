@@ -1,5 +1,5 @@
 //! The round-trip time, by its samples (RFC 9002, section 5).
-ghost use Rattle.std.specs.Prelude.{◌≡◌, reverse};
+ghost use Rattle.std.specs.Prelude.{◌≡◌, ℕ, reverse};
 ghost use Rattle.std.specs.List.{list_any};
 ghost use Rattle.qa_base.specs.machine.Rtt as estimates;
 ghost use Rattle.qa_sender.specs.connection.Steps as steps;
@@ -48,7 +48,7 @@ pub(crate) fn limited_delay(header: &Header, confirmed: bool, delay: u64) -> u64
 }
 
 /// The sample of a packet that was sent then is taken in, where there is one.
-fn sample(rtt: &mut Rtt, sent: Option<Ticks>, delay: u64, now: Ticks)
+pub(crate) fn sample(rtt: &mut Rtt, sent: Option<Ticks>, delay: u64, now: Ticks)
     ensures { rtt.new ≡ estimates.updated rtt.old (steps.sample_at now delay sent) }
 {
     if let Some(sent) = sent {
@@ -56,22 +56,18 @@ fn sample(rtt: &mut Rtt, sent: Option<Ticks>, delay: u64, now: Ticks)
     }
 }
 
-/// An acknowledgment is taken in that newly acknowledges these packets, which stand in the order of
-/// sending. It gives a sample where the largest acknowledged number and an ack-eliciting packet are
-/// among them (RFC 9002, section 5.1); where the sender samples no others, these are the same.
-pub(crate) fn acknowledge(
-    rtt: &mut Rtt,
-    packets: &[SentPacket],
-    number: PacketNumber,
-    delay: u64,
-    now: Ticks,
-    only: bool,
-)
-    ensures { rtt.new ≡ estimates.updated rtt.old
-        (steps.sample_by only now delay number packets.now) }
+/// When the packet was sent of which an acknowledgment gives a sample that newly acknowledges these
+/// packets, which stand in the order of sending, and whose largest number is this. It gives one
+/// where that number and an ack-eliciting packet are among them (RFC 9002, section 5.1); where the
+/// sender samples no others, these are the same.
+pub(crate) fn sampled_at(packets: &[SentPacket], number: PacketNumber, only: bool) -> Option<Ticks>
+    ensures { (now delay : ℕ) → steps.sample_at now delay result
+        ≡ steps.sample_by only now delay number packets.now }
 {
     if some_sampled(packets, only, number) {
-        sample(rtt, sent_at(packets, number), delay, now);
+        sent_at(packets, number)
+    } else {
+        None
     }
 }
 

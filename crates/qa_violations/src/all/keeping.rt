@@ -21,7 +21,7 @@ use qa_base::{Event, TimeUnit};
 use qa_check::{Judge, Outcome, shown_name};
 use qa_format::Line;
 use qa_ledger::{Explains, Tolerates};
-use qa_why::{Why, broken, extend};
+use qa_why::{Heading, Why, broken, extend};
 use std::alloc::{AllocError, Global};
 
 /// What is kept of the violations of a trace: the last rows, what is told of the first of each
@@ -85,16 +85,13 @@ impl Kept {
         if self.table.has(violation.rule) {
             return Ok(());
         }
-        let mut text = broken(
-            self.alloc,
-            "departure",
+        let heading = Heading {
             name,
             n,
-            violation.rule,
-            event,
-            &violation.cause,
-            line,
-        )?;
+            word: "departure",
+            rule: violation.rule,
+        };
+        let mut text = broken(self.alloc, &heading, event, &violation.cause, line)?;
         self.latest.push_text(&mut text)?;
         extend(&mut self.firsts, &text)
     }
@@ -201,6 +198,7 @@ impl Kept {
         Ok(Why {
             outcome: outcome_past(&self.table, end.outcome),
             text: self.firsts,
+            guessed: end.guessed,
         })
     }
 }

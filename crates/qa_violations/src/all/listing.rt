@@ -258,7 +258,12 @@ impl Listed {
             × (why.outcome ≡ outcome_with (all.findings (all.all_violated ls)) end.outcome)) }
     {
         let outcome = outcome_past(&self.table, end.outcome);
+        let guessed = end.guessed;
         let text = self.members(end)?;
-        Ok(Why { outcome, text })
+        Ok(Why {
+            outcome,
+            text,
+            guessed,
+        })
     }
 }

@@ -9,7 +9,14 @@ use qa_why::{data_of, is_key};
 use serde_json::{Map, Value};
 use std::alloc::{AllocError, Global};
 
-/// Those keys of an object that a line of this kind does not have.
+/// Whether a key is a logger's own, which begins with `x_`.
+fn is_own(key: &str) -> bool
+    ensures { result ≡ spec.is_own key.now }
+{
+    key.as_bytes().starts_with(b"x_")
+}
+
+/// Those keys of an object that a line of this kind does not have, and that are not a logger's own.
 fn strange_among(
     alloc: Global,
     version: Version,
@@ -21,7 +28,7 @@ fn strange_among(
 {
     let mut found = Vec::new(alloc);
     for key in members.keys() {
-        if !is_key(version, kind, key.as_str()) {
+        if !is_key(version, kind, key.as_str()) && !is_own(key.as_str()) {
             found.push(key.clone()?)?;
         }
     }
@@ -29,7 +36,7 @@ fn strange_among(
 }
 
 /// The keys of the object that a line is which a line of this kind does not have, where the header
-/// has this version, in ascending order.
+/// has this version, and that are not a logger's own, in ascending order.
 ///
 /// `AllocError` comes where it is out of memory.
 pub fn strange_keys(

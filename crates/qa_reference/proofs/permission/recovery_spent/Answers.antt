@@ -1,4 +1,4 @@
-use Rattle.std.proofs.Common.{◌∙◌, List, sym, ap, arith, take}
+use Rattle.std.proofs.Common.{◌≡◌, ◌∙◌, ◌∷◌, List, sym, ap, subst, arith, take}
 use Rattle.std.proofs.lemmas.List.{length-take-le}
 use Rattle.std.proofs.lemmas.List.Elements.{All-take}
 use Rattle.qa_base.specs.declared.event.Event.{Event}
@@ -7,35 +7,17 @@ use Rattle.qa_base.specs.machine.Moments.{before_last}
 use Rattle.qa_base.specs.machine.Packets.{history_of}
 use Rattle.qa_base.specs.machine.Reno.{reno}
 use Rattle.qa_base.specs.machine.Widths.{Fits}
+use Rattle.qa_reference.specs.Words.{IsCongestion}
+use Rattle.qa_reference.proofs.Entries.{recovery_spent_is}
 use Rattle.qa_reference.proofs.Turns.{one_more, at_end}
 use Rattle.qa_reference.proofs.permission.recovery_spent.Goals as goal
 
-pub recovery_after-spent-requires-clause-whole : goal.recovery_after-spent-requires-clause-whole
-recovery_after-spent-requires-clause-whole c = one_more c.args.events.now c.loop-place.place c.index-events-place.result c.loop-place-test.true c.index-events-place.is
+pub reno_after-reno-requires-clause-lost : goal.reno_after-reno-requires-clause-lost
+reno_after-reno-requires-clause-lost c =
+    subst (λ (h : List Event). IsCongestion c.args.header.now h c.congestion_of-congestion.result) (one_more c.args.events.now c.loop-place.place c.index-events-place.result c.loop-place-test.true c.index-events-place.is) c.congestion_of-congestion.ensures
 
-pub reno_after-reno-requires-clause-whole : goal.reno_after-reno-requires-clause-whole
-reno_after-reno-requires-clause-whole c = one_more c.args.events.now c.loop-place.place c.index-events-place.result c.loop-place-test.true c.index-events-place.is
-
-pub recovery_after-spent-requires-clause-seen : goal.recovery_after-spent-requires-clause-seen
-recovery_after-spent-requires-clause-seen c = c.losses_after-losses.ensures
-
-pub recovery_after-spent-requires-clause-window : goal.recovery_after-spent-requires-clause-window
-recovery_after-spent-requires-clause-window c =
-    c.before_detection-detected.ensures c.args.header.now (history_of (take c.loop-place.place c.args.events.now)) c.loop-place.invariant.reno c.loop-place.invariant.earlier
-
-pub recovery_after-spent-requires-clause-spent : goal.recovery_after-spent-requires-clause-spent
-recovery_after-spent-requires-clause-spent c = c.loop-place.invariant.value
-
-pub recovery_after-spent-requires-clause-room : goal.recovery_after-spent-requires-clause-room
-recovery_after-spent-requires-clause-room c =
-    omega (arith, c.requires.few, length-take-le c.loop-place.place c.args.events.now c.loop-place.auto.place-end)
-
-pub recovery_after-spent-requires-clause-few : goal.recovery_after-spent-requires-clause-few
-recovery_after-spent-requires-clause-few c =
-    λ x is. (let few = c.loop-place.invariant.few x is in omega (arith, few, length-take-le c.loop-place.place c.args.events.now c.loop-place.auto.place-end))
-
-pub reno_after-reno-requires-clause-seen : goal.reno_after-reno-requires-clause-seen
-reno_after-reno-requires-clause-seen c = c.losses_after-losses.ensures
+pub congestion_of-congestion-requires : goal.congestion_of-congestion-requires
+congestion_of-congestion-requires c = record { seen = c.losses_after-losses.ensures }
 
 pub reno_after-reno-requires-clause-known : goal.reno_after-reno-requires-clause-known
 reno_after-reno-requires-clause-known c = c.loop-place.invariant.reno
@@ -49,13 +31,19 @@ losses_after-losses-requires-clause-known c = c.loop-place.invariant.rtt
 pub loop-place-preserved : goal.loop-place-preserved
 loop-place-preserved c =
     let next = one_more c.args.events.now c.loop-place.place c.index-events-place.result c.loop-place-test.true c.index-events-place.is in
-    let taken = length-take-le c.loop-place.place c.args.events.now c.loop-place.auto.place-end in
+    let s = c.args.header.now in
+    let e = c.index-events-place.result in
+    let h = history_of (take c.loop-place.place c.args.events.now) in
+    let lost = subst (λ (h : List Event). IsCongestion s h c.congestion_of-congestion.result) next c.congestion_of-congestion.ensures in
+    let detected = c.before_detection-detected.ensures s h c.loop-place.invariant.reno c.loop-place.invariant.earlier in
+    let spent : c.spent_after-spent.result ≡ recovery_spent s (e ∷ h) =
+    rw (c.spent_after-spent.ensures.value, c.enters-entered.ensures, lost.0, detected, c.recovery_mark.ensures.value h, c.loop-place.invariant.value) (sym (recovery_spent_is s e h)) in
     record {
       rtt = c.refreshed_where_asked-rtt.ensures;
       earlier = c.loop-place.invariant.reno ∙ sym (ap (λ (h : List Event). reno c.args.header.now (before_last h)) next);
       reno = c.reno_after-reno.ensures ∙ sym (ap (reno c.args.header.now) next);
-      value = c.recovery_after-spent.ensures.value ∙ sym (ap (recovery_spent c.args.header.now) next);
-      few = λ x is. (let few = c.recovery_after-spent.ensures.few x is in omega (arith, few, taken));
+      value = spent ∙ sym (ap (recovery_spent s) next);
+      few = c.spent_after-spent.ensures.few;
     }
 
 pub losses_after-losses-requires-clause-whole : goal.losses_after-losses-requires-clause-whole

@@ -1,13 +1,15 @@
 use Rattle.std.proofs.Common.{◌∙◌, sym, ap}
+use Rattle.qa_base.specs.machine.Loss.{is_persistent}
 use Rattle.qa_base.specs.machine.Window.{acknowledged_since_collapse}
 use Rattle.qa_reference.proofs.Turns.{one_more, at_end}
 use Rattle.qa_reference.proofs.reported.acknowledged_since_collapse.Goals as goal
 
-pub since_collapse_after-sum-requires-clause-whole : goal.since_collapse_after-sum-requires-clause-whole
-since_collapse_after-sum-requires-clause-whole c = one_more c.args.events.now c.loop-place.place c.index-events-place.result c.loop-place-test.true c.index-events-place.is
+pub since_collapse_after-sum-requires-clause-persistent : goal.since_collapse_after-sum-requires-clause-persistent
+since_collapse_after-sum-requires-clause-persistent c =
+    c.is_persistent-persistent.ensures ∙ ap (is_persistent c.args.header.now) (one_more c.args.events.now c.loop-place.place c.index-events-place.result c.loop-place-test.true c.index-events-place.is)
 
-pub since_collapse_after-sum-requires-clause-seen : goal.since_collapse_after-sum-requires-clause-seen
-since_collapse_after-sum-requires-clause-seen c = c.losses_after-losses.ensures
+pub is_persistent-persistent-requires : goal.is_persistent-persistent-requires
+is_persistent-persistent-requires c = record { seen = c.losses_after-losses.ensures }
 
 pub since_collapse_after-sum-requires-clause-known : goal.since_collapse_after-sum-requires-clause-known
 since_collapse_after-sum-requires-clause-known c = c.loop-place.invariant.sum

@@ -17,6 +17,6 @@ returns c =
     let ssthresh = c.ssthresh_by.ensures
     ∙ (ap (λ (o : Options). ssthresh_by o.controller c.reno-reno.result.ssthresh) asked
     ∙ ap (λ (r : Control). ssthresh_by who r.ssthresh) c.reno-reno.ensures) in
-    c.totals_by.ensures
+    c.totals.ensures
     ∙ totals_are c.args.header.now (history_of c.args.events.now) _ c.window_by.result c.ssthresh_by.result c.rtt.result c.bytes_in_flight.result c.pto_count.result c.owed_count.result (sym (length-history_of c.args.events.now))
     window ssthresh c.rtt.ensures c.bytes_in_flight.ensures c.pto_count.ensures.value c.owed_count.ensures

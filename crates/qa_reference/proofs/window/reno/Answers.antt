@@ -1,16 +1,19 @@
-use Rattle.std.proofs.Common.{◌∙◌, sym, ap, arith}
+use Rattle.std.proofs.Common.{◌∙◌, List, sym, ap, subst, arith}
 use Rattle.std.proofs.lemmas.List.{length-take-le}
 use Rattle.std.proofs.lemmas.List.Elements.{All-take}
+use Rattle.qa_base.specs.declared.event.Event.{Event}
 use Rattle.qa_base.specs.machine.Reno.{reno}
 use Rattle.qa_base.specs.machine.Widths.{Fits}
+use Rattle.qa_reference.specs.Words.{IsCongestion}
 use Rattle.qa_reference.proofs.Turns.{one_more, at_end}
 use Rattle.qa_reference.proofs.window.reno.Goals as goal
 
-pub reno_after-reno-requires-clause-whole : goal.reno_after-reno-requires-clause-whole
-reno_after-reno-requires-clause-whole c = one_more c.args.events.now c.loop-place.place c.index-events-place.result c.loop-place-test.true c.index-events-place.is
+pub reno_after-reno-requires-clause-lost : goal.reno_after-reno-requires-clause-lost
+reno_after-reno-requires-clause-lost c =
+    subst (λ (h : List Event). IsCongestion c.args.header.now h c.congestion_of-congestion.result) (one_more c.args.events.now c.loop-place.place c.index-events-place.result c.loop-place-test.true c.index-events-place.is) c.congestion_of-congestion.ensures
 
-pub reno_after-reno-requires-clause-seen : goal.reno_after-reno-requires-clause-seen
-reno_after-reno-requires-clause-seen c = c.losses_after-losses.ensures
+pub congestion_of-congestion-requires : goal.congestion_of-congestion-requires
+congestion_of-congestion-requires c = record { seen = c.losses_after-losses.ensures }
 
 pub reno_after-reno-requires-clause-known : goal.reno_after-reno-requires-clause-known
 reno_after-reno-requires-clause-known c = c.loop-place.invariant.reno

@@ -30,11 +30,11 @@ returns c =
     let h = history_of c.args.before.now in
     let after = λ (r : Control) (ms : List Move). fold (moved s.max_datagram_size) r ms in
     let grown : List Move = if is_app_limited e then [] else grows (newly_acknowledged (e ∷ h)) in
-    let lost = c.last_lost.ensures ∙ ap (λ (h : List Event). last_sending (declared s h)) c.requires.whole in
-    let persistent = c.is_persistent.ensures ∙ ap (is_persistent s) c.requires.whole in
+    let lost = c.requires.lost.0 in
+    let persistent = c.requires.lost.1 in
     let on_congestion_event =
     c.hit_by-on_congestion_event.ensures.value
-    ∙ (ap (λ (t : ℕ). after c.args.reno (hits_at t c.last_lost.result)) c.detected_at-now.ensures
+    ∙ (ap (λ (t : ℕ). after c.args.reno (hits_at t c.args.congestion.last_sent)) c.detected_at-now.ensures
     ∙ (ap (λ (o : Option ℕ). after c.args.reno (hits_at (last_time (detection_of (e ∷ h))) o)) lost
     ∙ ap (λ (r : Control). after r (hits_at (last_time (detection_of (e ∷ h))) (last_sending (declared s (e ∷ h))))) c.requires.known)) in
     let collapsed =

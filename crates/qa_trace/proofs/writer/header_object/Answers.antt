@@ -9,13 +9,13 @@ use Rattle.qa_base.specs.declared.line_kind.LineKind.TheVariants as kinds
 use Rattle.qa_base.specs.values.Names.{line_kind_name, role_name, unit_name, controller_name, loss_by_number_name, version_number}
 use Rattle.qa_base.specs.values.Settings.{Settings}
 use Rattle.qa_format.specs.format.Written.{Pairs, members, string, integer, boolean, option_pairs, in_third, limit_pairs}
-use Rattle.qa_trace.specs.Members.{with, with_settings, with_options, with_third}
+use Rattle.qa_trace.specs.Members.{with, with_settings, with_options, with_unit_and_choices}
 use Rattle.qa_trace.proofs.writer.header_object.Goals as goal
 
 -- what stands in a header of this version, up to its limit
 abbrev up_to_role : Settings → Version → Members
 up_to_role s version =
-    with_third version s
+    with_unit_and_choices version s
     (with key.Role (string (role_name s.role)) (with_options version s.options (with_settings s (with key.Event (string (line_kind_name kinds.Header)) no_members))))
 
 -- what stands in a header of this version with this limit
@@ -50,7 +50,7 @@ in_order s Three (Some n) ms is = rw is refl
 pub returns-clause-object : goal.returns-clause-object
 returns-clause-object c =
     let s = c.args.header.now in
-    let role : members_view c.put_third.new.map.entries ≡ up_to_role s s.version =
-    rw (c.in_ok-put_text-2.ensures, c.in_ok-put_options.ensures, c.in_ok-put_settings.ensures, c.in_ok-put_text.ensures, c.new-map.ensures.empty, c.name.ensures, c.name-2.ensures, c.role.ensures) at c.in_ok-put_third.ensures in
+    let role : members_view c.put_unit_and_choices.new.map.entries ≡ up_to_role s s.version =
+    rw (c.in_ok-put_text-2.ensures, c.in_ok-put_options.ensures, c.in_ok-put_settings.ensures, c.in_ok-put_text.ensures, c.new-map.ensures.empty, c.name.ensures, c.name-2.ensures, c.role.ensures) at c.in_ok-put_unit_and_choices.ensures in
     let limit = rw (c.options.ensures.value, role) at c.in_ok-report.ensures.put in
     rw (view-Object, c.in_ok-put_integer.ensures, c.number.ensures, c.version.ensures) (ap object (in_order s s.version s.options.timer_late _ limit))

@@ -11,5 +11,5 @@ pub returns : goal.returns
 returns c =
     let held = c.self.inside in
     let s = c.args.space in
-    let space_packets : IsSpacePackets s held.dropped held.packets.items c.of.result.now = rw c.of.ensures (space_packets_sound held.dropped held.packets.items held.losses held.by_space c.self.invariant s) in
-    ap (nat_lt 0) space_packets.indexed.awaiting ∙ (any_counted (is_awaiting s) held.packets.items ∙ ap (λ (h : Held). list_any (is_awaiting s) h.packets) c.self.view_is)
+    let space_packets : IsSpacePackets s held.queue.dropped held.queue.packets.items c.of.result.now = rw c.of.ensures (space_packets_sound held.queue.dropped held.queue.packets.items held.losses held.by_space c.self.invariant s) in
+    ap (nat_lt 0) space_packets.indexed.awaiting ∙ (any_counted (is_awaiting s) held.queue.packets.items ∙ ap (λ (h : Held). list_any (is_awaiting s) h.packets) c.self.view_is)

@@ -9,13 +9,13 @@ use Rattle.qa_sent_packets.proofs.packets.SentPackets.discard.Goals as goal
 pub invariant_of-self : goal.invariant_of-self
 invariant_of-self c =
     let before = c.self.inside in
-    let ps = before.packets.items in
+    let ps = before.queue.packets.items in
     let s = c.args.space in
     let f = discarded_in s in
     let same : length c.discard_all.new.packets.items ≡ length ps = ap length c.discard_all.ensures ∙ length-map ps f in
     let many : deque_len c.discard_all.new.packets ≡ length c.discard_all.new.packets.items = c.discard_all.new.packets.ok.0 in
-    let next : c.clear.new.self.next ≡ before.dropped + length ps = c.clear.ensures.next ∙ ap (λ n. before.dropped + n) (c.len.ensures ∙ (many ∙ same)) in
+    let next : c.clear.new.self.next ≡ before.queue.dropped + length ps = c.clear.ensures.next ∙ ap (λ n. before.queue.dropped + n) (c.len.ensures ∙ (many ∙ same)) in
     rw c.discard_all.ensures
-    (sound_settled before.dropped ps before.losses before.by_space s c.clear.new.self f (discarded_same s) (discarded_not_owed s) (discarded_alike s)
+    (sound_settled before.queue.dropped ps before.losses before.by_space s c.clear.new.self f (discarded_same s) (discarded_not_owed s) (discarded_alike s)
     (rw (← c.self.view_is) at c.requires.settled) c.self.invariant
-    (space_packets_cleared s before.dropped ps c.clear.new.self c.clear.ensures.entries c.clear.ensures.in_flight c.clear.ensures.awaiting next))
+    (space_packets_cleared s before.queue.dropped ps c.clear.new.self c.clear.ensures.entries c.clear.ensures.in_flight c.clear.ensures.awaiting next))

@@ -13,15 +13,15 @@ invariant_of-self c =
     let before = c.self.inside in
     let p = c.index.result.now in
     let ps = c.pop_front.new.self.items in
-    let first : is_first_closed before.packets.items ≡ true = ap (λ (h : Held). is_first_closed h.packets) c.self.view_is ∙ c.requires in
-    let some' = some_first before.packets.items first in
-    let many : deque_len before.packets ≡ length before.packets.items = before.packets.ok.0 in
-    let some : 0 < deque_len before.packets = omega (arith, some', many) in
-    let items : before.packets.items ≡ p ∷ ps =
+    let first : is_first_closed before.queue.packets.items ≡ true = ap (λ (h : Held). is_first_closed h.packets) c.self.view_is ∙ c.requires in
+    let some' = some_first before.queue.packets.items first in
+    let many : deque_len before.queue.packets ≡ length before.queue.packets.items = before.queue.packets.ok.0 in
+    let some : 0 < deque_len before.queue.packets = omega (arith, some', many) in
+    let items : before.queue.packets.items ≡ p ∷ ps =
     c.pop_front.ensures.items ∙ ap (λ o. option_to_list o ++ ps) (c.pop_front.ensures.value p some ∙ ap Some (sym c.index.ensures)) in
     let closed : is_closed p ≡ true = subst (λ (qs : List SentPacket). is_first_closed qs ≡ true) items first in
-    let sound = subst (λ (qs : List SentPacket). IsSound before.dropped qs before.losses before.by_space) items c.self.invariant in
-    let place : before.dropped + 1 ≡ suc before.dropped = add-one before.dropped in
-    sound_dropped before.dropped (before.dropped + 1) p ps before.losses before.by_space
+    let sound = subst (λ (qs : List SentPacket). IsSound before.queue.dropped qs before.losses before.by_space) items c.self.invariant in
+    let place : before.queue.dropped + 1 ≡ suc before.queue.dropped = add-one before.queue.dropped in
+    sound_dropped before.queue.dropped (before.queue.dropped + 1) p ps before.losses before.by_space
     (record { initial = c.drop_first.new.self; handshake = c.drop_first-2.new.self; app = c.drop_first-3.new.self }) closed place sound
-    (c.drop_first.ensures before.dropped ps place sound.initial) (c.drop_first-2.ensures before.dropped ps place sound.handshake) (c.drop_first-3.ensures before.dropped ps place sound.app)
+    (c.drop_first.ensures before.queue.dropped ps place sound.initial) (c.drop_first-2.ensures before.queue.dropped ps place sound.handshake) (c.drop_first-3.ensures before.queue.dropped ps place sound.app)

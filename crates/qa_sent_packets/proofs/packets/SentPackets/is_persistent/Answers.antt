@@ -15,6 +15,6 @@ returns c =
 
 pub returns-then-self-eq0 : goal.returns-then-self-eq0
 returns-then-self-eq0 c =
-    let ps = c.self.inside.packets.items in
+    let ps = c.self.inside.queue.packets.items in
     let none : count_by (λ p. is_owed p.fate) ps ≡ 0 = sym c.self.invariant.owed.count ∙ c.if-self-eq0.true in
     apart_of_none c.args.limit c.args.first ps none ∙ ap (λ (h : Held). are_apart c.args.limit c.args.first None h.packets) c.self.view_is

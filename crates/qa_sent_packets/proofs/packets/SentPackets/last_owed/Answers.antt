@@ -15,6 +15,6 @@ returns c =
 
 pub returns-then-self-eq0 : goal.returns-then-self-eq0
 returns-then-self-eq0 c =
-    let ps = c.self.inside.packets.items in
+    let ps = c.self.inside.queue.packets.items in
     let none : count_by (λ p. is_owed p.fate) ps ≡ 0 = sym c.self.invariant.owed.count ∙ c.if-self-eq0.true in
     last_of_none ps none ∙ ap (λ (h : Held). last_owed None h.packets) c.self.view_is

@@ -16,7 +16,7 @@ returns-then-self-gt0 c =
     same
     ∙ (ap (λ b. b && is_space c.args.space losses.space) (sym some)
     ∙ (ap (λ n. nat_lt 0 n && is_space c.args.space losses.space) c.self.invariant.owed.count
-    ∙ (sym (any_owed c.args.space losses.space c.self.inside.packets.items c.self.invariant.owed.of_space)
+    ∙ (sym (any_owed c.args.space losses.space c.self.inside.queue.packets.items c.self.invariant.owed.of_space)
     ∙ ap (λ (h : Held). list_any (is_owed_in c.args.space) h.packets) c.self.view_is)))
 
 pub returns-else-self-gt0 : goal.returns-else-self-gt0
@@ -26,5 +26,5 @@ returns-else-self-gt0 c =
     none
     ∙ (ap (λ b. b && is_space c.args.space losses.space) (sym none)
     ∙ (ap (λ n. nat_lt 0 n && is_space c.args.space losses.space) c.self.invariant.owed.count
-    ∙ (sym (any_owed c.args.space losses.space c.self.inside.packets.items c.self.invariant.owed.of_space)
+    ∙ (sym (any_owed c.args.space losses.space c.self.inside.queue.packets.items c.self.invariant.owed.of_space)
     ∙ ap (λ (h : Held). list_any (is_owed_in c.args.space) h.packets) c.self.view_is)))

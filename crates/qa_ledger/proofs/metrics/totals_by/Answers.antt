@@ -1,5 +1,0 @@
-use Rattle.std.proofs.Common.{rules}
-use Rattle.qa_ledger.proofs.metrics.totals_by.Goals as goal
-
-pub returns : goal.returns
-returns c = search rules

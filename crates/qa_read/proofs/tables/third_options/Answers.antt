@@ -1,6 +1,0 @@
-use Rattle.std.proofs.Common.{refl}
-use Rattle.qa_read.proofs.tables.third_options.Goals as goal
-
--- Written out, so that a wrong body is refused at this line.
-pub returns : goal.returns
-returns c = rw (← c.in_ok-machine.ensures, c.default.ensures) refl

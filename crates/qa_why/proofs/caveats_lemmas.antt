@@ -1,0 +1,3 @@
+pub mod Guesses
+pub mod Missing
+pub mod Noted

@@ -1,0 +1,4 @@
+pub mod Remarks
+pub mod Guesses
+pub mod Missing
+pub mod Caveats
