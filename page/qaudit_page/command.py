@@ -2,6 +2,7 @@
 
 import argparse
 import os
+import signal
 import sys
 from pathlib import Path
 from typing import NoReturn
@@ -81,10 +82,22 @@ def main() -> Status:
     return Status.WRITTEN
 
 
+def end_by_interrupts() -> None:
+    """From now on Ctrl-C ends this process at once, and says nothing."""
+    signal.signal(signal.SIGINT, signal.SIG_DFL)
+
+
+def interrupted() -> NoReturn:
+    """Ends this process as Ctrl-C does, so that a shell sees it."""
+    end_by_interrupts()
+    os.kill(os.getpid(), signal.SIGINT)
+    sys.exit(Status.FAULT)
+
+
 def program() -> NoReturn:
     """Runs the command and ends."""
     try:
         status = main()
     except KeyboardInterrupt:
-        status = Status.FAULT
+        interrupted()
     sys.exit(status)

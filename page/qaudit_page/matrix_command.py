@@ -1,6 +1,7 @@
 """The command qaudit-matrix."""
 
 import argparse
+import multiprocessing
 import os
 import re
 import sys
@@ -12,7 +13,7 @@ from pathlib import Path
 from typing import NoReturn
 
 from .ci import Listed, annotations, junit, sarif
-from .command import Parser, add_shared
+from .command import Parser, add_shared, end_by_interrupts, interrupted
 from .failure import Failure, Status
 from .files import as_text, reason_of, write
 from .known import Known, Seen, compared, known_by, known_in
@@ -44,6 +45,8 @@ or a program is missing or failed, and 64 if the arguments are wrong. With --aga
 nothing is refused that was not before, and 1 if something is, or by another rule. With --known it
 is 0 if every violation is known, and 1 if one is new."""
 WIDTH = 40
+# How many processes may be started for each processor.
+MOST_A_CORE = 4
 BAD_IN_NAMES = re.compile(r"[^A-Za-z0-9._-]+")
 
 
@@ -78,10 +81,8 @@ def arguments() -> argparse.Namespace:
     parser.add_argument("--annotate", action="store_true", help=text)
     text = "the file for the table (default: standard output)"
     parser.add_argument("--output", type=Path, metavar="FILE", help=text)
-    text = "how many traces at a time (default: one per core)"
-    parser.add_argument(
-        "--jobs", type=int, default=len(os.sched_getaffinity(0)), metavar="N", help=text
-    )
+    text = f"how many traces at a time, at most {MOST_A_CORE} per core (default: one per core)"
+    parser.add_argument("--jobs", type=int, default=cores(), metavar="N", help=text)
     add_shared(parser)
     text = "traces, or directories of traces"
     parser.add_argument("traces", type=Path, metavar="TRACE|DIRECTORY", nargs="+", help=text)
@@ -91,6 +92,16 @@ def arguments() -> argparse.Namespace:
     if given.annotate and not given.output:
         parser.error("--annotate needs --output FILE, since it prints on standard output")
     return given
+
+
+def cores() -> int:
+    """How many processors this process may use."""
+    return len(os.sched_getaffinity(0))
+
+
+def workers(wanted: int, traces: int) -> int:
+    """How many processes are started if so many are wanted for so many traces."""
+    return max(1, min(wanted, MOST_A_CORE * cores(), traces))
 
 
 def is_whole(given: argparse.Namespace) -> bool:
@@ -119,14 +130,16 @@ def jobs_of(given: argparse.Namespace) -> list[Job]:
 def shown(results: Iterable[Result], total: int) -> Iterator[Result]:
     """The results, and on a terminal a bar of how far they are."""
     is_shown = sys.stderr.isatty()
-    for place, result in enumerate(results, 1):
-        if is_shown:
-            done = WIDTH * place // total
-            bar = "#" * done + "." * (WIDTH - done)
-            print(f"\r[{bar}] {place} of {total}", end="", file=sys.stderr, flush=True)
-        yield result
-    if is_shown and total:
-        print(file=sys.stderr)
+    try:
+        for place, result in enumerate(results, 1):
+            if is_shown:
+                done = WIDTH * place // total
+                bar = "#" * done + "." * (WIDTH - done)
+                print(f"\r[{bar}] {place} of {total}", end="", file=sys.stderr, flush=True)
+            yield result
+    finally:
+        if is_shown and total:
+            print(file=sys.stderr)
 
 
 def results_of(given: argparse.Namespace) -> list[Result]:
@@ -143,11 +156,17 @@ def results_of(given: argparse.Namespace) -> list[Result]:
     if not jobs:
         raise Failure("there is no trace: no file in the directories ends in .trace")
     pieces = max(1, min(8, len(jobs) // 40))
+    pool = ProcessPoolExecutor(workers(given.jobs, len(jobs)), initializer=end_by_interrupts)
     try:
-        with ProcessPoolExecutor(max(1, given.jobs)) as pool:
-            return list(shown(pool.map(judged, jobs, chunksize=pieces), len(jobs)))
+        return list(shown(pool.map(judged, jobs, chunksize=pieces), len(jobs)))
+    except KeyboardInterrupt:
+        for worker in multiprocessing.active_children():
+            worker.kill()
+        raise
     except BrokenProcessPool as fault:
         raise Failure("a process of the audit was killed: is there memory enough?") from fault
+    finally:
+        pool.shutdown(cancel_futures=True)
 
 
 def status_of(
@@ -242,5 +261,5 @@ def program() -> NoReturn:
     try:
         status = main()
     except KeyboardInterrupt:
-        status = Status.FAULT
+        interrupted()
     sys.exit(status)

@@ -6,9 +6,11 @@ import lzma
 import os
 import pty
 import shutil
+import signal
 import subprocess
 import sys
 import tempfile
+import time
 import unittest
 from pathlib import Path
 from typing import Any
@@ -16,6 +18,7 @@ from typing import Any
 from tests.made import HEADER, NO_LIBRARY, PAGE, PROGRAM, TRACES, Page, joined, sent
 
 from qaudit_page.matrix import Change, Result, changes_of, pattern, place_of
+from qaudit_page.matrix_command import workers
 
 COMMAND = PAGE / "qaudit-matrix"
 GOOD = joined(HEADER, sent(0))
@@ -173,6 +176,29 @@ class Tables(unittest.TestCase):
             os.close(other)
         self.assertIn(f"[{20 * '#'}{20 * '.'}] 1 of 2", shown)
         self.assertTrue(shown.endswith(f"[{40 * '#'}] 2 of 2\r\n"))
+
+    def test_processes_are_bounded(self) -> None:
+        cores = len(os.sched_getaffinity(0))
+        self.assertEqual(workers(100_000, 100_000), 4 * cores)
+        self.assertEqual(workers(100_000, 3), 3)
+        self.assertEqual(workers(0, 3), 1)
+
+    def test_an_interrupt_ends_all_at_once(self) -> None:
+        with tempfile.TemporaryDirectory() as folder:
+            slow = Path(folder) / "slow"
+            slow.write_text("#!/bin/sh\nexec sleep 60\n")
+            slow.chmod(0o755)
+            for number in range(20):
+                (Path(folder) / f"{number}.trace").write_bytes(GOOD)
+            command = [COMMAND, "--program", slow, "--jobs", "4", folder]
+            with subprocess.Popen(
+                command, stdout=subprocess.PIPE, stderr=subprocess.PIPE, start_new_session=True
+            ) as running:
+                time.sleep(2)
+                os.killpg(running.pid, signal.SIGINT)
+                out, err = running.communicate(timeout=10)
+            self.assertEqual(running.returncode, -signal.SIGINT)
+            self.assertEqual((out, err), (b"", b""))
 
     def test_what_is_no_record(self) -> None:
         for text in ("", "[]", '{"version":2,"traces":[]}', '{"version":1,"traces":[{}]}'):
