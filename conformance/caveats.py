@@ -62,6 +62,7 @@ def text_of(lines: list[bytes], refusal: Refusal) -> bytes:
     gaps = "".join(f"  {sentence(it)}\n" for it in missing(lines, refusal.what)).encode()
     return told + gaps + note_of(lines)
 
+
 def is_guessed(line: bytes) -> bool:
     """Whether something on a line was guessed."""
     return f'"{GUESS}"'.encode() in line
