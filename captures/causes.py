@@ -57,6 +57,8 @@ class Before:
     last_time: int = 0
     # Whether packets left the bytes in flight with no event.
     has_forgotten: bool = False
+    # The space of an acknowledgment of nothing new, if that is the last event.
+    nothing_new_in: str = ""
     # The largest number of each space that was acknowledged.
     largest: dict[str, int] = field(default_factory=dict)
 
@@ -77,6 +79,8 @@ class Before:
             taker(event)
         if kind not in ("header", "metrics"):
             self.last_kind, self.last_time = kind, event["time"]
+        if kind not in ("ack", "metrics"):
+            self.nothing_new_in = ""
 
     def _take_sent(self, event: Event) -> None:
         self.sent[event["space"], event["number"]] = event
@@ -88,6 +92,7 @@ class Before:
         self.largest[event["space"]] = max(largest, self.largest.get(event["space"], largest))
         newest = self.sent.get((event["space"], largest))
         new = [packet for key, packet in self.sent.items() if is_named(key, event)]
+        self.nothing_new_in = "" if new else event["space"]
         if newest and any(packet["eliciting"] for packet in new):
             latest = event["time"] - newest["time"]
             minimum = min(latest, self.sample.minimum) if self.sample else latest
@@ -237,6 +242,11 @@ def is_age_rounded(before: Before, event: Event) -> bool:
     return any(abs(age - longest * 9 / 8) <= ROUNDED_AGE * before.unit for age in ages)
 
 
+def is_at_nothing_new(before: Before, event: Event) -> bool:
+    """Whether a loss is declared at an acknowledgment of nothing new (A.7 looks for none there)."""
+    return before.nothing_new_in != "" and event.get("space") == before.nothing_new_in
+
+
 def is_declared_unasked(before: Before, event: Event) -> bool:
     """Whether packets of the handshake are declared lost with no acknowledgment and no timer."""
     is_later = before.last_kind == "ack" and before.last_time < event["time"]
@@ -270,6 +280,7 @@ CAUSES: dict[str, list[tuple[Question, str]]] = {
     "V2 loss-owed": [(is_probed_packet_owed, PROBED), (is_age_rounded, OLD_ENOUGH)],
     "V3 loss-not-owed": [
         (is_declared_unasked, "packets of the handshake are declared lost"),
+        (is_at_nothing_new, "a loss is declared at an acknowledgment of nothing new"),
         (is_age_rounded, OLD_ENOUGH),
     ],
     "V4 loss-set": [(is_probed_packet_owed, PROBED), (is_age_rounded, OLD_ENOUGH)],

@@ -23,6 +23,7 @@ FROM_THE_MINIMUM = "V16: `rttvar` is taken from the minimum"
 HANDSHAKE = "V3: packets of the handshake are declared lost"
 AGE = "whole milliseconds decide whether a packet is old enough"
 PADDED = "V16: a padded ACK is not in flight"
+NOTHING_NEW = "V3: a loss is declared at an acknowledgment of nothing new"
 ROUNDED = "V16: whole milliseconds decide whether the delay is subtracted"
 NOT_TAKEN = "V16: a sample is not taken"
 NAMED = {
@@ -170,7 +171,7 @@ class Causes(unittest.TestCase):
         for space, before, time, cause in (
             ("handshake", packets, 43000, HANDSHAKE),
             ("handshake", f"{packets}{ack}\n", 43000, HANDSHAKE),
-            ("handshake", f"{packets}{ack}\n", 20000, rule),
+            ("handshake", f"{packets}{ack}\n", 20000, NOTHING_NEW),
             ("app", SAMPLES, 43000, rule),
         ):
             lost = {"event": "lost", "time": time, "space": space, "ranges": [[1, 1]]}
@@ -208,6 +209,23 @@ class Causes(unittest.TestCase):
                 cause = f"{rule.split()[0]}: a probe timeout takes packets out of flight"
                 with self.subTest(rule=rule, **changed):
                     self.assertEqual(found, cause if are_named else rule)
+
+    def test_acknowledgment_of_nothing_new(self) -> None:
+        """The last event acknowledges nothing new in the space of the loss; others."""
+        rule = "V3 loss-not-owed"
+        lines = SAMPLES.splitlines()
+        again = json.dumps(json.loads(lines[2]) | {"time": 20500})
+        for before, space, cause in (
+            ([*lines, again], "app", NOTHING_NEW),
+            ([*lines, again], "initial", rule),
+            (lines, "app", rule),
+            ([*lines[:3], again, lines[3]], "app", rule),
+        ):
+            lost = {"event": "lost", "time": 20500, "space": space, "ranges": [[1, 1]]}
+            trace = "\n".join([*before, json.dumps(lost)])
+            with self.subTest(space=space, lines=len(before)):
+                found = cause_of(trace.encode(), f"refused line {len(before) + 1} {rule}")
+                self.assertEqual(found, cause)
 
     def test_age_by_whole_milliseconds(self) -> None:
         """A packet whose age is the loss delay within two, and others."""
@@ -265,7 +283,8 @@ class Causes(unittest.TestCase):
     def test_every_cause_is_seen(self) -> None:
         """No cause is left out of these tests."""
         named = {cause for questions in CAUSES.values() for _, cause in questions}
-        seen = {name.partition(": ")[2] for name in (*NAMED.values(), PADDED, ROUNDED)} | {AGE}
+        others = (PADDED, ROUNDED, NOTHING_NEW)
+        seen = {name.partition(": ")[2] for name in (*NAMED.values(), *others)} | {AGE}
         self.assertEqual(named, seen)
 
 
