@@ -46,7 +46,7 @@ def all_text(name: str, trace: bytes, report: str, course: Course, count: int) -
     is_whole = course.verdict == "accepted"
     last = first_not_followed(trace, report, course)
     rows = b"" if is_whole else rows_before(trace, last, count)
-    return b"".join(firsts) + end_of(course) + rows + table_text(name, course)
+    return b"".join(firsts) + end_of(course) + rows + table_text(name, course) + course.rest
 
 
 def rows_before(trace: bytes, last: int | None, count: int) -> bytes:

@@ -34,6 +34,7 @@ MOST_LINES = 1_000
 # without, several at one event, and nanoseconds.
 STORED = (
     "anti-deadlock",
+    "broken-and-allowed",
     "collapse-missing",
     "departure-and-a-loss-owed-at-the-end",
     "departure-and-then-a-key-missing",

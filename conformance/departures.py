@@ -18,6 +18,7 @@ from pathlib import Path
 from typing import NamedTuple
 
 import caveats
+from allowed import Rest
 from constants import METRICS, METRICS_IN_BYTES, MOST_DOUBLINGS, OF_CONDUCT, Rule
 from faults import fault_of
 from objects import Facts, Object, broken, owed_at_end, unit_of, unreadable
@@ -45,6 +46,7 @@ FOLDER = Path(__file__).resolve().parent
 # of other rules, and of each other verdict.
 STORED = (
     "anti-deadlock",
+    "broken-and-allowed",
     "collapse-missing",
     "collapse-missing-and-a-late-timer",
     "collapse-missing-twice",
@@ -127,7 +129,9 @@ class First(NamedTuple):
 class Course:
     """What came of a trace: its verdict once departures are passed over, the departures, how many
     events were followed, and what is written of the first departure of each kind and of the end.
-    Beside its text the end of a trace whose lines were followed is there as an object."""
+    Beside its text the end of a trace whose lines were followed is there as an object. Of a trace
+    that ends as one that is accepted `rest` has what that rests on (allowed.py), and `is_strict` says
+    that nothing was allowed."""
 
     verdict: str = "accepted"
     departures: list[Departure] = field(default_factory=list)
@@ -136,6 +140,8 @@ class Course:
     firsts: list[First] = field(default_factory=list)
     end: bytes = b""
     ending: Object = field(default_factory=dict)
+    rest: bytes = b""
+    is_strict: bool = True
 
     @property
     def word(self) -> str:
@@ -152,7 +158,7 @@ def text_of(name: str, trace: bytes, report: str) -> bytes:
 def written(name: str, course: Course) -> bytes:
     """What is written of a course."""
     firsts = b"".join(it.text for it in course.firsts)
-    return firsts + end_of(course) + table_text(name, course)
+    return firsts + end_of(course) + table_text(name, course) + course.rest
 
 
 def end_of(course: Course) -> bytes:
@@ -187,6 +193,7 @@ class Follower:
         self.sender = Sender(said_by(header))
         self.found = Course(unit=unit_of(said_by(header)))
         self.facts = Facts(self.sender, self.found.unit)
+        self.rest = Rest(said_by(header), self.sender)
 
     def course(self) -> Course:
         """What comes of the trace."""
@@ -198,13 +205,15 @@ class Follower:
             last = number
         if self.sender.owed:
             head = head_of(self.name, last, "refused", Rule.OWED_AT_END)
-            facts = {"line": last} | owed_at_end(self.facts)
+            facts: Object = {"line": last} | owed_at_end(self.facts)
             end = caveats.Refusal(last, Rule.OWED_AT_END, b"")
             behind = caveats.text_of(self.lines, end)
             self.end_as("refused", head + refused_end(self.sender) + behind, facts)
         else:
             events = self.sender.events
-            self.end_as("accepted", accepted(self.name, events), {"events": events})
+            facts = {"events": events} | self.rest.members()
+            self.end_as("accepted", accepted(self.name, events), facts)
+            self.found.rest, self.found.is_strict = self.rest.text(), self.rest.is_strict
         return self.ended()
 
     def ended(self) -> Course:
@@ -238,7 +247,10 @@ class Follower:
             return True
         for what in rules:
             self.depart(number, event, what)
+        if not rules:
+            self.rest.before(number, event)
         self.sender.follow(event)
+        self.rest.after(event)
         return False
 
     def depart(self, number: int, event: Event, what: str) -> None:

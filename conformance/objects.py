@@ -8,6 +8,7 @@ page agree.
 import json
 from collections.abc import Iterable
 
+from allowed import rest_of
 from constants import (
     K_MINIMUM_WINDOW,
     METRICS,
@@ -49,7 +50,7 @@ def object_of(name: str, trace: bytes, report: str) -> Object:
     front: Object = {"file": name, "verdict": verdict.word}
     if verdict.word == "accepted":
         events = next(it for it in report.splitlines() if it.startswith("events "))
-        return front | {"events": int(events.split()[1])}
+        return front | {"events": int(events.split()[1])} | rest_of(trace).members()
     lines = trace.split(b"\n")
     front |= {"line": verdict.line}
     if verdict.word == "unreadable":

@@ -10,6 +10,7 @@ from collections.abc import Iterable
 from typing import NamedTuple
 
 import caveats
+from allowed import rest_of
 from constants import (
     K_MINIMUM_WINDOW,
     MAX_LINE_LENGTH,
@@ -161,7 +162,7 @@ def why(name: str, trace: bytes, report: str) -> bytes:
     lines = trace.split(b"\n")
     if verdict.word == "accepted":
         events = next(it for it in report.splitlines() if it.startswith("events "))
-        return accepted(name, int(events.split()[1]))
+        return accepted(name, int(events.split()[1])) + rest_of(trace).text()
     if verdict.word == "unreadable":
         return not_read(name, verdict, lines)
     head = head_of(name, verdict.line, verdict.word, verdict.what)
@@ -177,7 +178,7 @@ def refusal_of(verdict: Verdict, lines: list[bytes]) -> tuple[list[bytes], cavea
 
 
 def accepted(name: str, events: int) -> bytes:
-    """What is written of a trace that is accepted with so many events."""
+    """The line of a trace that is accepted with so many events."""
     return f"{shown_name(name)}: accepted, {events} events\n".encode()
 
 

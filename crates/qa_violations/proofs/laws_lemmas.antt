@@ -3,3 +3,5 @@ pub mod Sets
 pub mod Accepted
 pub mod Breaking
 pub mod Agreement
+pub mod Unviolated
+pub mod Amounts

@@ -1,4 +1,5 @@
 pub mod table
+pub mod allowed
 pub mod around
 pub mod all
 pub mod laws

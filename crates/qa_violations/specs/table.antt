@@ -2,3 +2,4 @@ pub mod Amounts
 pub mod Table
 pub mod Steps
 pub mod Texts
+pub mod Members

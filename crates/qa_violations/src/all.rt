@@ -10,6 +10,7 @@ mod reasoning;
 mod rows;
 mod tolerating;
 mod trace;
+mod unviolated;
 
 pub use rows::rows_all;
 pub use tolerating::{Tolerating, Violation};

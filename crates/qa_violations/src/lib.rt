@@ -3,6 +3,7 @@
 #![tactic(auto)]
 
 mod all;
+mod allowed;
 mod around;
 pub mod laws;
 mod table;

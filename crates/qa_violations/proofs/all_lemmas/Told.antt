@@ -73,7 +73,7 @@ or_nothing : (o p : Option Settings) → option_or o p ≡ None → o ≡ None
 or_nothing None p none = refl
 or_nothing (Some c) p none = none
 
-or_none : (o : Option Settings) → option_or o None ≡ o
+pub or_none : (o : Option Settings) → option_or o None ≡ o
 or_none None = refl
 or_none (Some c) = refl
 
@@ -86,7 +86,7 @@ violated_headless ls l none =
 pub headless_before : (ls : List (List ℕ)) (l : List ℕ) → header_in reading (ls ++ l ∷ []) ≡ None → header_in reading ls ≡ None
 headless_before ls l none = or_nothing (header_in reading ls) (header_said (reading l)) (sym (header_in-snoc reading ls l) ∙ none)
 
-history_with : (ls : List (List ℕ)) (l : List ℕ) (e : Event) → reading l ≡ Ok (line.Event e) → history_in (ls ++ l ∷ []) ≡ e ∷ history_in ls
+pub history_with : (ls : List (List ℕ)) (l : List ℕ) (e : Event) → reading l ≡ Ok (line.Event e) → history_in (ls ++ l ∷ []) ≡ e ∷ history_in ls
 history_with ls l e says =
     ap history_of (events_in-snoc reading ls l ∙ ap (λ (r : Result Line Fault). events_in reading ls ++ filter_map event_said (r ∷ [])) says)
     ∙ history_of-snoc (events_in reading ls) e

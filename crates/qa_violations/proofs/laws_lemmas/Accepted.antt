@@ -4,10 +4,14 @@ use Rattle.std.proofs.lemmas.List.{append-nil}
 use Rattle.std.specs.Option.{option_or}
 use Rattle.std.specs.Prelude.{map, option_map, unwrap_or}
 use Rattle.qa_violations.specs.all.All.{all_outcome, all_text, tolerated_run_in, outcome_with, past_sender_rules, told_by}
-use Rattle.qa_violations.specs.all.Tolerating.{explained}
+use Rattle.qa_violations.specs.all.Tolerating.{explained, unviolated}
 use Rattle.qa_violations.specs.all.Violated.{Violated, all_violated, violated, violated_after, violated_at, violated_on, findings, history_in}
 use Rattle.qa_violations.specs.all.Objects.{members_of_none}
-use Rattle.qa_violations.specs.around.Around.{around_told, objects_behind}
+use Rattle.qa_violations.proofs.around_lemmas.Laws.{around_none}
+use Rattle.qa_violations.proofs.laws_lemmas.Unviolated.{same_rest}
+use Rattle.qa_violations.specs.allowed.Lines.{each}
+use Rattle.qa_violations.specs.allowed.Rests.{rest, rest_behind}
+use Rattle.qa_violations.specs.around.Around.{around_text, around_told, objects_behind, outcome_by}
 use Rattle.qa_violations.specs.around.Members.{member_of}
 use Rattle.qa_base.proofs.machine.RunLaws.{unbroken_is_tolerated}
 use Rattle.qa_base.specs.declared.event.Event.{Event}
@@ -33,7 +37,7 @@ use Rattle.qa_format.specs.format.Reading.{reading}
 use Rattle.qa_format.specs.verdicts.Verdict.{AreGood, end_of, event_said, events_in, first_stop, header_in, said, stop_after, stop_at, strict, verdict, verdict_of}
 use Rattle.qa_why.proofs.Told.{good_at_end, why_at_end}
 use Rattle.qa_why.specs.Objects.{object_line}
-use Rattle.qa_why.specs.Why.{good_lines, told, why, why_by}
+use Rattle.qa_why.specs.Why.{good_lines, told, why_by}
 use Rattle.qa_format.specs.declared.form.Form.{Form}
 use Rattle.qa_format.specs.declared.form.Form.TheVariants as forms
 
@@ -156,19 +160,33 @@ told_same count form name bytes t is =
     ap₂ (λ (ls : List (List ℕ)) (text : List ℕ). tolerated_run_in count form name ls (outcome_of (verdict past_sender_rules bytes)) text) (good_at_end past_sender_rules bytes (lines bytes) tolerated refl) (why_same form name bytes good)
     ∙ ap (λ outcome. tolerated_run_in count form name (lines bytes) outcome (why_by (strict reading) form name bytes)) (accepted_past bytes t is)
 
-pub text_of_accepted : (count : ℕ) (name bytes : List ℕ) (t : Totals) → verdict (strict reading) bytes ≡ Accepted t → all_text count forms.Text name bytes ≡ why forms.Text name bytes
+-- what the verdict rests on, past violations too
+rest_same : (form : Form) (bytes : List ℕ) (t : Totals) → verdict (strict reading) bytes ≡ Accepted t
+    → rest unviolated form (lines bytes) ≡ rest_behind each form (outcome_by bytes) (good_lines (strict reading) bytes)
+rest_same form bytes t is =
+    let good = accepted_is_good bytes t is in
+    same_rest form (lines bytes) good
+    ∙ (ap (λ (ls : List (List ℕ)). rest each form ls) (sym (good_at_end (strict reading) bytes (lines bytes) good refl))
+    ∙ ap (λ (outcome : Outcome). rest_behind each form outcome (good_lines (strict reading) bytes)) (sym (ap outcome_of is)))
+
+pub text_of_accepted : (count : ℕ) (name bytes : List ℕ) (t : Totals) → verdict (strict reading) bytes ≡ Accepted t → all_text count forms.Text name bytes ≡ around_text 0 forms.Text name bytes
 text_of_accepted count name bytes t is =
     let good = accepted_is_good bytes t is in
     let none : all_violated (lines bytes) ≡ [] = none_violated [] (lines bytes) good in
     let text = why_by (strict reading) forms.Text name bytes in
-    told_same count forms.Text name bytes t is ∙ (rw none (append-nil (text ++ []) ∙ append-nil text))
+    let told : tolerated_run_in count forms.Text name (lines bytes) outcomes.Accepted text ≡ text ++ rest unviolated forms.Text (lines bytes) =
+    rw none (ap (λ (front : List ℕ). front ++ rest unviolated forms.Text (lines bytes)) (append-nil (text ++ []) ∙ append-nil text)) in
+    told_same count forms.Text name bytes t is
+    ∙ (told ∙ (ap (λ (more : List ℕ). text ++ more) (rest_same forms.Text bytes t is) ∙ sym (around_none forms.Text name bytes)))
 
 -- the members of the trace itself
 around_accepted : (count : ℕ) (name bytes : List ℕ) (t : Totals) → verdict (strict reading) bytes ≡ Accepted t
-    → around_told count forms.Json name bytes ≡ why_by (strict reading) forms.Json name bytes ++ member_of count []
+    → around_told count forms.Json name bytes ≡ (why_by (strict reading) forms.Json name bytes ++ rest unviolated forms.Json (lines bytes)) ++ member_of count []
 unfolding around_told
 around_accepted count name bytes t is =
-    ap (λ (outcome : Outcome). why_by (strict reading) forms.Json name bytes ++ objects_behind outcome count (good_lines (strict reading) bytes)) (ap outcome_of is)
+    let told = why_by (strict reading) forms.Json name bytes in
+    ap (λ (outcome : Outcome). told ++ rest_behind each forms.Json (outcome_by bytes) (good_lines (strict reading) bytes) ++ objects_behind outcome count (good_lines (strict reading) bytes)) (ap outcome_of is)
+    ∙ ap (λ (more : List ℕ). told ++ more ++ member_of count []) (sym (rest_same forms.Json bytes t is))
 
 pub object_of_accepted : (count : ℕ) (name bytes : List ℕ) (t : Totals) → verdict (strict reading) bytes ≡ Accepted t
     → all_text count forms.Json name bytes ≡ object_line name (members_of_none (around_told count forms.Json name bytes))

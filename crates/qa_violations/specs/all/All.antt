@@ -1,9 +1,12 @@
 -- What is told of all violations of a trace from the sender rules.
-use Rattle.std.specs.Prelude.{◌≡◌, ℕ, codes, length, List, [], ◌∷◌, ◌++◌, Option, if◌then◌else◌}
+use Rattle.std.specs.Prelude.{◌≡◌, ℕ, codes, length, Bool, List, [], ◌∷◌, ◌++◌, Option}
+use Rattle.std.specs.Prelude.{if◌then◌else◌}
 use Rattle.std.specs.Io.KnownBytes.{Appends}
 use Rattle.qa_violations.specs.all.Violated.{Violated, all_violated, finding_of, findings}
 use Rattle.qa_violations.specs.all.Violated.{history_in, unit_of}
 use Rattle.qa_violations.specs.all.Objects.{tolerated_run_members}
+use Rattle.qa_violations.specs.all.Tolerating.{unviolated}
+use Rattle.qa_violations.specs.allowed.Rests.{is_strict, rest_behind, unless_quiet}
 use Rattle.qa_violations.specs.around.Around.{rows_behind}
 use Rattle.qa_violations.specs.around.Rows.{rows_before}
 use Rattle.qa_violations.specs.declared.around.manner.Manner.{Manner}
@@ -19,7 +22,7 @@ use Rattle.qa_format.specs.format.Reading.{reading}
 use Rattle.qa_format.specs.verdicts.Verdict.{Judging, header_in, verdict}
 use Rattle.qa_check.specs.names.Names.{shown_name}
 use Rattle.qa_why.specs.Texts.{broken_text}
-use Rattle.qa_why.specs.Why.{good_lines, unless_accepted, whole, why_by}
+use Rattle.qa_why.specs.Why.{good_lines, whole, why_by}
 use Rattle.qa_format.specs.declared.form.Form.{Form}
 use Rattle.qa_format.specs.declared.form.Form.TheVariants.{Json, Text}
 
@@ -81,10 +84,13 @@ tolerated_run_text count name ls outcome text =
     ++ table_of name (unit_of (header_in reading ls)) (length (history_in ls))
     (findings (all_violated ls))
 
--- the same in a form: a text, or the members of an object
+-- the same in a form: a text, or the members of an object; and what an accepted end rests on,
+-- behind all of the text, and behind the members that tell of the end
 abbrev pub tolerated_run_in : ℕ → Form → List ℕ → List (List ℕ) → Outcome → List ℕ → List ℕ
-tolerated_run_in count Text name ls outcome told = tolerated_run_text count name ls outcome told
-tolerated_run_in count Json name ls outcome told = tolerated_run_members count ls outcome told
+tolerated_run_in count Text name ls outcome told =
+    tolerated_run_text count name ls outcome told ++ rest_behind unviolated Text outcome ls
+tolerated_run_in count Json name ls outcome told =
+    tolerated_run_members count ls outcome (told ++ rest_behind unviolated Json outcome ls)
 
 -- of bytes, under the name of their file
 unfoldable pub told_by : ℕ → Form → List ℕ → List ℕ → List ℕ
@@ -100,10 +106,15 @@ all_outcome bytes =
     outcome_with (findings (all_violated (good_lines past_sender_rules bytes)))
     (outcome_of (verdict past_sender_rules bytes))
 
--- what is written: where it is to be quiet, nothing of accepted bytes
+-- nothing was allowed at the events that violate nothing
+unfoldable pub all_strict : List ℕ → Bool
+all_strict bytes = is_strict unviolated (good_lines past_sender_rules bytes)
+
+-- what is written: where it is to be quiet, nothing of accepted bytes at which nothing was allowed
 abbrev pub all_written : Manner → List ℕ → List ℕ → List ℕ
 all_written manner name bytes =
-    unless_accepted manner.quiet (all_outcome bytes) (all_text manner.around manner.form name bytes)
+    unless_quiet manner.quiet (all_outcome bytes) (all_strict bytes)
+    (all_text manner.around manner.form name bytes)
 
 -- it was written, and the kind of the verdict is returned
 abbrev pub WritesAll : Option (List ℕ) → Option (List ℕ) → Manner → List ℕ → Outcome → List ℕ

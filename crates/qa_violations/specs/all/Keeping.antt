@@ -1,18 +1,21 @@
 -- What is kept of violations while a trace is judged.
-use Rattle.std.specs.Prelude.{◌≡◌, ℕ, Bool, true, false, length, map, List, [], ◌∷◌, ◌++◌}
+use Rattle.std.specs.Prelude.{◌≡◌, ℕ, length, map, List, [], ◌∷◌, ◌++◌}
 use Rattle.qa_violations.specs.all.All.{firsts}
 use Rattle.qa_violations.specs.all.Violated.{Violated, all_violated, violated, findings, history_in}
 use Rattle.qa_violations.specs.all.Violated.{lines_before, unit_of}
 use Rattle.qa_violations.specs.all.Objects.{first_members, named}
-use Rattle.qa_violations.specs.all.Tolerating.{latest_of}
+use Rattle.qa_violations.specs.all.Tolerating.{latest_of, unviolated}
+use Rattle.qa_violations.specs.allowed.Keeping.{CoversWhere}
 use Rattle.qa_base.specs.declared.event.Event.{Event}
 use Rattle.qa_base.specs.values.Settings.{Settings}
 use Rattle.qa_violations.specs.declared.all.keeping.Kept.{Kept}
 use Rattle.qa_violations.specs.declared.all.listing.Listed.{Listed}
+use Rattle.qa_violations.specs.declared.all.unviolated.Unviolated.{Unviolated}
 use Rattle.qa_violations.specs.around.Keeping as rows
 use Rattle.qa_violations.specs.around.Rows.{objects, rows as all_rows}
 use Rattle.qa_violations.specs.declared.around.row.Row.{Row}
 use Rattle.qa_violations.specs.table.Table.{Holds}
+pub use Rattle.qa_violations.specs.table.Table.{is_nil}
 use Rattle.qa_violations.specs.declared.table.finding.Finding.{Finding}
 use Rattle.qa_format.specs.declared.line.Line.{Line}
 use Rattle.qa_format.specs.declared.line.Line.TheVariants as line
@@ -58,6 +61,12 @@ CoversListed name begun listed ls =
     × Lists listed (all_violated ls)
     × (listed.unit ≡ unit_of (header_in reading ls)) × (listed.events ≡ length (history_in ls))
 
+-- ---- what was allowed
+
+-- it was shown these lines, and was told of what was allowed at events that violate nothing
+abbrev pub CoversUnviolated : List ℕ → Unviolated → Unviolated → List (List ℕ) → Type 0
+CoversUnviolated name begun now ls = CoversWhere unviolated now.allowances ls
+
 -- ---- one line
 
 -- what a line says violates this, behind those before, whose number is n and behind which the trace
@@ -65,11 +74,6 @@ CoversListed name begun listed ls =
 abbrev pub violated_by : ℕ → List (List ℕ) → List ℕ → Line → Settings → List Event → List Violated
 violated_by n before l (line.Event e) c h = map (violated c.unit n before l e) (latest_of c h)
 violated_by n before l said c h = []
-
--- there are none
-abbrev pub is_nil : {A : Type 0} → List A → Bool
-is_nil [] = true
-is_nil (x ∷ xs) = false
 
 -- these rows with those of one more line behind them; without, where there are violations
 abbrev pub kept_behind : List Violated → List (List ℕ) → List (List ℕ) → List (List ℕ)

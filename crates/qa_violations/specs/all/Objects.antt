@@ -1,6 +1,5 @@
 -- What is told of all violations of a trace as the members of a JSON object.
-use Rattle.std.specs.Prelude.{ℕ, codes, decimal, length, List, [], ◌∷◌, ◌++◌, Option, Some, None}
-use Rattle.std.specs.Prelude.{if◌then◌else◌}
+use Rattle.std.specs.Prelude.{ℕ, codes, decimal, length, List, [], ◌∷◌, ◌++◌, if◌then◌else◌}
 use Rattle.json.specs.Token.{Token}
 use Rattle.json.specs.Token as token
 use Rattle.qa_violations.specs.all.Violated.{Violated, all_violated, findings, history_in, unit_of}
@@ -10,13 +9,13 @@ use Rattle.qa_base.specs.declared.rule.Rule.{Rule}
 use Rattle.qa_base.specs.declared.space.TimeUnit.{TimeUnit}
 use Rattle.qa_check.specs.declared.auditing.Outcome.{Outcome}
 use Rattle.qa_violations.specs.table.Table.{are_known, is_found, table}
-use Rattle.qa_violations.specs.table.Texts as texts
+use Rattle.qa_violations.specs.table.Members.{counts, greatest_at}
 use Rattle.qa_violations.specs.declared.table.finding.Finding.{Finding}
 use Rattle.qa_violations.specs.declared.table.row.Row.{Row}
 use Rattle.qa_format.specs.format.Reading.{reading}
 use Rattle.qa_format.specs.verdicts.Verdict.{header_in}
-use Rattle.qa_explain.specs.members.Object.{amount_at, closed, list_begin, list_end, number_at}
-use Rattle.qa_explain.specs.members.Object.{opened, text_of_all}
+use Rattle.qa_explain.specs.members.Object.{closed, list_begin, list_end, number_at, opened}
+use Rattle.qa_explain.specs.members.Object.{text_of_all}
 use Rattle.qa_why.specs.Objects.{refused_members, rule_members}
 
 -- ---- the first violation
@@ -47,17 +46,6 @@ abbrev pub lines_of : Rule → List Finding → List Token
 lines_of r [] = []
 lines_of r (f ∷ fs) =
     (if is_found r f then token.number (decimal f.line) ∷ [] else []) ++ lines_of r fs
-
--- how many there are, and where
-unfoldable pub counts : Row → List Token
-counts row =
-    number_at (codes "count") row.count ++ number_at (codes "first") row.first
-    ++ number_at (codes "last") row.last
-
--- by how much at most, where it is known
-abbrev pub greatest_at : TimeUnit → Rule → Option ℕ → List Token
-greatest_at u r None = []
-greatest_at u r (Some amount) = amount_at (codes "greatest") (texts.unit_of u r) amount
 
 abbrev pub lines_member : Rule → List Finding → List Token
 lines_member r fs = list_begin (codes "lines") ++ lines_of r fs ++ list_end

@@ -10,6 +10,8 @@ use Rattle.qa_base.specs.values.Settings.{Settings}
 use Rattle.qa_violations.specs.declared.all.tolerating.Violation.{Violation}
 use Rattle.qa_ledger.specs.causes.Causes.{cause_of}
 use Rattle.qa_check.specs.Standing.{Judges}
+use Rattle.qa_violations.specs.allowed.Lines.{Counting}
+use Rattle.qa_violations.specs.table.Table.{is_nil}
 
 -- ---- what an event violates
 
@@ -29,6 +31,10 @@ violations_of c h e = explained c h e (violations c h e)
 abbrev pub latest_of : Settings → List Event → List Violation
 latest_of c [] = []
 latest_of c (e ∷ h) = violations_of c h e
+
+-- it violated nothing
+abbrev pub unviolated : Counting
+unviolated c h = is_nil (latest_of c h)
 
 -- ---- the judge
 

@@ -1,7 +1,10 @@
 -- What is written of the bytes of a trace: why they are refused or cannot be read, and the rows
 -- before.
-use Rattle.std.specs.Prelude.{◌≡◌, ℕ, List, [], ◌++◌, Option}
+use Rattle.std.specs.Prelude.{◌≡◌, ℕ, Bool, List, [], ◌++◌, Option}
 use Rattle.std.specs.Io.KnownBytes.{Appends}
+use Rattle.qa_violations.specs.allowed.Lines.{each}
+use Rattle.qa_violations.specs.allowed.Rests.{is_strict, rest_behind, unless_quiet}
+use Rattle.qa_violations.specs.declared.allowed.told.Told.{Told}
 use Rattle.qa_violations.specs.around.Members.{member_of, objects_before}
 use Rattle.qa_violations.specs.around.Rows.{rows_before}
 use Rattle.qa_violations.specs.declared.around.manner.Manner.{Manner}
@@ -10,7 +13,7 @@ use Rattle.qa_check.specs.declared.auditing.Outcome.{Outcome}
 use Rattle.qa_check.specs.declared.auditing.Outcome.TheVariants as outcomes
 use Rattle.qa_format.specs.format.Reading.{reading}
 use Rattle.qa_format.specs.verdicts.Verdict.{strict, verdict}
-use Rattle.qa_why.specs.Why.{good_lines, unless_accepted, whole, why_by}
+use Rattle.qa_why.specs.Why.{good_lines, whole, why_by}
 use Rattle.qa_format.specs.declared.form.Form.{Form}
 use Rattle.qa_format.specs.declared.form.Form.TheVariants as forms
 
@@ -35,25 +38,32 @@ behind forms.Json outcome count ls = objects_behind outcome count ls
 abbrev pub outcome_by : List ℕ → Outcome
 outcome_by bytes = outcome_of (verdict (strict reading) bytes)
 
--- what is told of bytes in a form, and the rows before: a text, or the members of an object
+-- what is told of bytes in a form, what an accepted verdict rests on, and the rows before: a text,
+-- or the members of an object
 unfoldable pub around_told : ℕ → Form → List ℕ → List ℕ → List ℕ
 around_told count form name bytes =
     why_by (strict reading) form name bytes
+    ++ rest_behind each form (outcome_by bytes) (good_lines (strict reading) bytes)
     ++ behind form (outcome_by bytes) count (good_lines (strict reading) bytes)
 
 abbrev pub around_text : ℕ → Form → List ℕ → List ℕ → List ℕ
 around_text count form name bytes = whole form name (around_told count form name bytes)
 
--- what is written: where it is to be quiet, nothing of accepted bytes
+-- nothing was allowed at the events before the end
+abbrev pub are_strict : List ℕ → Bool
+are_strict bytes = is_strict each (good_lines (strict reading) bytes)
+
+-- what is written: where it is to be quiet, nothing of accepted bytes at which nothing was allowed
 abbrev pub around_written : Manner → List ℕ → List ℕ → List ℕ
 around_written manner name bytes =
-    unless_accepted manner.quiet (outcome_by bytes)
+    unless_quiet manner.quiet (outcome_by bytes) (are_strict bytes)
     (around_text manner.around manner.form name bytes)
 
 -- it is this, and the kind of their verdict is this
-abbrev pub TellsAround : ℕ → Form → List ℕ → Outcome → List ℕ → List ℕ → Type 0
-TellsAround count form name outcome told bytes =
-    (told ≡ around_told count form name bytes) × (outcome ≡ outcome_by bytes)
+abbrev pub TellsAround : ℕ → Form → List ℕ → Told → List ℕ → Type 0
+TellsAround count form name told bytes =
+    (told.why.text.items ≡ around_told count form name bytes)
+    × (told.why.outcome ≡ outcome_by bytes) × (told.is_strict ≡ are_strict bytes)
 
 -- it was written, and the kind of their verdict is returned
 abbrev pub WritesAround : Option (List ℕ) → Option (List ℕ) → Manner → List ℕ → Outcome → List ℕ

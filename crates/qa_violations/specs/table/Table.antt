@@ -93,6 +93,11 @@ row_of r fs = row_with r (filter (is_found r) fs)
 
 -- ---- the table
 
+-- there are none
+abbrev pub is_nil : {A : Type 0} → List A → Bool
+is_nil [] = true
+is_nil (x ∷ xs) = false
+
 abbrev pub has_findings : Row → Bool
 has_findings row = nat_lt 0 row.count
 

@@ -3,7 +3,7 @@ ghost use Rattle.std.specs.Prelude.{◌≡◌, ◌++◌, IfOk, OnOk, filter};
 ghost use Rattle.qa_violations.specs.all.Objects as text;
 ghost use Rattle.qa_violations.specs.table.Table.{has_findings};
 
-use crate::table::{Finding, Row, is_kind, unit_of};
+use crate::table::{Finding, Row, is_kind, push_counts, push_greatest};
 use qa_base::{Rule, TimeUnit};
 use qa_explain::members::Object;
 use qa_why::{extend, push_rule};
@@ -21,31 +21,6 @@ fn push_lines(object: &mut Object, rule: Rule, named: &[Finding]) -> Result<(), 
         }
     }
     Ok(())
-}
-
-/// By how much at most, where it is known.
-fn push_greatest(
-    object: &mut Object,
-    unit: TimeUnit,
-    rule: Rule,
-    greatest: Option<u128>,
-) -> Result<(), AllocError>
-    ensures { OnOk result (object.new ≡ object.old ++ text.greatest_at unit rule greatest) }
-{
-    match greatest {
-        None => Ok(()),
-        Some(amount) => object.amount("greatest", unit_of(unit, rule), amount),
-    }
-}
-
-/// How many there are, and where.
-#[tactic(auto, unfolding(crate::specs::all::Objects::counts))]
-fn push_counts(object: &mut Object, row: &Row) -> Result<(), AllocError>
-    ensures { OnOk result (object.new ≡ object.old ++ text.counts row.now) }
-{
-    object.number("count", u128::from(row.count))?;
-    object.number("first", u128::from(row.first))?;
-    object.number("last", u128::from(row.last))
 }
 
 /// The lines of those of the kind, as a member.

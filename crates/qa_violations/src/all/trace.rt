@@ -2,8 +2,16 @@
 ghost use Rattle.std.specs.Prelude.{[], ◌≡◌, ◌≢◌, ◌++◌, ℕ, List, false, Some, Err, OnErr, IfOk};
 ghost use Rattle.std.specs.Prelude.{take};
 ghost use Rattle.std.specs.Io.KnownBytes.{Appends};
-ghost use Rattle.qa_violations.specs.all.All.{WritesAll, all_outcome, all_written};
-ghost use Rattle.qa_violations.specs.all.All.{past_sender_rules, told_by};
+ghost use Rattle.qa_violations.specs.all.All.{WritesAll, all_outcome, all_strict, all_written};
+ghost use Rattle.qa_violations.specs.all.All.{outcome_with, past_sender_rules, told_by};
+ghost use Rattle.qa_violations.specs.all.All.{tolerated_run_in};
+ghost use Rattle.qa_violations.specs.all.Keeping.{Covers, CoversListed};
+ghost use Rattle.qa_violations.specs.all.Tolerating.{unviolated};
+ghost use Rattle.qa_violations.specs.all.Violated.{all_violated, findings};
+ghost use Rattle.qa_violations.specs.allowed.Keeping.{CoversWhere};
+ghost use Rattle.qa_violations.specs.allowed.Rests.{is_strict};
+ghost use Rattle.qa_violations.specs.declared.all.keeping.Kept.{Kept as AKept};
+ghost use Rattle.qa_violations.specs.declared.all.listing.Listed.{Listed as AListed};
 ghost use Rattle.qa_check.specs.Audit.{ReadsBy, ReadsEnoughBy, is_read_fault, is_write_fault};
 ghost use Rattle.qa_check.specs.Failures.{failures_after};
 ghost use Rattle.qa_why.specs.Why.{good_lines};
@@ -11,11 +19,13 @@ ghost use Rattle.qa_why.specs.Why.{good_lines};
 use crate::all::keeping::Kept;
 use crate::all::listing::Listed;
 use crate::all::tolerating::Tolerating;
+use crate::all::unviolated::Unviolated;
+use crate::allowed::{Told, unless_quiet};
 use crate::around::Manner;
 use qa_check::{AuditFault, Outcome, Sink, Source, write_whole};
 use qa_format::{Form, Line};
 use qa_ledger::{Explains, Tolerates};
-use qa_why::{Both, Notes, Why, find, unless_accepted, whole};
+use qa_why::{Both, Notes, Why, find, whole};
 use std::alloc::{AllocError, Global};
 
 impl<L: Tolerates + Explains + Drop> Notes<Tolerating<L>> for Listed {
@@ -62,8 +72,9 @@ impl<L: Tolerates + Explains + Drop> Notes<Tolerating<L>> for Kept {
 /// facts; how it ends past them, unless it is accepted but for them; and a table of all. Behind
 /// each violation that is told with its facts, and behind the end, stand the rows of the last good
 /// lines before it, up to so many; in an object those before the first violation, or else before
-/// the end. Where it is to be quiet, it writes nothing of a trace that is accepted and violates
-/// nothing.
+/// the end. What an accepted end rests on stands behind all, with what the header allowed at events
+/// that violate nothing; in an object behind the members that tell of the end. Where it is to be
+/// quiet, it writes nothing of a trace that is accepted, violates nothing and was allowed nothing.
 ///
 /// A trace that violates a rule is `Outcome::Refused`, or `Outcome::Unreadable` where it ends so.
 /// Further notes are taken of the good lines, and handed back with the kind of the verdict;
@@ -115,10 +126,11 @@ pub fn why_all<L: Tolerates + Explains + Drop, N: Notes<Tolerating<L>> + Drop, R
         ≡ failures_after (is_write_fault result) (W.write_failures writer.old) }
 {
     let (told, notes) = find_all::<L, N, R>(alloc, manner, name, notes, reader)?;
-    let all = whole(alloc, manner.form, name, told)?;
+    let is_strict = told.is_strict;
+    let all = whole(alloc, manner.form, name, told.why)?;
     write_whole(
         writer,
-        unless_accepted(manner.quiet, all.outcome, &all.text),
+        unless_quiet(manner.quiet, all.outcome, is_strict, &all.text),
     )?;
     Ok((all.outcome, notes))
 }
@@ -130,13 +142,13 @@ fn find_all<L: Tolerates + Explains + Drop, N: Notes<Tolerating<L>> + Drop, R: S
     name: &str,
     notes: N,
     reader: &mut R,
-) -> Result<(Why, N), AuditFault>
+) -> Result<(Told, N), AuditFault>
     requires fresh { N.covers name.now notes notes [] }
     ensures told { IfOk result (λ told. (bytes : List ℕ)
         × ReadsEnoughBy past_sender_rules (R.left reader.old) (R.left reader.new)
         (R.last_read reader.new) bytes
-        × (told.0.text.items ≡ told_by manner.around manner.form name.now bytes)
-        × (told.0.outcome ≡ all_outcome bytes)
+        × (told.0.why.text.items ≡ told_by manner.around manner.form name.now bytes)
+        × (told.0.why.outcome ≡ all_outcome bytes) × (told.0.is_strict ≡ all_strict bytes)
         × N.covers name.now notes told.1 (good_lines past_sender_rules bytes)) }
     ensures reads { ReadsBy past_sender_rules (R.left reader.old) (R.left reader.new)
         (R.last_read reader.new) }
@@ -157,13 +169,13 @@ fn find_texts<L: Tolerates + Explains + Drop, N: Notes<Tolerating<L>> + Drop, R:
     name: &str,
     notes: N,
     reader: &mut R,
-) -> Result<(Why, N), AuditFault>
+) -> Result<(Told, N), AuditFault>
     requires fresh { N.covers name.now notes notes [] }
     ensures told { IfOk result (λ told. (bytes : List ℕ)
         × ReadsEnoughBy past_sender_rules (R.left reader.old) (R.left reader.new)
         (R.last_read reader.new) bytes
-        × (told.0.text.items ≡ told_by around Form.Text name.now bytes)
-        × (told.0.outcome ≡ all_outcome bytes)
+        × (told.0.why.text.items ≡ told_by around Form.Text name.now bytes)
+        × (told.0.why.outcome ≡ all_outcome bytes) × (told.0.is_strict ≡ all_strict bytes)
         × N.covers name.now notes told.1 (good_lines past_sender_rules bytes)) }
     ensures reads { ReadsBy past_sender_rules (R.left reader.old) (R.left reader.new)
         (R.last_read reader.new) }
@@ -172,13 +184,22 @@ fn find_texts<L: Tolerates + Explains + Drop, N: Notes<Tolerating<L>> + Drop, R:
     ensures written { is_write_fault result ≡ false }
 {
     let mut both = Both {
-        first: Kept::new(alloc, around),
+        first: Both {
+            first: Kept::new(alloc, around),
+            second: Unviolated::new(),
+        },
         second: notes,
     };
-    let end = find::<Tolerating<L>, Both<Kept, N>, R>(alloc, Form::Text, name, reader, &mut both)?;
+    let end = find::<Tolerating<L>, Both<Both<Kept, Unviolated>, N>, R>(
+        alloc,
+        Form::Text,
+        name,
+        reader,
+        &mut both,
+    )?;
     let Both { first, second } = both;
-    match first.finish(name, end) {
-        Ok(all) => Ok((all, second)),
+    match finish_text(alloc, name, first, end) {
+        Ok(told) => Ok((told, second)),
         Err(_) => Err(AuditFault::OutOfMemory),
     }
 }
@@ -190,13 +211,13 @@ fn find_members<L: Tolerates + Explains + Drop, N: Notes<Tolerating<L>> + Drop, 
     name: &str,
     notes: N,
     reader: &mut R,
-) -> Result<(Why, N), AuditFault>
+) -> Result<(Told, N), AuditFault>
     requires fresh { N.covers name.now notes notes [] }
     ensures told { IfOk result (λ told. (bytes : List ℕ)
         × ReadsEnoughBy past_sender_rules (R.left reader.old) (R.left reader.new)
         (R.last_read reader.new) bytes
-        × (told.0.text.items ≡ told_by around Form.Json name.now bytes)
-        × (told.0.outcome ≡ all_outcome bytes)
+        × (told.0.why.text.items ≡ told_by around Form.Json name.now bytes)
+        × (told.0.why.outcome ≡ all_outcome bytes) × (told.0.is_strict ≡ all_strict bytes)
         × N.covers name.now notes told.1 (good_lines past_sender_rules bytes)) }
     ensures reads { ReadsBy past_sender_rules (R.left reader.old) (R.left reader.new)
         (R.last_read reader.new) }
@@ -205,10 +226,13 @@ fn find_members<L: Tolerates + Explains + Drop, N: Notes<Tolerating<L>> + Drop, 
     ensures written { is_write_fault result ≡ false }
 {
     let mut both = Both {
-        first: Listed::new(alloc, around),
+        first: Both {
+            first: Listed::new(alloc, around),
+            second: Unviolated::new(),
+        },
         second: notes,
     };
-    let end = find::<Tolerating<L>, Both<Listed, N>, R>(
+    let end = find::<Tolerating<L>, Both<Both<Listed, Unviolated>, N>, R>(
         alloc,
         Form::Json,
         name,
@@ -216,8 +240,60 @@ fn find_members<L: Tolerates + Explains + Drop, N: Notes<Tolerating<L>> + Drop, 
         &mut both,
     )?;
     let Both { first, second } = both;
-    match first.finish(end) {
-        Ok(all) => Ok((all, second)),
+    match finish_members(alloc, first, end) {
+        Ok(told) => Ok((told, second)),
         Err(_) => Err(AuditFault::OutOfMemory),
     }
+}
+
+/// The text of all violations, and what an accepted end rests on behind it.
+fn finish_text(
+    alloc: Global,
+    name: &str,
+    kept: Both<Kept, Unviolated>,
+    end: Why,
+) -> Result<Told, AllocError>
+    ensures { IfOk result (λ told. (begun : AKept) (ls : List (List ℕ))
+        → Covers name.now begun kept.first ls → CoversWhere unviolated kept.second.allowances ls
+        → (told.why.text.items ≡ tolerated_run_in begun.latest.count Form.Text name.now ls
+        end.outcome end.text.items)
+        × (told.why.outcome ≡ outcome_with (findings (all_violated ls)) end.outcome)
+        × (told.is_strict ≡ is_strict unviolated ls)) }
+{
+    let Both { first, second } = kept;
+    let outcome = end.outcome;
+    let mut why = first.finish(name, end)?;
+    second
+        .allowances
+        .push_behind(alloc, Form::Text, outcome, &mut why.text)?;
+    Ok(Told {
+        why,
+        is_strict: second.allowances.is_strict(),
+    })
+}
+
+/// The members that tell of all violations, with what an accepted end rests on behind those that
+/// tell of it.
+fn finish_members(
+    alloc: Global,
+    kept: Both<Listed, Unviolated>,
+    mut end: Why,
+) -> Result<Told, AllocError>
+    ensures { IfOk result (λ told. (name : List ℕ) (begun : AListed) (ls : List (List ℕ))
+        → CoversListed name begun kept.first ls
+        → CoversWhere unviolated kept.second.allowances ls
+        → (told.why.text.items ≡ tolerated_run_in begun.latest.count Form.Json name ls
+        end.outcome end.text.items)
+        × (told.why.outcome ≡ outcome_with (findings (all_violated ls)) end.outcome)
+        × (told.is_strict ≡ is_strict unviolated ls)) }
+{
+    let Both { first, second } = kept;
+    second
+        .allowances
+        .push_behind(alloc, Form::Json, end.outcome, &mut end.text)?;
+    let why = first.finish(end)?;
+    Ok(Told {
+        why,
+        is_strict: second.allowances.is_strict(),
+    })
 }

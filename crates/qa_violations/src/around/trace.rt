@@ -3,6 +3,9 @@ ghost use Rattle.std.specs.Prelude.{[], ◌≡◌, ◌≢◌, ◌++◌, ℕ, Lis
 ghost use Rattle.std.specs.Prelude.{take};
 ghost use Rattle.std.specs.Io.KnownBytes.{Appends};
 ghost use Rattle.qa_violations.specs.around.Around.{TellsAround, WritesAround, around_written};
+ghost use Rattle.qa_violations.specs.allowed.Keeping.{CoversWhere};
+ghost use Rattle.qa_violations.specs.allowed.Lines.{each};
+ghost use Rattle.qa_violations.specs.allowed.Rests.{is_strict, rest_behind};
 ghost use Rattle.qa_violations.specs.around.Around.{objects_behind, rows_behind};
 ghost use Rattle.qa_violations.specs.around.Keeping.{Keeps, KeepsObjects};
 ghost use Rattle.qa_violations.specs.around.Rows.{objects, rows};
@@ -12,13 +15,14 @@ ghost use Rattle.qa_format.specs.format.Reading.{reading};
 ghost use Rattle.qa_format.specs.verdicts.Verdict.{strict};
 ghost use Rattle.qa_why.specs.Why.{good_lines};
 
+use crate::allowed::{Allowances, Told, unless_quiet};
 use crate::around::latest::Latest;
 use crate::around::manner::Manner;
 use crate::around::objects::LatestObjects;
 use qa_check::{AuditFault, Outcome, Sink, Source, write_whole};
 use qa_format::{Form, Line};
 use qa_ledger::Explains;
-use qa_why::{Both, Notes, Why, find, unless_accepted, whole};
+use qa_why::{Both, Notes, Why, find, whole};
 use std::alloc::{AllocError, Global};
 
 impl<L: Explains + Drop> Notes<L> for Latest {
@@ -61,11 +65,31 @@ impl<L: Explains + Drop> Notes<L> for LatestObjects {
     }
 }
 
-/// Reads a trace and writes why it is refused or cannot be read, or that it is accepted, as `why`
-/// does, with the rows of the last good lines before, up to so many: behind a text, and none of an
-/// accepted trace; or as the member `around` behind those of an object, with an empty list of an
-/// accepted trace, and no such member where no rows are asked for. Where it is to be quiet, it
-/// writes nothing of an accepted trace.
+impl<L: Explains + Drop> Notes<L> for Allowances {
+    ghost use Rattle.qa_violations.specs.allowed.Keeping.{Covers};
+
+    ghost covers = { Covers };
+
+    fn note(
+        &mut self,
+        _name: &str,
+        n: u64,
+        _line: &[u8],
+        said: &Line,
+        judge: Option<&L>,
+    ) -> Result<(), AllocError> {
+        match judge {
+            Some(judge) => self.note_said(n, said, true, judge),
+            None => Ok(()),
+        }
+    }
+}
+
+/// Reads a trace and writes why it is refused or cannot be read, or that it is accepted and what
+/// that rests on, with the rows of the last good lines before, up to so many: behind a text, and
+/// none of an accepted trace; or as the member `around` behind those of an object, with an empty
+/// list of an accepted trace, and no such member where no rows are asked for. Where it is to be
+/// quiet, it writes nothing of an accepted trace at which the header allowed nothing.
 ///
 /// Further notes are taken of the good lines, and handed back with the kind of the verdict;
 /// `NoNotes` where none are wanted. It reads what `audit` reads, and fails where that fails, or the
@@ -113,10 +137,11 @@ pub fn why_around<L: Explains + Drop, N: Notes<L> + Drop, R: Source, W: Sink>(
         ≡ failures_after (is_write_fault result) (W.write_failures writer.old) }
 {
     let (told, notes) = find_around::<L, N, R>(alloc, manner, name, notes, reader)?;
-    let why = whole(alloc, manner.form, name, told)?;
+    let is_strict = told.is_strict;
+    let why = whole(alloc, manner.form, name, told.why)?;
     write_whole(
         writer,
-        unless_accepted(manner.quiet, why.outcome, &why.text),
+        unless_quiet(manner.quiet, why.outcome, is_strict, &why.text),
     )?;
     Ok((why.outcome, notes))
 }
@@ -128,11 +153,11 @@ fn find_around<L: Explains + Drop, N: Notes<L> + Drop, R: Source>(
     name: &str,
     notes: N,
     reader: &mut R,
-) -> Result<(Why, N), AuditFault>
+) -> Result<(Told, N), AuditFault>
     requires fresh { N.covers name.now notes notes [] }
     ensures told { IfOk result (λ told. (bytes : List ℕ)
         × ReadsEnough (R.left reader.old) (R.left reader.new) (R.last_read reader.new) bytes
-        × TellsAround manner.around manner.form name.now told.0.outcome told.0.text.items bytes
+        × TellsAround manner.around manner.form name.now told.0 bytes
         × N.covers name.now notes told.1 (good_lines (strict reading) bytes)) }
     ensures reads { Reads (R.left reader.old) (R.left reader.new) (R.last_read reader.new) }
     ensures read_failures { R.read_failures reader.new
@@ -152,11 +177,11 @@ fn find_text<L: Explains + Drop, N: Notes<L> + Drop, R: Source>(
     name: &str,
     notes: N,
     reader: &mut R,
-) -> Result<(Why, N), AuditFault>
+) -> Result<(Told, N), AuditFault>
     requires fresh { N.covers name.now notes notes [] }
     ensures told { IfOk result (λ told. (bytes : List ℕ)
         × ReadsEnough (R.left reader.old) (R.left reader.new) (R.last_read reader.new) bytes
-        × TellsAround around Form.Text name.now told.0.outcome told.0.text.items bytes
+        × TellsAround around Form.Text name.now told.0 bytes
         × N.covers name.now notes told.1 (good_lines (strict reading) bytes)) }
     ensures reads { Reads (R.left reader.old) (R.left reader.new) (R.last_read reader.new) }
     ensures read_failures { R.read_failures reader.new
@@ -164,13 +189,22 @@ fn find_text<L: Explains + Drop, N: Notes<L> + Drop, R: Source>(
     ensures written { is_write_fault result ≡ false }
 {
     let mut both = Both {
-        first: Latest::new(alloc, around),
+        first: Both {
+            first: Latest::new(alloc, around),
+            second: Allowances::new(),
+        },
         second: notes,
     };
-    let why = find::<L, Both<Latest, N>, R>(alloc, Form::Text, name, reader, &mut both)?;
+    let why = find::<L, Both<Both<Latest, Allowances>, N>, R>(
+        alloc,
+        Form::Text,
+        name,
+        reader,
+        &mut both,
+    )?;
     let Both { first, second } = both;
-    match with_rows(why, &first) {
-        Ok(why) => Ok((why, second)),
+    match with_rows(alloc, why, &first.first, &first.second) {
+        Ok(told) => Ok((told, second)),
         Err(_) => Err(AuditFault::OutOfMemory),
     }
 }
@@ -182,11 +216,11 @@ fn find_members<L: Explains + Drop, N: Notes<L> + Drop, R: Source>(
     name: &str,
     notes: N,
     reader: &mut R,
-) -> Result<(Why, N), AuditFault>
+) -> Result<(Told, N), AuditFault>
     requires fresh { N.covers name.now notes notes [] }
     ensures told { IfOk result (λ told. (bytes : List ℕ)
         × ReadsEnough (R.left reader.old) (R.left reader.new) (R.last_read reader.new) bytes
-        × TellsAround around Form.Json name.now told.0.outcome told.0.text.items bytes
+        × TellsAround around Form.Json name.now told.0 bytes
         × N.covers name.now notes told.1 (good_lines (strict reading) bytes)) }
     ensures reads { Reads (R.left reader.old) (R.left reader.new) (R.last_read reader.new) }
     ensures read_failures { R.read_failures reader.new
@@ -194,33 +228,64 @@ fn find_members<L: Explains + Drop, N: Notes<L> + Drop, R: Source>(
     ensures written { is_write_fault result ≡ false }
 {
     let mut both = Both {
-        first: LatestObjects::new(alloc, around),
+        first: Both {
+            first: LatestObjects::new(alloc, around),
+            second: Allowances::new(),
+        },
         second: notes,
     };
-    let why = find::<L, Both<LatestObjects, N>, R>(alloc, Form::Json, name, reader, &mut both)?;
+    let why = find::<L, Both<Both<LatestObjects, Allowances>, N>, R>(
+        alloc,
+        Form::Json,
+        name,
+        reader,
+        &mut both,
+    )?;
     let Both { first, second } = both;
-    match with_objects(why, &first) {
-        Ok(why) => Ok((why, second)),
+    match with_objects(alloc, why, &first.first, &first.second) {
+        Ok(told) => Ok((told, second)),
         Err(_) => Err(AuditFault::OutOfMemory),
     }
 }
 
-/// The text with the rows behind it, unless the trace is accepted.
-fn with_rows(mut why: Why, latest: &Latest) -> Result<Why, AllocError>
-    ensures { IfOk result (λ all. (ls : List (List ℕ)) → Keeps latest.now (rows ls)
-        → (all.text.items ≡ why.text.items ++ rows_behind why.outcome latest.now.count ls)
-        × (all.outcome ≡ why.outcome)) }
+/// The text with what an accepted verdict rests on behind it, or with the rows of another.
+fn with_rows(
+    alloc: Global,
+    mut why: Why,
+    latest: &Latest,
+    allowances: &Allowances,
+) -> Result<Told, AllocError>
+    ensures { IfOk result (λ told. (ls : List (List ℕ)) → Keeps latest.now (rows ls)
+        → CoversWhere each allowances.now ls
+        → (told.why.text.items ≡ why.text.items ++ rest_behind each Form.Text why.outcome ls
+        ++ rows_behind why.outcome latest.now.count ls)
+        × (told.why.outcome ≡ why.outcome) × (told.is_strict ≡ is_strict each ls)) }
 {
+    allowances.push_behind(alloc, Form::Text, why.outcome, &mut why.text)?;
     latest.push_behind(why.outcome, &mut why.text)?;
-    Ok(why)
+    Ok(Told {
+        why,
+        is_strict: allowances.is_strict(),
+    })
 }
 
-/// The members with the rows as the next.
-fn with_objects(mut why: Why, latest: &LatestObjects) -> Result<Why, AllocError>
-    ensures { IfOk result (λ all. (ls : List (List ℕ)) → KeepsObjects latest.now (objects ls)
-        → (all.text.items ≡ why.text.items ++ objects_behind why.outcome latest.now.count ls)
-        × (all.outcome ≡ why.outcome)) }
+/// The members with what an accepted verdict rests on, and with the rows as the next.
+fn with_objects(
+    alloc: Global,
+    mut why: Why,
+    latest: &LatestObjects,
+    allowances: &Allowances,
+) -> Result<Told, AllocError>
+    ensures { IfOk result (λ told. (ls : List (List ℕ)) → KeepsObjects latest.now (objects ls)
+        → CoversWhere each allowances.now ls
+        → (told.why.text.items ≡ why.text.items ++ rest_behind each Form.Json why.outcome ls
+        ++ objects_behind why.outcome latest.now.count ls)
+        × (told.why.outcome ≡ why.outcome) × (told.is_strict ≡ is_strict each ls)) }
 {
+    allowances.push_behind(alloc, Form::Json, why.outcome, &mut why.text)?;
     latest.push_behind(why.outcome, &mut why.text)?;
-    Ok(why)
+    Ok(Told {
+        why,
+        is_strict: allowances.is_strict(),
+    })
 }

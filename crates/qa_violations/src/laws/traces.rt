@@ -1,8 +1,10 @@
 //! What is told of a trace in more than one way.
-ghost use Rattle.std.specs.Prelude.{◌≡◌, List, ℕ, Option, true, false};
+ghost use Rattle.std.specs.Prelude.{◌≡◌, ◌≢◌, ◌++◌, List, ℕ, Option, true, false};
 ghost use Rattle.qa_violations.specs.all.All.{all_outcome, all_text};
 ghost use Rattle.qa_violations.specs.all.Objects.{members_of_none};
-ghost use Rattle.qa_violations.specs.around.Around.{around_text, around_told};
+ghost use Rattle.qa_violations.specs.allowed.Lines.{each};
+ghost use Rattle.qa_violations.specs.allowed.Rests.{rest_behind};
+ghost use Rattle.qa_violations.specs.around.Around.{around_text, around_told, outcome_by};
 ghost use Rattle.qa_violations.specs.laws.Agreement.{ComesFirst, EndsUnviolated};
 ghost use Rattle.qa_violations.specs.laws.Agreement.{goes_on_past, violations_of_trace};
 ghost use Rattle.qa_base.specs.declared.rule.Rule.{Rule};
@@ -14,17 +16,17 @@ ghost use Rattle.qa_format.specs.declared.verdict.Verdict.TheVariants.{Unreadabl
 ghost use Rattle.qa_format.specs.format.Reading.{reading};
 ghost use Rattle.qa_format.specs.verdicts.Verdict.{strict, verdict};
 ghost use Rattle.qa_why.specs.Objects.{object_line};
-ghost use Rattle.qa_why.specs.Why.{why};
+ghost use Rattle.qa_why.specs.Why.{good_lines, why, why_by};
 ghost use Rattle.qa_format.specs.declared.form.Form.{Form};
 ghost use Rattle.qa_format.specs.declared.form.Form.TheVariants as forms;
 
 /// An accepted trace violates nothing: of all its violations the same text is told as of the trace
-/// itself, whatever lines before are asked for; the same object but for its empty list of
-/// violations; and it is accepted.
+/// itself, with what its verdict rests on, whatever lines before are asked for; the same object but
+/// for its empty list of violations; and it is accepted.
 pub fn accepted_violates_from_nothing()
     ensures text { (count : ℕ) (name bytes : List ℕ) (t : Totals)
         → verdict (strict reading) bytes ≡ Accepted t
-        → all_text count forms.Text name bytes ≡ why forms.Text name bytes }
+        → all_text count forms.Text name bytes ≡ around_text 0 forms.Text name bytes }
     ensures object { (count : ℕ) (name bytes : List ℕ) (t : Totals)
         → verdict (strict reading) bytes ≡ Accepted t → all_text count forms.Json name bytes
         ≡ object_line name (members_of_none (around_told count forms.Json name bytes)) }
@@ -32,9 +34,13 @@ pub fn accepted_violates_from_nothing()
         → all_outcome bytes ≡ outcomes.Accepted }
 {}
 
-/// With no lines before, the same is told of a trace as without, in either form.
+/// With no lines before, the same is told of a trace as without, in either form, and of one that is
+/// accepted also what that rests on.
 pub fn no_lines_before_tell_nothing()
-    ensures { (form : Form) (name bytes : List ℕ)
+    ensures accepted { (form : Form) (name bytes : List ℕ)
+        → around_told 0 form name bytes ≡ why_by (strict reading) form name bytes
+        ++ rest_behind each form (outcome_by bytes) (good_lines (strict reading) bytes) }
+    ensures others { (form : Form) (name bytes : List ℕ) → outcome_by bytes ≢ outcomes.Accepted
         → around_text 0 form name bytes ≡ why form name bytes }
 {}
 

@@ -35,7 +35,7 @@ fn past_allowance(allowance: u64, spent: Option<u128>, size: u64) -> Option<u128
 // ---- V16
 
 /// The reported value, where it is reported.
-fn reported_of(field: Field, values: &MetricValues) -> Option<u64>
+pub(crate) fn reported_of(field: Field, values: &MetricValues) -> Option<u64>
     ensures { result ≡ amounts.reported_of field values.now }
 {
     match field {
@@ -50,7 +50,7 @@ fn reported_of(field: Field, values: &MetricValues) -> Option<u64>
 }
 
 /// The machine's value, where it has one.
-fn held_of(field: Field, held: &Totals) -> Option<u64>
+pub(crate) fn held_of(field: Field, held: &Totals) -> Option<u64>
     ensures { result ≡ amounts.held_of field held.now }
 {
     match field {
@@ -65,7 +65,7 @@ fn held_of(field: Field, held: &Totals) -> Option<u64>
 }
 
 /// How far two values are from each other, where there are two.
-fn gap(reported: Option<u64>, held: Option<u64>) -> Option<u128>
+pub(crate) fn gap(reported: Option<u64>, held: Option<u64>) -> Option<u128>
     ensures { result ≡ amounts.gap reported held }
 {
     match (reported, held) {
@@ -87,7 +87,11 @@ fn metric_amount(field: Field, event: &Event, held: &Totals) -> Option<u128>
 // ---- V19
 
 /// By how many bytes a reported window is above two datagrams and what was acknowledged since.
-fn past_collapse(least: u64, acknowledged: Option<u64>, reported: Option<u64>) -> Option<u128>
+pub(crate) fn past_collapse(
+    least: u64,
+    acknowledged: Option<u64>,
+    reported: Option<u64>,
+) -> Option<u128>
     ensures { result ≡ amounts.past_collapse least acknowledged reported }
 {
     match (acknowledged, reported) {

@@ -53,7 +53,7 @@ pub fn unit_of(unit: TimeUnit, rule: Rule) -> &'static str
 }
 
 /// What stands before an amount of so many violations.
-fn by_words(count: u64) -> &'static str
+pub(crate) fn by_words(count: u64) -> &'static str
     ensures { result.now ≡ text.by_words count }
 {
     if count == 1 {

@@ -1,0 +1,18 @@
+//! What an accepted verdict rests on: how often, where and by how much at most the header of a
+//! trace allowed its events what the rules forbid without it; what the sender chose; and how the
+//! trace ends.
+
+mod allowances;
+mod amounts;
+mod before;
+mod choices;
+mod late;
+mod members;
+mod rests;
+mod tally;
+mod texts;
+mod times;
+mod told;
+
+pub(crate) use allowances::Allowances;
+pub(crate) use told::{Told, unless_quiet};
