@@ -1,5 +1,5 @@
 """What an accepted verdict rests on, as `qaudit-why` tells it behind the verdict: what the header
-allowed, what the sender chose, and how the trace ends.
+allowed, what the sender chose, what was guessed, and how the trace ends.
 
 It is worked out from docs/why.md ("What accepted says, and what it does not") by the sender of
 sender.py, and shares nothing with the proved program: where the two write the same bytes, two
@@ -10,6 +10,7 @@ import json
 from collections.abc import Iterator
 from typing import NamedTuple
 
+from caveats import is_guessed
 from constants import METRICS, METRICS_IN_BYTES, NANOSECONDS_IN_A_MICROSECOND, Rule
 from sender import Deadline, Event, Sender
 
@@ -80,7 +81,7 @@ class Rest:
     """What the verdict on a trace rests on, which is shown each event before and after the sender
     follows it."""
 
-    def __init__(self, header: Event, sender: Sender) -> None:
+    def __init__(self, header: Event, sender: Sender, lines: list[bytes]) -> None:
         self.header = {key: value for key, value in header.items() if value is not None}
         self.sender = sender
         self.is_in_nanoseconds = self.settled("unit", "us") == "ns"
@@ -88,6 +89,7 @@ class Rest:
         self.due: Deadline | None = None
         self.since = 0
         self.last_time: int | None = None
+        self.guesses = [at for at, line in enumerate(lines, 1) if is_guessed(line)]
         self.allowed: list[Allowance] = []
         self.lates: list[Late] = []
 
@@ -188,12 +190,21 @@ class Rest:
                 yield f"allowed by the header: {self.row(what, found)}"
         for key in self.choices():
             yield OF_CHOICES[key].format(self.header[key])
+        if self.guesses:
+            yield f"guessed by the converter: {self.guessed()}"
         due = self.sender.deadline()
         if self.sender.bytes_in_flight or due:
             timer = "no timer is set"
             if due:
                 timer = f"the {due.kind} timer of {due.space} due at {self.time(due.time)}"
             yield f"at the end: {self.sender.bytes_in_flight} bytes in flight, {timer}"
+
+    def guessed(self) -> str:
+        """How many lines were guessed, and the first of them."""
+        first, *others = self.guesses
+        if not others:
+            return f"line {first}"
+        return f"{len(self.guesses)} lines, the first is line {first}"
 
     def longest(self) -> str:
         """The timer that was the most late, the first of such."""
@@ -236,7 +247,13 @@ class Rest:
 
     def members(self) -> Object:
         """The members behind those of the verdict."""
-        return {"allowed": [*self.objects()], "choices": self.choices(), "last": self.last()}
+        guesses = {"count": len(self.guesses), "first": self.guesses[0]} if self.guesses else None
+        return {
+            "allowed": [*self.objects()],
+            "choices": self.choices(),
+            "guesses": guesses,
+            "last": self.last(),
+        }
 
     def objects(self) -> Iterator[Object]:
         """An object for each rule that was passed, in their order."""
@@ -286,11 +303,12 @@ def quotient(number: int, whole: int) -> str:
 
 def rest_of(trace: bytes) -> Rest:
     """What the verdict on an accepted trace rests on."""
-    lines = [(at, line) for at, line in enumerate(trace.split(b"\n"), 1) if line.strip(b" \t\r")]
-    header = json.loads(lines[0][1])
+    lines = trace.split(b"\n")
+    there = [(at, line) for at, line in enumerate(lines, 1) if line.strip(b" \t\r")]
+    header = json.loads(there[0][1])
     sender = Sender({key: value for key, value in header.items() if value is not None})
-    rest = Rest(header, sender)
-    for at, line in lines[1:]:
+    rest = Rest(header, sender, lines)
+    for at, line in there[1:]:
         said = json.loads(line)
         event = {key: value for key, value in said.items() if value is not None}
         rest.before(at, event)

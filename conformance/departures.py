@@ -193,7 +193,7 @@ class Follower:
         self.sender = Sender(said_by(header))
         self.found = Course(unit=unit_of(said_by(header)))
         self.facts = Facts(self.sender, self.found.unit)
-        self.rest = Rest(said_by(header), self.sender)
+        self.rest = Rest(said_by(header), self.sender, lines)
 
     def course(self) -> Course:
         """What comes of the trace."""

@@ -12,6 +12,14 @@ TRACES = FOLDER / "traces"
 # What stands below the verdict of a trace, without the two spaces before each line.
 BELOW = {
     "header-alone": "",
+    "guessed-and-accepted": """\
+guessed by the converter: 3 lines, the first is line 3
+at the end: 3600 bytes in flight, no timer is set
+""",
+    "guessed-once-and-accepted": """\
+guessed by the converter: line 3
+at the end: 2400 bytes in flight, no timer is set
+""",
     # Nine packets of 1200 bytes leave 1200 of a window of 12000, and 2211 more go out. The first
     # acknowledgment leaves 13211 - 1400 = 11811 bytes of a window of 13200.
     "allowed-past-window": """\
@@ -69,7 +77,19 @@ late timers: no limit in the header; at most 1.5 us past the pto of app, at line
 }
 # The members behind `events`.
 MEMBERS = {
-    "header-alone": {"allowed": [], "choices": [], "last": None},
+    "header-alone": {"allowed": [], "choices": [], "guesses": None, "last": None},
+    "guessed-and-accepted": {
+        "allowed": [],
+        "choices": [],
+        "guesses": {"count": 3, "first": 3},
+        "last": {
+            "time_us": 3,
+            "in_flight_bytes": 3600,
+            "set_kind": None,
+            "set_space": None,
+            "deadline_us": None,
+        },
+    },
     "allowed-past-window": {
         "allowed": [
             {
@@ -84,6 +104,7 @@ MEMBERS = {
             }
         ],
         "choices": [],
+        "guesses": None,
         "last": {
             "time_us": 100,
             "in_flight_bytes": 13211,
@@ -128,6 +149,7 @@ MEMBERS = {
             },
         ],
         "choices": [],
+        "guesses": None,
         "last": {
             "time_ns": 80001500,
             "in_flight_bytes": 0,
@@ -196,7 +218,7 @@ class TimeTest(unittest.TestCase):
         ):
             header = {"version": 3, "role": "server", "max_datagram_size": 1200, "unit": unit}
             with self.subTest(text):
-                self.assertEqual(Rest(header, Sender(header)).time(time), text)
+                self.assertEqual(Rest(header, Sender(header), []).time(time), text)
 
 
 if __name__ == "__main__":

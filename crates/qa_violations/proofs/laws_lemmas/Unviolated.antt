@@ -17,6 +17,7 @@ use Rattle.qa_format.specs.verdicts.Verdict.{AreGood, IsRunBy, events_in, first_
 use Rattle.qa_violations.proofs.laws_lemmas.Breaking.{no_violations}
 use Rattle.qa_violations.specs.all.Tolerating.{explained, unviolated}
 use Rattle.qa_violations.specs.allowed.Lines.{all_allowed, all_lates, allowed_on, allowed_said, each, lates_on, lates_said}
+use Rattle.qa_why.specs.caveats.Caveats.{guessed_in}
 use Rattle.qa_violations.specs.allowed.Rests.{rest, rest_of}
 use Rattle.qa_violations.specs.around.Rows.{RowsOf, rows_after, rows_on, rows_said}
 use Rattle.qa_violations.specs.declared.allowed.late.Late.{Late}
@@ -62,4 +63,4 @@ same_lates ls good =
 
 pub same_rest : (form : Form) (ls : List (List ℕ)) → AreGood (strict reading) ls → rest unviolated form ls ≡ rest each form ls
 same_rest form ls good =
-    ap₂ (λ (fs : List Finding) (lates : List Late). rest_of form (header_in reading ls) (history_of (events_in reading ls)) fs lates) (same_allowed ls good) (same_lates ls good)
+    ap₂ (λ (fs : List Finding) (lates : List Late). rest_of form (header_in reading ls) (history_of (events_in reading ls)) fs lates (guessed_in ls)) (same_allowed ls good) (same_lates ls good)

@@ -1,7 +1,7 @@
 -- What an accepted verdict rests on, as members of a JSON object behind others.
 --
 -- `c` are the settings of the header, `h` is the history.
-use Rattle.std.specs.Prelude.{ℕ, codes, map, List, [], ◌∷◌, ◌++◌, Option, Some, None}
+use Rattle.std.specs.Prelude.{ℕ, ◌==◌, codes, map, List, [], ◌∷◌, ◌++◌, Option, Some, None}
 use Rattle.std.specs.Prelude.{if◌then◌else◌, option_map}
 use Rattle.json.specs.Token.{Token}
 use Rattle.qa_base.specs.declared.header.Options.{Options}
@@ -20,6 +20,7 @@ use Rattle.qa_violations.specs.table.Amounts.{is_in_bytes}
 use Rattle.qa_violations.specs.table.Members.{counts, greatest_at}
 use Rattle.qa_violations.specs.table.Texts as texts
 use Rattle.qa_why.specs.Objects.{rule_members}
+use Rattle.qa_why.specs.declared.caveats.guesses.Guessed.{Guessed}
 
 -- ---- what was allowed
 
@@ -63,6 +64,19 @@ listed first (k ∷ ks) = quoted first (key_name k) ++ listed (codes ",") ks
 unfoldable pub choices_member : List Key → List ℕ
 choices_member ks = codes ",\"choices\":[" ++ listed [] ks ++ codes "]"
 
+-- ---- guesses
+
+unfoldable pub guessed_members : Guessed → List ℕ
+guessed_members g =
+    text_of_all (number_at (codes "count") g.count ++ number_at (codes "first") g.first)
+
+unfoldable pub some_guesses_member : Guessed → List ℕ
+some_guesses_member g = codes ",\"guesses\":{" ++ guessed_members g ++ codes "}"
+
+-- how many lines were guessed; null where none was
+abbrev pub guesses_member : Guessed → List ℕ
+guesses_member g = if g.count == 0 then codes ",\"guesses\":null" else some_guesses_member g
+
 -- ---- the end
 
 unfoldable pub last_members : TimeUnit → ℕ → ℕ → Option Due → List ℕ
@@ -81,9 +95,9 @@ last_member u (Some time) bytes due = some_last_member u time bytes due
 
 -- ---- the whole
 
--- what an accepted verdict rests on: these rows of what was allowed; and the time of the last
--- event, so many bytes in flight and this timer at the end
-unfoldable pub rest_members : Settings → List Row → Option ℕ → ℕ → Option Due → List ℕ
-rest_members c rows time bytes due =
+-- what an accepted verdict rests on: these rows of what was allowed; so many guesses; and the time
+-- of the last event, so many bytes in flight and this timer at the end
+unfoldable pub rest_members : Settings → List Row → Guessed → Option ℕ → ℕ → Option Due → List ℕ
+rest_members c rows guessed time bytes due =
     codes "," ++ allowed_member c.unit c.options rows ++ choices_member (choices c.options)
-    ++ last_member c.unit time bytes due
+    ++ guesses_member guessed ++ last_member c.unit time bytes due

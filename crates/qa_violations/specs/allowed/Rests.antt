@@ -18,20 +18,24 @@ use Rattle.qa_violations.specs.declared.allowed.late.Late.{Late}
 use Rattle.qa_violations.specs.declared.table.finding.Finding.{Finding}
 use Rattle.qa_violations.specs.table.Table.{is_nil, table}
 use Rattle.qa_why.specs.Why.{unless_accepted}
+use Rattle.qa_why.specs.caveats.Caveats.{guessed_in}
+use Rattle.qa_why.specs.declared.caveats.guesses.Guessed.{Guessed}
 
--- behind this header and this history, where this was allowed; nothing before a header
-abbrev pub rest_of : Form → Option Settings → List Event → List Finding → List Late → List ℕ
-rest_of form None h fs lates = []
-rest_of forms.Text (Some c) h fs lates =
-    rest_text c (table fs) (most_late lates) (bytes_in_flight c h) (deadline c h)
-rest_of forms.Json (Some c) h fs lates =
-    rest_members c (table fs) (time_of_moment h) (bytes_in_flight c h) (deadline c h)
+-- behind this header and this history, where this was allowed and so much guessed; nothing before
+-- a header
+abbrev pub rest_of : Form → Option Settings → List Event → List Finding → List Late → Guessed
+    → List ℕ
+rest_of form None h fs lates guessed = []
+rest_of forms.Text (Some c) h fs lates guessed =
+    rest_text c (table fs) (most_late lates) guessed (bytes_in_flight c h) (deadline c h)
+rest_of forms.Json (Some c) h fs lates guessed =
+    rest_members c (table fs) guessed (time_of_moment h) (bytes_in_flight c h) (deadline c h)
 
 -- of good lines, of whose events these count
 abbrev pub rest : Counting → Form → List (List ℕ) → List ℕ
 rest counts form ls =
     rest_of form (header_in reading ls) (history_of (events_in reading ls)) (all_allowed counts ls)
-    (all_lates counts ls)
+    (all_lates counts ls) (guessed_in ls)
 
 -- it is told where the trace is accepted
 abbrev pub rest_behind : Counting → Form → Outcome → List (List ℕ) → List ℕ

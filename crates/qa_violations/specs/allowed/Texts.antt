@@ -1,5 +1,5 @@
 -- What an accepted verdict rests on, as text behind it: what the header allowed, what the sender
--- chose, and how the trace ends.
+-- chose, what was guessed, and how the trace ends.
 --
 -- `c` are the settings of the header, `h` is the history.
 use Rattle.std.specs.Prelude.{ℕ, ◌==◌, ◌||◌, nat_lt, is_some, is_none, Bool, false, codes, List, []}
@@ -24,6 +24,7 @@ use Rattle.qa_violations.specs.declared.allowed.late.Late.{Late}
 use Rattle.qa_violations.specs.declared.table.row.Row.{Row}
 use Rattle.qa_violations.specs.table.Amounts.{is_in_bytes}
 use Rattle.qa_violations.specs.table.Texts.{by_words}
+use Rattle.qa_why.specs.declared.caveats.guesses.Guessed.{Guessed}
 
 -- ---- what was allowed
 
@@ -129,6 +130,22 @@ abbrev pub choices_text : Options → List Key → List ℕ
 choices_text o [] = []
 choices_text o (k ∷ ks) = choice_text o k ++ choices_text o ks
 
+-- ---- guesses
+
+unfoldable pub one_guessed : ℕ → List ℕ
+one_guessed line = numbered (codes "  guessed by the converter: line ") line ++ codes "\n"
+
+unfoldable pub many_guessed : ℕ → ℕ → List ℕ
+many_guessed count first =
+    numbered (codes "  guessed by the converter: ") count
+    ++ numbered (codes " lines, the first is line ") first ++ codes "\n"
+
+-- how many lines were guessed; nothing where none was
+abbrev pub guessed_text : Guessed → List ℕ
+guessed_text g =
+    if g.count == 0 then [] else
+    (if g.count == 1 then one_guessed g.first else many_guessed g.count g.first)
+
 -- ---- the end
 
 unfoldable pub due_text : TimeUnit → Due → List ℕ
@@ -153,8 +170,8 @@ some_end_text u bytes due =
 -- ---- the whole
 
 -- what an accepted verdict rests on: these rows of what was allowed, with the timer that was the
--- most late; and so many bytes in flight and this timer at the end
-unfoldable pub rest_text : Settings → List Row → Option Late → ℕ → Option Due → List ℕ
-rest_text c rows latest bytes due =
+-- most late; so many guesses; and so many bytes in flight and this timer at the end
+unfoldable pub rest_text : Settings → List Row → Option Late → Guessed → ℕ → Option Due → List ℕ
+rest_text c rows latest guessed bytes due =
     rows_text c.unit c.options latest rows ++ choices_text c.options (choices c.options)
-    ++ some_end_text c.unit bytes due
+    ++ guessed_text guessed ++ some_end_text c.unit bytes due

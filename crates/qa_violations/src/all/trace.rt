@@ -15,6 +15,7 @@ ghost use Rattle.qa_violations.specs.declared.all.listing.Listed.{Listed as ALis
 ghost use Rattle.qa_check.specs.Audit.{ReadsBy, ReadsEnoughBy, is_read_fault, is_write_fault};
 ghost use Rattle.qa_check.specs.Failures.{failures_after};
 ghost use Rattle.qa_why.specs.Why.{good_lines};
+ghost use Rattle.qa_why.specs.caveats.Caveats.{guessed_in};
 
 use crate::all::keeping::Kept;
 use crate::all::listing::Listed;
@@ -255,17 +256,18 @@ fn finish_text(
 ) -> Result<Told, AllocError>
     ensures { IfOk result (λ told. (begun : AKept) (ls : List (List ℕ))
         → Covers name.now begun kept.first ls → CoversWhere unviolated kept.second.allowances ls
+        → end.guessed ≡ guessed_in ls
         → (told.why.text.items ≡ tolerated_run_in begun.latest.count Form.Text name.now ls
         end.outcome end.text.items)
         × (told.why.outcome ≡ outcome_with (findings (all_violated ls)) end.outcome)
         × (told.is_strict ≡ is_strict unviolated ls)) }
 {
     let Both { first, second } = kept;
-    let outcome = end.outcome;
+    let (outcome, guessed) = (end.outcome, end.guessed);
     let mut why = first.finish(name, end)?;
     second
         .allowances
-        .push_behind(alloc, Form::Text, outcome, &mut why.text)?;
+        .push_behind(alloc, Form::Text, outcome, guessed, &mut why.text)?;
     Ok(Told {
         why,
         is_strict: second.allowances.is_strict(),
@@ -281,7 +283,7 @@ fn finish_members(
 ) -> Result<Told, AllocError>
     ensures { IfOk result (λ told. (name : List ℕ) (begun : AListed) (ls : List (List ℕ))
         → CoversListed name begun kept.first ls
-        → CoversWhere unviolated kept.second.allowances ls
+        → CoversWhere unviolated kept.second.allowances ls → end.guessed ≡ guessed_in ls
         → (told.why.text.items ≡ tolerated_run_in begun.latest.count Form.Json name ls
         end.outcome end.text.items)
         × (told.why.outcome ≡ outcome_with (findings (all_violated ls)) end.outcome)
@@ -290,7 +292,7 @@ fn finish_members(
     let Both { first, second } = kept;
     second
         .allowances
-        .push_behind(alloc, Form::Json, end.outcome, &mut end.text)?;
+        .push_behind(alloc, Form::Json, end.outcome, end.guessed, &mut end.text)?;
     let why = first.finish(end)?;
     Ok(Told {
         why,

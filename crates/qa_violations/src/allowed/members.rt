@@ -7,7 +7,7 @@ use crate::allowed::choices::{key_of, limit_of};
 use crate::table::{Row, is_in_bytes, push_counts, push_greatest, unit_of};
 use qa_base::{Due, Key, Options, Rule, TimeUnit};
 use qa_explain::members::{Object, push_due};
-use qa_why::{extend, push_rule};
+use qa_why::{Guessed, extend, push_rule};
 use std::alloc::{AllocError, Global};
 
 // ---- what was allowed
@@ -140,6 +140,42 @@ pub(crate) fn push_choices(out: &mut Vec<u8>, keys: &[Key]) -> Result<(), AllocE
     extend(out, b",\"choices\":[")?;
     push_listed(out, keys)?;
     extend(out, b"]")
+}
+
+// ---- guesses
+
+#[tactic(auto, unfolding(crate::specs::allowed::Members::guessed_members))]
+fn guessed_members(alloc: Global, guessed: Guessed) -> Result<Vec<u8>, AllocError>
+    ensures { IfOk result (λ members. members.items ≡ text.guessed_members guessed) }
+{
+    let mut object = Object::bare(alloc);
+    object.number("count", u128::from(guessed.count))?;
+    object.number("first", u128::from(guessed.first))?;
+    Ok(object.into_bytes())
+}
+
+#[tactic(auto, unfolding(crate::specs::allowed::Members::some_guesses_member))]
+fn push_some_guesses(alloc: Global, out: &mut Vec<u8>, guessed: Guessed) -> Result<(), AllocError>
+    ensures { OnOk result (out.new.items ≡ out.old.items ++ text.some_guesses_member guessed) }
+{
+    let members = guessed_members(alloc, guessed)?;
+    extend(out, b",\"guesses\":{")?;
+    extend(out, &members)?;
+    extend(out, b"}")
+}
+
+/// How many lines were guessed, as a member behind others; null where none was.
+pub(crate) fn push_guesses(
+    alloc: Global,
+    out: &mut Vec<u8>,
+    guessed: Guessed,
+) -> Result<(), AllocError>
+    ensures { OnOk result (out.new.items ≡ out.old.items ++ text.guesses_member guessed) }
+{
+    if guessed.count == 0 {
+        return extend(out, b",\"guesses\":null");
+    }
+    push_some_guesses(alloc, out, guessed)
 }
 
 // ---- the end

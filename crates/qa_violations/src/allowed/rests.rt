@@ -10,17 +10,20 @@ ghost use Rattle.qa_violations.specs.allowed.Texts as texts;
 ghost use Rattle.qa_violations.specs.declared.allowed.late.Late.{Late as ALate};
 ghost use Rattle.qa_violations.specs.declared.table.finding.Finding.{Finding as AFinding};
 ghost use Rattle.qa_violations.specs.table.Table.{Holds, table};
+ghost use Rattle.qa_why.specs.caveats.Caveats.{guessed_in};
 
 use crate::allowed::allowances::Allowances;
 use crate::allowed::before::Before;
 use crate::allowed::choices::choices;
-use crate::allowed::members::{allowed_member, push_choices as push_choices_member, push_last};
+use crate::allowed::members::{
+    allowed_member, push_choices as push_choices_member, push_guesses, push_last,
+};
 use crate::allowed::tally::Tally;
-use crate::allowed::texts::{push_choices, push_rows, push_some_end};
+use crate::allowed::texts::{push_choices, push_guessed, push_rows, push_some_end};
 use qa_base::Header;
 use qa_check::Outcome;
 use qa_format::Form;
-use qa_why::extend;
+use qa_why::{Guessed, extend};
 use std::alloc::{AllocError, Global};
 
 /// As text.
@@ -29,10 +32,11 @@ fn rest_text(
     alloc: Global,
     header: &Header,
     tally: &Tally,
+    guessed: Guessed,
     last: &Before,
 ) -> Result<String, AllocError>
     ensures { IfOk result (λ out. (fs : List AFinding) → Holds tally.now.table fs
-        → string_bytes out ≡ texts.rest_text header.now (table fs) tally.now.latest
+        → string_bytes out ≡ texts.rest_text header.now (table fs) tally.now.latest guessed
         last.now.totals.bytes_in_flight last.now.due) }
 {
     let unit = header.unit();
@@ -41,6 +45,7 @@ fn rest_text(
     let mut out = String::new(alloc);
     push_rows(&mut out, unit, &options, tally.latest, tally.table.rows())?;
     push_choices(&mut out, &options, &keys)?;
+    push_guessed(&mut out, guessed)?;
     push_some_end(&mut out, unit, last.totals.bytes_in_flight, last.due)?;
     Ok(out)
 }
@@ -51,11 +56,12 @@ fn push_members(
     alloc: Global,
     out: &mut Vec<u8>,
     header: &Header,
+    guessed: Guessed,
     a: &Allowances,
 ) -> Result<(), AllocError>
     ensures { OnOk result ((fs : List AFinding) → Holds a.now.tally.table fs
-        → out.new.items ≡ out.old.items ++ members.rest_members header.now (table fs) a.now.time
-        a.now.before.totals.bytes_in_flight a.now.before.due) }
+        → out.new.items ≡ out.old.items ++ members.rest_members header.now (table fs) guessed
+        a.now.time a.now.before.totals.bytes_in_flight a.now.before.due) }
 {
     let unit = header.unit();
     let options = header.options();
@@ -64,6 +70,7 @@ fn push_members(
     extend(out, b",")?;
     extend(out, &allowed)?;
     push_choices_member(out, &keys)?;
+    push_guesses(alloc, out, guessed)?;
     push_last(
         alloc,
         out,
@@ -79,33 +86,36 @@ fn push_text(
     alloc: Global,
     out: &mut Vec<u8>,
     header: &Header,
+    guessed: Guessed,
     a: &Allowances,
 ) -> Result<(), AllocError>
     ensures { OnOk result ((fs : List AFinding) → Holds a.now.tally.table fs
         → out.new.items ≡ out.old.items ++ texts.rest_text header.now (table fs)
-        a.now.tally.latest a.now.before.totals.bytes_in_flight a.now.before.due) }
+        a.now.tally.latest guessed a.now.before.totals.bytes_in_flight a.now.before.due) }
 {
-    let text = rest_text(alloc, header, &a.tally, &a.before)?;
+    let text = rest_text(alloc, header, &a.tally, guessed, &a.before)?;
     extend(out, text.as_bytes())
 }
 
 impl Allowances {
-    /// Appends what the verdict rests on where the trace is accepted, in a form: text, or members
-    /// behind others. Nothing without a header. `AllocError` comes where it is out of memory.
+    /// Appends what the verdict rests on where the trace is accepted and so many of its lines were
+    /// guessed, in a form: text, or members behind others. Nothing without a header. `AllocError`
+    /// comes where it is out of memory.
     pub(crate) fn push_rest(
         &self,
         alloc: Global,
         form: Form,
+        guessed: Guessed,
         out: &mut Vec<u8>,
     ) -> Result<(), AllocError>
         ensures { OnOk result ((c : Option Settings) (h : List AnEvent) (fs : List AFinding)
             (lates : List ALate) → IsAt self.now c h → Tallies self.now.tally fs lates
-            → out.new.items ≡ out.old.items ++ rests.rest_of form c h fs lates) }
+            → out.new.items ≡ out.old.items ++ rests.rest_of form c h fs lates guessed) }
     {
         match (&self.header, form) {
             (None, _) => Ok(()),
-            (Some(header), Form::Text) => push_text(alloc, out, header, self),
-            (Some(header), Form::Json) => push_members(alloc, out, header, self),
+            (Some(header), Form::Text) => push_text(alloc, out, header, guessed, self),
+            (Some(header), Form::Json) => push_members(alloc, out, header, guessed, self),
         }
     }
 
@@ -116,14 +126,15 @@ impl Allowances {
         alloc: Global,
         form: Form,
         outcome: Outcome,
+        guessed: Guessed,
         out: &mut Vec<u8>,
     ) -> Result<(), AllocError>
         ensures { OnOk result ((counts : Counting) (ls : List (List ℕ))
-            → CoversWhere counts self.now ls
+            → CoversWhere counts self.now ls → guessed ≡ guessed_in ls
             → out.new.items ≡ out.old.items ++ rests.rest_behind counts form outcome ls) }
     {
         match outcome {
-            Outcome::Accepted => self.push_rest(alloc, form, out),
+            Outcome::Accepted => self.push_rest(alloc, form, guessed, out),
             Outcome::Refused | Outcome::Unreadable => Ok(()),
         }
     }

@@ -11,6 +11,7 @@ use crate::allowed::times::push_time;
 use crate::table::{Row, by_words, is_in_bytes};
 use qa_base::{Due, Key, Options, Rule, Space, TimeUnit, TimerKind};
 use qa_explain::text::{push_name, push_number, push_wide, push_words};
+use qa_why::Guessed;
 use std::alloc::AllocError;
 use std::fmt::Write;
 
@@ -284,6 +285,41 @@ pub(crate) fn push_choices(
         push_choice(out, options, *key)?;
     }
     Ok(())
+}
+
+// ---- guesses
+
+#[tactic(auto, unfolding(crate::specs::allowed::Texts::one_guessed))]
+fn push_one_guessed(out: &mut String, line: u64) -> Result<(), AllocError>
+    ensures { OnOk result (string_bytes out.new
+        ≡ string_bytes out.old ++ text.one_guessed line) }
+{
+    push_number(out, "  guessed by the converter: line ", line)?;
+    push_words(out, "\n")
+}
+
+#[tactic(auto, unfolding(crate::specs::allowed::Texts::many_guessed))]
+fn push_many_guessed(out: &mut String, count: u64, first: u64) -> Result<(), AllocError>
+    ensures { OnOk result (string_bytes out.new
+        ≡ string_bytes out.old ++ text.many_guessed count first) }
+{
+    push_number(out, "  guessed by the converter: ", count)?;
+    push_number(out, " lines, the first is line ", first)?;
+    push_words(out, "\n")
+}
+
+/// How many lines were guessed; nothing where none was.
+pub(crate) fn push_guessed(out: &mut String, guessed: Guessed) -> Result<(), AllocError>
+    ensures { OnOk result (string_bytes out.new
+        ≡ string_bytes out.old ++ text.guessed_text guessed) }
+{
+    if guessed.count == 0 {
+        return Ok(());
+    }
+    if guessed.count == 1 {
+        return push_one_guessed(out, guessed.first);
+    }
+    push_many_guessed(out, guessed.count, guessed.first)
 }
 
 // ---- the end

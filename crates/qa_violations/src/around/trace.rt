@@ -14,6 +14,7 @@ ghost use Rattle.qa_check.specs.Failures.{failures_after};
 ghost use Rattle.qa_format.specs.format.Reading.{reading};
 ghost use Rattle.qa_format.specs.verdicts.Verdict.{strict};
 ghost use Rattle.qa_why.specs.Why.{good_lines};
+ghost use Rattle.qa_why.specs.caveats.Caveats.{guessed_in};
 
 use crate::allowed::{Allowances, Told, unless_quiet};
 use crate::around::latest::Latest;
@@ -256,12 +257,12 @@ fn with_rows(
     allowances: &Allowances,
 ) -> Result<Told, AllocError>
     ensures { IfOk result (λ told. (ls : List (List ℕ)) → Keeps latest.now (rows ls)
-        → CoversWhere each allowances.now ls
+        → CoversWhere each allowances.now ls → why.guessed ≡ guessed_in ls
         → (told.why.text.items ≡ why.text.items ++ rest_behind each Form.Text why.outcome ls
         ++ rows_behind why.outcome latest.now.count ls)
         × (told.why.outcome ≡ why.outcome) × (told.is_strict ≡ is_strict each ls)) }
 {
-    allowances.push_behind(alloc, Form::Text, why.outcome, &mut why.text)?;
+    allowances.push_behind(alloc, Form::Text, why.outcome, why.guessed, &mut why.text)?;
     latest.push_behind(why.outcome, &mut why.text)?;
     Ok(Told {
         why,
@@ -277,12 +278,12 @@ fn with_objects(
     allowances: &Allowances,
 ) -> Result<Told, AllocError>
     ensures { IfOk result (λ told. (ls : List (List ℕ)) → KeepsObjects latest.now (objects ls)
-        → CoversWhere each allowances.now ls
+        → CoversWhere each allowances.now ls → why.guessed ≡ guessed_in ls
         → (told.why.text.items ≡ why.text.items ++ rest_behind each Form.Json why.outcome ls
         ++ objects_behind why.outcome latest.now.count ls)
         × (told.why.outcome ≡ why.outcome) × (told.is_strict ≡ is_strict each ls)) }
 {
-    allowances.push_behind(alloc, Form::Json, why.outcome, &mut why.text)?;
+    allowances.push_behind(alloc, Form::Json, why.outcome, why.guessed, &mut why.text)?;
     latest.push_behind(why.outcome, &mut why.text)?;
     Ok(Told {
         why,

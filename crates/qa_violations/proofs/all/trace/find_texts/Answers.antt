@@ -14,7 +14,7 @@ returns-in-Ok-clause-told g c =
     let found = c.in_ok-end.ensures.told in
     let good = good_lines past_sender_rules found.0 in
     let end = c.in_ok-end.end in
-    let all = c.in-Ok.ensures c.new.result good found.2.1.0.0 found.2.1.0.1 in (
+    let all = c.in-Ok.ensures c.new.result good found.2.1.0.0 found.2.1.0.1 found.2.2 in (
       found.0,
       found.1,
       all.0 ∙ (ap (λ count. tolerated_run_in count Text c.args.name.now good end.outcome end.text.items) c.new.ensures.count ∙ ap₂ (tolerated_run_in c.args.around Text c.args.name.now good) found.2.0.1 found.2.0.0),

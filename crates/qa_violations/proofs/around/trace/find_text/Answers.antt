@@ -17,7 +17,7 @@ unfolding around_told
 returns-in-Ok-clause-told g c =
     let found = c.in_ok-why.ensures.told in
     let good = good_lines (strict reading) found.0 in
-    let all = c.in-Ok.ensures good found.2.1.0.0.1 found.2.1.0.1 in (
+    let all = c.in-Ok.ensures good found.2.1.0.0.1 found.2.1.0.1 found.2.2 in (
       found.0,
       found.1,
       (
