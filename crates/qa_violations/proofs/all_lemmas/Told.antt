@@ -1,22 +1,20 @@
 -- What is told of one more violation, and of those on one more line.
-use Rattle.std.proofs.Common.{◌≡◌, ◌∙◌, ◌+◌, ◌<◌, ℕ, suc, true, false, List, [], ◌∷◌, ◌++◌, Option, Some, None, Result, Ok, Err, append_assoc, get_or, length, map, take, refl, subst, sym, ap, arith}
-use Rattle.std.proofs.lemmas.Bool.{ne_eqb}
+use Rattle.std.proofs.Common.{◌≡◌, ◌∙◌, ◌+◌, ◌<◌, ℕ, List, [], ◌∷◌, ◌++◌, Option, Some, None, Result, Ok, Err, append_assoc, get_or, length, map, take, refl, subst, sym, ap}
 use Rattle.std.proofs.lemmas.List.{append-nil, map-append, take_more}
 use Rattle.std.specs.Option.{option_or}
-use Rattle.std.specs.Prelude.{filter_map, nat_eq}
+use Rattle.std.specs.Prelude.{filter_map}
 use Rattle.qa_violations.specs.all.All.{first_text, firsts, firsts_after}
 use Rattle.qa_violations.specs.all.Tolerating.{latest_of}
 use Rattle.qa_violations.specs.all.Violated.{Violated, all_violated, violated, violated_after, violated_at, violated_on, finding_of, findings, history_in, lines_before, unit_of}
 use Rattle.qa_violations.specs.all.Keeping.{violated_by, kept_behind}
 use Rattle.qa_violations.specs.declared.all.tolerating.Violation.{Violation}
-use Rattle.qa_violations.specs.all.Objects.{first_members, named, named_after, named_behind}
+use Rattle.qa_violations.specs.all.Objects.{named, named_after, named_behind}
 use Rattle.qa_violations.specs.around.Rows.{objects}
 use Rattle.qa_base.specs.declared.event.Event.{Event}
 use Rattle.qa_base.proofs.machine.Histories.{history_of-snoc}
 use Rattle.qa_base.specs.declared.space.TimeUnit.{TimeUnit}
 use Rattle.qa_base.specs.machine.Packets.{history_of}
 use Rattle.qa_base.specs.values.Settings.{Settings}
-use Rattle.qa_violations.specs.table.Table.{counted}
 use Rattle.qa_violations.specs.declared.table.finding.Finding.{Finding}
 use Rattle.qa_format.proofs.verdicts.RunsAccepted.{events_in-snoc}
 use Rattle.qa_format.proofs.verdicts.Stops.{header_in-snoc}

@@ -1,9 +1,8 @@
 -- What was allowed on one more line.
-use Rattle.std.proofs.Common.{◌≡◌, ◌∙◌, ◌+◌, ℕ, Bool, List, [], ◌∷◌, ◌++◌, length, Option, Some, None, Result, Ok, Err, refl, subst, sym, ap}
+use Rattle.std.proofs.Common.{◌≡◌, ◌∙◌, ◌+◌, ℕ, List, [], ◌∷◌, ◌++◌, length, Option, Some, None, Result, Ok, subst, sym, ap}
 use Rattle.std.proofs.lemmas.List.{append-nil}
 use Rattle.std.specs.Option.{option_or}
 use Rattle.std.specs.Prelude.{filter_map}
-use Rattle.qa_base.specs.declared.event.Event.{Event}
 use Rattle.qa_base.specs.machine.Packets.{history_of}
 use Rattle.qa_base.specs.values.Settings.{Settings}
 use Rattle.qa_check.specs.Standing.{history_after}
@@ -14,7 +13,7 @@ use Rattle.qa_format.specs.declared.line.Line.{Line}
 use Rattle.qa_format.specs.declared.line.Line.TheVariants as line
 use Rattle.qa_format.specs.format.Reading.{reading}
 use Rattle.qa_format.specs.verdicts.Verdict.{event_said, events_in, header_in, header_said}
-use Rattle.qa_violations.proofs.all_lemmas.Told.{headless_before, history_with, none_before, or_none}
+use Rattle.qa_violations.proofs.all_lemmas.Told.{headless_before, history_with, or_none}
 use Rattle.qa_violations.proofs.around_lemmas.Rows.{rows_headless, rows_more}
 use Rattle.qa_violations.specs.all.Violated.{history_in}
 use Rattle.qa_violations.specs.allowed.Keeping.{CoversWhere, IsAt, IsHeaderAfter, Tallies}

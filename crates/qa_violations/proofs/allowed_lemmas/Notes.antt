@@ -1,5 +1,5 @@
 -- What a table was told of, in parts; and the timer that was the most late of two lists.
-use Rattle.std.proofs.Common.{◌≡◌, ◌∙◌, ◌+◌, ◌<◌, ℕ, List, [], ◌∷◌, ◌++◌, Option, Some, None, append_assoc, get_or, length, map, take, refl, subst, sym, ap}
+use Rattle.std.proofs.Common.{◌≡◌, ◌∙◌, ◌+◌, ◌<◌, ℕ, List, [], ◌∷◌, ◌++◌, Option, Some, append_assoc, get_or, length, take, refl, subst, sym, ap}
 use Rattle.std.proofs.lemmas.List.{append-nil, map-append, take_more}
 use Rattle.qa_base.specs.declared.event.MetricValues.{MetricValues}
 use Rattle.qa_base.specs.declared.rule.Field.{Field}

@@ -37,7 +37,7 @@ use Rattle.qa_format.specs.format.Reading.{reading}
 use Rattle.qa_format.specs.verdicts.Verdict.{AreGood, end_of, event_said, events_in, first_stop, header_in, said, stop_after, stop_at, strict, verdict, verdict_of}
 use Rattle.qa_why.proofs.Told.{good_at_end, why_at_end}
 use Rattle.qa_why.specs.Objects.{object_line}
-use Rattle.qa_why.specs.Why.{good_lines, told, why_by}
+use Rattle.qa_why.specs.Why.{good_lines, told_at, why_by}
 use Rattle.qa_format.specs.declared.form.Form.{Form}
 use Rattle.qa_format.specs.declared.form.Form.TheVariants as forms
 
@@ -143,7 +143,7 @@ why_same form name bytes good =
     let ls = lines bytes in
     let tolerated = tolerated_lines [] ls good in
     why_at_end past_sender_rules form name bytes ls tolerated refl
-    ∙ (ap (λ v. told form name v (header_in reading ls) (history_of (events_in reading ls)) None) (verdict_same ls good tolerated) ∙ sym (why_at_end (strict reading) form name bytes ls good refl))
+    ∙ (ap (λ v. told_at past_sender_rules form name v (ls, None)) (verdict_same ls good tolerated) ∙ sym (why_at_end (strict reading) form name bytes ls good refl))
 
 -- the verdict, past violations too
 accepted_past : (bytes : List ℕ) (t : Totals) → verdict (strict reading) bytes ≡ Accepted t → outcome_of (verdict past_sender_rules bytes) ≡ outcomes.Accepted

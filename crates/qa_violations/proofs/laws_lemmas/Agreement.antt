@@ -4,14 +4,13 @@ use Rattle.std.proofs.lemmas.List.{append-nil}
 use Rattle.std.specs.Option.{option_or}
 use Rattle.std.specs.Prelude.{if◌then◌else◌, map, option_map, unwrap_or, is_some}
 use Rattle.qa_violations.specs.all.All.{all_outcome, outcome_with, past_sender_rules}
-use Rattle.qa_violations.specs.all.Tolerating.{explained, violations_of}
-use Rattle.qa_violations.specs.all.Violated.{Violated, all_violated, violated, violated_after, violated_at, violated_on, findings, history_in}
+use Rattle.qa_violations.specs.all.Tolerating.{explained}
+use Rattle.qa_violations.specs.all.Violated.{Violated, violated, violated_after, violated_at, findings, history_in}
 use Rattle.qa_violations.specs.laws.Agreement.{ComesFirst, EndsUnviolated, goes_on_past, violations_of_trace}
 use Rattle.qa_violations.specs.declared.table.finding.Finding.{Finding}
 use Rattle.qa_violations.proofs.laws_lemmas.Accepted.{none_on, none_violated, tolerated_after, tolerated_lines}
 use Rattle.qa_violations.proofs.laws_lemmas.Breaking.{first_violation, not_passed_over, passed_over}
 use Rattle.qa_base.specs.declared.event.Event.{Event}
-use Rattle.qa_base.specs.declared.rule.Field.{Field}
 use Rattle.qa_base.specs.declared.rule.Rule.{Rule}
 use Rattle.qa_base.specs.declared.rule.Rule.TheVariants as rule
 use Rattle.qa_base.specs.declared.totals.Totals.{Totals}
@@ -24,7 +23,7 @@ use Rattle.qa_base.specs.values.Settings.{Settings}
 use Rattle.qa_check.specs.Audit.{outcome_of}
 use Rattle.qa_check.specs.declared.auditing.Outcome.{Outcome}
 use Rattle.qa_check.specs.declared.auditing.Outcome.TheVariants as outcomes
-use Rattle.qa_format.proofs.verdicts.Stops.{or_parts, said_reading}
+use Rattle.qa_format.proofs.verdicts.Stops.{said_reading}
 use Rattle.qa_format.specs.declared.fault.Fault.{Fault}
 use Rattle.qa_format.specs.declared.line.Line.{Line}
 use Rattle.qa_format.specs.declared.line.Line.TheVariants as line
@@ -34,7 +33,7 @@ use Rattle.qa_format.specs.format.Lines.{lines}
 use Rattle.qa_format.specs.format.Reading.{reading}
 use Rattle.qa_format.specs.verdicts.Verdict.{AreGood, end_at, end_of, event_said, events_in, first_stop, header_in, last_event_line, said, stop_after, stop_at, strict, verdict, verdict_of}
 use Rattle.qa_why.proofs.Told.{good_at_end}
-use Rattle.qa_why.specs.Why.{good_lines, judged_at}
+use Rattle.qa_why.specs.Why.{judged_at}
 
 -- ---- one line
 

@@ -1,6 +1,6 @@
 -- Each of the rules by which a header allows more is broken exactly if an amount is above its limit.
-use Rattle.std.proofs.Common.{◌≡◌, ◌∙◌, ◌+◌, ◌-◌, ◌<◌, ◌≤◌, ◌⊎◌, ◌&&◌, not, ℕ, max, Bool, true, false, List, [], ◌∷◌, Option, Some, None, refl, sym, ap, ap₂, arith, inl, inr, IsSome}
-use Rattle.std.proofs.lemmas.Bool.{ltb-true, ltb-false, lt-ltb, le-ltb}
+use Rattle.std.proofs.Common.{◌≡◌, ◌∙◌, ◌+◌, ◌-◌, ◌<◌, ◌≤◌, ◌⊎◌, ◌&&◌, not, ℕ, max, Bool, true, false, List, [], ◌∷◌, Option, Some, None, refl, sym, ap, arith, inl, inr, IsSome}
+use Rattle.std.proofs.lemmas.Bool.{ltb-false, lt-ltb, le-ltb}
 use Rattle.std.proofs.lemmas.Bool.Decides.{leb_tells}
 use Rattle.std.specs.Prelude.{nat_lt, unwrap_or, if◌then◌else◌}
 use Rattle.qa_base.proofs.machine.RunLaws.{rules_hold}
@@ -19,11 +19,10 @@ use Rattle.qa_base.specs.machine.Breaches.{is_above_collapse, is_before, is_coll
 use Rattle.qa_base.specs.machine.Loss.{bytes_in_flight}
 use Rattle.qa_base.specs.machine.Metrics.{differs}
 use Rattle.qa_base.specs.machine.Reno.{reno}
-use Rattle.qa_base.specs.machine.Rtt.{distance}
 use Rattle.qa_base.specs.machine.Rules.{broken, first_broken}
 use Rattle.qa_base.specs.machine.Timer.{Due, deadline, packet_deadline, set_since}
 use Rattle.qa_base.specs.machine.Violations.{violations}
-use Rattle.qa_base.specs.machine.Window.{acknowledged_since_collapse, other_window, reported_window, unless_same, window, window_by, window_in}
+use Rattle.qa_base.specs.machine.Window.{acknowledged_since_collapse, reported_window, unless_same, window, window_by, window_in}
 use Rattle.qa_base.specs.values.Constants.{minimum_window}
 use Rattle.qa_base.specs.values.Events.{is_in_flight_by, time_of}
 use Rattle.qa_base.specs.values.Settings.{Settings, early, in_unit, is_reported}
@@ -33,7 +32,7 @@ use Rattle.qa_violations.specs.all.Tolerating.{explained, unviolated}
 use Rattle.qa_violations.specs.allowed.Allowed.{before, beyond, early_by, late_by, metric_off, past_collapse_by, past_due, past_window}
 use Rattle.qa_violations.specs.allowed.Lines.{allowed_on, allowed_said}
 use Rattle.qa_violations.specs.laws.Strict.{differs_at, slack_in}
-use Rattle.qa_violations.specs.table.Amounts.{gap, held_of, past_collapse, reported_of}
+use Rattle.qa_violations.specs.table.Amounts.{gap, held_of, past_collapse}
 use Rattle.qa_violations.specs.table.Table.{is_nil}
 
 -- ---- numbers

@@ -16,7 +16,6 @@ use Rattle.qa_violations.specs.around.Rows.{objects, rows as all_rows}
 use Rattle.qa_violations.specs.declared.around.row.Row.{Row}
 use Rattle.qa_violations.specs.table.Table.{Holds}
 pub use Rattle.qa_violations.specs.table.Table.{is_nil}
-use Rattle.qa_violations.specs.declared.table.finding.Finding.{Finding}
 use Rattle.qa_format.specs.declared.line.Line.{Line}
 use Rattle.qa_format.specs.declared.line.Line.TheVariants as line
 use Rattle.qa_format.specs.format.Reading.{reading}

@@ -1,6 +1,6 @@
 -- The keys of a header by which the machine is another than that of RFC 9002, or by which a rule
 -- allows more.
-use Rattle.std.specs.Prelude.{ℕ, ◌==◌, not, codes, decimal, Bool, List, [], ◌∷◌, ◌++◌, Option, Some}
+use Rattle.std.specs.Prelude.{ℕ, ◌==◌, not, Bool, List, [], ◌∷◌, ◌++◌, Option, Some}
 use Rattle.std.specs.Prelude.{None, if◌then◌else◌}
 use Rattle.qa_base.specs.declared.header.Options.{Options}
 use Rattle.qa_base.specs.declared.key.Key.{Key}

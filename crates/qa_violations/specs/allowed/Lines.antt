@@ -6,7 +6,6 @@ use Rattle.std.specs.Prelude.{if◌then◌else◌}
 use Rattle.qa_base.specs.declared.event.Event.{Event}
 use Rattle.qa_base.specs.declared.rule.Rule.{Rule}
 use Rattle.qa_base.specs.machine.Timer.{Due}
-use Rattle.qa_base.specs.values.Events.{time_of}
 use Rattle.qa_base.specs.values.Settings.{Settings}
 use Rattle.qa_format.specs.declared.line.Line.TheVariants as line
 use Rattle.qa_violations.specs.allowed.Allowed.{allowed, allowed_by, before, late_by}

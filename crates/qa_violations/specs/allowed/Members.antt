@@ -1,7 +1,7 @@
 -- What an accepted verdict rests on, as members of a JSON object behind others.
 --
 -- `c` are the settings of the header, `h` is the history.
-use Rattle.std.specs.Prelude.{ℕ, ◌==◌, codes, map, List, [], ◌∷◌, ◌++◌, Option, Some, None}
+use Rattle.std.specs.Prelude.{ℕ, ◌==◌, codes, List, [], ◌∷◌, ◌++◌, Option, Some, None}
 use Rattle.std.specs.Prelude.{if◌then◌else◌, option_map}
 use Rattle.json.specs.Token.{Token}
 use Rattle.qa_base.specs.declared.header.Options.{Options}

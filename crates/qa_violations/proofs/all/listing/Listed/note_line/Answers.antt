@@ -1,4 +1,4 @@
-use Rattle.std.proofs.Common.{◌≡◌, ◌++◌, List, ℕ, subst, sym}
+use Rattle.std.proofs.Common.{◌≡◌, ◌++◌, subst, sym}
 use Rattle.qa_violations.proofs.around_lemmas.Noted.{on_ok_both}
 use Rattle.qa_violations.specs.all.Keeping.{violated_by}
 use Rattle.qa_violations.specs.around.Keeping as kept

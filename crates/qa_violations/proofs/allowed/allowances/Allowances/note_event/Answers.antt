@@ -1,5 +1,4 @@
-use Rattle.std.proofs.Common.{◌≡◌, ◌∙◌, ◌++◌, Some, ap, sym}
-use Rattle.qa_base.specs.values.Settings.{Settings}
+use Rattle.std.proofs.Common.{◌∙◌, Some, ap, sym}
 use Rattle.qa_violations.proofs.allowed_lemmas.Begin.{tallied_by}
 use Rattle.qa_violations.proofs.allowed.allowances.Allowances.note_event.Goals as goal
 

@@ -1,4 +1,4 @@
-use Rattle.std.proofs.Common.{◌≡◌, ◌++◌, ◌∷◌, Option, Some, List, subst, sym}
+use Rattle.std.proofs.Common.{◌≡◌, ◌++◌, Option, Some, subst, sym}
 use Rattle.std.proofs.lemmas.Result.{on_ok_weaker}
 use Rattle.qa_base.specs.values.Settings.{Settings}
 use Rattle.qa_check.specs.Standing.{history_after}

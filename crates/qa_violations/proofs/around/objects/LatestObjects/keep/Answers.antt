@@ -1,4 +1,4 @@
-use Rattle.std.proofs.Common.{◌≡◌, ◌∙◌, ◌∷◌, ◌++◌, [], List, ℕ, ap, map}
+use Rattle.std.proofs.Common.{◌≡◌, ◌∙◌, ◌∷◌, ◌++◌, [], ap, map}
 use Rattle.std.proofs.lemmas.List.{map-append}
 use Rattle.qa_violations.proofs.around_lemmas.Rows.{last_of_more, room_of}
 use Rattle.qa_violations.specs.around.Keeping.{room_in}
