@@ -304,7 +304,6 @@ shortest_fits (Confirmed t) proper has = pairs_short (event_pairs (Confirmed t))
 shortest_fits (Keys t) proper has = pairs_short (event_pairs (Keys t)) (kind_short kinds.Keys, (integer_short t (time_small t proper.in_time), (tt))) (omega arith)
 shortest_fits (Metrics t values) proper has = metrics_short t values proper.in_time proper.numbers
 
-
 -- ---- events with few ranges
 
 pub ack_has_line : (a : AnAck) → a.time ≤ max_time → AllByRecursion IsRange a.ranges → a.delay < 2 ^ 64 → length a.ranges ≤ few_ranges → has_line (Ack a) ≡ true
