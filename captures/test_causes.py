@@ -10,9 +10,11 @@ import subprocess
 import sys
 import unittest
 from pathlib import Path
+from typing import Any
 
 from causes import CAUSES, cause_of
 
+Said = dict[str, Any]
 HERE = Path(__file__).parent
 REAL = HERE.parent / "conformance" / "real"
 LESS_THE_DELAY = "V16: `latest_rtt` is less the delay"
@@ -181,13 +183,14 @@ class Causes(unittest.TestCase):
     def test_probed_packet_is_not_declared_lost(self) -> None:
         """One of before the probe timeout, by a sender of which that is known, and others."""
         first, packet, _, later = SAMPLES.splitlines()
-        known = {"dialect": "quic-go-0.59", "sent": 0, "ranges": [[1, 1]]}
-        for changed, are_named in (
+        known: Said = {"dialect": "quic-go-0.59", "sent": 0, "ranges": [[1, 1]]}
+        cases: tuple[tuple[Said, bool], ...] = (
             ({}, True),
             ({"dialect": "ngtcp2"}, False),
             ({"sent": 60000}, False),
             ({"ranges": [[0, 0]]}, False),
-        ):
+        )
+        for changed, are_named in cases:
             said = known | changed
             header = json.loads(first) | {"x_dialect": said["dialect"]}
             lost = json.loads(packet) | {"time": said["sent"]}
@@ -241,7 +244,11 @@ class Causes(unittest.TestCase):
     def test_times_that_are_guessed(self) -> None:
         """One that the converter puts earlier is no sign of a log with finer times."""
         guess = ["time: part of a millisecond earlier, so that a packet is not lost yet"]
-        for said, cause in (({"x_guess": guess}, f"V2: {AGE}"), ({}, "V2 loss-owed")):
+        cases: tuple[tuple[Said, str], ...] = (
+            ({"x_guess": guess}, f"V2: {AGE}"),
+            ({}, "V2 loss-owed"),
+        )
+        for said, cause in cases:
             early = {"event": "metrics", "time": 20001, **said}
             lines = SAMPLES.splitlines()
             packet = json.loads(lines[-1]) | {"number": 2, "time": 21000}

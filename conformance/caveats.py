@@ -9,6 +9,7 @@ from collections.abc import Iterator
 from typing import NamedTuple
 
 from constants import Rule
+from sender import Event
 
 GUESS = "x_guess"
 NOTE = "x_note"
@@ -35,7 +36,7 @@ class Missing(NamedTuple):
     runs: list[range]
 
     @property
-    def count(self) -> int:
+    def size(self) -> int:
         """How many numbers."""
         return sum(map(len, self.runs))
 
@@ -60,6 +61,7 @@ def text_of(lines: list[bytes], refusal: Refusal) -> bytes:
         told = remarks(front, GUESS, refusal.line if is_there else lines[guess - 1])
     gaps = "".join(f"  {sentence(it)}\n" for it in missing(lines, refusal.what)).encode()
     return told + gaps + note_of(lines)
+
 
 def is_guessed(line: bytes) -> bool:
     """Whether something on a line was guessed."""
@@ -113,7 +115,7 @@ def missing(lines: list[bytes], what: str) -> list[Missing]:
     return [Missing(space, found) for space, found in runs.items() if found]
 
 
-def events(lines: list[bytes]) -> Iterator[tuple[bytes, dict[str, object]]]:
+def events(lines: list[bytes]) -> Iterator[tuple[bytes, Event]]:
     """The lines that are not blank, and what each says."""
     for line in lines:
         if line.strip(b" \t\r"):
@@ -123,9 +125,9 @@ def events(lines: list[bytes]) -> Iterator[tuple[bytes, dict[str, object]]]:
 def sentence(gap: Missing) -> str:
     """Which numbers of a space are not in the log."""
     behind = "not in the log; it may have lost lines"
-    if gap.count == 1:
+    if gap.size == 1:
         return f"number {gap.least} of {gap.space} is {behind}"
     span = f"{gap.least} to {gap.greatest}"
     if len(gap.runs) == 1:
         return f"numbers {span} of {gap.space} are {behind}"
-    return f"{gap.count} numbers of {gap.space} from {span} are {behind}"
+    return f"{gap.size} numbers of {gap.space} from {span} are {behind}"

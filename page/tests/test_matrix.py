@@ -190,7 +190,7 @@ class Tables(unittest.TestCase):
             slow.chmod(0o755)
             for number in range(20):
                 (Path(folder) / f"{number}.trace").write_bytes(GOOD)
-            command = [COMMAND, "--program", slow, "--jobs", "4", folder]
+            command = [str(COMMAND), "--program", str(slow), "--jobs", "4", folder]
             with subprocess.Popen(
                 command, stdout=subprocess.PIPE, stderr=subprocess.PIPE, start_new_session=True
             ) as running:

@@ -6,9 +6,9 @@ use Rattle.qa_check.specs.declared.checker.Stop.{Stop}
 use Rattle.qa_check.specs.declared.checker.Stop.TheVariants as stops
 use Rattle.qa_check.specs.declared.taking.Halt.{Halt}
 use Rattle.qa_check.specs.declared.taking.Halt.TheVariants as halts
+use Rattle.qa_check.specs.declared.taking.Judged.{Judged}
+use Rattle.qa_check.specs.declared.taking.Judged.TheVariants.{Good, Bad}
 use Rattle.qa_check.specs.declared.taking.LastLine.{LastLine}
-use Rattle.qa_check.specs.declared.taking.Taken.{Taken}
-use Rattle.qa_check.specs.declared.taking.Taken.TheVariants.{Good, Bad}
 use Rattle.qa_check.specs.Standing.{AddsBad, Held, Judges}
 use Rattle.qa_check.specs.Walking.{IsLine}
 
@@ -25,14 +25,12 @@ TakesBad judges keeps old new l last =
     AddsBad judges old new l × (new.ledger ≡ old.ledger)
     × (old.verdict ≡ None → IsHanded keeps (IsLine old.lines l) last)
 
--- what is answered of a line that was read so, and is not good
-abbrev pub IsKept : Bool → List ℕ → Option Line → Taken → Type 0
-IsKept keeps l read Good = ⊥
-IsKept keeps l read (Bad last) =
-    IsHanded keeps (λ x. (x.bytes.items ≡ l) × (x.said ≡ read)) last
+-- this is kept of a line that was read so, and is not good
+abbrev pub IsKept : Bool → List ℕ → Option Line → Option LastLine → Type 0
+IsKept keeps l read last = IsHanded keeps (λ x. (x.bytes.items ≡ l) × (x.said ≡ read)) last
 
--- and of one that was not read
-abbrev pub IsUnseen : {F : Type 0} → Result ⊤ Stop → Result Taken (Halt F) → Type 0
+-- whether a line is good that nobody looks at
+abbrev pub IsUnseen : {F : Type 0} → Result ⊤ Stop → Result Judged (Halt F) → Type 0
 IsUnseen (Ok taken) result = result ≡ Ok Good
-IsUnseen (Err stops.Decided) result = result ≡ Ok (Bad None)
+IsUnseen (Err stops.Decided) result = result ≡ Ok Bad
 IsUnseen (Err stops.OutOfMemory) result = result ≡ Err halts.OutOfMemory

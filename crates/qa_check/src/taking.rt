@@ -38,6 +38,13 @@ pub enum Taken {
     Bad(Option<LastLine>),
 }
 
+/// What a line is that was taken.
+#[derive(Clone, Copy)]
+enum Judged {
+    Good,
+    Bad,
+}
+
 /// Why lines were halted that were good so far.
 #[derive(Debug, Drop)]
 pub enum Halt<F> {
@@ -71,13 +78,16 @@ pub fn take_lines<J: Judge + Drop, V: Visitor<J>>(
         → Walked J.judges (V.covers begun) splitter.old.bytes checker.old visitor.old bytes
         → HaltsIn (V.covers begun) (V.fails begun) visitor.new halt (ended_lines bytes)) }
 {
+    let mut last = None;
     'lines: loop {
         match splitter.next_line() {
-            Ok(Some(line)) => match take_line::<J, V>(alloc, keeps, checker, visitor, line) {
-                Ok(Taken::Good) => {}
-                Ok(Taken::Bad(last)) => return Ok(Taken::Bad(last)),
-                Err(halt) => return Err(halt),
-            },
+            Ok(Some(line)) => {
+                match take_line::<J, V>(alloc, keeps, checker, visitor, line, &mut last) {
+                    Ok(Judged::Good) => {}
+                    Ok(Judged::Bad) => return Ok(Taken::Bad(last)),
+                    Err(halt) => return Err(halt),
+                }
+            }
             Ok(None) => return Ok(Taken::Good),
             Err(SplitFault::TooLong) => match checker.too_long() {
                 Stop::Decided => return Ok(Taken::Bad(None)),
@@ -108,32 +118,42 @@ pub fn take_last<J: Judge + Drop, V: Visitor<J>>(
         → Walked J.judges (V.covers begun) splitter.old.bytes checker.old visitor.old bytes
         → HaltsIn (V.covers begun) (V.fails begun) visitor.new halt (lines bytes)) }
 {
+    let mut last = None;
     splitter.close();
     match splitter.next_line() {
-        Ok(Some(line)) => match take_line::<J, V>(alloc, keeps, checker, visitor, line) {
-            Ok(Taken::Good) => Ok(None),
-            Ok(Taken::Bad(last)) => Ok(last),
-            Err(halt) => Err(halt),
-        },
+        Ok(Some(line)) => {
+            match take_line::<J, V>(alloc, keeps, checker, visitor, line, &mut last) {
+                Ok(Judged::Good) => Ok(None),
+                Ok(Judged::Bad) => Ok(last),
+                Err(halt) => Err(halt),
+            }
+        }
         Ok(None) => Ok(None),
         Err(_) => Err(Halt::OutOfMemory),
     }
 }
 
-/// Hands the checker the next line, and shows it where it is good.
+/// Hands the checker the next line, and shows it where it is good. Where it is not, and lines are
+/// kept, `last` holds it from then on.
+///
+/// The line is no part of the result, which would have room for an event then, and is handed on
+/// for each good line.
 fn take_line<J: Judge + Drop, V: Visitor<J>>(
     alloc: Global,
     keeps: bool,
     checker: &mut Checker<J>,
     visitor: &mut V,
     line: &[u8],
-) -> Result<Taken, Halt<V::Fault>>
-    ensures whole { IfOk result (λ taken. checker.new.failed ≡ false) }
-    ensures good { result ≡ Ok Taken.Good → (begun : V)
+    last: &mut Option<LastLine>,
+) -> Result<Judged, Halt<V::Fault>>
+    requires none { last.old ≡ None }
+    ensures whole { IfOk result (λ judged. checker.new.failed ≡ false) }
+    ensures none { result ≡ Ok Judged.Good → last.new ≡ None }
+    ensures good { result ≡ Ok Judged.Good → (begun : V)
         → VisitsGood J.judges (V.covers begun) checker.old checker.new visitor.old visitor.new
         line.now }
-    ensures bad { (last : Option ALast) → result ≡ Ok (Taken.Bad last)
-        → TakesBad J.judges keeps checker.old checker.new line.now last
+    ensures bad { result ≡ Ok Judged.Bad
+        → TakesBad J.judges keeps checker.old checker.new line.now last.new
         × (visitor.new ≡ visitor.old) }
     ensures halted { IfErr result (λ halt. (begun : V) (ls : List (List ℕ))
         → Covered J.judges (V.covers begun) checker.old visitor.old ls
@@ -144,7 +164,7 @@ fn take_line<J: Judge + Drop, V: Visitor<J>>(
     }
     match checker.push_line_said(line) {
         Pushed::Good(said) => show_line::<J, V>(checker, visitor, line, &said),
-        Pushed::Bad(said) => last_line::<V::Fault>(alloc, keeps, line, said),
+        Pushed::Bad(said) => keep_last::<V::Fault>(alloc, keeps, line, said, last),
         Pushed::OutOfMemory => Err(Halt::OutOfMemory),
     }
 }
@@ -155,11 +175,11 @@ fn show_line<J: Judge + Drop, V: Visitor<J>>(
     visitor: &mut V,
     line: &[u8],
     said: &Line,
-) -> Result<Taken, Halt<V::Fault>>
+) -> Result<Judged, Halt<V::Fault>>
     requires whole { checker.now.failed ≡ false }
     requires says { reading line.now ≡ Ok said.now }
     requires fitting { line_fits said.now ≡ true }
-    ensures shown { IfOk result (λ taken. (taken ≡ Taken.Good) × ((begun : V)
+    ensures shown { IfOk result (λ judged. (judged ≡ Judged.Good) × ((begun : V)
         (ls : List (List ℕ)) → V.covers begun visitor.old ls
         → StandsFor J.judges checker.now (ls ++ line.now ∷ [])
         → AreGood (by J.judges) (ls ++ line.now ∷ [])
@@ -170,37 +190,45 @@ fn show_line<J: Judge + Drop, V: Visitor<J>>(
         → HaltsAt (V.covers begun) (V.fails begun) visitor.new halt (ls ++ line.now ∷ [])) }
 {
     match visitor.visit(checker.line_count(), line, said, checker.ledger()) {
-        Ok(()) => Ok(Taken::Good),
+        Ok(()) => Ok(Judged::Good),
         Err(fault) => Err(Halt::Visitor(fault)),
     }
 }
 
-/// What a line is that nobody looks at.
-fn unseen<F>(pushed: Result<(), Stop>) -> Result<Taken, Halt<F>>
+/// Whether a line is good that nobody looks at.
+fn unseen<F>(pushed: Result<(), Stop>) -> Result<Judged, Halt<F>>
     ensures { IsUnseen pushed result }
 {
     match pushed {
-        Ok(()) => Ok(Taken::Good),
-        Err(Stop::Decided) => Ok(Taken::Bad(None)),
+        Ok(()) => Ok(Judged::Good),
+        Err(Stop::Decided) => Ok(Judged::Bad),
         Err(Stop::OutOfMemory) => Err(Halt::OutOfMemory),
     }
 }
 
-/// The line that is not good, and what was read of it, where lines are kept.
-fn last_line<F>(
+/// Keeps the line, which is not good, and what was read of it, where lines are kept.
+#[cold]
+#[inline(never)]
+fn keep_last<F>(
     alloc: Global,
     keeps: bool,
     line: &[u8],
     said: Option<Line>,
-) -> Result<Taken, Halt<F>>
-    ensures bad { IfOk result (λ taken. IsKept keeps line.now said taken) }
+    last: &mut Option<LastLine>,
+) -> Result<Judged, Halt<F>>
+    requires none { last.old ≡ None }
+    ensures bad { IfOk result (λ judged. (judged ≡ Judged.Bad)
+        × IsKept keeps line.now said last.new) }
     ensures memory { IfErr result (λ halt. halt ≡ Halt.OutOfMemory) }
 {
     if !keeps {
-        return Ok(Taken::Bad(None));
+        return Ok(Judged::Bad);
     }
     match copied(alloc, line) {
-        Ok(bytes) => Ok(Taken::Bad(Some(LastLine { bytes, said }))),
+        Ok(bytes) => {
+            *last = Some(LastLine { bytes, said });
+            Ok(Judged::Bad)
+        }
         Err(_) => Err(Halt::OutOfMemory),
     }
 }

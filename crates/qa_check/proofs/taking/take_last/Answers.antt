@@ -20,7 +20,7 @@ returns-in-Ok-Bad g c =
     let t = rw (c.in-Ok-Some.is, c.in-Ok-Some.field-0-is) at c.next_line.follows.holds-at-none.line in
     let taken = rw c.close.ensures at t.taken in
     let is = rw c.in-Ok-Bad.field-0-is at c.in-Ok-Bad.is in
-    let bad = c.take_line.ensures.bad _ is in
+    let bad = c.take_line.ensures.bad is in
     record {
       whole = c.in-Ok-Bad.ensures.whole;
       ends = λ begun bytes f.

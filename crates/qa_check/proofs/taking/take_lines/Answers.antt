@@ -12,6 +12,7 @@ lines-preserved g c =
     record {
       ready = (t.closed ∙ c.lines.invariant.ready.0, t.whole);
       whole = c.in-Ok-Good.ensures.whole;
+      none = c.take_line.ensures.none is;
       walked = λ begun bytes f.
           follow_line (by g.J.Judge.judges) (Covered g.J.Judge.judges (g.V.Visitor.covers begun) c.lines.checker c.lines.visitor)
           (Covered g.J.Judge.judges (g.V.Visitor.covers begun) c.take_line.new.checker c.take_line.new.visitor) _ _ _ _ t.is_line t.taken c.lines.invariant.ready.0 (c.take_line.ensures.good is begun) bytes
@@ -27,9 +28,10 @@ returns-in-Ok-Bad g c =
       good = λ good. cc;
       whole = c.in-Ok-Bad.ensures.whole;
       bad = λ last same begun bytes f.
-          let bad = c.take_line.ensures.bad last (is ∙ same) in
-          rw bad.1
-          (ends_line g.J.Judge.judges (g.V.Visitor.covers begun) c.args.keeps c.lines.checker c.take_line.new.checker c.lines.visitor last _ _ _ _ t.is_line t.taken c.lines.invariant.ready.0 bad.0 bytes
+          let bad = c.take_line.ensures.bad is in
+          let kept : c.take_line.new.last ≡ last = cc in
+          rw (← kept, bad.1)
+          (ends_line g.J.Judge.judges (g.V.Visitor.covers begun) c.args.keeps c.lines.checker c.take_line.new.checker c.lines.visitor c.take_line.new.last _ _ _ _ t.is_line t.taken c.lines.invariant.ready.0 bad.0 bytes
           (c.lines.invariant.walked begun bytes f));
       halted = tt;
     }
