@@ -17,7 +17,7 @@ from sender import Deadline, Event, Sender
 Object = dict[str, object]
 
 # The key of the header by which a rule allows more, and whether its amounts are bytes.
-KEYS = {
+KEYS: dict[str, str] = {
     Rule.PAST_WINDOW: "window_overshoot",
     Rule.TIMER_EARLY: "timer_early_us",
     Rule.TIMER_LATE: "timer_late_us",

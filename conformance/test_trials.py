@@ -141,6 +141,7 @@ REASONER = (
     .replace('"qaudit: write fault", ""', '"qaudit-why: write fault: -", ""')
 )
 REASON = b"-: accepted, 0 events\n"
+HEADER = b'{"event":"header","version":1,"role":"server","max_datagram_size":1200}\n'
 RIGHT = {
     "START": "",
     "ALLOCATIONS": "5",
@@ -498,6 +499,8 @@ class ReasonsTest(TrialCase):
         super().setUp()
         for path in (self.corpus / "traces").glob("bad.*"):
             path.unlink()
+        # What an accepted verdict rests on is read off the trace.
+        (self.corpus / "traces" / "first-loss.trace").write_bytes(HEADER)
 
     def compile_reasoner(self, **other: str) -> None:
         """The right program that says why, but for these macros."""
@@ -515,7 +518,7 @@ class ReasonsTest(TrialCase):
     def test_failing(self) -> None:
         self.runner, self.more = "failing", (self.other,)
         self.compile_reasoner()
-        self.assert_passes(3 * (len(TRACE) + 2) + 4 * (len(REASON) + 1))
+        self.assert_passes(3 * (len(HEADER) + 2) + 4 * (len(REASON) + 1))
         self.compile_reasoner(GOES_ON_WRITING="1")
         self.assert_first_failure("why first-loss where write 1 fails: status 0, wanted 3")
         self.compile_reasoner(IGNORES_FAULTS="1")
@@ -524,7 +527,7 @@ class ReasonsTest(TrialCase):
     def test_cuts(self) -> None:
         self.runner = "cuts"
         self.compile_reasoner()
-        self.assert_passes(len(TRACE) - 1 + 2)
+        self.assert_passes(len(HEADER) - 1 + 2)
         self.compile_reasoner(WRITES="20")
         self.assert_first_failure("why first-loss uncut: 2 writes, wanted 1")
 
