@@ -5,7 +5,7 @@ use Rattle.std.specs.Prelude.{nat_eq}
 use Rattle.std.proofs.lemmas.List.{append-nil}
 use Rattle.std.specs.Option.{is_some, option_or}
 use Rattle.qa_base.specs.declared.event.Event.{Event}
-use Rattle.qa_base.specs.machine.Timer.{time_of_moment}
+use Rattle.qa_base.specs.machine.Timer.{Due, anti_deadlock, deadline, earliest_loss, earliest_pto, packet_deadline, time_of_moment}
 use Rattle.qa_base.specs.values.Settings.{Settings}
 use Rattle.qa_check.specs.Standing.{history_after}
 use Rattle.qa_format.specs.declared.line.Line.{Line}
@@ -60,3 +60,14 @@ said_no_event a t (line.Event e) s counts n c h fs lates is at same tallies = cc
 pub nil_is : {A : Type 0} (xs : List A) → nat_eq (length xs) 0 ≡ is_nil xs
 nil_is [] = refl
 nil_is (x ∷ xs) = ne_eqb (length (x ∷ xs)) 0 (λ is. omega arith)
+
+-- ---- what the timer is set for
+
+beside : (loss pto anti : Option Due) (due : Due) → Some due ≡ option_or loss pto → Some due ≡ option_or loss (option_or pto anti)
+beside None None anti due is = cc
+beside None (Some d) anti due is = is
+beside (Some d) pto anti due is = is
+
+-- by packets, where they set it
+pub due_by_packets : (c : Settings) (h : List Event) (due : Due) → Some due ≡ packet_deadline c h → Some due ≡ deadline c h
+due_by_packets c h due is = beside (earliest_loss c h) (earliest_pto c h) (anti_deadlock c h) due is

@@ -76,13 +76,21 @@ impl Before {
     {
         let packet_due = packet_due(event, ledger)?;
         let acknowledged = acknowledged(event, ledger)?;
-        Ok(self.followed(
-            event,
-            ledger.totals(),
-            ledger.deadline(),
-            packet_due,
-            acknowledged,
-        ))
+        let due = due_beside(&packet_due, ledger);
+        Ok(self.followed(event, ledger.totals(), due, packet_due, acknowledged))
+    }
+}
+
+/// What the timer is set for, by what it is set for by packets. The ledger is asked only where that
+/// is nothing: each answer takes a walk over the packet number spaces.
+fn due_beside<L: Explains>(packet_due: &Option<Due>, ledger: &L) -> Option<Due>
+    requires works { L.has_failed ledger.now ≡ false }
+    ensures { (c : Settings) (h : List AnEvent) → packet_due.now ≡ timers.packet_deadline c h
+        → L.stands ledger.now c h → result ≡ timers.deadline c h }
+{
+    match packet_due {
+        Some(due) => Some(*due),
+        None => ledger.deadline(),
     }
 }
 
