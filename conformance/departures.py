@@ -130,8 +130,8 @@ class Course:
     """What came of a trace: its verdict once departures are passed over, the departures, how many
     events were followed, and what is written of the first departure of each kind and of the end.
     Beside its text the end of a trace whose lines were followed is there as an object. Of a trace
-    that ends as one that is accepted `rest` has what that rests on (allowed.py), and `is_strict` says
-    that nothing was allowed."""
+    that ends as one that is accepted `rest` has what that rests on (allowed.py), and `is_strict`
+    says that nothing was allowed."""
 
     verdict: str = "accepted"
     departures: list[Departure] = field(default_factory=list)

@@ -187,7 +187,8 @@ class BelowTest(unittest.TestCase):
         )
         self.assertEqual(
             course.rest,
-            b"  allowed by the header: V16 metric rttvar once, line 9, by 3 us (report_slack_us 5)\n"
+            b"  allowed by the header: V16 metric rttvar once, line 9, by 3 us"
+            b" (report_slack_us 5)\n"
             b"  at the end: 2400 bytes in flight, the loss timer of app due at 112.5 ms\n",
         )
         self.assertFalse(course.is_strict)
