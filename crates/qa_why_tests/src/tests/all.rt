@@ -15,7 +15,7 @@ const TEXT: &str =
 
 /// The same as an object.
 const OBJECT: &str =
-    "{\"file\":\"a\",\"verdict\":\"refused\",\"line\":2,\"rule\":\"V8\",\"name\":\"past-probe\",\"event\":\"sent\",\"time_us\":0,\"space\":\"app\",\"number\":0,\"size_bytes\":1200,\"allowance_bytes\":2400,\"spent_bytes\":null,\"events\":1,\"departures\":[{\"rule\":\"V8\",\"name\":\"past-probe\",\"count\":1,\"first\":2,\"last\":2,\"lines\":[2]}],\"end\":{\"verdict\":\"accepted\",\"events\":1,\"allowed\":[],\"choices\":[],\"last\":{\"time_us\":0,\"in_flight_bytes\":1200,\"set_kind\":null,\"set_space\":null,\"deadline_us\":null}}}\n";
+    "{\"file\":\"a\",\"verdict\":\"refused\",\"line\":2,\"rule\":\"V8\",\"name\":\"past-probe\",\"event\":\"sent\",\"time_us\":0,\"space\":\"app\",\"number\":0,\"size_bytes\":1200,\"allowance_bytes\":2400,\"spent_bytes\":null,\"events\":1,\"departures\":[{\"rule\":\"V8\",\"name\":\"past-probe\",\"count\":1,\"first\":2,\"last\":2,\"lines\":[2]}],\"end\":{\"verdict\":\"accepted\",\"events\":1,\"allowed\":[],\"choices\":[],\"guesses\":null,\"last\":{\"time_us\":0,\"in_flight_bytes\":1200,\"set_kind\":null,\"set_space\":null,\"deadline_us\":null}}}\n";
 
 /// The violation with the row before it, and the table.
 const TEXT_AROUND: &str =
@@ -23,7 +23,7 @@ const TEXT_AROUND: &str =
 
 /// The same as an object.
 const OBJECT_AROUND: &str =
-    "{\"file\":\"a\",\"verdict\":\"refused\",\"line\":2,\"rule\":\"V8\",\"name\":\"past-probe\",\"event\":\"sent\",\"time_us\":0,\"space\":\"app\",\"number\":0,\"size_bytes\":1200,\"allowance_bytes\":2400,\"spent_bytes\":null,\"around\":[{\"line\":1,\"event\":{\"event\":\"header\",\"initial_rtt\":333000,\"initial_window\":12000,\"max_ack_delay\":25000,\"max_datagram_size\":1200,\"role\":\"server\",\"version\":1},\"state\":{\"events\":0,\"window_bytes\":12000,\"ssthresh_bytes\":null,\"in_flight_bytes\":0,\"latest_rtt_us\":0,\"min_rtt_us\":0,\"smoothed_rtt_us\":333000,\"rttvar_us\":166500,\"pto_count\":0,\"owed_space\":null,\"owed\":[],\"set_kind\":null,\"set_space\":null,\"deadline_us\":null}}],\"events\":1,\"departures\":[{\"rule\":\"V8\",\"name\":\"past-probe\",\"count\":1,\"first\":2,\"last\":2,\"lines\":[2]}],\"end\":{\"verdict\":\"accepted\",\"events\":1,\"allowed\":[],\"choices\":[],\"last\":{\"time_us\":0,\"in_flight_bytes\":1200,\"set_kind\":null,\"set_space\":null,\"deadline_us\":null}}}\n";
+    "{\"file\":\"a\",\"verdict\":\"refused\",\"line\":2,\"rule\":\"V8\",\"name\":\"past-probe\",\"event\":\"sent\",\"time_us\":0,\"space\":\"app\",\"number\":0,\"size_bytes\":1200,\"allowance_bytes\":2400,\"spent_bytes\":null,\"around\":[{\"line\":1,\"event\":{\"event\":\"header\",\"initial_rtt\":333000,\"initial_window\":12000,\"max_ack_delay\":25000,\"max_datagram_size\":1200,\"role\":\"server\",\"version\":1},\"state\":{\"events\":0,\"window_bytes\":12000,\"ssthresh_bytes\":null,\"in_flight_bytes\":0,\"latest_rtt_us\":0,\"min_rtt_us\":0,\"smoothed_rtt_us\":333000,\"rttvar_us\":166500,\"pto_count\":0,\"owed_space\":null,\"owed\":[],\"set_kind\":null,\"set_space\":null,\"deadline_us\":null}}],\"events\":1,\"departures\":[{\"rule\":\"V8\",\"name\":\"past-probe\",\"count\":1,\"first\":2,\"last\":2,\"lines\":[2]}],\"end\":{\"verdict\":\"accepted\",\"events\":1,\"allowed\":[],\"choices\":[],\"guesses\":null,\"last\":{\"time_us\":0,\"in_flight_bytes\":1200,\"set_kind\":null,\"set_space\":null,\"deadline_us\":null}}}\n";
 
 /// The rows of the header and of the probe.
 const ROWS: &str =
