@@ -6,9 +6,18 @@ import unittest
 from allowed import Rest, rest_of
 from departures import course_of
 from runners import FOLDER
-from sender import Sender
+from sender import Sender, report_of
 
 TRACES = FOLDER / "traces"
+# A header that allows nothing, in version 3.
+STRICT = {
+    "version": 3,
+    "window_overshoot": False,
+    "timer_early_us": 0,
+    "timer_late_us": 0,
+    "report_slack_us": 0,
+    "report_slack_bytes": 0,
+}
 # What stands below the verdict of a trace, without the two spaces before each line.
 BELOW = {
     "header-alone": "",
@@ -220,6 +229,33 @@ class TimeTest(unittest.TestCase):
             header = {"version": 3, "role": "server", "max_datagram_size": 1200, "unit": unit}
             with self.subTest(text):
                 self.assertEqual(Rest(header, Sender(header), []).time(time), text)
+
+
+class StrictTest(unittest.TestCase):
+    """What nothing allowed means."""
+
+    def test_nothing_allowed_is_strict(self) -> None:
+        """An accepted trace at which nothing was allowed is accepted under a header that allows
+        nothing, too."""
+        tried = 0
+        for trace in (*TRACES.glob("*.trace"), *(FOLDER / "real" / "traces").glob("*.trace")):
+            if not trace.with_suffix(".report").read_text().startswith("accepted\n"):
+                continue
+            data = trace.read_bytes()
+            if not rest_of(data).is_strict:
+                continue
+            lines = [json.loads(line) for line in data.split(b"\n") if line.strip(b" \t\r")]
+            header, *events = [{k: v for k, v in it.items() if v is not None} for it in lines]
+            if header["version"] < 3:
+                later = ("unit", "window", "packet_threshold", "sample_eliciting_only")
+                header = {k: v for k, v in header.items() if k not in (*later, "loss_by_number")}
+            if header["version"] < 2:
+                header.pop("refresh_min_rtt", None)
+            with self.subTest(trace.name):
+                report = report_of(header | STRICT, list(enumerate(events, 2)))
+                self.assertEqual(report.splitlines()[0], "accepted")
+            tried += 1
+        self.assertGreater(tried, 100)
 
 
 if __name__ == "__main__":
