@@ -61,7 +61,7 @@ impl Version {
     {
         match self {
             Version::Three => Version::Three,
-            _ if options.are_second() => Version::Two,
+            _ if options.fit_version_two() => Version::Two,
             _ => Version::Three,
         }
     }
@@ -121,11 +121,11 @@ impl Default for Options {
 }
 
 impl Options {
-    ghost use Rattle.qa_base.specs.values.Settings.{are_second, spares_unreported};
+    ghost use Rattle.qa_base.specs.values.Settings.{fit_version_two, spares_unreported};
 
     /// Whether version 2 can say them.
-    fn are_second(&self) -> bool
-        ensures { result ≡ are_second self.now }
+    fn fit_version_two(&self) -> bool
+        ensures { result ≡ fit_version_two self.now }
     {
         !self.controller.is_reported()
             && !self.window_overshoot

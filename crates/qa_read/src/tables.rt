@@ -103,7 +103,7 @@ fn choice_fields(object: &Value) -> Result<ChoiceFields, Fault>
 /// The options of a header of version 2, which says nothing of what the sender chooses: losses by
 /// number must be declared.
 fn options_without_choices(object: &Value) -> Result<(Options, Option<LossByNumber>), Fault>
-    ensures { result ≡ tables.second_options (view object.now) }
+    ensures { result ≡ tables.version_two_options (view object.now) }
 {
     let (machine, slack) = option_fields(object)?;
     let (timer_late, refresh_min_rtt) = machine;
@@ -129,7 +129,7 @@ fn option_and_choice_fields(object: &Value) -> Result<(OptionFields, ChoiceField
 /// The options of a header of version 3, but for whose window it is. What its word for losses by
 /// number names, if anything, stands beside them.
 fn options_with_choices(object: &Value) -> Result<(Options, Option<LossByNumber>), Fault>
-    ensures { result ≡ tables.third_options (view object.now) }
+    ensures { result ≡ tables.version_three_options (view object.now) }
 {
     let ((machine, slack), (flags, (numbers, losses))) = option_and_choice_fields(object)?;
     let (timer_late, refresh_min_rtt) = machine;

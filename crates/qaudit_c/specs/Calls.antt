@@ -6,22 +6,22 @@ use Rattle.qa_check.specs.Standing.{IsLineOf}
 use Rattle.qa_format.specs.declared.line.Line.{Line}
 use Rattle.qa_format.specs.declared.verdict.Verdict.{Verdict}
 use Rattle.qa_format.specs.format.Lines.{with_lf}
+use Rattle.qaudit_c.specs.Statuses as statuses
 use Rattle.qa_embed.specs.Session.{Run, IsFed, phase_of, verdict_in}
 use Rattle.qa_embed.specs.declared.Phase.{Phase}
 use Rattle.qa_embed.specs.declared.Phase.TheVariants.{Open, Fixed, Finished, OutOfMemory}
 
 -- ---- statuses
 
--- 0 what follows can change the verdict, 1 the verdict is fixed, 2 it is finished, 3 out of memory
 abbrev pub phase_number : Phase → ℕ
-phase_number Open = 0
-phase_number (Fixed v) = 1
-phase_number (Finished v) = 2
-phase_number OutOfMemory = 3
+phase_number Open = statuses.still_open
+phase_number (Fixed v) = statuses.fixed
+phase_number (Finished v) = statuses.finished
+phase_number OutOfMemory = statuses.out_of_memory
 
--- the same of what a handle holds; 4 where it holds nothing
+-- the status of what a handle holds
 abbrev pub status : Option Run → ℕ
-status None = 4
+status None = statuses.closed
 status (Some run) = phase_number (phase_of run)
 
 -- the verdict that is known of what a handle holds
@@ -46,7 +46,7 @@ pub record FeedsRun (piece : List ℕ) (result : ℕ) (old new : Run) : Type 0 w
   pub kept : phase_of old ≢ Open → new ≡ old
 
 abbrev pub Feeds : List ℕ → ℕ → Option Run → Option Run → Type 0
-Feeds piece result None new = (result ≡ 4) × (new ≡ None)
+Feeds piece result None new = (result ≡ statuses.closed) × (new ≡ None)
 Feeds piece result (Some old) new = (run : Run) × (new ≡ Some run) × FeedsRun piece result old run
 
 -- ---- the end
@@ -55,36 +55,37 @@ Feeds piece result (Some old) new = (run : Run) × (new ≡ Some run) × FeedsRu
 pub record FinishesRun (result : ℕ) (old new : Run) : Type 0 where
   pub status : result ≡ phase_number (phase_of new)
   pub over : new.finished ≡ true
-  pub known : result ≢ 0
+  pub known : result ≢ statuses.still_open
   pub fed : (bytes : List ℕ) → IsFed old bytes → IsFed new bytes
   pub kept : phase_of old ≢ Open → new.audit ≡ old.audit
 
 abbrev pub Finishes : ℕ → Option Run → Option Run → Type 0
-Finishes result None new = (result ≡ 4) × (new ≡ None)
+Finishes result None new = (result ≡ statuses.closed) × (new ≡ None)
 Finishes result (Some old) new = (run : Run) × (new ≡ Some run) × FinishesRun result old run
 
 -- ---- a line by what it says
 
--- a value is outside its range (5), or the line was taken, which does not finish the session
+-- a value is outside its range, or the line was taken, which does not finish the session
 abbrev pub TookLine : Option Line → ℕ → Run → Run → Type 0
-TookLine None result old new = (result ≡ 5) × (new ≡ old)
+TookLine None result old new = (result ≡ statuses.out_of_range) × (new ≡ old)
 TookLine (Some x) result old new =
     (result ≡ phase_number (phase_of new)) × (new.finished ≡ old.finished)
     × ((bytes : List ℕ) (l : List ℕ) → IsLineOf x l → IsFed old bytes
     → IsFed new (bytes ++ with_lf l))
 
--- or there was no memory for what the event says (6)
+-- or there was no memory for what the event says
 abbrev pub Took : Option Line → ℕ → Run → Run → Type 0
-Took x result old new = ((result ≡ 6) × (new ≡ old)) ⊎ TookLine x result old new
+Took x result old new = ((result ≡ statuses.not_taken) × (new ≡ old)) ⊎ TookLine x result old new
 
--- nothing is taken once the verdict is fixed, or inside a line (7)
+-- nothing is taken once the verdict is fixed, or inside a line
 pub record HandsRun (x : Option Line) (result : ℕ) (old new : Run) : Type 0 where
   pub over : phase_of old ≢ Open → (result ≡ phase_number (phase_of old)) × (new ≡ old)
-  pub inside : phase_of old ≡ Open → is_between old.audit ≡ false → (result ≡ 7) × (new ≡ old)
+  pub inside : phase_of old ≡ Open → is_between old.audit ≡ false
+      → (result ≡ statuses.inside_line) × (new ≡ old)
   pub between : phase_of old ≡ Open → is_between old.audit ≡ true → Took x result old new
 
 abbrev pub Hands : Option Line → ℕ → Option Run → Option Run → Type 0
-Hands x result None new = (result ≡ 4) × (new ≡ None)
+Hands x result None new = (result ≡ statuses.closed) × (new ≡ None)
 Hands x result (Some old) new = (run : Run) × (new ≡ Some run) × HandsRun x result old run
 
 -- ---- texts

@@ -6,6 +6,7 @@ ghost use Rattle.qa_embed.specs.Session.{phase_of};
 ghost use Rattle.qa_embed.specs.declared.Phase.TheVariants as phases;
 ghost use Rattle.qaudit_c.specs.Calls as calls;
 ghost use Rattle.qaudit_c.specs.Events as said;
+ghost use Rattle.qaudit_c.specs.Statuses as statuses;
 
 use crate::kept::{Qaudit, put, take};
 use qa_base::{Event, Header};
@@ -36,8 +37,8 @@ const INSIDE_LINE: u32 = 7;
 #[inline(always)]
 pub fn number(phase: Phase) -> u32
     ensures number { result ≡ calls.phase_number phase }
-    ensures known { phase ≢ phases.Open → result ≢ 0 }
-    ensures memory { result ≢ 6 }
+    ensures known { phase ≢ phases.Open → result ≢ statuses.still_open }
+    ensures memory { result ≢ statuses.not_taken }
 {
     match phase {
         Phase::Open => OPEN,
@@ -55,10 +56,10 @@ fn hand_open(session: &mut Session, line: &Line) -> u32
     requires open { session.old.finished ≡ false }
     requires fitting { line_fits line.now ≡ true }
     ensures inside { is_between session.old.audit ≡ false
-        → (result ≡ 7) × (session.new ≡ session.old) }
+        → (result ≡ statuses.inside_line) × (session.new ≡ session.old) }
     ensures between { is_between session.old.audit ≡ true
         → calls.Took (Some line.now) result session.old session.new }
-    ensures memory { result ≢ 6 }
+    ensures memory { result ≢ statuses.not_taken }
 {
     if !session.is_between_lines() {
         return INSIDE_LINE;
@@ -74,7 +75,7 @@ fn hand_open(session: &mut Session, line: &Line) -> u32
 pub fn hand_to(session: &mut Session, line: &Line) -> u32
     requires fitting { line_fits line.now ≡ true }
     ensures handed { calls.HandsRun (Some line.now) result session.old session.new }
-    ensures memory { result ≢ 6 }
+    ensures memory { result ≢ statuses.not_taken }
 {
     match session.phase() {
         Phase::Open => hand_open(session, line),
@@ -90,7 +91,7 @@ fn hand(alloc: Global, qaudit: &mut Qaudit, line: &Line) -> u32
     requires fitting { line_fits line.now ≡ true }
     ensures handed { calls.Hands
         (Some line.now) result qaudit.old.handle.held qaudit.new.handle.held }
-    ensures memory { result ≢ 6 }
+    ensures memory { result ≢ statuses.not_taken }
 {
     let Some(mut session) = take(alloc, qaudit) else {
         return CLOSED;
@@ -108,7 +109,7 @@ pub fn hand_event(alloc: Global, qaudit: &mut Qaudit, event: Event) -> u32
     ensures handed { calls.Hands
         (said.line_of_event (said.fitting event)) result qaudit.old.handle.held
         qaudit.new.handle.held }
-    ensures memory { result ≢ 6 }
+    ensures memory { result ≢ statuses.not_taken }
 {
     if !event.fits() {
         return out_of_range(alloc, qaudit);
@@ -120,7 +121,7 @@ pub fn hand_event(alloc: Global, qaudit: &mut Qaudit, event: Event) -> u32
 pub fn hand_header(alloc: Global, qaudit: &mut Qaudit, header: Option<Header>) -> u32
     ensures handed { calls.Hands
         (said.line_of_header header) result qaudit.old.handle.held qaudit.new.handle.held }
-    ensures memory { result ≢ 6 }
+    ensures memory { result ≢ statuses.not_taken }
 {
     match header {
         Some(header) => hand(alloc, qaudit, &Line::Header(header)),
@@ -137,10 +138,10 @@ pub fn refusal(session: &Session, reason: u32) -> u32
     ensures over { phase_of session.now ≢ phases.Open
         → result ≡ calls.phase_number (phase_of session.now) }
     ensures inside { phase_of session.now ≡ phases.Open → is_between session.now.audit ≡ false
-        → result ≡ 7 }
+        → result ≡ statuses.inside_line }
     ensures between { phase_of session.now ≡ phases.Open → is_between session.now.audit ≡ true
         → result ≡ reason }
-    ensures memory { reason ≢ 6 → result ≢ 6 }
+    ensures memory { reason ≢ statuses.not_taken → result ≢ statuses.not_taken }
 {
     match session.phase() {
         Phase::Open => {
@@ -159,7 +160,7 @@ pub fn refusal(session: &Session, reason: u32) -> u32
 #[inline(never)]
 pub fn out_of_range(alloc: Global, qaudit: &mut Qaudit) -> u32
     ensures handed { calls.Hands None result qaudit.old.handle.held qaudit.new.handle.held }
-    ensures memory { result ≢ 6 }
+    ensures memory { result ≢ statuses.not_taken }
 {
     let Some(session) = take(alloc, qaudit) else {
         return CLOSED;

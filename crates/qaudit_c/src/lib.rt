@@ -11,6 +11,7 @@ ghost use Rattle.qaudit_c.specs.Calls.{Feeds, Finishes, Hands, HoldsFed, Tells, 
 ghost use Rattle.qaudit_c.specs.Calls.{verdict_known};
 ghost use Rattle.qaudit_c.specs.Events as said;
 ghost use Rattle.qaudit_c.specs.Numbers as numbers;
+ghost use Rattle.qaudit_c.specs.Statuses as statuses;
 ghost use Rattle.qaudit_c.specs.Telling as telling;
 
 mod calls;
@@ -47,8 +48,8 @@ use with_ranges::{ack_to, lost_to};
 #[unsafe(no_mangle)]
 pub extern "C" fn qaudit_open(alloc: Global, qaudit: &mut Qaudit) -> u32
     ensures status { result ≡ status qaudit.new.handle.held }
-    ensures answer { (result ≡ 0) ⊎ (result ≡ 4) }
-    ensures fed { result ≡ 0 → HoldsFed qaudit.new.handle.held [] }
+    ensures answer { (result ≡ statuses.still_open) ⊎ (result ≡ statuses.closed) }
+    ensures fed { result ≡ statuses.still_open → HoldsFed qaudit.new.handle.held [] }
 {
     close(alloc, qaudit);
     match try_open(alloc) {
@@ -89,7 +90,7 @@ pub extern "C" fn qaudit_header(alloc: Global, qaudit: &mut Qaudit, header: &Tra
     ensures handed { Hands
         (said.line_of_header (said.header_said header.now)) result qaudit.old.handle.held
         qaudit.new.handle.held }
-    ensures memory { result ≢ 6 }
+    ensures memory { result ≢ statuses.not_taken }
 {
     hand_header(alloc, qaudit, header_of(header))
 }
@@ -100,7 +101,7 @@ pub extern "C" fn qaudit_sent(alloc: Global, qaudit: &mut Qaudit, packet: &SentP
     ensures handed { Hands
         (said.line_of_event (said.sent_said packet.now)) result qaudit.old.handle.held
         qaudit.new.handle.held }
-    ensures memory { result ≢ 6 }
+    ensures memory { result ≢ statuses.not_taken }
 {
     match sent_values(packet) {
         Some((time, space, number, permission)) => {
@@ -164,7 +165,7 @@ pub extern "C" fn qaudit_timer(alloc: Global, qaudit: &mut Qaudit, timer: &Fired
     ensures handed { Hands
         (said.line_of_event (said.timer_said timer.now)) result qaudit.old.handle.held
         qaudit.new.handle.held }
-    ensures memory { result ≢ 6 }
+    ensures memory { result ≢ statuses.not_taken }
 {
     match timer_values(timer) {
         Some((time, kind, space)) => hand_event(alloc, qaudit, Event::Timer { time, kind, space }),
@@ -178,7 +179,7 @@ pub extern "C" fn qaudit_discard(alloc: Global, qaudit: &mut Qaudit, time: u64, 
     ensures handed { Hands
         (said.line_of_event (said.discard_said time space)) result qaudit.old.handle.held
         qaudit.new.handle.held }
-    ensures memory { result ≢ 6 }
+    ensures memory { result ≢ statuses.not_taken }
 {
     match moment_of(time, space) {
         Some((time, space)) => hand_event(alloc, qaudit, Event::Discard { time, space }),
@@ -192,7 +193,7 @@ pub extern "C" fn qaudit_confirmed(alloc: Global, qaudit: &mut Qaudit, time: u64
     ensures handed { Hands
         (said.line_of_event (said.confirmed_said time)) result qaudit.old.handle.held
         qaudit.new.handle.held }
-    ensures memory { result ≢ 6 }
+    ensures memory { result ≢ statuses.not_taken }
 {
     match Ticks::new(time) {
         Some(time) => hand_event(alloc, qaudit, Event::Confirmed { time }),
@@ -206,7 +207,7 @@ pub extern "C" fn qaudit_keys(alloc: Global, qaudit: &mut Qaudit, time: u64) -> 
     ensures handed { Hands
         (said.line_of_event (said.keys_said time)) result qaudit.old.handle.held
         qaudit.new.handle.held }
-    ensures memory { result ≢ 6 }
+    ensures memory { result ≢ statuses.not_taken }
 {
     match Ticks::new(time) {
         Some(time) => hand_event(alloc, qaudit, Event::Keys { time }),
@@ -220,7 +221,7 @@ pub extern "C" fn qaudit_metrics(alloc: Global, qaudit: &mut Qaudit, metrics: &M
     ensures handed { Hands
         (said.line_of_event (said.metrics_said metrics.now)) result qaudit.old.handle.held
         qaudit.new.handle.held }
-    ensures memory { result ≢ 6 }
+    ensures memory { result ≢ statuses.not_taken }
 {
     match Ticks::new(metrics.time) {
         Some(time) => {

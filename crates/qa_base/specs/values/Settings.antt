@@ -66,8 +66,8 @@ no_options = record {
 }
 
 -- version 2 can say these options
-abbrev pub are_second : Options → Bool
-are_second o =
+abbrev pub fit_version_two : Options → Bool
+fit_version_two o =
     not (is_reported o.controller) && not o.window_overshoot && not o.sample_eliciting_only
     && o.packet_threshold == default_packet_threshold && o.timer_early_us == 0
     && not (is_may o.loss_by_number)
@@ -79,7 +79,7 @@ spares_unreported o = is_may o.loss_by_number && not (is_reported o.controller)
 -- a header of this version says this unit and these options
 abbrev pub IsSaidIn : Version → TimeUnit → Options → Type 0
 IsSaidIn One unit o = (unit ≡ Microseconds) × (o ≡ no_options)
-IsSaidIn Two unit o = (unit ≡ Microseconds) × (are_second o ≡ true)
+IsSaidIn Two unit o = (unit ≡ Microseconds) × (fit_version_two o ≡ true)
 IsSaidIn Three unit o = Unit {0}
 
 -- ---- a header
@@ -181,8 +181,8 @@ settings_of = settings_in Microseconds
 -- the version of a header that gets these options: at least 2, and 3 where version 2 cannot say
 -- them
 abbrev pub version_with : Version → Options → Version
-version_with One o = if are_second o then Two else Three
-version_with Two o = if are_second o then Two else Three
+version_with One o = if fit_version_two o then Two else Three
+version_with Two o = if fit_version_two o then Two else Three
 version_with Three o = Three
 
 -- whether each option is out of its range, in the order in which faults are looked for

@@ -36,7 +36,7 @@ use Rattle.qa_format.specs.format.Proper.{IsProperEvent}
 use Rattle.qa_base.specs.values.Settings.{Settings, no_options}
 use Rattle.qa_format.specs.format.Keys.{◌>>=◌, both, Kind, read_or, integer, integer_from, string, string_among, string_naming, boolean, ranges, required, optional}
 use Rattle.qa_format.specs.format.Reading.{reader_named, object_says}
-use Rattle.qa_format.specs.format.Tables.{time, space, version, unit_and_window_for, unit_and_window, header_fields, option_fields, choice_fields, second_options, third_options, options_for, options, settings, of_version, with_losses, header_of, sent_fields, sent_of, ack_fields, ack_of, lost_fields, lost_of, timer_fields, timer_of, discard_fields, discard_of, confirmed_of, keys_of, metric_values, metrics_of}
+use Rattle.qa_format.specs.format.Tables.{time, space, version, unit_and_window_for, unit_and_window, header_fields, option_fields, choice_fields, version_two_options, version_three_options, options_for, options, settings, of_version, with_losses, header_of, sent_fields, sent_of, ack_fields, ack_of, lost_fields, lost_of, timer_fields, timer_of, discard_fields, discard_of, confirmed_of, keys_of, metric_values, metrics_of}
 use Rattle.qa_format.specs.format.Written as written
 use Rattle.qa_format.proofs.format.KeysWritten.{required_reads, optional_reads, both_reads, integer_from_reads, role_reads, unit_reads, controller_reads, losses_read, space_reads, permission_reads, kind_reads, ranges_read, present_integer_reads}
 
@@ -131,20 +131,20 @@ choice_fields_found d overshoot eliciting threshold early losses at_overshoot at
     both_reads _ _ _ _ flags (both_reads _ _ _ _ numbers (losses_found d losses at_losses))
 
 -- the options of version 2 are the values that are there, with their defaults
-pub second_options_found : (d : Data) (limit : Option ℕ) (refresh : Option Bool) (slack_us slack_bytes : Option ℕ)
+pub version_two_options_found : (d : Data) (limit : Option ℕ) (refresh : Option Bool) (slack_us slack_bytes : Option ℕ)
     → get (codes "version") d ≡ Some (written.integer 2)
     → get (codes "timer_late_us") d ≡ option_map written.integer limit
     → get (codes "refresh_min_rtt") d ≡ option_map written.boolean refresh
     → get (codes "report_slack_us") d ≡ option_map written.integer slack_us
     → get (codes "report_slack_bytes") d ≡ option_map written.integer slack_bytes
     → options d ≡ Ok (record no_options { timer_late = limit; refresh_min_rtt = unwrap_or refresh false; report_slack_us = unwrap_or slack_us 0; report_slack_bytes = unwrap_or slack_bytes 0 }, Some Must)
-second_options_found d limit refresh slack_us slack_bytes at_version at_limit at_refresh at_slack_us at_slack_bytes =
-    let second : options d ≡ second_options d = ap (λ r. options_for r d) (version_found d 2 at_version) in
+version_two_options_found d limit refresh slack_us slack_bytes at_version at_limit at_refresh at_slack_us at_slack_bytes =
+    let second : options d ≡ version_two_options d = ap (λ r. options_for r d) (version_found d 2 at_version) in
     let fields = option_fields_found d limit refresh slack_us slack_bytes at_limit at_refresh at_slack_us at_slack_bytes in
     second ∙ then_reads _ _ ((limit, unwrap_or refresh false), (unwrap_or slack_us 0, unwrap_or slack_bytes 0)) _ fields refl
 
 -- and so are those of version 3
-pub third_options_found : (d : Data) (limit : Option ℕ) (refresh : Option Bool) (slack_us slack_bytes : Option ℕ) (overshoot eliciting : Option Bool) (threshold early : Option ℕ) (losses : Option LossByNumber)
+pub version_three_options_found : (d : Data) (limit : Option ℕ) (refresh : Option Bool) (slack_us slack_bytes : Option ℕ) (overshoot eliciting : Option Bool) (threshold early : Option ℕ) (losses : Option LossByNumber)
     → get (codes "version") d ≡ Some (written.integer 3)
     → get (codes "timer_late_us") d ≡ option_map written.integer limit
     → get (codes "refresh_min_rtt") d ≡ option_map written.boolean refresh
@@ -168,8 +168,8 @@ pub third_options_found : (d : Data) (limit : Option ℕ) (refresh : Option Bool
       },
       Some (unwrap_or losses Must),
     )
-third_options_found d limit refresh slack_us slack_bytes overshoot eliciting threshold early losses at_version at_limit at_refresh at_slack_us at_slack_bytes at_overshoot at_eliciting at_threshold at_early at_losses =
-    let third : options d ≡ third_options d = ap (λ r. options_for r d) (version_found d 3 at_version) in
+version_three_options_found d limit refresh slack_us slack_bytes overshoot eliciting threshold early losses at_version at_limit at_refresh at_slack_us at_slack_bytes at_overshoot at_eliciting at_threshold at_early at_losses =
+    let third : options d ≡ version_three_options d = ap (λ r. options_for r d) (version_found d 3 at_version) in
     let asked = option_fields_found d limit refresh slack_us slack_bytes at_limit at_refresh at_slack_us at_slack_bytes in
     let chosen = choice_fields_found d overshoot eliciting threshold early losses at_overshoot at_eliciting at_threshold at_early at_losses in
     third ∙ then_reads _ _

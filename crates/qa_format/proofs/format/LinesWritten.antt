@@ -44,7 +44,7 @@ use Rattle.qa_format.specs.format.Written as written
 use Rattle.qa_format.specs.format.Written.{Pairs, reported, header_pairs, event_pairs, members, object_of, written as text_of}
 use Rattle.qa_format.proofs.format.Compact.{IsSimple, read-compact_text, is_utf8-compact_text}
 use Rattle.qa_format.proofs.format.OneLine.{has_lf-compact_text}
-use Rattle.qa_format.proofs.format.KeysFound.{header_found, first_unit_found, second_unit_found, third_unit_found, first_options_found, second_options_found, third_options_found, sent_found, ack_found, lost_found, timer_found, discard_found, confirmed_found, keys_found, metrics_found}
+use Rattle.qa_format.proofs.format.KeysFound.{header_found, first_unit_found, second_unit_found, third_unit_found, first_options_found, version_two_options_found, version_three_options_found, sent_found, ack_found, lost_found, timer_found, discard_found, confirmed_found, keys_found, metrics_found}
 use Rattle.qa_format.proofs.format.KeysWritten.{past_reported, reported_stands, past_last, last_stands, IsKept, integer_is_kept, string_is_kept, boolean_is_kept, role_is_kept, unit_is_kept, controller_is_kept, losses_are_kept, space_is_kept, permission_is_kept, kind_is_kept, ranges_are_kept, Follow, none_follow, follow, follow_later, follow_reported, follow_last}
 
 -- ---- a report of the sender's state
@@ -257,9 +257,9 @@ losses_pass s limit May is are =
     let reported = rw is at are.spared_reported in
     rw is (chosen_pass s limit May (saying (started s) s.unit Three (record s.options { timer_late = limit; loss_by_number = Must })) are reported)
 
-pub third_options_pass : (s : Settings) (limit : Option ℕ) → AreInRange (third s limit)
+pub version_three_options_pass : (s : Settings) (limit : Option ℕ) → AreInRange (third s limit)
     → (of_version 3 (record (third s limit).options { loss_by_number = Must }) (started s) >>= with_losses (Some s.options.loss_by_number)) ≡ Ok (third s limit)
-third_options_pass s limit are =
+version_three_options_pass s limit are =
     ap (λ r. r >>= with_losses (Some s.options.loss_by_number)) (chosen_pass s limit Must (started s) are refl) ∙ losses_pass s limit s.options.loss_by_number refl are
 
 -- the limit is there or not, and the version stands behind it
@@ -312,16 +312,16 @@ asking o who overshoot only threshold early losses = record {
 }
 
 -- options that version 2 can say have the default for those that it has not
-second_options_are : (o : Options) (who : Controller) (overshoot only : Bool) (threshold early : ℕ) (losses : LossByNumber)
+version_two_options_are : (o : Options) (who : Controller) (overshoot only : Bool) (threshold early : ℕ) (losses : LossByNumber)
     → (not (is_reported who) && not overshoot && not only && threshold == 3 && early == 0 && not (is_may losses)) ≡ true
     → asking o NewReno false false 3 0 Must ≡ asking o who overshoot only threshold early losses
-second_options_are o Reported overshoot only threshold early losses says = cc
-second_options_are o NewReno true only threshold early losses says = cc
-second_options_are o NewReno false true threshold early losses says = cc
-second_options_are o NewReno false false threshold early Must says =
+version_two_options_are o Reported overshoot only threshold early losses says = cc
+version_two_options_are o NewReno true only threshold early losses says = cc
+version_two_options_are o NewReno false true threshold early losses says = cc
+version_two_options_are o NewReno false false threshold early Must says =
     let parts = and_parts (threshold == 3) (early == 0) (and_parts (threshold == 3 && early == 0) true says).0 in
     ap₂ (λ n m. asking o NewReno false false n m Must) (sym (eqb-true threshold 3 parts.0)) (sym (eqb-true early 0 parts.1))
-second_options_are o NewReno false false threshold early May says =
+version_two_options_are o NewReno false false threshold early May says =
     let parts = and_parts (threshold == 3 && early == 0) false says in cc
 
 -- what holds of headers as they are written in their version holds of all in their ranges
@@ -337,7 +337,7 @@ of_each P s One is are of_first of_second of_third =
 of_each P s Two is are of_first of_second of_third =
     let o = s.options in
     let said = rw is at are.said in
-    let asked = second_options_are o o.controller o.window_overshoot o.sample_eliciting_only o.packet_threshold o.timer_early_us o.loss_by_number said.1 in
+    let asked = version_two_options_are o o.controller o.window_overshoot o.sample_eliciting_only o.packet_threshold o.timer_early_us o.loss_by_number said.1 in
     let same : second s o.timer_late o.refresh_min_rtt o.report_slack_us o.report_slack_bytes ≡ s = ap₂ (saying s Microseconds) (sym is) asked ∙ ap (λ u. saying s u s.version s.options) (sym said.0) in
     subst P same (of_second o.timer_late o.refresh_min_rtt o.report_slack_us o.report_slack_bytes (subst AreInRange (sym same) are))
 of_each P s Three is are of_first of_second of_third =
@@ -564,7 +564,7 @@ second_is_said s limit refresh slack_us slack_bytes are =
     let t = second s limit refresh slack_us slack_bytes in
     let d = object_of (header_pairs t) in
     let at_version = version_at s limit refresh slack_us slack_bytes in
-    let asked = second_options_found d limit (Some refresh) (Some slack_us) (Some slack_bytes) at_version (limit_at s limit refresh slack_us slack_bytes) refl refl refl in
+    let asked = version_two_options_found d limit (Some refresh) (Some slack_us) (Some slack_bytes) at_version (limit_at s limit refresh slack_us slack_bytes) refl refl refl in
     header_found (members (header_pairs t)) 2 t.options Must s.role Microseconds NewReno s.max_datagram_size (Some s.max_ack_delay) (Some s.initial_rtt) (Some s.initial_window) (first s) t
     refl at_version refl (second_unit_found d at_version) refl refl refl refl asked (settings_read t are) (options_pass s limit refresh slack_us slack_bytes are)
 
@@ -575,11 +575,11 @@ third_is_said s limit are =
     let d = object_of (header_pairs t) in
     let o = s.options in
     let at_version = third_version_at s limit in
-    let asked = third_options_found d limit (Some o.refresh_min_rtt) (Some o.report_slack_us) (Some o.report_slack_bytes)
+    let asked = version_three_options_found d limit (Some o.refresh_min_rtt) (Some o.report_slack_us) (Some o.report_slack_bytes)
     (Some o.window_overshoot) (Some o.sample_eliciting_only) (Some o.packet_threshold) (Some o.timer_early_us) (Some o.loss_by_number)
     at_version (third_limit_at s limit) refl refl refl (third_overshoot_at s limit) refl refl refl refl in
     header_found (members (header_pairs t)) 3 (record t.options { controller = NewReno; loss_by_number = Must }) o.loss_by_number s.role s.unit s.options.controller s.max_datagram_size (Some s.max_ack_delay) (Some s.initial_rtt) (Some s.initial_window) (started s) t
-    refl at_version refl (third_unit_found d (Some s.unit) (Some s.options.controller) at_version (third_unit_at s limit) (third_window_at s limit)) refl refl refl refl asked (settings_read t are) (third_options_pass s limit are)
+    refl at_version refl (third_unit_found d (Some s.unit) (Some s.options.controller) at_version (third_unit_at s limit) (third_window_at s limit)) refl refl refl refl asked (settings_read t are) (version_three_options_pass s limit are)
 
 header_is_said : (s : Settings) → AreInRange s → object_says reader_named (object_of (header_pairs s)) ≡ Ok (line.Header s)
 header_is_said s are =

@@ -36,9 +36,9 @@ use Rattle.qa_format.specs.format.Tables.{unit_and_window, options, settings, of
 use Rattle.qa_format.specs.format.Written as written
 use Rattle.qa_format.specs.format.Written.{Pairs, header_pairs, event_pairs, members}
 use Rattle.qa_format.proofs.format.AnyOrder.{json_of-members, get_put, get_put_other}
-use Rattle.qa_format.proofs.format.KeysFound.{header_found, first_unit_found, second_unit_found, third_unit_found, first_options_found, second_options_found, third_options_found, sent_found, ack_found, lost_found, timer_found, discard_found, confirmed_found, keys_found, metrics_found}
+use Rattle.qa_format.proofs.format.KeysFound.{header_found, first_unit_found, second_unit_found, third_unit_found, first_options_found, version_two_options_found, version_three_options_found, sent_found, ack_found, lost_found, timer_found, discard_found, confirmed_found, keys_found, metrics_found}
 use Rattle.qa_format.proofs.format.KeysWritten.{unit_reads, controller_reads, losses_read, permission_reads, Follow}
-use Rattle.qa_format.proofs.format.LinesWritten.{started, first, second, third, of_each, settings_read, options_pass, third_options_pass, limit_at, version_at, third_limit_at, third_unit_at, third_window_at, third_version_at, third_overshoot_at, first_follows, second_follows, third_follows, event_follows, metrics_pairs_are, event_found, time_found, window_found, ssthresh_found, bytes_in_flight_found, latest_rtt_found, min_rtt_found, smoothed_rtt_found, rttvar_found}
+use Rattle.qa_format.proofs.format.LinesWritten.{started, first, second, third, of_each, settings_read, options_pass, version_three_options_pass, limit_at, version_at, third_limit_at, third_unit_at, third_window_at, third_version_at, third_overshoot_at, first_follows, second_follows, third_follows, event_follows, metrics_pairs_are, event_found, time_found, window_found, ssthresh_found, bytes_in_flight_found, latest_rtt_found, min_rtt_found, smoothed_rtt_found, rttvar_found}
 use Rattle.qa_format.proofs.format.PlainTexts.{key_is_ascii}
 
 -- ---- texts
@@ -324,11 +324,11 @@ second_order_reads s ps limit refresh slack_us slack_bytes in_range are =
     let times = optional_given own defaults ps follows rise are written.integer no_options.report_slack_us (codes "report_slack_us") slack_us same_integer refl refl in
     let bytes = optional_given own defaults ps follows rise are written.integer no_options.report_slack_bytes (codes "report_slack_bytes") slack_bytes same_integer refl refl in
     let asks : options d ≡ Ok (t.options, Some Must) =
-    second_options_found d limit refreshes.0 times.0 bytes.0 at_version at_limit refreshes.1 times.1 bytes.1
+    version_two_options_found d limit refreshes.0 times.0 bytes.0 at_version at_limit refreshes.1 times.1 bytes.1
     ∙ ap (λ o. Ok (o, Some Must)) (options_given limit refreshes.0 times.0 bytes.0 t.options refl refreshes.2 times.2 bytes.2) in
     header_given t 2 own ps in_range follows are refl own_version refl refl refl refl refl (second_unit_found d at_version) asks (options_pass s limit refresh slack_us slack_bytes in_range)
 
-third_options_given : (limit : Option ℕ) (refresh : Option Bool) (slack_us slack_bytes : Option ℕ) (overshoot eliciting : Option Bool) (threshold early : Option ℕ) (o : Options)
+version_three_options_given : (limit : Option ℕ) (refresh : Option Bool) (slack_us slack_bytes : Option ℕ) (overshoot eliciting : Option Bool) (threshold early : Option ℕ) (o : Options)
     → limit ≡ o.timer_late
     → unwrap_or refresh no_options.refresh_min_rtt ≡ o.refresh_min_rtt
     → unwrap_or slack_us no_options.report_slack_us ≡ o.report_slack_us
@@ -347,7 +347,7 @@ third_options_given : (limit : Option ℕ) (refresh : Option Bool) (slack_us sla
       packet_threshold = unwrap_or threshold 3;
       timer_early_us = unwrap_or early 0;
     } ≡ record o { controller = NewReno; loss_by_number = Must }
-third_options_given limit refresh slack_us slack_bytes overshoot eliciting threshold early o limits refreshes times bytes overshoots samples thresholds earlies =
+version_three_options_given limit refresh slack_us slack_bytes overshoot eliciting threshold early o limits refreshes times bytes overshoots samples thresholds earlies =
     rw (limits, refreshes, times, bytes, overshoots, samples, thresholds, earlies) refl
 
 third_order_reads : (s : Settings) (ps : Pairs) (limit : Option ℕ) → AreInRange (third s limit) → AreOfHeader (third s limit) ps
@@ -377,11 +377,11 @@ third_order_reads s ps limit in_range are =
     let losses = optional_given own defaults ps follows rise are losses_data Must (codes "loss_by_number") o.loss_by_number same_losses refl refl in
     let clocks : unit_and_window d ≡ Ok (s.unit, o.controller) = third_unit_found d units.0 windows.0 at_version units.1 windows.1 ∙ ap₂ (λ u w. Ok (u, w)) units.2 windows.2 in
     let asks : options d ≡ Ok (record t.options { controller = NewReno; loss_by_number = Must }, Some o.loss_by_number) =
-    third_options_found d limit refreshes.0 times.0 bytes.0 overshoots.0 samples.0 thresholds.0 earlies.0 losses.0
+    version_three_options_found d limit refreshes.0 times.0 bytes.0 overshoots.0 samples.0 thresholds.0 earlies.0 losses.0
     at_version at_limit refreshes.1 times.1 bytes.1 overshoots.1 samples.1 thresholds.1 earlies.1 losses.1
-    ∙ ap₂ (λ p l. Ok (p, Some l)) (third_options_given limit refreshes.0 times.0 bytes.0 overshoots.0 samples.0 thresholds.0 earlies.0 t.options
+    ∙ ap₂ (λ p l. Ok (p, Some l)) (version_three_options_given limit refreshes.0 times.0 bytes.0 overshoots.0 samples.0 thresholds.0 earlies.0 t.options
     refl refreshes.2 times.2 bytes.2 overshoots.2 samples.2 thresholds.2 earlies.2) losses.2 in
-    header_given t 3 own ps in_range follows are refl own_version refl refl refl refl refl clocks asks (third_options_pass s limit in_range)
+    header_given t 3 own ps in_range follows are refl own_version refl refl refl refl refl clocks asks (version_three_options_pass s limit in_range)
 
 -- a header is read from its keys and values in any order, and with or without its defaults
 pub header_order_reads : (s : Settings) (ps : Pairs) → AreInRange s → AreOfHeader s ps → reading (text_of ps) ≡ Ok (line.Header s)

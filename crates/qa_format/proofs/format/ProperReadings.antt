@@ -37,7 +37,7 @@ use Rattle.qa_base.specs.values.Limits.{max_time, max_packet_number, max_packet_
 use Rattle.qa_base.specs.values.Names.{line_kind_named, discarded_named}
 use Rattle.qa_format.specs.format.Proper.{AreWords, IsProperEvent, IsProperLine}
 use Rattle.qa_format.specs.format.Reading.{Reader, header_line, event_line, reader_of, reader_named, object_says, json_of, is_blank, reading_by, reading}
-use Rattle.qa_base.specs.values.Settings.{Settings, AreInRange, IsSaidIn, are_second, is_outside, in_unit, default_window, no_options, checked, version_in, settings_in, version_with, spares_unreported, in_version, with_options, choosing_options}
+use Rattle.qa_base.specs.values.Settings.{Settings, AreInRange, IsSaidIn, fit_version_two, is_outside, in_unit, default_window, no_options, checked, version_in, settings_in, version_with, spares_unreported, in_version, with_options, choosing_options}
 use Rattle.qa_format.specs.format.Tables.{time, out_of_range, header_fields, options, settings, of_version, with_losses, header_of, sent_fields, sent_of, ack_fields, ack_of, lost_fields, lost_of, timer_fields, timer_of, discard_fields, discard_of, confirmed_of, keys_of, metric, metric_values, metrics_of}
 use Rattle.qa_format.specs.format.Written.{line_fits}
 use Rattle.qa_format.proofs.format.KeysRead.{bind_ok, both_ok, ok_is, required_stands, required_within, required_high, optional_is_word, present_is_word, ranges_are}
@@ -285,13 +285,13 @@ unmapped (Ok t) s h = cc
 unmapped (Err e) s h = cc
 
 -- options are said in the version that they get
-said_by : (second : Bool) (u : TimeUnit) (o : Options) → are_second o ≡ second → u ≡ Microseconds → IsSaidIn (cond second Two Three) u o
+said_by : (second : Bool) (u : TimeUnit) (o : Options) → fit_version_two o ≡ second → u ≡ Microseconds → IsSaidIn (cond second Two Three) u o
 said_by true u o is micro = (micro, is)
 said_by false u o is micro = tt
 
 said_with : (v : Version) (u : TimeUnit) (old o : Options) → IsSaidIn v u old → IsSaidIn (version_with v o) u o
-said_with One u old o said = said_by (are_second o) u o refl said.0
-said_with Two u old o said = said_by (are_second o) u o refl said.0
+said_with One u old o said = said_by (fit_version_two o) u o refl said.0
+said_with Two u old o said = said_by (fit_version_two o) u o refl said.0
 said_with Three u old o said = tt
 
 with_options_in_range : (s t : Settings) (o : Options) → AreInRange s → with_options s o ≡ Ok t → AreInRange t

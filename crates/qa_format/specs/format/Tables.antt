@@ -98,8 +98,8 @@ choice_fields d =
     (optional (string_naming loss_by_number_named) (Some Must) key.LossByNumber d))
 
 -- the options of version 2, under which losses by number must be declared
-abbrev pub second_options : Data → Result (Options × Option LossByNumber) Fault
-second_options d =
+abbrev pub version_two_options : Data → Result (Options × Option LossByNumber) Fault
+version_two_options d =
     option_fields d >>= λ ((timer_late, refresh_min_rtt), (report_slack_us, report_slack_bytes)).
     Ok (
       record no_options {
@@ -112,8 +112,8 @@ second_options d =
     )
 
 -- the options of version 3, but for the window and for losses by number, which stand beside them
-abbrev pub third_options : Data → Result (Options × Option LossByNumber) Fault
-third_options d =
+abbrev pub version_three_options : Data → Result (Options × Option LossByNumber) Fault
+version_three_options d =
     both (option_fields d) (choice_fields d)
     >>= λ (
       ((timer_late, refresh_min_rtt), (report_slack_us, report_slack_bytes)),
@@ -138,8 +138,8 @@ third_options d =
 
 abbrev pub options_for : Result ℕ Fault → Data → Result (Options × Option LossByNumber) Fault
 options_for (Ok n) d =
-    if n == version_number Two then second_options d else
-    (if n == version_number Three then third_options d else Ok (no_options, Some Must))
+    if n == version_number Two then version_two_options d else
+    (if n == version_number Three then version_three_options d else Ok (no_options, Some Must))
 options_for (Err e) d = Ok (no_options, Some Must)
 
 -- the keys of options, of which version 1 has none: they are looked at where the version has them

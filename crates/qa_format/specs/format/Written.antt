@@ -58,8 +58,8 @@ limit_pairs None = []
 limit_pairs (Some limit) = (key.TimerLateUs, integer limit) ∷ []
 
 -- the keys of version 2 that version 1 has not, up to the role
-abbrev pub second_pairs : Options → Pairs
-second_pairs options =
+abbrev pub pairs_since_two : Options → Pairs
+pairs_since_two options =
     (key.RefreshMinRtt, boolean options.refresh_min_rtt)
     ∷ (key.ReportSlackBytes, integer options.report_slack_bytes)
     ∷ (key.ReportSlackUs, integer options.report_slack_us)
@@ -67,33 +67,33 @@ second_pairs options =
 
 abbrev pub option_pairs : Version → Options → Pairs
 option_pairs One options = []
-option_pairs Two options = second_pairs options
-option_pairs Three options = second_pairs options
+option_pairs Two options = pairs_since_two options
+option_pairs Three options = pairs_since_two options
 
 -- the keys that version 3 alone has
-abbrev pub in_third : Version → Pairs → Pairs
-in_third One pairs = []
-in_third Two pairs = []
-in_third Three pairs = pairs
+abbrev pub in_three : Version → Pairs → Pairs
+in_three One pairs = []
+in_three Two pairs = []
+in_three Three pairs = pairs
 
 abbrev pub header_pairs : Settings → Pairs
 header_pairs s =
     (key.Event, string (line_kind_name kinds.Header))
     ∷ (key.InitialRtt, integer s.initial_rtt)
     ∷ (key.InitialWindow, integer s.initial_window)
-    ∷ in_third s.version ((key.LossByNumber, string (loss_by_number_name s.options.loss_by_number))
+    ∷ in_three s.version ((key.LossByNumber, string (loss_by_number_name s.options.loss_by_number))
     ∷ [])
     ++ (key.MaxAckDelay, integer s.max_ack_delay)
     ∷ (key.MaxDatagramSize, integer s.max_datagram_size)
-    ∷ in_third s.version ((key.PacketThreshold, integer s.options.packet_threshold) ∷ [])
+    ∷ in_three s.version ((key.PacketThreshold, integer s.options.packet_threshold) ∷ [])
     ++ option_pairs s.version s.options
     ++ (key.Role, string (role_name s.role))
-    ∷ in_third s.version ((key.SampleElicitingOnly, boolean s.options.sample_eliciting_only)
+    ∷ in_three s.version ((key.SampleElicitingOnly, boolean s.options.sample_eliciting_only)
     ∷ (key.TimerEarlyUs, integer s.options.timer_early_us) ∷ [])
     ++ limit_pairs s.options.timer_late
-    ++ in_third s.version ((key.Unit, string (unit_name s.unit)) ∷ [])
+    ++ in_three s.version ((key.Unit, string (unit_name s.unit)) ∷ [])
     ++ (key.Version, integer (version_number s.version))
-    ∷ in_third s.version ((key.Window, string (controller_name s.options.controller))
+    ∷ in_three s.version ((key.Window, string (controller_name s.options.controller))
     ∷ (key.WindowOvershoot, boolean s.options.window_overshoot) ∷ [])
 
 -- a value that is reported; one that is not is left out

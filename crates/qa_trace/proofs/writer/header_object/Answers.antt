@@ -8,7 +8,7 @@ use Rattle.qa_base.specs.declared.header.Version.TheVariants.{One, Two, Three}
 use Rattle.qa_base.specs.declared.line_kind.LineKind.TheVariants as kinds
 use Rattle.qa_base.specs.values.Names.{line_kind_name, role_name, unit_name, controller_name, loss_by_number_name, version_number}
 use Rattle.qa_base.specs.values.Settings.{Settings}
-use Rattle.qa_format.specs.format.Written.{Pairs, members, string, integer, boolean, option_pairs, in_third, limit_pairs}
+use Rattle.qa_format.specs.format.Written.{Pairs, members, string, integer, boolean, option_pairs, in_three, limit_pairs}
 use Rattle.qa_trace.specs.Members.{with, with_settings, with_options, with_unit_and_choices}
 use Rattle.qa_trace.proofs.writer.header_object.Goals as goal
 
@@ -24,17 +24,17 @@ pairs_of s version limit =
     (key.Event, string (line_kind_name kinds.Header))
     ∷ (key.InitialRtt, integer s.initial_rtt)
     ∷ (key.InitialWindow, integer s.initial_window)
-    ∷ in_third version ((key.LossByNumber, string (loss_by_number_name s.options.loss_by_number)) ∷ [])
+    ∷ in_three version ((key.LossByNumber, string (loss_by_number_name s.options.loss_by_number)) ∷ [])
     ++ (key.MaxAckDelay, integer s.max_ack_delay)
     ∷ (key.MaxDatagramSize, integer s.max_datagram_size)
-    ∷ in_third version ((key.PacketThreshold, integer s.options.packet_threshold) ∷ [])
+    ∷ in_three version ((key.PacketThreshold, integer s.options.packet_threshold) ∷ [])
     ++ option_pairs version s.options
     ++ (key.Role, string (role_name s.role))
-    ∷ in_third version ((key.SampleElicitingOnly, boolean s.options.sample_eliciting_only) ∷ (key.TimerEarlyUs, integer s.options.timer_early_us) ∷ [])
+    ∷ in_three version ((key.SampleElicitingOnly, boolean s.options.sample_eliciting_only) ∷ (key.TimerEarlyUs, integer s.options.timer_early_us) ∷ [])
     ++ limit_pairs limit
-    ++ in_third version ((key.Unit, string (unit_name s.unit)) ∷ [])
+    ++ in_three version ((key.Unit, string (unit_name s.unit)) ∷ [])
     ++ (key.Version, integer (version_number version))
-    ∷ in_third version ((key.Window, string (controller_name s.options.controller)) ∷ (key.WindowOvershoot, boolean s.options.window_overshoot) ∷ [])
+    ∷ in_three version ((key.Window, string (controller_name s.options.controller)) ∷ (key.WindowOvershoot, boolean s.options.window_overshoot) ∷ [])
 
 -- they stand in order, in whatever order they were put in
 in_order : (s : Settings) (version : Version) (limit : Option ℕ) (ms : Members)
