@@ -7,8 +7,9 @@ round-trip times and no timers are in it.
 """
 
 import re
+from bisect import bisect_right
 from collections import Counter
-from collections.abc import Iterator
+from collections.abc import Iterator, Sequence
 from decimal import Decimal
 from typing import Any, BinaryIO
 
@@ -64,6 +65,13 @@ def ranges_of(values: Values) -> list[list[int]]:
             found.append([start, gap - 1])
         start = max(start, gap + 1)
     return found
+
+
+def among(numbers: set[int], ranges: list[list[int]]) -> set[int]:
+    """The numbers that are in some range. The ranges rise and do not overlap."""
+    lows = [low for low, _ in ranges]
+    places = ((number, bisect_right(lows, number) - 1) for number in numbers)
+    return {number for number, place in places if place >= 0 and number <= ranges[place][1]}
 
 
 class Session:
@@ -139,7 +147,7 @@ class Session:
         ack = {"frame_type": "ack", "ack_delay": Decimal(delay) / 1000, "acked_ranges": ranges}
         yield self._packet_received(time, ack)
         held = self._in_flight.get(kind, set())
-        held -= {number for low, high in ranges for number in held if low <= number <= high}
+        held -= among(held, ranges)
         if self._lost:
             yield from self._losses(kind if is_shown else None)
 
@@ -234,7 +242,7 @@ class Netlog(Form):
         super().__init__(file)
         self._sessions: list[object] = []
 
-    def headers(self) -> list[dict[str, Any]]:
+    def headers(self) -> Sequence[dict[str, Any]]:
         """What there is to say of a session."""
         sent: Counter[object] = Counter()
         for _, name, source, _ in self._events():

@@ -41,6 +41,10 @@ BYTES = (b"\x00", b"\x1b[2J", b"\xff", b"\xed\xa0\x80", MARK, b"\n", b'"', b"{",
 PLACE = "\u0001place\u0001"
 
 
+# Keys and indexes that lead to a value of a log.
+Way = tuple[str | int, ...]
+
+
 class Case(NamedTuple):
     """A log, and how it came about."""
 
@@ -83,6 +87,24 @@ class Seed:
             return json.dumps(value).encode()
         mark = MARK if self.is_marked else b""
         return b"".join(mark + json.dumps(it).encode() + b"\n" for it in value)
+
+    def fields(self, chance: random.Random) -> list[Way]:
+        """A way to each field: to one of those that have the same keys on the way, and the same
+        name of the event."""
+        found: dict[Way, list[Way]] = {}
+        for way, kind in ways_into(self.value):
+            found.setdefault(kind, []).append(way)
+        return [chance.choice(ways) for ways in found.values()]
+
+    def with_value(self, way: Way, text: str) -> Case:
+        """A case with this text in place of a value."""
+        value = json.loads(json.dumps(self.value))
+        parent: Any = value
+        for key in way[:-1]:
+            parent = parent[key]
+        parent[way[-1]] = PLACE
+        data = self.text(value).replace(json.dumps(PLACE).encode(), text.encode(), 1)
+        return Case(f"{self.name}: {'.'.join(map(str, way))} is {text}"[:300], data)
 
     def mutated(self, chance: random.Random) -> Case:
         """A case."""
@@ -136,14 +158,40 @@ class Seed:
         return Case(f"{self.name}: {more!r} at byte {place}", data[:place] + more + data[place:])
 
 
+def ways_into(value: Any, way: Way = (), kind: Way = ()) -> Iterator[tuple[Way, Way]]:
+    """The way to each value within a value, and its kind: without indexes, and with the name of an
+    event."""
+    if isinstance(value, dict):
+        name = str(value.get("name") or value.get("type") or "")
+        for key, member in value.items():
+            yield (*way, key), (*kind, name, key)
+            yield from ways_into(member, (*way, key), (*kind, name, key))
+    elif isinstance(value, list):
+        for index, member in enumerate(value):
+            yield (*way, index), (*kind, "")
+            yield from ways_into(member, (*way, index), (*kind, ""))
+
+
 def seeds() -> list[Seed]:
     """The real logs."""
     return [Seed(path) for path in sorted([*REAL.glob("*.qlog"), *REAL.glob("*.netlog")])]
 
 
-def cases(seed: int) -> Iterator[Case]:
-    """Cases without an end."""
-    chance, logs = random.Random(seed), seeds()
+def each_value(logs: list[Seed], chance: random.Random) -> list[tuple[Seed, Way, str]]:
+    """Each field of each log with each value, in an order by chance."""
+    found = [(log, way, text) for log in logs for way in log.fields(chance) for text in VALUES]
+    chance.shuffle(found)
+    return found
+
+
+def cases(seed: int, part: int = 0, parts: int = 1) -> Iterator[Case]:
+    """Cases without an end. Every second one is of a field that is given a value, as long as there
+    are some. Of these it is one part of so many; the seed of a part is that of the first and its
+    number."""
+    logs, chance = seeds(), random.Random(seed)
+    for log, way, text in each_value(logs, random.Random(seed - part))[part::parts]:
+        yield log.with_value(way, text)
+        yield chance.choice(logs).mutated(chance)
     while True:
         yield chance.choice(logs).mutated(chance)
 
