@@ -230,7 +230,11 @@ class Document(Form):
         self.torn_at = None
         self.file.seek(0)
         scanner = Scanner(self.file)
-        if scanner.peek() != "{":
+        try:
+            first = scanner.peek()
+        except Torn:
+            raise Unusable("nothing but white space") from None
+        if first != "{":
             raise Unusable("neither JSON-SEQ nor a JSON text a line nor one JSON object", "byte 0")
         return scanner
 

@@ -1,5 +1,6 @@
 """Logs that nobody would write: real ones in which a value, a byte or the end is another."""
 
+import gzip
 import json
 import random
 import signal
@@ -149,11 +150,22 @@ class Seed:
         """A torn log, or one with a byte more or less."""
         data = self.text(self.value)
         place = chance.randrange(len(data))
-        match chance.randrange(3):
+        match chance.randrange(6):
             case 0:
                 return Case(f"{self.name}: torn at byte {place}", data[:place])
             case 1:
                 return Case(f"{self.name}: without byte {place}", data[:place] + data[place + 1 :])
+            case 2:
+                return Case(f"{self.name}: from byte {place} on", data[place:])
+            case 3:
+                end = place + chance.choice((1, 2, 10, 1_000, 100_000))
+                name = f"{self.name}: white space from byte {place} to {end}"
+                return Case(name, data[:place] + b" " * (end - place) + data[end:])
+            case 4:
+                packed = gzip.compress(data, 1)
+                place %= len(packed)
+                name = f"{self.name}: packed, and without byte {place}"
+                return Case(name, packed[:place] + packed[place + 1 :])
         more = chance.choice(BYTES)
         return Case(f"{self.name}: {more!r} at byte {place}", data[:place] + more + data[place:])
 
