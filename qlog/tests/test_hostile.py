@@ -9,12 +9,24 @@ import random
 import subprocess
 import sys
 import tempfile
+import time
 import unittest
 from itertools import islice
 from pathlib import Path
 
 from .hostile import VALUES, cases, each_value, failure_of, failure_of_end, seeds
-from .made import PROGRAM, TOP, End, converted, document, header, metrics, sent, sequence
+from .made import (
+    PROGRAM,
+    TOP,
+    End,
+    converted,
+    document,
+    header,
+    metrics,
+    received,
+    sent,
+    sequence,
+)
 
 # isort: split
 import figures  # noqa: E402
@@ -125,6 +137,35 @@ class Limits(unittest.TestCase):
         event = {"type": 1, "time": 7, "source": {"id": [1, {}]}, "params": {}}
         end = End(json.dumps({"constants": {"logEventTypes": types}, "events": [event]}))
         self.assertEqual((end.status, len(end.errors.splitlines())), (2, 1))
+
+
+class Times(unittest.TestCase):
+    """What takes no longer than as much of what costs nothing."""
+
+    MANY = 10_000
+
+    def seconds(self, text: str) -> float:
+        """What a log takes of processor time."""
+        began = time.process_time()
+        self.assertEqual(End(text).status, 0)
+        return time.process_time() - began
+
+    def test_ranges_of_numbers_that_were_never_sent(self) -> None:
+        flight = [sent(number, number) for number in range(self.MANY)]
+        far = [received(self.MANY + it, [[10**6, 10**9]]) for it in range(self.MANY)]
+        near = [received(self.MANY + it, [[it, it]]) for it in range(self.MANY)]
+        costly, plain = (self.seconds(sequence(header(), flight + it)) for it in (far, near))
+        self.assertLess(costly, 3 * plain)
+
+    def test_reports_that_fit_no_packets(self) -> None:
+        flight = [sent(number, number) for number in range(self.MANY)]
+        head = header(name="quic-go")
+        odd, right = (
+            [metrics(self.MANY + it, bytes_in_flight=size) for it in range(self.MANY)]
+            for size in (601, 1200 * self.MANY)
+        )
+        costly, plain = (self.seconds(sequence(head, flight + it)) for it in (odd, right))
+        self.assertLess(costly, 3 * plain)
 
 
 class Terminals(unittest.TestCase):
