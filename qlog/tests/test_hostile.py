@@ -159,11 +159,15 @@ class Times(unittest.TestCase):
 
     def test_reports_that_fit_no_packets(self) -> None:
         flight = [sent(number, number) for number in range(self.MANY)]
-        head = header(name="quic-go")
         odd, right = (
-            [metrics(self.MANY + it, bytes_in_flight=size) for it in range(self.MANY)]
-            for size in (601, 1200 * self.MANY)
+            [
+                event
+                for it in range(self.MANY, 2 * self.MANY)
+                for event in (sent(it, it), metrics(it, bytes_in_flight=size or 1200 * it + 1200))
+            ]
+            for size in (601, 0)
         )
+        head = header(name="quic-go")
         costly, plain = (self.seconds(sequence(head, flight + it)) for it in (odd, right))
         self.assertLess(costly, 3 * plain)
 
