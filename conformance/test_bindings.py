@@ -1,0 +1,159 @@
+#!/usr/bin/env python3
+"""Tests what the binding for Python hands to the library, by a library that is none.
+
+It is compiled by `$CC`, or `cc`. Each of its functions takes a while, and notes whether another was
+called meanwhile, and which time it was given.
+"""
+
+import json
+import os
+import shutil
+import subprocess
+import sys
+import unittest
+from pathlib import Path
+
+from runners import FOLDER
+from testing import new_folder
+
+COMPILER = os.environ.get("CC", "cc")
+NO_COMPILER = "" if shutil.which(COMPILER) else f"there is no {COMPILER}"
+BINDING = FOLDER.parent / "bindings" / "python"
+LIBRARY = """
+#include "qaudit.h"
+#include <stdatomic.h>
+#include <unistd.h>
+static atomic_int inside;
+int overlaps, calls;
+uint64_t last_time, last_count;
+static uint32_t take(void) {
+    if (++inside > 1) overlaps = 1;
+    calls++;
+    usleep(500);
+    --inside;
+    return 0;
+}
+static uint32_t at(uint64_t time) { last_time = time; return take(); }
+uint32_t qaudit_open(qaudit *q) { return take(); }
+void qaudit_close(qaudit *q) { take(); }
+uint32_t qaudit_feed(qaudit *q, const uint8_t *b, size_t n) { last_count = n; return take(); }
+uint32_t qaudit_header(qaudit *q, const qaudit_trace_header *h) { return take(); }
+uint32_t qaudit_sent(qaudit *q, const qaudit_packet *p) { return at(p->time); }
+uint32_t qaudit_ack(qaudit *q, const qaudit_acknowledgment *a, const qaudit_range *r, size_t n) {
+    return at(a->time);
+}
+uint32_t qaudit_lost(qaudit *q, uint64_t time, uint32_t s, const qaudit_range *r, size_t n) {
+    return at(time);
+}
+uint32_t qaudit_timer(qaudit *q, const qaudit_fired_timer *t) { return at(t->time); }
+uint32_t qaudit_discard(qaudit *q, uint64_t time, uint32_t s) { return at(time); }
+uint32_t qaudit_confirmed(qaudit *q, uint64_t time) { return at(time); }
+uint32_t qaudit_keys(qaudit *q, uint64_t time) { return at(time); }
+uint32_t qaudit_metrics(qaudit *q, const qaudit_metrics_report *m) { return at(m->time); }
+uint32_t qaudit_finish(qaudit *q) { return take(); }
+bool qaudit_verdict(qaudit *q, qaudit_told *out) { out->kind = 1; return take() == 0; }
+size_t qaudit_report(qaudit *q, uint8_t *out, size_t room) { return take(); }
+size_t qaudit_first_line(qaudit *q, uint8_t *out, size_t room) { return take(); }
+size_t qaudit_rule_name(uint32_t n, uint8_t *out, size_t room) { return 0; }
+size_t qaudit_fault_name(uint32_t n, uint8_t *out, size_t room) { return 0; }
+size_t qaudit_key_name(uint32_t n, uint8_t *out, size_t room) { return 0; }
+"""
+# Each thread makes each call, and the number of each kind is printed.
+THREADS = """
+import ctypes, json, threading
+import qaudit
+auditor = qaudit.Auditor(qaudit.Header(role="server", max_datagram_size=1200))
+def each():
+    for _ in range(20):
+        auditor.feed(b"")
+        auditor.sent(0, "app", 0, 1200)
+        auditor.ack(0, "app", [(0, 0)])
+        auditor.lost(0, "app", [(0, 0)])
+        auditor.timer(0, "pto", "app")
+        auditor.discard(0, "initial")
+        auditor.confirmed(0)
+        auditor.keys(0)
+        auditor.metrics(0)
+        auditor.report()
+        auditor.first_line()
+        auditor.verdict()
+        auditor.finish()
+        auditor.header(qaudit.Header(role="server", max_datagram_size=1200))
+threads = [threading.Thread(target=each) for _ in range(4)]
+for it in threads: it.start()
+for it in threads: it.join()
+number = lambda name: ctypes.c_int.in_dll(qaudit._library, name).value
+print(json.dumps([number("overlaps"), number("calls")]))
+"""
+TIMES = """
+import ctypes, json
+import qaudit
+auditor, late = qaudit.Auditor(), 10**15
+last = ctypes.c_uint64.in_dll(qaudit._library, "last_time")
+seen = []
+for call in (
+    lambda: auditor.sent(late, "app", 0, 1200),
+    lambda: auditor.ack(late, "app", [(0, 0)]),
+    lambda: auditor.lost(late, "app", [(0, 0)]),
+    lambda: auditor.timer(late, "pto", "app"),
+    lambda: auditor.discard(late, "initial"),
+    lambda: auditor.confirmed(late),
+    lambda: auditor.keys(late),
+    lambda: auditor.metrics(late),
+):
+    last.value = 0
+    call()
+    seen.append(last.value)
+print(json.dumps(seen))
+"""
+SIGNALS = """
+import json, os, signal
+import qaudit
+auditor, said = qaudit.Auditor(), []
+signal.signal(signal.SIGALRM, lambda *_: said.append(auditor.report()))
+signal.setitimer(signal.ITIMER_REAL, 0.001, 0.001)
+for _ in range(100):
+    auditor.keys(0)
+signal.setitimer(signal.ITIMER_REAL, 0)
+print(json.dumps(len(said) > 0))
+"""
+
+
+@unittest.skipIf(NO_COMPILER, NO_COMPILER)
+class Python(unittest.TestCase):
+    """What programs see that use the binding."""
+
+    def setUp(self) -> None:
+        self.library = new_folder(self) / "libqaudit.so"
+        include = FOLDER.parent / "include"
+        words = [COMPILER, "-shared", "-fPIC", "-w", "-I", include, "-x", "c", "-"]
+        command = list(map(str, [*words, "-o", self.library]))
+        subprocess.run(command, input=LIBRARY, text=True, check=True)
+
+    def said_by(self, program: str) -> object:
+        """What a program prints."""
+        environment = {"QAUDIT_LIB": str(self.library), "PYTHONPATH": str(BINDING)}
+        ended = subprocess.run(
+            [sys.executable, "-S", "-c", program],
+            env={**os.environ, **environment},
+            capture_output=True,
+            text=True,
+            timeout=60,
+            check=False,
+        )
+        self.assertEqual((ended.returncode, ended.stderr), (0, ""))
+        return json.loads(ended.stdout)
+
+    def test_threads_wait_for_one_another(self) -> None:
+        overlaps, calls = self.said_by(THREADS)  # type: ignore[misc]
+        self.assertEqual((overlaps, calls), (0, 2 + 4 * 20 * 15))
+
+    def test_times_are_handed_on_whole(self) -> None:
+        self.assertEqual(self.said_by(TIMES), [10**15] * 8)
+
+    def test_a_handler_of_a_signal_may_make_a_call(self) -> None:
+        self.assertIs(self.said_by(SIGNALS), True)
+
+
+if __name__ == "__main__":
+    unittest.main()
