@@ -5,11 +5,12 @@ import os
 import signal
 import sys
 from pathlib import Path
-from typing import NoReturn
+from typing import IO, NoReturn
 
 from .failure import Failure, Status
 from .files import STANDARD_INPUT, STDIN, write
 from .page import Wanted, page_of
+from .streams import ended
 from .texts import visible
 from .version import version
 
@@ -28,6 +29,12 @@ class Parser(argparse.ArgumentParser):
         """Ends the program."""
         self.print_usage(sys.stderr)
         self.exit(Status.USAGE, f"{self.prog}: {message}\n")
+
+    def _print_message(self, message: str, file: IO[str] | None = None) -> None:
+        if file is sys.stderr:
+            print(message, end="", file=file)
+        else:
+            write(None, message)
 
 
 def line(text: str) -> int:
@@ -97,7 +104,7 @@ def interrupted() -> NoReturn:
 def program() -> NoReturn:
     """Runs the command and ends."""
     try:
-        status = main()
+        status = ended("qaudit-page", main)
     except KeyboardInterrupt:
         interrupted()
-    sys.exit(status)
+    sys.exit(status)  # type: ignore[arg-type]

@@ -34,6 +34,7 @@ from .matrix import (
     traces_of,
 )
 from .program import find
+from .streams import ended
 from .texts import plural, visible
 
 DESCRIPTION = """\
@@ -259,7 +260,7 @@ def main() -> Status:
 def program() -> NoReturn:
     """Runs the command and ends."""
     try:
-        status = main()
+        status = ended("qaudit-matrix", main)
     except KeyboardInterrupt:
         interrupted()
-    sys.exit(status)
+    sys.exit(status)  # type: ignore[arg-type]
