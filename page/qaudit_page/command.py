@@ -89,14 +89,9 @@ def main() -> Status:
     return Status.WRITTEN
 
 
-def end_by_interrupts() -> None:
-    """From now on Ctrl-C ends this process at once, and says nothing."""
-    signal.signal(signal.SIGINT, signal.SIG_DFL)
-
-
 def interrupted() -> NoReturn:
     """Ends this process as Ctrl-C does, so that a shell sees it."""
-    end_by_interrupts()
+    signal.signal(signal.SIGINT, signal.SIG_DFL)
     os.kill(os.getpid(), signal.SIGINT)
     sys.exit(Status.FAULT)
 

@@ -1,8 +1,11 @@
-"""The standard streams, each of which may be closed, full, or read by nobody."""
+"""The standard streams, each of which may be closed, full, or read by nobody, and how processes
+end."""
 
+import ctypes
 import errno
 import io
 import os
+import signal
 import sys
 from collections.abc import Callable
 from typing import TextIO
@@ -11,6 +14,8 @@ from .failure import Failure, Status
 from .texts import visible
 
 OUTPUT, ERRORS = 1, 2
+# Of linux/prctl.h.
+PR_SET_PDEATHSIG = 1
 
 
 class Messages(io.TextIOBase):
@@ -67,6 +72,15 @@ def fill_closed() -> None:
         if number > ERRORS:
             os.close(number)
             return
+
+
+def follow(parent: int) -> None:
+    """What a process does first that another has started to work for it: it ends when that one
+    does, however that may be, and at once by Ctrl-C."""
+    signal.signal(signal.SIGINT, signal.SIG_DFL)
+    ctypes.CDLL(None).prctl(PR_SET_PDEATHSIG, signal.SIGKILL)
+    if os.getppid() != parent:
+        os._exit(Status.FAULT)
 
 
 def ended(name: str, main: Callable[[], Status]) -> object:
