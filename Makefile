@@ -31,7 +31,7 @@ runner_tests := test_run test_trials test_allowed test_mutations test_rows test_
 tests_in_python := test_page test_qlog test_captures $(runner_tests) test_release links made_up contracts crates words wrong commands
 
 # All programs in Python, by the places where their names are unlike each other.
-python := $(addprefix conformance/,allocations contracts crates cuts failing fuzz_library large library links made_up malicious memory mutations reasons \
+python := $(addprefix conformance/,allocations contracts crates cuts failing fuzz_library large library links made_up malicious memory mutations reasons recipes \
 	refusals run simulate unproved words wrong commands) \
 	conformance/fuzz/instrument conformance/lines/make.py $(wildcard conformance/*.py)
 python_of_fuzz := conformance/fuzz/run
@@ -43,6 +43,8 @@ python_of_qlog := qlog/qlog-to-trace qlog/fuzz $(wildcard qlog/qlog_to_trace/*.p
 python_of_captures := captures/audit.py captures/causes.py captures/lateness captures/logs.py captures/run captures/stacks.py captures/table captures/test_causes.py captures/test_lateness.py captures/test_upload.py examples/delay.py examples/logger.py
 python_of_release := $(addprefix release/,archive edits minutes prove unproved) $(wildcard release/*.py)
 python_of_bindings := $(wildcard bindings/python/*.py)
+# Checked for style alone, since they need pytest.
+python_of_recipes := $(wildcard examples/embedding/pytest/*.py)
 python_of_bench := $(addprefix bench/,instructions library peers run trace) $(wildcard bench/*.py) bench/programs/read.py
 
 # The programs of conformance/ over what the gate built, the longest first. None waits for another.
@@ -51,7 +53,7 @@ conformance := conformance-cuts conformance-failing conformance-refusals conform
 	conformance-allocations conformance-memory
 
 # What is handed to the library for C, in each language.
-bindings := conformance-library bindings-rust bindings-go bindings-python
+bindings := conformance-library conformance-recipes bindings-rust bindings-go bindings-python
 
 .PHONY: deb help run build quick lib one_byte lines test test_library gate conformance $(bindings) $(conformance) \
 	links made_up contracts crates words wrong commands unproved $(runner_tests) test_qlog fuzz fuzz_library test_captures test_release test_page lint edits tried bench install dist clean
@@ -191,6 +193,10 @@ conformance-memory:
 conformance-library: $(library)
 	conformance/library $(library)
 
+# The examples in docs/embedding.md, and the recipes in examples/embedding, each where its tools are there.
+conformance-recipes: $(library) $(library_shared)
+	conformance/recipes $(library) $(library_shared)
+
 # The bindings, each where its compiler is there.
 bindings-rust: $(library)
 	if command -v cargo > /dev/null; then cd bindings/rust && cargo test --offline --quiet; else \
@@ -288,7 +294,7 @@ lint:
 		flake8 --max-line-length 100 --extend-ignore E203,W503 \
 			--per-file-ignores '*/test_*.py:N802' $(python) $(python_of_fuzz) $(python_of_bench) \
 			$(python_of_qlog) $(python_of_release) $(python_of_captures) captures/transfer.py \
-			$(python_of_page) $(python_of_page_tests) conformance/rows conformance/departures conformance/stand_in; fi
+			$(python_of_page) $(python_of_page_tests) $(python_of_recipes) conformance/rows conformance/departures conformance/stand_in; fi
 
 # No part of `test`, for no number of seconds is right on every machine.
 bench: build

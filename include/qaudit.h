@@ -16,11 +16,14 @@
  *     qaudit_verdict(&q, &verdict);
  *     qaudit_close(&q);
  *
+ * C++ has these names in braces from C++20 on. In C++17 write `qaudit_packet packet{};`, which is all zero, and
+ * set its members.
+ *
  * Link libqaudit.a. It needs malloc, realloc, free, memcpy, memmove and memset of the C library, and nothing
  * else. No function here prints, exits, blocks, starts a thread or keeps a global variable.
  *
  * Caller's obligations, which are not checked:
- *   - A `qaudit` is all zero (`qaudit q = {0};`), or what these functions last left in it.
+ *   - A `qaudit` is all zero (`qaudit q = {0};`, in C++ `qaudit q{};`), or what these functions last left in it.
  *   - One that is open is not copied, and is given to one call at a time. It may go from thread to thread
  *     if something orders that: a lock, a join, a queue.
  *   - Pointers are not NULL, even for 0 bytes, and point to as much as the function says. Output does not

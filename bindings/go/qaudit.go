@@ -1,11 +1,12 @@
 // Package qaudit is an auditor of QUIC loss recovery (RFC 9002), fed while a sender runs.
 //
-// The library, libqaudit.a, is built by `make lib` at the top of the repository, into bin/.
+// The library, libqaudit.a, is built by `make lib` at the top of the repository, into bin/; a release has it in lib/.
+// If it is elsewhere, CGO_LDFLAGS=-L names its folder.
 package qaudit
 
 /*
 #cgo CFLAGS: -I${SRCDIR}/../../include
-#cgo LDFLAGS: ${SRCDIR}/../../bin/libqaudit.a
+#cgo LDFLAGS: -L${SRCDIR}/../../bin -L${SRCDIR}/../../lib -l:libqaudit.a
 #include "qaudit.h"
 */
 import "C"

@@ -9,7 +9,7 @@
         print(auditor.first_line())    # refused line 12 V7 past-window
 
 It loads `libqaudit.so`, which `make lib` makes of `libqaudit.a`: the one that QAUDIT_LIB names, or
-else that in `bin/` of the repository, or else one that the system finds.
+else that in `bin/` of the repository or `lib/` of a release, or else one that the system finds.
 """
 
 import ctypes
@@ -204,8 +204,11 @@ class _Told(Structure):
 
 def _place() -> str:
     """The library that is loaded."""
-    built = Path(__file__).resolve().parent.parent.parent / "bin" / "libqaudit.so"
-    return os.environ.get("QAUDIT_LIB") or (str(built) if built.exists() else "libqaudit.so")
+    if named := os.environ.get("QAUDIT_LIB"):
+        return named
+    top = Path(__file__).resolve().parent.parent.parent
+    near = (top / folder / "libqaudit.so" for folder in ("bin", "lib"))
+    return next((str(it) for it in near if it.exists()), "libqaudit.so")
 
 
 def _loaded() -> ctypes.CDLL:
