@@ -18,6 +18,7 @@ class Audit:
 
     def line(self, event: str, **keys: Any) -> None:
         """Judges a line of the trace, and keeps it."""
+        __tracebackhide__ = True
         text = json.dumps({"event": event, **keys}) + "\n"
         with self.path.open("a") as trace:
             trace.write(text)
@@ -26,11 +27,13 @@ class Audit:
 
     def finish(self) -> None:
         """Losses that were not declared show only at the end."""
+        __tracebackhide__ = True
         if self.auditor.finish().kind != "accepted":
             self.fail()
 
     def fail(self) -> None:
         """Fails the test, with the verdict."""
+        __tracebackhide__ = True
         first = self.auditor.first_line()
         pytest.fail(f"{first}\nfor the reason run: qaudit-why {self.path}")
 

@@ -40,7 +40,7 @@ impl Audit {
     fn finish(&mut self) {
         let verdict = self.auditor.finish();
         assert!(
-            matches!(verdict, Ok(Verdict::Accepted(_))),
+            matches!(verdict, Ok(Verdict::Accepted { .. })),
             "{}",
             self.why()
         );
