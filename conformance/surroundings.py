@@ -37,6 +37,7 @@ STOPS = 20
 NO_LOG = "byte 0: neither JSON-SEQ nor a JSON text a line nor one JSON object"
 TOO_LARGE = "has more than 268,435,456 bytes: cut it into parts"
 
+
 class Program(NamedTuple):
     """A program, the name of its input, and what it says: where standard output fails, by the
     reason, of a missing file, and of zeros without an end, with the status of that."""

@@ -1,7 +1,6 @@
 #!/usr/bin/env python3
 """Shows that the cases of surroundings.py see a program that does not do what they want."""
 
-import sys
 import unittest
 
 from surroundings import TRACE, TRACE_NAME, Program, Tries, run

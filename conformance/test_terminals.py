@@ -43,7 +43,7 @@ def commands(folder: Path) -> Iterator[tuple[str, list[str]]]:
         for word in ("check", "explain"):
             yield "qaudit", [os.environ["QAUDIT"], word]
     if "QAUDIT_WHY" in os.environ:
-        for words in ([], ["--all", "--around", "3", "--warn"], ["--rows"]):
+        for words in (list[str](), ["--all", "--around", "3", "--warn"], ["--rows"]):
             yield "qaudit-why", [os.environ["QAUDIT_WHY"], *words]
 
 
@@ -133,9 +133,9 @@ class Terminals(unittest.TestCase):
     def test_other_names(self) -> None:
         (self.folder / "a.trace").write_bytes(TRACE)
         for name, words in commands(self.folder):
-            options = ("output", "dygraphs", "program")
+            options = ["output", "dygraphs", "program"]
             if name == "qaudit-matrix":
-                options += ("pages", "json", "against", "known", "junit", "sarif")
+                options += ["pages", "json", "against", "known", "junit", "sarif"]
             for option in options if name in PYTHON[:2] else ():
                 for value in (LONG + HIDDEN, f"none/{HIDDEN}"):
                     # Some are made, and some are not asked for.
@@ -154,7 +154,7 @@ class Terminals(unittest.TestCase):
         _, words = next(it for it in commands(self.folder) if it[0] == "qlog-to-trace")
         for log in logs(HIDDEN + TAGS):
             (self.folder / "a.qlog").write_bytes(log)
-            for more in ([], ["--notes"]):
+            for more in (list[str](), ["--notes"]):
                 self.check("qlog-to-trace", [*words, *more, "a.qlog"], (0, 2))
 
 
