@@ -4,6 +4,7 @@ Each case is a command of a shell in a folder with a good input. The status, sta
 it writes must be as wanted, within limits of memory, processes and time.
 """
 
+import contextlib
 import errno
 import os
 import shlex
@@ -15,7 +16,7 @@ from collections.abc import Iterator
 from pathlib import Path
 from typing import NamedTuple
 
-from processes import Outcome, Words, ended, joined, shown
+from processes import Outcome, Words, joined, shown
 from runners import FOLDER, Result, Results
 
 TOP = FOLDER.parent
@@ -35,6 +36,7 @@ MANY_FILES, FEW_OPEN = 1_000, 64
 STOPS = 20
 NO_LOG = "byte 0: neither JSON-SEQ nor a JSON text a line nor one JSON object"
 TOO_LARGE = "has more than 268,435,456 bytes: cut it into parts"
+
 
 class Program(NamedTuple):
     """A program, the name of its input, and what it says: where standard output fails, by the
@@ -70,10 +72,11 @@ class Case(NamedTuple):
     before: str = ""
 
 
+# How standard output fails: what the shell does before, and with the program, and the reason.
 REASONS = {
-    "full-disk": ("> /dev/full", "no space left on device"),
-    "no-output": (">&-", "bad file descriptor"),
-    "closed-pipe": ("> >(exec true; sleep 9)", "broken pipe"),
+    "full-disk": ("", "> /dev/full", "no space left on device"),
+    "no-output": ("", ">&-", "bad file descriptor"),
+    "closed-pipe": ("exec 9> >(exec true); wait $!", ">&9", "broken pipe"),
 }
 
 
@@ -130,10 +133,10 @@ class Tries(NamedTuple):
 
     def of_output(self) -> Iterator[Case]:
         """Standard output fails."""
-        for name, (to, reason) in REASONS.items():
+        for name, (before, to, reason) in REASONS.items():
             is_silent = self.program.name == "qlog-to-trace" and name == "closed-pipe"
-            says = "" if is_silent else self.program.unwritten.format(reason)
-            yield Case(name, f"{self.program.input} {to}", 3, self.program.says(says))
+            says = self.program.says("" if is_silent else self.program.unwritten.format(reason))
+            yield Case(name, f"{self.program.input} {to}", 3, says, before=before)
 
     def of_errors(self) -> Iterator[Case]:
         """Standard error fails: the status is what it is else."""
@@ -150,11 +153,10 @@ class Tries(NamedTuple):
         status, says = self.program.zeros
         for name, path in (("zeros-without-end", "/dev/zero"), ("sparse-file", "sparse")):
             yield Case(name, path, status, self.program.says(says.replace("/dev/zero", path)))
-        fifo = f"<(cat {self.program.input})"
-        if not self.program.takes_several:
-            yield Case("fifo", fifo, 0, b"")
+        make = f"rm -f fifo; mkfifo fifo; {{ cat {self.program.input} > fifo & }}"
+        yield Case("fifo", "fifo", 0, b"", before=make)
         if self.program.reads_input:
-            yield Case("fifo-as-input", f"< {fifo}", 0, b"")
+            yield Case("fifo-as-input", f"< <(cat {self.program.input})", 0, b"")
 
     def of_limits(self) -> Iterator[Case]:
         """Many open files, and little memory."""
@@ -184,27 +186,25 @@ class Tries(NamedTuple):
         return differences(run(["bash", "-c", text], self.folder), case)
 
     def stopped(self) -> str:
-        """How a run differs that is stopped again and again while its input comes."""
-        usual, often = (self.by_pieces(is_stopped=it) for it in (False, True))
-        return differences(often, Case("", "", 0, b"", usual.output))
-
-    def by_pieces(self, *, is_stopped: bool) -> Outcome:
-        """A run whose input comes by a FIFO, in pieces."""
-        fifo = self.folder / "fifo"
+        """How a run differs that is stopped again and again while its input comes, by a FIFO of
+        the name of the input."""
+        folder = self.folder / "pipes"
+        folder.mkdir(exist_ok=True)
+        fifo = folder / self.program.input
         fifo.unlink(missing_ok=True)
         os.mkfifo(fifo)
-        process = started([*self.program.command, fifo.name], self.folder)
+        process = started([*self.program.command, fifo.name], folder)
         data = (self.folder / self.program.input).read_bytes()
         size = -(-len(data) // STOPS)
         with os.fdopen(opened_by(process, fifo), "wb", buffering=0) as pipe:
             for at in range(0, len(data), size):
-                if is_stopped:
-                    process.send_signal(signal.SIGSTOP)
-                    process.send_signal(signal.SIGWINCH)
-                pipe.write(data[at : at + size])
+                process.send_signal(signal.SIGSTOP)
+                process.send_signal(signal.SIGWINCH)
+                with contextlib.suppress(BrokenPipeError):
+                    pipe.write(data[at : at + size])
                 process.send_signal(signal.SIGCONT)
                 time.sleep(0.01)
-        return ended(process, SECONDS)
+        return differences(outcome_of(process), Case("", "", 0, b"", self.usual))
 
 
 def opened_by(process: subprocess.Popen[bytes], fifo: Path) -> int:
@@ -241,19 +241,32 @@ def differences(outcome: Outcome, case: Case) -> str:
 
 
 def started(command: Words, folder: Path) -> subprocess.Popen[bytes]:
-    """A program that has nothing on standard input."""
+    """A program that has nothing on standard input, with a group of its own."""
     return subprocess.Popen(
         command,
         cwd=folder,
         stdin=subprocess.DEVNULL,
         stdout=subprocess.PIPE,
         stderr=subprocess.PIPE,
+        start_new_session=True,
     )
+
+
+def outcome_of(process: subprocess.Popen[bytes]) -> Outcome:
+    """How a program ends. Where it takes too long all are killed that it has started, for they hold
+    its output open."""
+    try:
+        output, error = process.communicate(timeout=SECONDS)
+    except subprocess.TimeoutExpired:
+        os.killpg(process.pid, signal.SIGKILL)
+        process.communicate()
+        return Outcome(None, b"", b"")
+    return Outcome(process.returncode, output, error)
 
 
 def run(command: Words, folder: Path) -> Outcome:
     """How a program ends."""
-    return ended(started(command, folder), SECONDS)
+    return outcome_of(started(command, folder))
 
 
 def results(qaudit: str, why: str, folder: Path, names: list[str]) -> Results:

@@ -65,7 +65,9 @@ size_t qaudit_report(qaudit *q, uint8_t *out, size_t room) {
     if (room >= 9 || WRITES) memcpy(out, text, 9);
     return 9;
 }
-size_t qaudit_first_line(qaudit *q, uint8_t *out, size_t room) { return qaudit_report(q, out, room); }
+size_t qaudit_first_line(qaudit *q, uint8_t *out, size_t room) {
+    return qaudit_report(q, out, room);
+}
 static size_t name(uint32_t which, uint8_t *out, size_t room) {
     if (which != 7) return 0;
     if (room >= 4 || NAMES) memcpy(out, "name", 4);

@@ -28,7 +28,7 @@ class Parser(argparse.ArgumentParser):
     def error(self, message: str) -> NoReturn:
         """Ends the program."""
         self.print_usage(sys.stderr)
-        self.exit(Status.USAGE, f"{self.prog}: {message}\n")
+        self.exit(Status.USAGE, f"{self.prog}: {visible(message)}\n")
 
     def _print_message(self, message: str, file: IO[str] | None = None) -> None:
         if file is sys.stderr:

@@ -216,7 +216,7 @@ class Tables(unittest.TestCase):
             self.assertEqual((out, err), (b"", b""))
 
     def test_processes_end_with_the_one_that_started_them(self) -> None:
-        for sent in (signal.SIGTERM, signal.SIGKILL, signal.SIGHUP):
+        for ending in (signal.SIGTERM, signal.SIGKILL, signal.SIGHUP):
             with tempfile.TemporaryDirectory() as folder:
                 slow = Path(folder) / "slow"
                 slow.write_text("#!/bin/sh\nexec sleep 3\n")
@@ -227,8 +227,8 @@ class Tables(unittest.TestCase):
                 with subprocess.Popen(command, stdout=subprocess.DEVNULL) as running:
                     time.sleep(1.5)
                     workers = children_of(running.pid)
-                    running.send_signal(sent)
-                    self.assertEqual(running.wait(10), -sent)
+                    running.send_signal(ending)
+                    self.assertEqual(running.wait(10), -ending)
                 left = set(workers)
                 end = time.monotonic() + 2
                 while left and time.monotonic() < end:

@@ -82,7 +82,7 @@ class Parser(argparse.ArgumentParser):
 
     def error(self, message: str) -> None:  # type: ignore[override]
         self.print_usage(sys.stderr)
-        self.exit(WRONG_ARGUMENTS, f"{self.prog}: {message}\n")
+        self.exit(WRONG_ARGUMENTS, f"{self.prog}: {visible(message)}\n")
 
     def _print_message(self, message: str, file: IO[str] | None = None) -> None:
         if file is sys.stderr:

@@ -42,7 +42,7 @@ LONGEST = 1 << 20
 class Limits(unittest.TestCase):
     """What is refused, and with which words."""
 
-    def check(self, text: str, why: str) -> None:
+    def check(self, text: str | bytes, why: str) -> None:
         """It gives no trace, and one line that says why."""
         end = End(text)
         self.assertEqual((end.status, end.errors), (2, f"qlog-to-trace: LOG: {why}\n"))
@@ -111,11 +111,9 @@ class Limits(unittest.TestCase):
     def test_what_a_log_unpacks_to(self) -> None:
         spaces = b" " * (1 << 20)
         why = "unpacked it has more than 67,108,864 bytes: unpack it first"
-        for pack in (gzip.compress, lzma.compress):
-            packed = pack(spaces * 64)
-            self.assertEqual(End(packed).errors, "qlog-to-trace: LOG: nothing but white space\n")
-            end = End(pack(spaces * 64 + b" "))
-            self.assertEqual((end.status, end.errors), (2, f"qlog-to-trace: LOG: {why}\n"))
+        for log, says in ((spaces * 64, "nothing but white space"), (spaces * 64 + b" ", why)):
+            for packed in (gzip.compress(log), lzma.compress(log)):
+                self.check(packed, says)
 
     def test_counts_of_probe_timeouts(self) -> None:
         for count, status in ((32, 0), (33, 2)):
