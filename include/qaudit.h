@@ -16,8 +16,8 @@
  *     qaudit_verdict(&q, &verdict);
  *     qaudit_close(&q);
  *
- * C++ has these names in braces from C++20 on. In C++17 write `qaudit_packet packet{};`, which is all zero, and
- * set its members.
+ * In C++ write `qaudit_packet packet{};`, which is all zero, and set its members: the names in braces need C++20,
+ * and `-Wextra` warns about those that are left out.
  *
  * Link libqaudit.a. It needs malloc, realloc, free, memcpy, memmove and memset of the C library, and nothing
  * else. No function here prints, exits, blocks, starts a thread or keeps a global variable.
