@@ -3,7 +3,6 @@ package sender
 import (
 	"fmt"
 	"os"
-	"path/filepath"
 	"strings"
 	"testing"
 
@@ -23,12 +22,16 @@ func newAudit(t *testing.T) *audit {
 		t.Fatal(err)
 	}
 	t.Cleanup(auditor.Close)
-	name := strings.ReplaceAll(t.Name(), "/", "-") + ".trace"
-	trace, err := os.Create(filepath.Join(os.TempDir(), name))
+	trace, err := os.CreateTemp("", strings.ReplaceAll(t.Name(), "/", "-")+"-*.trace")
 	if err != nil {
 		t.Fatal(err)
 	}
-	t.Cleanup(func() { trace.Close() })
+	t.Cleanup(func() {
+		trace.Close()
+		if !t.Failed() {
+			os.Remove(trace.Name())
+		}
+	})
 	a := &audit{t, auditor, trace}
 	a.line(`{"event":"header","version":1,"role":"server","max_datagram_size":%d}`, size)
 	return a
