@@ -26,7 +26,7 @@ library_shared := bin/libqaudit.so
 examples := examples/ten-packets.trace examples/eleven-packets.trace
 # The tests of the programs of conformance/, which mostly wait for one another's processes.
 runner_tests := test_run test_trials test_allowed test_mutations test_rows test_departures test_simulate test_links test_made_up \
-	test_contracts test_crates test_edits test_unproved test_words test_commands test_lost_lines test_bindings test_fuzz_library \
+	test_contracts test_crates test_edits test_unproved test_words test_commands test_lost_lines test_bindings test_recipes test_fuzz_library \
 	test_surroundings test_terminals
 # The tests and checks that need no proof, the longest first.
 tests_in_python := test_page test_qlog test_captures $(runner_tests) test_release links made_up contracts crates words wrong commands
