@@ -35,8 +35,8 @@ def with_what(basis: Basis) -> str:
 
 
 def banner(verdict: Verdict, basis: Basis, silence: Silence | None, unit: str) -> str:
-    """What stands in the banner: the verdict in a sentence, the longest silence, how the trace ends,
-    and of an accepted trace what the verdict rests on."""
+    """What stands in the banner: the verdict in a sentence, the longest silence, how the trace
+    ends, and of an accepted trace what the verdict rests on."""
     last = verdict.end.said.get("last")
     try:
         end = end_of(last, unit) if last else ""

@@ -27,6 +27,11 @@ OTHER = "other"
 FAILED = "failed"
 ACCEPTED = "accepted"
 WITH_ALLOWANCES = "accepted with allowances"
+NOTE_OF_ALLOWANCES = (
+    f"<p>{WITH_ALLOWANCES.capitalize()}: the verdict rests on what the cell lists, such as rules"
+    " that the header of the trace relaxes, or lines that were guessed. The page of a trace has the"
+    " amounts and the lines.</p>"
+)
 KINDS = (ACCEPTED, WITH_ALLOWANCES, "refused", "unreadable", FAILED)
 ENDING = ".trace"
 # The form of the file of verdicts that later ones are compared with.
@@ -107,7 +112,10 @@ def judged(job: Job) -> Result:
     is_accepted = verdict.kind == ACCEPTED
     return Result(
         job.key,
-        *(verdict.kind, verdict.line, verdict.rule, verdict.name),
+        verdict.kind,
+        verdict.line,
+        verdict.rule,
+        verdict.name,
         page=str(job.page or ""),
         is_doubtful=verdict.kind == "refused" and bool(found.notes),
         trace=as_text(job.trace),
@@ -315,6 +323,7 @@ def table(
         STYLE=style,
         TITLE=plural(len(results), "trace"),
         SUM=counted(total),
+        NOTE=NOTE_OF_ALLOWANCES if total[WITH_ALLOWANCES] else "",
         CHANGES=since,
         TABLE=cells(results, named, beside),
         RULES=rules(results),

@@ -18,8 +18,9 @@ from qaudit_page.banner import banner
 from qaudit_page.failure import Failure
 from qaudit_page.grounds import Basis, basis_of
 from qaudit_page.page import basis_by
-from qaudit_page.program import Verdict
-from qaudit_page.rows import OF_LOSS, SPACES
+from qaudit_page.program import Object, Verdict
+from qaudit_page.lenient import SPACES
+from qaudit_page.rows import OF_LOSS
 from qaudit_page.texts import span
 from qaudit_page.timers import late_timers, longest_silence
 
@@ -102,7 +103,8 @@ def silence_by(data: bytes) -> tuple[int, int, int, int, int] | None:
     (_, header), *events = events_of(data)
     sender = Sender(header)
     found: tuple[int, int, int, int, int] | None = None
-    begin, since, due, flying = 0, 0, None, 0
+    begin, since, flying = 0, 0, 0
+    due: Deadline | None = None
     for line, event in events:
         time = event["time"]
         if (flying or due) and time - begin > (found[1] if found else 0):
@@ -181,14 +183,15 @@ class Colours(unittest.TestCase):
             self.assertEqual(found.kind, kind, time)
 
     def test_choices_that_the_standard_leaves_to_a_sender_are_green(self) -> None:
-        for choice, kind in (
+        choices: tuple[tuple[dict[str, object], str], ...] = (
             ({"refresh_min_rtt": True}, "accepted"),
             ({"window": "reported"}, "accepted"),
             ({"packet_threshold": 4}, "accepted"),
             ({"window": "reported", "loss_by_number": "may"}, "accepted"),
             ({"sample_eliciting_only": True}, "amber"),
             ({"window_overshoot": True}, "accepted"),
-        ):
+        )
+        for choice, kind in choices:
             header = json.dumps(json.loads(HEADER) | {"version": 3} | choice)
             found = shown(made(joined(header, sent(0))))
             self.assertEqual(found.kind, kind, choice)
@@ -315,7 +318,8 @@ class Words(unittest.TestCase):
     def test_past_violations(self) -> None:
         page = Page(made(*corpus("broken-and-allowed")))
         told = " ".join(page.by_id["departures"].split())
-        self.assertIn("Everything else in the trace is accepted, with what the header allows.", told)
+        ends = "Everything else in the trace is accepted, with what the header allows."
+        self.assertIn(ends, told)
         self.assertIn("V16 metric rttvar: once, at line 9, by 0.003 ms", told)
         self.assertNotIn("follows RFC 9002", told)
         found = banner_of("broken-and-allowed")
@@ -332,8 +336,14 @@ class Words(unittest.TestCase):
         self.assertNotIn("\u202e", text)
 
     def test_unknown_members_are_a_failure(self) -> None:
-        known = {"verdict": "accepted", "allowed": [], "choices": [], "guesses": None, "last": None}
-        for wrong in ({"allowed": [{}]}, {"allowed": 5}, {"choices": None}, {"guesses": {"x": 1}}):
+        known: Object = {"verdict": "accepted", "allowed": [], "choices": [], "guesses": None}
+        wrongs: tuple[Object, ...] = (
+            {"allowed": [{}]},
+            {"allowed": 5},
+            {"choices": None},
+            {"guesses": {"x": 1}},
+        )
+        for wrong in wrongs:
             with self.subTest(wrong), self.assertRaisesRegex(Failure, "unknown object"):
                 basis_of(Verdict(known | wrong), {}, 1, lambda _: True)
         with self.assertRaisesRegex(Failure, "unknown end"):

@@ -181,8 +181,8 @@ function marksOf() {
   return marks;
 }
 
-// Where nothing happened for longer than the deadline of the timer that was set. A report is nothing
-// that happens.
+// Where nothing happened for longer than the deadline of the timer that was set. A report ends no
+// such silence.
 function silencesOf() {
   const found = [], {deadline, timer, in_flight: flying} = trace.state;
   // A deadline that is past when it is set counts from then.
