@@ -17,9 +17,9 @@ from why import said_by
 from qaudit_page.banner import banner
 from qaudit_page.failure import Failure
 from qaudit_page.grounds import Basis, basis_of
+from qaudit_page.lenient import SPACES
 from qaudit_page.page import basis_by
 from qaudit_page.program import Object, Verdict
-from qaudit_page.lenient import SPACES
 from qaudit_page.rows import OF_LOSS
 from qaudit_page.texts import span
 from qaudit_page.timers import late_timers, longest_silence
