@@ -64,13 +64,14 @@ def sentence(verdict: Verdict, basis: Basis) -> str:
 def grounds_shown(basis: Basis) -> str:
     """What a verdict rests on as a list, most of which is folded away where it is long."""
     seen, more = basis.grounds[:SEEN_GROUNDS], basis.grounds[SEEN_GROUNDS:]
-    if not seen:
-        return ""
-    if not more:
-        return list_of(seen)
-    names = ", ".join(Basis(more).names)
-    summary = f"<summary>{len(more)} more: {html(names)}</summary>"
-    return f"{list_of(seen)}<details>{summary}{list_of(more)}</details>"
+    told = list_of(seen) if seen else ""
+    return told + (folded(more, f"{len(more)} more") if more else "")
+
+
+def folded(grounds: tuple[Ground, ...], name: str) -> str:
+    """Grounds that are unfolded by their names."""
+    names = ", ".join(Basis(grounds).names)
+    return f"<details><summary>{name}: {html(names)}</summary>{list_of(grounds)}</details>"
 
 
 def list_of(grounds: tuple[Ground, ...]) -> str:

@@ -3,7 +3,7 @@
 from collections.abc import Iterable
 from dataclasses import dataclass
 
-from .banner import grounds_shown, with_what
+from .banner import folded, with_what
 from .facts import facts_of
 from .failure import Failure
 from .grounds import Basis
@@ -65,10 +65,11 @@ def section_of(verdict: Verdict, basis: Basis, unit: str) -> str:
     names = ("rule", "what it is", "how often", "by at most", "lines")
     head = "".join(f'<th scope="col">{name}</th>' for name in names)
     rows = "".join(map(row_of, kinds))
+    rest = folded(basis.grounds, "What it rests on") if basis.grounds else ""
     return (
         '<section id="departures"><h2>All violations <small>the audit continues after each'
         f"</small></h2><p>{sentence_of(verdict, basis, kinds)}</p>"
-        f"{grounds_shown(basis)}{end_of(verdict.end, unit)}"
+        f"{rest}{end_of(verdict.end, unit)}"
         f"<table><thead><tr>{head}</tr></thead><tbody>{rows}</tbody></table></section>"
     )
 
