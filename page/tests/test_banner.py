@@ -8,7 +8,7 @@ from html import unescape
 from pathlib import Path
 from typing import NamedTuple
 
-from tests.made import HEADER, TRACES, Page, joined, made, report_of, seen, sent
+from tests.made import HEADER, TRACES, Page, acked, joined, made, report_of, seen, sent
 
 from allowed import Rest, rest_of
 from sender import Deadline, Event, Sender
@@ -40,7 +40,7 @@ TIMED = (
 
 def ack(time: int) -> str:
     """The acknowledgment of the first packet."""
-    return f'{{"event":"ack","time":{time},"space":"app","ranges":[[0,0]]}}'
+    return acked(time, (0, 0))
 
 
 def accepted() -> Iterator[Path]:
@@ -383,6 +383,19 @@ class Timers(unittest.TestCase):
         self.assertFalse(basis_by(trace, verdict).is_amber)
         text = shown(made(data)).text
         self.assertIn("Longest silence: 9 s, 1,200 B in flight, 8.001 s past the probe", text)
+
+    def test_a_packet_that_is_acknowledged_after_it_was_lost(self) -> None:
+        header = HEADER.replace("server", "client")
+        packets = [sent(number, 0, "initial") for number in range(4)]
+        trace = (
+            acked(100_000, (1, 3), space="initial"),
+            '{"event":"lost","time":100000,"space":"initial","ranges":[[0,0]]}',
+            # The timer against a deadlock is due at 400 ms.
+            sent(4, 5_000_000, "initial"),
+            acked(5_010_000, (0, 4), space="initial"),
+        )
+        found, verdict = seen(joined(header, *packets, *trace))
+        self.assertEqual((verdict.kind, [*late_timers(found)]), ("accepted", []))
 
     def test_a_report_ends_no_silence(self) -> None:
         reports = [f'{{"event":"metrics","time":{at}}}' for at in (1_000_000, 3_000_000)]

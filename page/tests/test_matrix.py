@@ -210,12 +210,14 @@ class Tables(unittest.TestCase):
 
     def test_a_third_colour(self) -> None:
         names = ("silence-past-a-pto", "each-choice", "guessed-and-accepted", "timer-late")
-        self.copied(*names, "no-event", "late-since-confirmed")
+        # The last one goes on past its violation, and with allowances.
+        self.copied(*names, "no-event", "late-since-confirmed", "broken-and-allowed")
         (self.traces / "as-late-as-its-timeout.trace").write_bytes(LATE)
         (self.traces / "less-late.trace").write_bytes(SHORTLY_LATE)
         choices = ["refresh_min_rtt", "window", "sample_eliciting_only", "packet_threshold"]
         wanted = {
             "as-late-as-its-timeout": (True, ["V18"]),
+            "broken-and-allowed": (False, []),
             "each-choice": (True, [*choices, "loss_by_number"]),
             "guessed-and-accepted": (True, ["guesses"]),
             "late-since-confirmed": (False, ["V18"]),
@@ -234,11 +236,11 @@ class Tables(unittest.TestCase):
             kinds = {it["kind"] for it in listed if it["rests_on"]}
             self.assertEqual(kinds, {"accepted"})
             page = Page(self.table.read_text())
-            told = "3 accepted, 4 accepted with allowances, 2 refused, 1 unreadable"
+            told = "3 accepted, 4 accepted with allowances, 3 refused, 1 unreadable"
             self.assertEqual(page.by_id["sum"], told)
             classes = [it["class"] for _, it in page.tags if it.get("title") in wanted]
             colours = ("amber", "accepted", "refused", "unreadable")
-            self.assertEqual([classes.count(it) for it in colours], [4, 3, 2, 1])
+            self.assertEqual([classes.count(it) for it in colours], [4, 3, 3, 1])
             self.assertIn(f"(\u2713) {ALLOWED}guesses", page.by_id["table"])
             self.assertIn("Accepted with allowances: the verdict rests on", page.by_id["p"])
 
