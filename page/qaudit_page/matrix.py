@@ -356,7 +356,7 @@ def changes_shown(changes: list[Change], before: Before) -> str:
 
 def class_of(change: Change) -> str:
     """The class of a change, by which it has a colour."""
-    return "worse" if change.is_worse else AMBER if change.is_allowed else "better"
+    return "worse" if change.is_worse else "allowed" if change.is_allowed else "better"
 
 
 def unclear_note(before: Before) -> str:
