@@ -4,6 +4,7 @@ import json
 import re
 import unittest
 from collections.abc import Iterator
+from functools import cache
 from html import unescape
 from pathlib import Path
 from typing import NamedTuple
@@ -23,6 +24,7 @@ from qaudit_page.program import Object, Verdict
 from qaudit_page.rows import OF_LOSS
 from qaudit_page.texts import span
 from qaudit_page.timers import late_timers, longest_silence
+from qaudit_page.trace import Trace
 
 REAL = TRACES.parent / "real" / "traces"
 FOLLOWED = "In everything that the trace shows, the sender followed RFC 9002."
@@ -72,6 +74,7 @@ def timeout_by(sender: Sender, due: Deadline) -> int:
     return int((sender.pto_base + delay) * 2**sender.pto_count)
 
 
+@cache
 def lates_of(data: bytes) -> list[Late]:
     """The late timers of an accepted trace by the second machine."""
     (_, header), *events = events_of(data)
@@ -141,10 +144,21 @@ def plain(text: str) -> str:
     return unescape(re.sub(r"<[^>]*>", "", text))
 
 
+@cache
+def banner_in(path: Path) -> Shown:
+    """The banner of the trace in a file."""
+    return shown(made(path.read_bytes(), report_of(path)))
+
+
 def banner_of(name: str) -> Shown:
     """The banner of a trace of the corpus."""
-    path = TRACES / f"{name}.trace"
-    return shown(made(path.read_bytes(), report_of(path)))
+    return banner_in(TRACES / f"{name}.trace")
+
+
+@cache
+def trace_in(path: Path) -> Trace:
+    """The trace in a file, as a page has it."""
+    return seen(path.read_bytes(), report_of(path))[0]
 
 
 class Colours(unittest.TestCase):
@@ -154,8 +168,7 @@ class Colours(unittest.TestCase):
         met = {True: 0, False: 0}
         for path in accepted():
             with self.subTest(path.stem):
-                data = path.read_bytes()
-                found, green = shown(made(data, report_of(path))), is_green(data)
+                found, green = banner_in(path), is_green(path.read_bytes())
                 met[green] += 1
                 self.assertEqual(found.kind, "accepted" if green else "amber")
                 self.assertEqual(FOLLOWED in found.text, green)
@@ -266,8 +279,7 @@ class Words(unittest.TestCase):
             rest = rest_of(path.read_bytes())
             wanted = {(found[0].line, what) for what, found in rest.rows()}
             wanted |= {(rest.guesses[0], "guessed by the converter")} if rest.guesses else set()
-            items = shown(made(path.read_bytes(), report_of(path))).items
-            found = {(line, text.split(":")[0]) for line, text in items}
+            found = {(line, text.split(":")[0]) for line, text in banner_in(path).items}
             chosen = {it for it in found if it[1] in rest.choices()}
             with self.subTest(path.stem):
                 self.assertEqual(found - chosen, wanted)
@@ -356,22 +368,20 @@ class Timers(unittest.TestCase):
     def test_late_timers_of_the_corpus(self) -> None:
         met = 0
         for path in accepted():
-            data = path.read_bytes()
-            found = [tuple(it) for it in late_timers(seen(data, report_of(path))[0])]
+            found = [tuple(it) for it in late_timers(trace_in(path))]
             met += len(found)
             with self.subTest(path.stem):
-                self.assertEqual(found, [tuple(it) for it in lates_of(data)])
+                self.assertEqual(found, [tuple(it) for it in lates_of(path.read_bytes())])
         self.assertGreater(met, 50)
 
     def test_silences_of_the_corpus(self) -> None:
         met = 0
         for path in accepted():
-            data = path.read_bytes()
-            it = longest_silence(seen(data, report_of(path))[0], None)
+            it = longest_silence(trace_in(path), None)
             found = it and (it.line, it.long, it.in_flight, it.timer, it.over)
             met += bool(it and it.over)
             with self.subTest(path.stem):
-                self.assertEqual(found, silence_by(data))
+                self.assertEqual(found, silence_by(path.read_bytes()))
         self.assertGreater(met, 10)
 
     def test_a_client_that_awaits_nothing_is_not_late(self) -> None:
