@@ -158,7 +158,7 @@ function fillKeys() {
     [has('loss'), 'loss timer', c => shaped(c, colors.timer, 1.6, triangle, 5)],
     [has('discard'), 'keys discarded', c => standingLine(c, colors.soft, 1.3, DASHES.discard)],
     [trace.verdictAt >= 0, 'line of the verdict', c =>
-      standingLine(c, toneOfVerdict(trace.verdict), 2.5, [])],
+      standingLine(c, colors.refused, 2.5, [])],
     [trace.departed.size > 1, 'other violation', c =>
       standingLine(c, colors.refused, 1.3, DASHES.departed)],
     [trace.limit < trace.count, 'not judged', c => hatched(c, 1, 1, 24, 14, 1)],
