@@ -107,8 +107,10 @@ class Browser:
         if is_whole or part:
             self.resize(width, height)
             self.settled()
-        clip = {"clip": {**self.run(PLACE, part), "scale": 1}} if part else {}
-        shot = self.driver.execute_cdp_cmd("Page.captureScreenshot", {"format": "png", **clip})
+        wanted: dict[str, Any] = {"format": "png"}
+        if part:
+            wanted["clip"] = {**self.run(PLACE, part), "scale": 1}
+        shot = self.driver.execute_cdp_cmd("Page.captureScreenshot", wanted)
         file.write_bytes(base64.b64decode(shot["data"]))
 
     def close(self) -> None:
