@@ -2,7 +2,14 @@
 
 const nameOfAxis = () => view.byLine ? 'line of the trace' : 'time (ms)';
 const tickOf = value => grouped(+value.toPrecision(12));
-const widthOfLabels = () => innerWidth < 600 ? 56 : 74;
+
+// As wide as the largest packet number, unless that takes a quarter of the page.
+function widthOfLabels() {
+  const {space, number, least, count} = trace.packets, most = [0, 0, 0];
+  for (let p = 0; p < count; p++) most[space[p]] = Math.max(most[space[p]], number[p]);
+  const digits = Math.max(...least.map((n, s) => grouped(n + BigInt(Math.round(most[s]))).length));
+  return Math.max(innerWidth < 600 ? 56 : 74, Math.min(innerWidth / 4, 7 * digits + 8));
+}
 
 // The range selector shows how many packets had been sent.
 function progress() {
