@@ -26,12 +26,13 @@ library_shared := bin/libqaudit.so
 examples := examples/ten-packets.trace examples/eleven-packets.trace
 # The tests of the programs of conformance/, which mostly wait for one another's processes.
 runner_tests := test_run test_trials test_allowed test_mutations test_rows test_departures test_simulate test_links test_made_up \
-	test_contracts test_crates test_edits test_unproved test_words test_commands test_lost_lines
+	test_contracts test_crates test_edits test_unproved test_words test_commands test_lost_lines test_bindings test_fuzz_library \
+	test_surroundings test_terminals
 # The tests and checks that need no proof, the longest first.
 tests_in_python := test_page test_qlog test_captures $(runner_tests) test_release links made_up contracts crates words wrong commands
 
 # All programs in Python, by the places where their names are unlike each other.
-python := $(addprefix conformance/,allocations contracts crates cuts failing large library links made_up malicious memory mutations reasons \
+python := $(addprefix conformance/,allocations contracts crates cuts failing fuzz_library large library links made_up malicious memory mutations reasons \
 	refusals run simulate unproved words wrong commands) \
 	conformance/fuzz/instrument conformance/lines/make.py $(wildcard conformance/*.py)
 python_of_fuzz := conformance/fuzz/run
@@ -54,7 +55,7 @@ conformance := conformance-cuts conformance-failing conformance-refusals conform
 bindings := conformance-library bindings-rust bindings-go bindings-python
 
 .PHONY: deb help run build quick lib one_byte lines test test_library gate conformance $(bindings) $(conformance) \
-	links made_up contracts crates words wrong commands unproved $(runner_tests) test_qlog fuzz test_captures test_release test_page lint edits tried bench install dist clean
+	links made_up contracts crates words wrong commands unproved $(runner_tests) test_qlog fuzz fuzz_library test_captures test_release test_page lint edits tried bench install dist clean
 
 help:
 	@echo 'make run       audits $(examples)'
@@ -68,6 +69,8 @@ help:
 	@echo 'make edits     tries the must-fail edits in edits/, which the gate does not try, in about an hour'
 	@echo 'make conformance runs the programs over conformance/ alone, once the gate has built them'
 	@echo 'make test_page runs the tests of qaudit-page and qaudit-matrix, those in a browser where one is there'
+	@echo 'make fuzz      converts 20,000 logs that nobody would write, in about five minutes'
+	@echo 'make fuzz_library  makes calls of the library for C by chance, for ten minutes'
 	@echo 'make lint      checks the types and the style of the programs in Python'
 	@echo 'make bench     builds it, measures it on long traces and compares it with others, in about five minutes;'
 	@echo '               the library for C too, where `make lib` built it before'
@@ -156,6 +159,8 @@ conformance-mutations:
 conformance-malicious:
 	conformance/malicious $(program)
 	conformance/malicious --few $(program_by_one_byte)
+	conformance/malicious --why $(program_why) $(program)
+	QAUDIT='$(abspath $(program))' QAUDIT_WHY='$(abspath $(program_why))' python3 conformance/test_terminals.py
 
 conformance-large:
 	conformance/large $(program)
@@ -247,6 +252,10 @@ test_qlog:
 # No part of `test`, for it takes five minutes; a hundred of its cases are in test_qlog.
 fuzz:
 	qlog/fuzz
+
+# No part of `test` either: it takes ten minutes, and needs Debian's clang and libclang-rt-14-dev.
+fuzz_library: $(library)
+	conformance/fuzz_library $(library)
 
 test_captures:
 	python3 captures/test_causes.py

@@ -281,6 +281,38 @@ class Releases(unittest.TestCase):
         self.assertTrue((there / "ci/audit").exists())
         self.assertTrue((to / "share/doc/qaudit/PROVED").exists())
 
+    def test_an_install_takes_what_it_finds(self) -> None:
+        """Spaces, links, a dash, another umask, and a variable of the shell that has `cd` talk."""
+        folder, to = self.packed("one", 0o022), self.top / "a  b" / "-c 'd'"
+        (to / "bin").mkdir(parents=True)
+        other, moved, link = self.top / "other", self.top / "moved", self.top / "link to install"
+        other.write_text("stays")
+        (to / "bin/qaudit").symlink_to(other)
+        shutil.move(folder, moved)
+        link.symlink_to(moved / "install")
+        (to / "lib").symlink_to(self.top / "libraries")
+        (self.top / "libraries").mkdir()
+        ended = subprocess.run(
+            [str(link), "-c 'd'"],
+            cwd=to.parent,
+            env={**os.environ, "CDPATH": f".:{self.top}"},
+            umask=0o077,
+            capture_output=True,
+            text=True,
+            check=False,
+        )
+        self.assertEqual((ended.returncode, ended.stdout, ended.stderr), (0, "", ""))
+        self.assertEqual(other.read_text(), "stays")
+        self.assertFalse((to / "bin/qaudit").is_symlink())
+        self.assertTrue((self.top / "libraries/libqaudit.a").exists())
+        made = [path for path in to.rglob("*") if not path.is_symlink()]
+        self.assertGreater(len(made), 50)
+        for path in made:
+            is_run = path.is_dir() or path.parent == to / "bin"
+            mode = path.stat().st_mode & 0o777
+            if path != to / "bin":
+                self.assertEqual(mode, 0o755 if is_run else 0o644, path)
+
     def test_pages_name_this_version(self) -> None:
         version = (HERE.parent / "VERSION").read_text().strip()
         for name in ("README.md", "Dockerfile", "docs/ci.md", "ci/gitlab.yml"):

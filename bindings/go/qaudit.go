@@ -14,6 +14,7 @@ import (
 	"errors"
 	"runtime"
 	"strings"
+	"sync"
 	"unsafe"
 )
 
@@ -130,8 +131,13 @@ type Verdict struct {
 	Events        uint64
 }
 
-// An Auditor is an audit that is handed bytes and events. One goroutine uses it at a time.
-type Auditor struct{ q C.qaudit }
+// An Auditor is an audit that is handed bytes and events. Goroutines may share it: a call waits for another. It is
+// not copied.
+type Auditor struct {
+	// The library has one call at a time.
+	lock sync.Mutex
+	q    C.qaudit
+}
 
 // New opens an audit of what has this header; of which nothing is known yet where it is nil.
 func New(header *Header) (*Auditor, error) {
@@ -150,7 +156,18 @@ func New(header *Header) (*Auditor, error) {
 }
 
 // Close gives its memory back. A closed one takes nothing.
-func (a *Auditor) Close() { C.qaudit_close(&a.q) }
+func (a *Auditor) Close() {
+	a.lock.Lock()
+	defer a.lock.Unlock()
+	C.qaudit_close(&a.q)
+}
+
+// take makes a call which nobody else makes meanwhile, and says what came of it.
+func (a *Auditor) take(call func() C.qaudit_status_t) (Progress, error) {
+	a.lock.Lock()
+	defer a.lock.Unlock()
+	return told(call())
+}
 
 func told(status C.qaudit_status_t) (Progress, error) {
 	switch status {
@@ -175,7 +192,9 @@ func (a *Auditor) Feed(bytes []byte) (Progress, error) {
 	if len(bytes) > 0 {
 		at = &bytes[0]
 	}
-	return told(C.qaudit_feed(&a.q, (*C.uint8_t)(unsafe.Pointer(at)), C.size_t(len(bytes))))
+	return a.take(func() C.qaudit_status_t {
+		return C.qaudit_feed(&a.q, (*C.uint8_t)(unsafe.Pointer(at)), C.size_t(len(bytes)))
+	})
 }
 
 // Write feeds bytes, so that an Auditor is an io.Writer.
@@ -220,7 +239,7 @@ func (a *Auditor) Header(header *Header) (Progress, error) {
 	h.initial_window, h.has_initial_window = given(header.InitialWindow)
 	h.timer_late_us, h.has_timer_late_us = given(header.TimerLateUs)
 	h.packet_threshold, h.has_packet_threshold = given(header.PacketThreshold)
-	return told(C.qaudit_header(&a.q, &h))
+	return a.take(func() C.qaudit_status_t { return C.qaudit_header(&a.q, &h) })
 }
 
 // Sent takes a packet that was sent.
@@ -234,7 +253,7 @@ func (a *Auditor) Sent(packet *Packet) (Progress, error) {
 		eliciting: C.bool(packet.Eliciting),
 		in_flight: C.bool(packet.InFlight),
 	}
-	return told(C.qaudit_sent(&a.q, &p))
+	return a.take(func() C.qaudit_status_t { return C.qaudit_sent(&a.q, &p) })
 }
 
 // ranged gives C the ranges; one that is not counted stands behind them, so that there is a pointer.
@@ -255,34 +274,36 @@ func (a *Auditor) Ack(time uint64, space Space, ranges []Range, delay uint64, ap
 		app_limited: C.bool(appLimited),
 	}
 	all := ranged(ranges)
-	return told(C.qaudit_ack(&a.q, &ack, &all[0], C.size_t(len(ranges))))
+	return a.take(func() C.qaudit_status_t { return C.qaudit_ack(&a.q, &ack, &all[0], C.size_t(len(ranges))) })
 }
 
 // Lost takes packets that the sender declared lost.
 func (a *Auditor) Lost(time uint64, space Space, ranges []Range) (Progress, error) {
 	all := ranged(ranges)
-	return told(C.qaudit_lost(&a.q, C.uint64_t(time), C.uint32_t(space), &all[0], C.size_t(len(ranges))))
+	return a.take(func() C.qaudit_status_t {
+		return C.qaudit_lost(&a.q, C.uint64_t(time), C.uint32_t(space), &all[0], C.size_t(len(ranges)))
+	})
 }
 
 // Timer takes a timer that fired.
 func (a *Auditor) Timer(time uint64, kind TimerKind, space Space) (Progress, error) {
 	timer := C.qaudit_fired_timer{time: C.uint64_t(time), kind: C.uint32_t(kind), space: C.uint32_t(space)}
-	return told(C.qaudit_timer(&a.q, &timer))
+	return a.take(func() C.qaudit_status_t { return C.qaudit_timer(&a.q, &timer) })
 }
 
 // Discard takes that the keys of a space were discarded.
 func (a *Auditor) Discard(time uint64, space Space) (Progress, error) {
-	return told(C.qaudit_discard(&a.q, C.uint64_t(time), C.uint32_t(space)))
+	return a.take(func() C.qaudit_status_t { return C.qaudit_discard(&a.q, C.uint64_t(time), C.uint32_t(space)) })
 }
 
 // Confirmed takes that the handshake was confirmed.
 func (a *Auditor) Confirmed(time uint64) (Progress, error) {
-	return told(C.qaudit_confirmed(&a.q, C.uint64_t(time)))
+	return a.take(func() C.qaudit_status_t { return C.qaudit_confirmed(&a.q, C.uint64_t(time)) })
 }
 
 // Keys takes that the keys of the Handshake space are there.
 func (a *Auditor) Keys(time uint64) (Progress, error) {
-	return told(C.qaudit_keys(&a.q, C.uint64_t(time)))
+	return a.take(func() C.qaudit_status_t { return C.qaudit_keys(&a.q, C.uint64_t(time)) })
 }
 
 // Metrics takes what the sender reports of itself.
@@ -295,12 +316,12 @@ func (a *Auditor) Metrics(time uint64, metrics *Metrics) (Progress, error) {
 	m.min_rtt, m.has_min_rtt = given(metrics.MinRTT)
 	m.smoothed_rtt, m.has_smoothed_rtt = given(metrics.SmoothedRTT)
 	m.rttvar, m.has_rttvar = given(metrics.RTTVar)
-	return told(C.qaudit_metrics(&a.q, &m))
+	return a.take(func() C.qaudit_status_t { return C.qaudit_metrics(&a.q, &m) })
 }
 
 // Finish says that nothing follows, and returns the verdict.
 func (a *Auditor) Finish() (Verdict, error) {
-	if _, err := told(C.qaudit_finish(&a.q)); err != nil {
+	if _, err := a.take(func() C.qaudit_status_t { return C.qaudit_finish(&a.q) }); err != nil {
 		return Verdict{}, err
 	}
 	verdict, known := a.Verdict()
@@ -313,7 +334,10 @@ func (a *Auditor) Finish() (Verdict, error) {
 // Verdict returns the verdict, and whether it is known: once it is fixed, and after Finish.
 func (a *Auditor) Verdict() (Verdict, bool) {
 	var out C.qaudit_told
-	if !C.qaudit_verdict(&a.q, &out) {
+	a.lock.Lock()
+	known := C.qaudit_verdict(&a.q, &out)
+	a.lock.Unlock()
+	if !known {
 		return Verdict{}, false
 	}
 	verdict := Verdict{Kind: Kind(out.kind), Line: uint64(out.line), Code: uint32(out.code), Events: uint64(out.totals.events)}
@@ -329,11 +353,15 @@ func (a *Auditor) Verdict() (Verdict, bool) {
 
 // Report returns the report, as `qaudit check` writes it; nothing where no verdict is known.
 func (a *Auditor) Report() string {
+	a.lock.Lock()
+	defer a.lock.Unlock()
 	return text(func(at *C.uint8_t, room C.size_t) C.size_t { return C.qaudit_report(&a.q, at, room) })
 }
 
 // FirstLine returns the first line of the report; nothing where no verdict is known.
 func (a *Auditor) FirstLine() string {
+	a.lock.Lock()
+	defer a.lock.Unlock()
 	return strings.TrimSpace(text(func(at *C.uint8_t, room C.size_t) C.size_t { return C.qaudit_first_line(&a.q, at, room) }))
 }
 

@@ -4,6 +4,7 @@ import (
 	"os"
 	"path/filepath"
 	"strings"
+	"sync"
 	"testing"
 )
 
@@ -92,5 +93,32 @@ func TestWhatIsNotTaken(t *testing.T) {
 	a.Close()
 	if _, err := a.Keys(0); err != ErrClosed {
 		t.Error(err)
+	}
+}
+
+func TestGoroutinesShareAnAuditor(t *testing.T) {
+	a, err := New(&Header{Role: Server, MaxDatagramSize: 1200})
+	if err != nil {
+		t.Fatal(err)
+	}
+	defer a.Close()
+	var all sync.WaitGroup
+	for i := 0; i < 8; i++ {
+		all.Add(1)
+		go func() {
+			defer all.Done()
+			for n := 0; n < 1000; n++ {
+				if progress, err := a.Metrics(0, &Metrics{}); progress != Open || err != nil {
+					t.Errorf("%v %v", progress, err)
+				}
+				a.Report()
+				a.FirstLine()
+				a.Verdict()
+			}
+		}()
+	}
+	all.Wait()
+	if verdict, err := a.Finish(); err != nil || verdict.Kind != Accepted || verdict.Events != 8000 {
+		t.Errorf("%v %v", verdict, err)
 	}
 }

@@ -14,6 +14,7 @@ else that in `bin/` of the repository, or else one that the system finds.
 
 import ctypes
 import os
+import threading
 from collections.abc import Iterable
 from ctypes import (
     POINTER,
@@ -30,6 +31,7 @@ from dataclasses import dataclass
 from enum import IntEnum
 from pathlib import Path
 from types import TracebackType
+from typing import Any
 
 SPACES = {"initial": 0, "handshake": 1, "app": 2}
 LEAVES = {"window": 0, "probe": 1, "recovery": 2}
@@ -230,7 +232,8 @@ def _loaded() -> ctypes.CDLL:
         **{f"{what}_name": [c_uint32, text, c_size_t] for what in ("rule", "fault", "key")},
     }
     for name in (*status, *texts):
-        function = library[f"qaudit_{name}"]
+        # Of an attribute ctypes keeps the types; of an item it makes a new function each time.
+        function = getattr(library, f"qaudit_{name}")
         function.argtypes = status[name] if name in status else texts[name]
         function.restype = c_uint32 if name in status else c_size_t
     library.qaudit_verdict.argtypes = [q, POINTER(_Told)]
@@ -257,21 +260,29 @@ def _word(value: int) -> int:
     return value
 
 
-def _text(function: "ctypes._NamedFuncPointer", first: object) -> str:
-    """The text that a function puts into a buffer."""
+def _name(what: str, number: int) -> str:
+    """The name of a rule, a fault or a key."""
     out = (c_uint8 * ROOM)()
-    count = function(first, out, ROOM)
+    count = getattr(_library, f"qaudit_{what}_name")(number, out, ROOM)
     return bytes(out[:count]).decode()
 
 
 class Auditor:
-    """An audit that is handed bytes and events."""
+    """An audit that is handed bytes and events. Threads may share it: a call waits for another."""
 
     def __init__(self, header: Header | None = None) -> None:
+        # The library has one call at a time, and ctypes lets other threads run meanwhile. A signal
+        # may come while the lock is held, and its handler may make a call.
+        self._lock = threading.RLock()
         self._q = _Qaudit()
-        self._take(_library.qaudit_open(byref(self._q)))
+        self._take("open")
         if header is not None:
             self.header(header)
+
+    def _call(self, name: str, *words: object) -> Any:
+        """What a function of the library returns, which nobody else calls meanwhile."""
+        with self._lock:
+            return getattr(_library, f"qaudit_{name}")(byref(self._q), *words)
 
     def __enter__(self) -> "Auditor":
         return self
@@ -289,17 +300,17 @@ class Auditor:
 
     def close(self) -> None:
         """Gives its memory back. A closed one takes nothing."""
-        _library.qaudit_close(byref(self._q))
+        self._call("close")
 
-    @staticmethod
-    def _take(status: int) -> Progress:
+    def _take(self, name: str, *words: object) -> Progress:
+        status = self._call(name, *words)
         if status in ERRORS:
             raise QauditError(ERRORS[status])
         return Progress(status)
 
     def feed(self, data: bytes) -> Progress:
         """Takes the next bytes of a trace, which may be any part of it."""
-        return self._take(_library.qaudit_feed(byref(self._q), data, len(data)))
+        return self._take("feed", data, len(data))
 
     def header(self, header: Header) -> Progress:
         """Takes a header."""
@@ -324,7 +335,7 @@ class Auditor:
             "packet_threshold",
         ):
             self._give(raw, name, getattr(header, name))
-        return self._take(_library.qaudit_header(byref(self._q), byref(raw)))
+        return self._take("header", byref(raw))
 
     @staticmethod
     def _give(raw: Structure, name: str, value: int | None) -> None:
@@ -353,7 +364,7 @@ class Auditor:
             eliciting=eliciting,
             in_flight=in_flight,
         )
-        return self._take(_library.qaudit_sent(byref(self._q), byref(raw)))
+        return self._take("sent", byref(raw))
 
     def ack(
         self,
@@ -367,15 +378,13 @@ class Auditor:
         """Takes an acknowledgment that came, of ranges in any order."""
         raw = _Acknowledgment(_word(time), _word(delay), _number(SPACES, space), app_limited)
         items = self._ranges(ranges)
-        return self._take(_library.qaudit_ack(byref(self._q), byref(raw), items, len(items)))
+        return self._take("ack", byref(raw), items, len(items))
 
     def lost(self, time: int, space: str, ranges: Iterable[tuple[int, int]]) -> Progress:
         """Takes packets that the sender declared lost."""
         items = self._ranges(ranges)
         number = _number(SPACES, space)
-        return self._take(
-            _library.qaudit_lost(byref(self._q), _word(time), number, items, len(items))
-        )
+        return self._take("lost", _word(time), number, items, len(items))
 
     @staticmethod
     def _ranges(ranges: Iterable[tuple[int, int]]) -> "ctypes.Array[_Range]":
@@ -385,20 +394,20 @@ class Auditor:
     def timer(self, time: int, kind: str, space: str) -> Progress:
         """Takes a timer that fired."""
         raw = _Timer(_word(time), _number(TIMERS, kind), _number(SPACES, space))
-        return self._take(_library.qaudit_timer(byref(self._q), byref(raw)))
+        return self._take("timer", byref(raw))
 
     def discard(self, time: int, space: str) -> Progress:
         """Takes that the keys of a space were discarded."""
         number = _number(SPACES, space)
-        return self._take(_library.qaudit_discard(byref(self._q), _word(time), number))
+        return self._take("discard", _word(time), number)
 
     def confirmed(self, time: int) -> Progress:
         """Takes that the handshake was confirmed."""
-        return self._take(_library.qaudit_confirmed(byref(self._q), _word(time)))
+        return self._take("confirmed", _word(time))
 
     def keys(self, time: int) -> Progress:
         """Takes that the keys of the Handshake space are there."""
-        return self._take(_library.qaudit_keys(byref(self._q), _word(time)))
+        return self._take("keys", _word(time))
 
     def metrics(self, time: int, **values: int) -> Progress:
         """Takes what the sender reports of itself, by the names in METRICS."""
@@ -407,11 +416,11 @@ class Auditor:
             if name not in METRICS:
                 raise ValueError(f"{name} is none of {', '.join(METRICS)}")
             self._give(raw, name, value)
-        return self._take(_library.qaudit_metrics(byref(self._q), byref(raw)))
+        return self._take("metrics", byref(raw))
 
     def finish(self) -> Verdict:
         """Says that nothing follows, and returns the verdict."""
-        self._take(_library.qaudit_finish(byref(self._q)))
+        self._take("finish")
         verdict = self.verdict()
         if verdict is None:
             raise QauditError(ERRORS[3])
@@ -420,25 +429,30 @@ class Auditor:
     def verdict(self) -> Verdict | None:
         """The verdict, where it is known: once it is fixed, and after `finish`."""
         told = _Told()
-        if not _library.qaudit_verdict(byref(self._q), byref(told)):
+        if not self._call("verdict", byref(told)):
             return None
         totals: dict[str, int | None] = {name: getattr(told.totals, name) for name in TOTALS}
         if not told.totals.has_ssthresh:
             totals["ssthresh"] = None
-        name_of = {2: _library.qaudit_rule_name, 3: _library.qaudit_fault_name}.get(told.kind)
+        what = {2: "rule", 3: "fault"}.get(told.kind)
         return Verdict(
             kind=("accepted", "refused", "unreadable")[told.kind - 1],
             line=told.line,
             code=told.code,
-            name=_text(name_of, told.code) if name_of else "",
-            subject=_text(_library.qaudit_key_name, told.subject),
+            name=_name(what, told.code) if what else "",
+            subject=_name("key", told.subject),
             totals=totals if told.has_totals else None,
         )
 
     def report(self) -> str:
         """The report, as `qaudit check` writes it; empty where no verdict is known."""
-        return _text(_library.qaudit_report, byref(self._q))
+        return self._text("report")
 
     def first_line(self) -> str:
         """The first line of the report; empty where no verdict is known."""
-        return _text(_library.qaudit_first_line, byref(self._q)).rstrip()
+        return self._text("first_line").rstrip()
+
+    def _text(self, name: str) -> str:
+        out = (c_uint8 * ROOM)()
+        count = self._call(name, out, ROOM)
+        return bytes(out[:count]).decode()

@@ -1,6 +1,7 @@
 #!/usr/bin/env python3
 """Tests qaudit.py over the conformance corpus, and by hand."""
 
+import threading
 import unittest
 from pathlib import Path
 
@@ -57,6 +58,32 @@ class Events(unittest.TestCase):
         verdict = auditor.verdict()
         assert verdict is not None
         self.assertEqual((verdict.name, verdict.subject), ("metric", "min_rtt"))
+
+    def test_late_events(self) -> None:
+        auditor = Auditor(Header(role="client", max_datagram_size=1200))
+        auditor.sent(0, "initial", 0, 1200)
+        for time, call in enumerate((auditor.keys, auditor.confirmed), 10**15 - 5):
+            self.assertIs(call(time), Progress.OPEN)
+        self.assertIs(auditor.discard(10**15 - 3, "initial"), Progress.OPEN)
+        self.assertIs(auditor.keys(10**15), Progress.OPEN)
+        self.assertEqual(auditor.finish().kind, "accepted")
+
+    def test_threads_share_an_auditor(self) -> None:
+        auditor = Auditor(Header(role="server", max_datagram_size=1200))
+
+        def report() -> None:
+            for _ in range(1_000):
+                auditor.metrics(0)
+                auditor.report()
+
+        threads = [threading.Thread(target=report) for _ in range(4)]
+        for thread in threads:
+            thread.start()
+        for thread in threads:
+            thread.join()
+        verdict = auditor.finish()
+        assert verdict.totals is not None
+        self.assertEqual((verdict.kind, verdict.totals["events"]), ("accepted", 4_000))
 
     def test_what_is_not_taken(self) -> None:
         auditor = Auditor(Header(role="server", max_datagram_size=1200))

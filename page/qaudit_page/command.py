@@ -5,11 +5,12 @@ import os
 import signal
 import sys
 from pathlib import Path
-from typing import NoReturn
+from typing import IO, NoReturn
 
 from .failure import Failure, Status
 from .files import STANDARD_INPUT, STDIN, write
 from .page import Wanted, page_of
+from .streams import ended
 from .texts import visible
 from .version import version
 
@@ -27,7 +28,13 @@ class Parser(argparse.ArgumentParser):
     def error(self, message: str) -> NoReturn:
         """Ends the program."""
         self.print_usage(sys.stderr)
-        self.exit(Status.USAGE, f"{self.prog}: {message}\n")
+        self.exit(Status.USAGE, f"{self.prog}: {visible(message)}\n")
+
+    def _print_message(self, message: str, file: IO[str] | None = None) -> None:
+        if file is sys.stderr:
+            print(message, end="", file=file)
+        else:
+            write(None, message)
 
 
 def line(text: str) -> int:
@@ -82,14 +89,9 @@ def main() -> Status:
     return Status.WRITTEN
 
 
-def end_by_interrupts() -> None:
-    """From now on Ctrl-C ends this process at once, and says nothing."""
-    signal.signal(signal.SIGINT, signal.SIG_DFL)
-
-
 def interrupted() -> NoReturn:
     """Ends this process as Ctrl-C does, so that a shell sees it."""
-    end_by_interrupts()
+    signal.signal(signal.SIGINT, signal.SIG_DFL)
     os.kill(os.getpid(), signal.SIGINT)
     sys.exit(Status.FAULT)
 
@@ -97,7 +99,7 @@ def interrupted() -> NoReturn:
 def program() -> NoReturn:
     """Runs the command and ends."""
     try:
-        status = main()
+        status = ended("qaudit-page", main)
     except KeyboardInterrupt:
         interrupted()
-    sys.exit(status)
+    sys.exit(status)  # type: ignore[arg-type]

@@ -1,15 +1,18 @@
 """Files that are read whole, and written whole or not at all."""
 
 import os
-import sys
 import tempfile
 from pathlib import Path
 from typing import IO
 
 from .compressed import unpacked
 from .failure import Failure, Status
+from .streams import put
 
 MAX_INPUT = 2**30
+# Of what a page shows, whose lines are all in memory.
+MAX_SHOWN = 2**28
+MAX_LINES = 2_000_000
 STANDARD_INPUT = "standard input"
 STDIN = 0
 
@@ -41,17 +44,21 @@ def opened(path: Path | None) -> IO[bytes]:
         raise Failure(f"cannot open {as_text(path)}: {reason_of(fault)}") from fault
 
 
-def read(path: Path | None) -> bytes:
-    """The bytes of a file, or of standard input, decompressed if they are compressed."""
-    name = as_text(path)
+def read(path: Path | None, *, is_shown: bool = False) -> bytes:
+    """The bytes of a file, or of standard input, decompressed if they are compressed. A page shows
+    fewer than can be audited."""
+    name, most = as_text(path), MAX_SHOWN if is_shown else MAX_INPUT
     with opened(path) as file:
         try:
-            data = file.read(MAX_INPUT + 1)
+            data = file.read(most + 1)
         except OSError as fault:
             raise Failure(f"cannot read {name}: {reason_of(fault)}") from fault
-    data = unpacked(data, MAX_INPUT + 1, name)
-    if len(data) > MAX_INPUT:
-        text = f"{name} has more than {MAX_INPUT:,} bytes: cut it into parts"
+    data = unpacked(data, most + 1, name)
+    if len(data) > most:
+        text = f"{name} has more than {most:,} bytes: cut it into parts"
+        raise Failure(text, Status.UNSHOWN)
+    if is_shown and data.count(b"\n") > MAX_LINES:
+        text = f"{name} has more than {MAX_LINES:,} lines: cut it into parts"
         raise Failure(text, Status.UNSHOWN)
     return data
 
@@ -61,14 +68,10 @@ def write(path: Path | None, text: str) -> None:
     data = text.encode("utf-8", "backslashreplace")
     try:
         if path is None:
-            sys.stdout.buffer.write(data)
-            sys.stdout.buffer.flush()
+            put(data)
         else:
             replace(path, data)
     except OSError as fault:
-        if path is None:
-            # What is left would be written, and would fail, once more at the end.
-            os.dup2(os.open(os.devnull, os.O_WRONLY), sys.stdout.fileno())
         where = "standard output" if path is None else as_text(path)
         raise Failure(f"cannot write {where}: {reason_of(fault)}") from fault
 

@@ -171,7 +171,7 @@ def unshown(job: Job, failure: Failure) -> Result:
 def traces_of(given: Iterable[Path]) -> Iterator[tuple[Path, str]]:
     """The traces that are named and those in directories, each with its key."""
     for path in given:
-        if not path.is_dir():
+        if not os.path.isdir(path):
             yield path, key_of(name_of(path))
             continue
         names = (f"*{ENDING}{packed}" for packed in ("", *ENDINGS))

@@ -13,7 +13,7 @@ from pathlib import Path
 from typing import NoReturn
 
 from .ci import Listed, annotations, junit, sarif
-from .command import Parser, add_shared, end_by_interrupts, interrupted
+from .command import Parser, add_shared, interrupted
 from .failure import Failure, Status
 from .files import as_text, reason_of, write
 from .known import Known, Seen, compared, known_by, known_in
@@ -37,6 +37,7 @@ from .matrix import (
     unclear_note,
 )
 from .program import find
+from .streams import ended, follow
 from .texts import plural, visible
 
 DESCRIPTION = """\
@@ -159,7 +160,8 @@ def results_of(given: argparse.Namespace) -> list[Result]:
     if not jobs:
         raise Failure("there is no trace: no file in the directories ends in .trace")
     pieces = max(1, min(8, len(jobs) // 40))
-    pool = ProcessPoolExecutor(workers(given.jobs, len(jobs)), initializer=end_by_interrupts)
+    count = workers(given.jobs, len(jobs))
+    pool = ProcessPoolExecutor(count, initializer=follow, initargs=(os.getpid(),))
     try:
         return list(shown(pool.map(judged, jobs, chunksize=pieces), len(jobs)))
     except KeyboardInterrupt:
@@ -268,7 +270,7 @@ def main() -> Status:
 def program() -> NoReturn:
     """Runs the command and ends."""
     try:
-        status = main()
+        status = ended("qaudit-matrix", main)
     except KeyboardInterrupt:
         interrupted()
-    sys.exit(status)
+    sys.exit(status)  # type: ignore[arg-type]

@@ -63,7 +63,7 @@ class Made:
 def page_of(wanted: Wanted) -> Made:
     """The page of a trace."""
     library, program = dygraphs(wanted.dygraphs), find(wanted.program)
-    verdict, trace = audited(program, read(wanted.trace), wanted.readers)
+    verdict, trace = audited(program, read(wanted.trace, is_shown=True), wanted.readers)
     part = part_of(trace, verdict, wanted.first, wanted.last)
     return written(wanted, library, trace, verdict, part)
 

@@ -1,6 +1,7 @@
 """The rows that qaudit-why writes of a trace, as columns."""
 
 import json
+import os
 from collections import deque
 from collections.abc import Callable, Iterable, Iterator
 from concurrent.futures import Future, ProcessPoolExecutor
@@ -13,6 +14,7 @@ from operator import itemgetter
 from .failure import Failure
 from .lenient import SPACES, Event
 from .program import Object, Run
+from .streams import follow
 from .texts import runs
 
 NO_SPACE = 3
@@ -110,7 +112,8 @@ def rows_by(run: Run, readers: int) -> Iterator[Rows]:
         second = next(pieces, None)
         if second is None:
             return
-        with ProcessPoolExecutor(readers, get_context("fork")) as pool:
+        fork, mine = get_context("fork"), (os.getpid(),)
+        with ProcessPoolExecutor(readers, fork, initializer=follow, initargs=mine) as pool:
             yield read(second)
             yield from ahead(lambda piece: pool.submit(read, piece), pieces)
     except (BrokenProcessPool, OSError) as fault:

@@ -160,7 +160,7 @@ class Commands(unittest.TestCase):
         command = f"'{sys.executable}' '{PAGE}/qaudit-page' --program '{PROGRAM}' <&-"
         ended = subprocess.run(["sh", "-c", command], capture_output=True, text=True, check=False)
         self.assertEqual(ended.returncode, 3)
-        wanted = "qaudit-page: cannot open standard input: bad file descriptor\n"
+        wanted = "qaudit-page: cannot read standard input: bad file descriptor\n"
         self.assertEqual(ended.stderr, wanted)
 
     def test_a_folder_is_no_trace(self) -> None:
@@ -170,6 +170,85 @@ class Commands(unittest.TestCase):
         )
         wanted = f"qaudit-page: cannot open {self.folder}: is a directory\n"
         self.assertEqual((ended.returncode, ended.stderr), (3, wanted))
+
+
+class Sizes(unittest.TestCase):
+    """What is more than a page takes."""
+
+    def setUp(self) -> None:
+        folder = Path(self.enterContext(tempfile.TemporaryDirectory()))
+        self.trace = folder / "a.trace"
+
+    def failure(self) -> str:
+        """Why it is not read for a page; it is read for an audit."""
+        self.assertTrue(files.read(self.trace))
+        with self.assertRaises(Failure) as raised:
+            files.read(self.trace, is_shown=True)
+        self.assertEqual(raised.exception.status, Status.UNSHOWN)
+        return str(raised.exception)
+
+    def test_lines(self) -> None:
+        self.trace.write_bytes(b"\n" * files.MAX_LINES)
+        self.assertEqual(len(files.read(self.trace, is_shown=True)), files.MAX_LINES)
+        # Also where they take a few bytes.
+        self.trace.write_bytes(gzip.compress(b"\n" * (files.MAX_LINES + 1)))
+        wanted = f"{self.trace} has more than 2,000,000 lines: cut it into parts"
+        self.assertEqual(self.failure(), wanted)
+
+    def test_bytes(self) -> None:
+        with self.trace.open("wb") as file:
+            file.truncate(files.MAX_SHOWN + 1)
+        wanted = f"{self.trace} has more than 268,435,456 bytes: cut it into parts"
+        self.assertEqual(self.failure(), wanted)
+
+
+@unittest.skipIf(NO_LIBRARY, NO_LIBRARY)
+class Streams(unittest.TestCase):
+    """Standard streams that are closed or full, or that nobody reads."""
+
+    def setUp(self) -> None:
+        self.folder = Path(self.enterContext(tempfile.TemporaryDirectory()))
+        (self.folder / "a.trace").write_bytes(TRACE)
+
+    def check(self, name: str, words: str, status: int, says: str = "") -> bytes:
+        """A command of a shell ends with this status and this line; what it writes."""
+        options = "" if words.startswith("--") else f"--program '{PROGRAM}' "
+        ended = subprocess.run(
+            ["bash", "-c", f"exec '{sys.executable}' '{PAGE}/{name}' {options}{words}"],
+            cwd=self.folder,
+            stdin=subprocess.DEVNULL,
+            capture_output=True,
+            check=False,
+        )
+        told = f"{name}: {says}\n".encode() if says else b""
+        self.assertEqual((ended.returncode, ended.stderr), (status, told), words)
+        return ended.stdout
+
+    def test_output(self) -> None:
+        for name in ("qaudit-page", "qaudit-matrix"):
+            for words in ("a.trace", "--help", "--version"):
+                for to, why in (
+                    ("/dev/full", "no space left on device"),
+                    ("&-", "bad file descriptor"),
+                    (">(exec true; sleep 9)", "broken pipe"),
+                ):
+                    says = f"cannot write standard output: {why}"
+                    self.check(name, f"{words} > {to}".replace("> &", ">&"), 3, says)
+
+    def test_errors(self) -> None:
+        for name in ("qaudit-page", "qaudit-matrix"):
+            output = self.check(name, "a.trace", 0)
+            for errors in ("2> /dev/full", "2>&-", "2> >(exec true; sleep 9)"):
+                self.assertEqual(self.check(name, f"a.trace {errors}", 0), output)
+                self.check(name, f"none.trace {errors}", 3)
+                self.check(name, f"--none {errors}", 64)
+                self.check(name, f"a.trace > /dev/full {errors}", 3)
+
+    def test_none_at_all(self) -> None:
+        for name in ("qaudit-page", "qaudit-matrix"):
+            output = self.check(name, "a.trace", 0)
+            self.check(name, "a.trace --output a.html <&- >&- 2>&-", 0)
+            self.assertEqual((self.folder / "a.html").read_bytes(), output)
 
 
 class Versions(unittest.TestCase):

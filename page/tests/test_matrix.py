@@ -36,6 +36,21 @@ SHORTLY_LATE = joined(*TIMED, acked(159_999, (0, 0)))
 LATE = joined(*TIMED, acked(160_000, (0, 0)))
 
 
+def children_of(number: int) -> list[int]:
+    """The processes that a process has started."""
+    text = Path(f"/proc/{number}/task/{number}/children").read_text()
+    return [int(it) for it in text.split()]
+
+
+def is_running(number: int) -> bool:
+    """Whether a process is there that has not ended; one that nobody has waited for has."""
+    try:
+        text = Path(f"/proc/{number}/stat").read_text()
+    except OSError:
+        return False
+    return text.rpartition(")")[2].split()[0] not in "ZX"
+
+
 class Names(unittest.TestCase):
     """Rows and columns by names."""
 
@@ -323,6 +338,28 @@ class Tables(unittest.TestCase):
                 out, err = running.communicate(timeout=10)
             self.assertEqual(running.returncode, -signal.SIGINT)
             self.assertEqual((out, err), (b"", b""))
+
+    def test_processes_end_with_the_one_that_started_them(self) -> None:
+        for ending in (signal.SIGTERM, signal.SIGKILL, signal.SIGHUP):
+            with tempfile.TemporaryDirectory() as folder:
+                slow = Path(folder) / "slow"
+                slow.write_text("#!/bin/sh\nexec sleep 3\n")
+                slow.chmod(0o755)
+                for number in range(20):
+                    (Path(folder) / f"{number}.trace").write_bytes(GOOD)
+                command = [str(COMMAND), "--program", str(slow), "--jobs", "4", folder]
+                with subprocess.Popen(command, stdout=subprocess.DEVNULL) as running:
+                    time.sleep(1.5)
+                    workers = children_of(running.pid)
+                    running.send_signal(ending)
+                    self.assertEqual(running.wait(10), -ending)
+                left = set(workers)
+                end = time.monotonic() + 2
+                while left and time.monotonic() < end:
+                    left = {it for it in left if is_running(it)}
+                for number in left:
+                    os.kill(number, signal.SIGKILL)
+                self.assertEqual((len(workers), left), (4, set()))
 
     def test_what_is_no_record(self) -> None:
         for text in ("", "[]", '{"version":2,"traces":[]}', '{"version":1,"traces":[{}]}'):

@@ -3,17 +3,17 @@
 import argparse
 import gc
 import json
-import os
 import re
 import signal
 import sys
 import tempfile
-from collections.abc import Iterator
+from collections.abc import Iterator, Sequence
 from dataclasses import dataclass
 from pathlib import Path
-from typing import BinaryIO, TextIO
+from typing import IO, BinaryIO, TextIO
 
-from .compressed import COPIED_AT_ONCE, decompressed
+from . import streams
+from .compressed import decompressed
 from .connections import Connections, chosen_of, others
 from .conversion import Conversion
 from .detection import form_of
@@ -25,6 +25,7 @@ from .header import NO_LIMIT, Choices, options_of, write_header
 from .lines import Line, Lines
 from .looking import order_of
 from .notes import Notes
+from .streams import OutputError
 from .survey import Survey
 from .version import version
 
@@ -69,7 +70,7 @@ class Version(argparse.Action):
         option_string: str | None = None,
     ) -> None:
         if values is None:
-            print(f"{parser.prog} {version()}")
+            streams.put(f"{parser.prog} {version()}\n")
             parser.exit()
         if values not in [str(it) for it in FORMATS]:
             parser.error(f"argument --version: {values} is none of {FORMATS}; --format sets it")
@@ -81,7 +82,13 @@ class Parser(argparse.ArgumentParser):
 
     def error(self, message: str) -> None:  # type: ignore[override]
         self.print_usage(sys.stderr)
-        self.exit(WRONG_ARGUMENTS, f"{self.prog}: {message}\n")
+        self.exit(WRONG_ARGUMENTS, f"{self.prog}: {visible(message)}\n")
+
+    def _print_message(self, message: str, file: IO[str] | None = None) -> None:
+        if file is sys.stderr:
+            streams.say(message)
+        else:
+            streams.put(message)
 
 
 def arguments() -> argparse.ArgumentParser:
@@ -234,7 +241,7 @@ def role_of(header: dict[str, object]) -> str | None:
 
 
 def choose(
-    headers: list[dict[str, object]], asked: str | None, number: int | None
+    headers: Sequence[dict[str, object]], asked: str | None, number: int | None
 ) -> tuple[int, str, int]:
     """Which trace of a log, its role, and how many there are of which it could be."""
     if not headers:
@@ -296,7 +303,12 @@ class Converter:
         text = ENCODER.encode(line)
         if len(text) > LONGEST_LINE:
             raise Unusable(f"a line of {len(text)} bytes; a trace has {LONGEST_LINE} at most")
-        self._output.write(text + "\n")
+        try:
+            self._output.write(text + "\n")
+        except BrokenPipeError:
+            raise
+        except OSError as error:
+            raise OutputError(error) from error
         self.written += 1
 
     def convert(self) -> None:
@@ -362,14 +374,13 @@ class Converter:
 
 def opened(name: str | None) -> BinaryIO:
     """The input, which is copied if it cannot be read twice, and decompressed if it has to be."""
-    source: BinaryIO = sys.stdin.buffer if name is None else Path(name).open("rb")
+    source: BinaryIO = streams.standard_input() if name is None else Path(name).open("rb")
     if name is None and source.isatty():
         complain(f"reading {STANDARD_INPUT}")
     if source.seekable():
         return decompressed(source)
     copy: BinaryIO = tempfile.TemporaryFile()  # type: ignore[assignment]
-    while piece := source.read(COPIED_AT_ONCE):
-        copy.write(piece)
+    streams.copied(source, copy)
     copy.seek(0)
     return decompressed(copy)
 
@@ -385,7 +396,7 @@ def visible(text: str) -> str:
 
 def complain(text: str) -> None:
     """One line on standard error."""
-    sys.stderr.write(f"qlog-to-trace: {visible(text)}\n")
+    streams.say(f"qlog-to-trace: {visible(text)}\n")
 
 
 def tell(converter: Converter, name: str) -> None:
@@ -401,38 +412,44 @@ def tell(converter: Converter, name: str) -> None:
         complain(f"{name}: {warning}")
 
 
-def convert(args: argparse.Namespace) -> int:
-    """Converts the log that the arguments name; the exit status."""
-    name = args.file or STANDARD_INPUT
+def write_trace(args: argparse.Namespace, name: str) -> int:
+    """Writes the trace of a log to standard output; the exit status."""
     converter = None
     try:
-        try:
-            opening = opened(args.file)
-        except FileNotFoundError:
-            complain(f"cannot open {name}: no such file")
-            return FAILED
-        with opening as file:
+        with opened(args.file) as file:
+            streams.put("")
             converter = Converter(file, args, sys.stdout)
             converter.convert()
-            sys.stdout.flush()
-    except Unusable as error:
+            streams.put("")
+    except (Unusable, MemoryError) as error:
         written = converter.written if converter else 0
         rest = f"; the trace ends after its line {written}" if written else ""
-        complain(f"{name}: {error}{rest}")
-        return BAD_INPUT
-    except BrokenPipeError:
-        # An auditor reads no more once its verdict is fixed, so this is no mistake to tell of.
-        # Nothing may be written there at the end of the program either.
-        sys.stdout = open(os.devnull, "w")
-        return FAILED
-    except OSError as error:
-        complain(f"{name}: {error.strerror}")
-        return FAILED
+        is_fault = isinstance(error, MemoryError)
+        complain(f"{name}: {'out of memory' if is_fault else error}{rest}")
+        return FAILED if is_fault else BAD_INPUT
     tell(converter, name)
     if args.notes:
         for note in converter.notes.lines():
-            sys.stderr.write(f"{note}\n")
+            streams.say(f"{note}\n")
     return 0
+
+
+def convert(args: argparse.Namespace) -> int:
+    """Converts the log that the arguments name; the exit status."""
+    name = args.file or STANDARD_INPUT
+    try:
+        return write_trace(args, name)
+    except BrokenPipeError:
+        # An auditor reads no more once its verdict is fixed, so this is no mistake to tell of.
+        # Nothing may be written there at the end of the program either.
+        streams.silence(streams.OUTPUT)
+    except FileNotFoundError:
+        complain(f"cannot open {name}: no such file")
+    except OSError as error:
+        complain(f"{name}: {error.strerror}")
+    except OutputError as error:
+        complain(str(error))
+    return FAILED
 
 
 def main(words: list[str] | None = None) -> int:
@@ -449,7 +466,15 @@ def program() -> None:
     """Runs the command and ends."""
     # Values of JSON make no cycles, so there is nothing to look for among them.
     gc.disable()
+    streams.prepare()
     if signal.getsignal(signal.SIGINT) is signal.default_int_handler:
         # Ctrl-C ends it at once and quietly, also while it waits for input.
         signal.signal(signal.SIGINT, signal.SIG_DFL)
-    sys.exit(main())
+    try:
+        status = main()
+    except OutputError as error:
+        complain(str(error))
+        status = FAILED
+    except BrokenPipeError:
+        status = FAILED
+    sys.exit(status)

@@ -1,9 +1,15 @@
 """The packets in flight, as the log tells of them."""
 
-from bisect import bisect_right
+from bisect import bisect_left, bisect_right, insort
 from collections.abc import Iterable, Iterator
+from itertools import islice
 
 from .events import SPACES, Ranges
+
+# So many numbers are not taken out of a list one by one.
+MANY = 16
+# How many packets may leave without an event. A sender that probes for packets takes out a few.
+FIRST = 1_000
 
 
 def as_ranges(numbers: Iterable[int]) -> Ranges:
@@ -26,6 +32,40 @@ def joined(ranges: Ranges) -> Ranges:
         else:
             found.append([low, high])
     return found
+
+
+class Numbers:
+    """Numbers in ascending order: those of a range are found without a look at all of them."""
+
+    def __init__(self) -> None:
+        self._all: list[int] = []
+
+    def __contains__(self, number: int) -> bool:
+        place = bisect_left(self._all, number)
+        return place < len(self._all) and self._all[place] == number
+
+    def add(self, number: int) -> None:
+        """One more, which is not there yet."""
+        if self._all and number < self._all[-1]:
+            insort(self._all, number)
+        else:
+            self._all.append(number)
+
+    def within(self, ranges: Ranges) -> list[int]:
+        """Those that are in some range, ascending."""
+        found: list[int] = []
+        for low, high in joined(ranges):
+            found += self._all[bisect_left(self._all, low) : bisect_right(self._all, high)]
+        return found
+
+    def take(self, gone: list[int]) -> None:
+        """Takes out some of them."""
+        if len(gone) > MANY:
+            without = set(gone)
+            self._all = [number for number in self._all if number not in without]
+            return
+        for number in gone:
+            del self._all[bisect_left(self._all, number)]
 
 
 class Bare:
@@ -54,6 +94,7 @@ class Flight:
     def __init__(self) -> None:
         self._sizes: dict[str, dict[int, int]] = {space: {} for space in SPACES}
         self._times: dict[str, dict[int, int]] = {space: {} for space in SPACES}
+        self._numbers = {space: Numbers() for space in SPACES}
         self._bytes = dict.fromkeys(SPACES, 0)
         # The bytes in flight.
         self.bytes = 0
@@ -65,6 +106,7 @@ class Flight:
     def add(self, space: str, number: int, size: int, time: int) -> None:
         """A packet was sent."""
         self.take(space, [number])
+        self._numbers[space].add(number)
         self._sizes[space][number] = size
         self._times[space][number] = time
         self._bytes[space] += size
@@ -73,7 +115,9 @@ class Flight:
     def take(self, space: str, numbers: Iterable[int]) -> int:
         """Packets leave; how many bytes they had."""
         sizes = self._sizes[space]
-        total = sum([sizes.pop(number, 0) for number in numbers])
+        gone = [number for number in dict.fromkeys(numbers) if number in sizes]
+        total = sum([sizes.pop(number) for number in gone])
+        self._numbers[space].take(gone)
         self._bytes[space] -= total
         self.bytes -= total
         if len(self._times[space]) > 2 * len(self._sizes[space]):
@@ -104,24 +148,14 @@ class Flight:
 
     def named(self, space: str, ranges: Ranges) -> list[int]:
         """The packets in flight whose numbers are in some range, ascending."""
-        sizes = self._sizes[space]
-        ranges = joined(ranges)
-        if sum(high - low for low, high in ranges) < len(sizes):
-            each = (range(low, high + 1) for low, high in ranges)
-            return [number for numbers in each for number in numbers if number in sizes]
-        lows = [low for low, _ in ranges]
-        found = []
-        for number in sizes:
-            place = bisect_right(lows, number) - 1
-            if place >= 0 and number <= ranges[place][1]:
-                found.append(number)
-        return found
+        return self._numbers[space].within(ranges)
 
     def first_of_sum(self, total: int) -> tuple[str, list[int]] | None:
-        """A space and its first packets that have just so many bytes together, if there are any."""
+        """A space and its first packets that have just so many bytes together, if there are any;
+        no more than FIRST."""
         for space, sizes in self._sizes.items():
             taken, held = [], 0
-            for number, size in sizes.items():
+            for number, size in islice(sizes.items(), FIRST + 1):
                 if held >= total:
                     break
                 taken.append(number)

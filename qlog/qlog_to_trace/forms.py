@@ -2,6 +2,7 @@
 
 import json
 from collections.abc import Iterator
+from collections.abc import Sequence as Several
 from typing import Any, BinaryIO, NamedTuple
 
 from .errors import Torn, Unusable
@@ -11,6 +12,8 @@ RECORD_SEPARATOR = b"\x1e"
 # What a record may name that decides what follows it; metrics decide only what is reported.
 NAMES_THAT_MATTER = (b"packet", b"timer", b"key_", b"parameters_set")
 BROKEN_METRICS = {"name": "metrics that are no JSON"}
+# How many traces one log may have.
+MOST_TRACES = 100_000
 
 
 class Record(NamedTuple):
@@ -30,6 +33,20 @@ def object_at(header: dict[str, Any], key: str) -> dict[str, Any]:
     return value
 
 
+class Headers(Several[dict[str, Any]]):
+    """The headers of traces, each with what the log says of all. They are joined when one is asked
+    for, since thousands of traces with a thousand keys each would fill the memory."""
+
+    def __init__(self, shared: dict[str, Any], found: list[dict[str, Any]]) -> None:
+        self._shared, self._found = shared, found
+
+    def __len__(self) -> int:
+        return len(self._found)
+
+    def __getitem__(self, index: Any) -> Any:
+        return self._shared | self._found[index]
+
+
 class Form:
     """A log of one form, which can be read again and again."""
 
@@ -44,7 +61,7 @@ class Form:
         self.left_out: dict[str, int] = {}
         self.passed_over: list[str] = []
 
-    def headers(self) -> list[dict[str, Any]]:
+    def headers(self) -> Several[dict[str, Any]]:
         """What the log says of each of its traces beside their events."""
         raise NotImplementedError
 
@@ -65,7 +82,7 @@ class Sequence(Form):
         file.seek(0)
         self.is_marked = file.read(1) == RECORD_SEPARATOR
 
-    def headers(self) -> list[dict[str, Any]]:
+    def headers(self) -> Several[dict[str, Any]]:
         """The one header."""
         first = next(self._records(), None)
         if first is None:
@@ -152,12 +169,12 @@ class Sequence(Form):
 class Document(Form):
     """One JSON object with a list of traces, each with a list of events."""
 
-    def headers(self) -> list[dict[str, Any]]:
+    def headers(self) -> Several[dict[str, Any]]:
         """The header of each trace, wherever its keys stand; its events are passed over."""
         found: list[dict[str, Any]] = []
         shared: dict[str, Any] = {}
         self._read(found, shared)
-        return [shared | header for header in found]
+        return Headers(shared, found)
 
     def _read(self, found: list[dict[str, Any]], shared: dict[str, Any]) -> None:
         """Reads all headers that there are before the log ends or is torn off."""
@@ -168,6 +185,8 @@ class Document(Form):
                     shared[key] = scanner.value()
                     continue
                 for _ in scanner.elements():
+                    if len(found) == MOST_TRACES:
+                        raise scanner.error(f"more than {MOST_TRACES:,} traces")
                     found.append({})
                     self._read_header(scanner, found[-1])
         except Torn:
@@ -211,7 +230,11 @@ class Document(Form):
         self.torn_at = None
         self.file.seek(0)
         scanner = Scanner(self.file)
-        if scanner.peek() != "{":
+        try:
+            first = scanner.peek()
+        except Torn:
+            raise Unusable("nothing but white space") from None
+        if first != "{":
             raise Unusable("neither JSON-SEQ nor a JSON text a line nor one JSON object", "byte 0")
         return scanner
 

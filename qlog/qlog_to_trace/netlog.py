@@ -8,12 +8,13 @@ round-trip times and no timers are in it.
 
 import re
 from collections import Counter
-from collections.abc import Iterator
+from collections.abc import Iterator, Sequence
 from decimal import Decimal
 from typing import Any, BinaryIO
 
 from .errors import Torn, Unusable
 from .events import as_number
+from .flight import Numbers
 from .forms import Form, Record
 from .scanner import LONGEST_RECORD, Scanner
 
@@ -78,7 +79,7 @@ class Session:
         self._ack: tuple[int, list[list[int]], int] | None = None
         self._lost: list[tuple[int, int]] = []
         # What is in flight, for a loss does not say of which space it is.
-        self._in_flight: dict[str, set[int]] = {}
+        self._in_flight: dict[str, Numbers] = {}
         # All spaces count on from one another.
         self._last_number: int | None = None
         # Whether a packet came of which no header is logged, as of a Retry.
@@ -138,15 +139,16 @@ class Session:
             time = self._lost[-1][0]
         ack = {"frame_type": "ack", "ack_delay": Decimal(delay) / 1000, "acked_ranges": ranges}
         yield self._packet_received(time, ack)
-        held = self._in_flight.get(kind, set())
-        held -= {number for low, high in ranges for number in held if low <= number <= high}
+        held = self._in_flight.get(kind, Numbers())
+        held.take(held.within(ranges))
         if self._lost:
             yield from self._losses(kind if is_shown else None)
 
     def _losses(self, kind: str | None) -> Iterator[Values]:
         for time, number in self._lost:
             found = kind or self._kind_of(number)
-            self._in_flight.get(found, set()).discard(number)
+            held = self._in_flight.get(found, Numbers())
+            held.take(held.within([[number, number]]))
             header = {"packet_type": found, PACKET: number}
             yield event(time, "packet_lost", {"header": header})
         self._lost = []
@@ -154,7 +156,7 @@ class Session:
     def _kind_of(self, number: int) -> str:
         """The type of the packet in flight that has this number, the last type first."""
         kinds = reversed(list(TYPE_OF_LEVEL.values()))
-        return next((it for it in kinds if number in self._in_flight.get(it, ())), "1RTT")
+        return next((it for it in kinds if number in self._in_flight.get(it, Numbers())), "1RTT")
 
     def _on_sent(self, values: Values) -> Iterator[Values]:
         kind = TYPE_OF_LEVEL.get(str(values.get("encryption_level")), "1RTT")
@@ -171,7 +173,9 @@ class Session:
             # All that it had sent goes out again at once.
             self._is_bare = False
             yield event(time, "packet_received", {"header": {"packet_type": "retry"}})
-        self._in_flight.setdefault(kind, set()).add(number)
+        held = self._in_flight.setdefault(kind, Numbers())
+        if number not in held:
+            held.add(number)
         data: Values = {
             "header": {"packet_type": kind, PACKET: number},
             "raw": {"length": size},
@@ -234,7 +238,7 @@ class Netlog(Form):
         super().__init__(file)
         self._sessions: list[object] = []
 
-    def headers(self) -> list[dict[str, Any]]:
+    def headers(self) -> Sequence[dict[str, Any]]:
         """What there is to say of a session."""
         sent: Counter[object] = Counter()
         for _, name, source, _ in self._events():

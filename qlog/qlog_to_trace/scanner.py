@@ -2,6 +2,7 @@
 
 import codecs
 import json
+import re
 import sys
 from collections.abc import Iterator
 from decimal import Decimal
@@ -11,9 +12,11 @@ from .errors import Torn, Unusable
 
 PIECE = 1 << 18
 # A text that makes no value by then never will; and how long an event may be.
-LONGEST_VALUE = 1 << 26
+LONGEST_VALUE = 1 << 24
 LONGEST_RECORD = 1 << 20
-WHITE = " \t\r\n"
+# How many keys an object has that is read a value at a time.
+MOST_KEYS = 1_000
+WHITE = re.compile(r"[ \t\r\n]*")
 # An error this near to the end may be one of a literal, a number or an escape that was cut.
 LONGEST_TOKEN = 6
 
@@ -64,13 +67,14 @@ class Scanner:
         return Unusable(reason, self.place())
 
     def _more(self, longest: int = LONGEST_VALUE) -> bool:
-        """Takes a further piece, of the size of what is there at least; whether there was one."""
+        """Takes a further piece, of the size of what is there if it can be used; whether there was
+        one."""
         if self._is_ended:
             return False
         self._check(len(self._text), longest)
         self.place()
         rest = self._text[self._at :]
-        piece = self._file.read(max(PIECE, len(rest)))
+        piece = self._file.read(max(PIECE, min(len(rest), longest - len(rest))))
         self._is_ended = not piece
         try:
             self._text = rest + self._decoder.decode(piece)
@@ -87,8 +91,8 @@ class Scanner:
     def peek(self) -> str:
         """The next character that is no white space, at which the cursor then is."""
         while True:
-            while self._at < len(self._text) and self._text[self._at] in WHITE:
-                self._at += 1
+            white = WHITE.match(self._text, self._at)
+            self._at = white.end() if white else self._at
             if self._at < len(self._text):
                 return self._text[self._at]
             if not self._more():
@@ -147,9 +151,13 @@ class Scanner:
         if self.peek() == "}":
             self._at += 1
             return
+        count = 0
         while True:
             if self.peek() != '"':
                 raise self.error("a key expected")
+            count += 1
+            if count > MOST_KEYS:
+                raise self.error(f"an object of more than {MOST_KEYS:,} keys")
             key = str(self.value())
             self.take(":")
             yield key

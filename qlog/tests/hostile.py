@@ -1,5 +1,6 @@
 """Logs that nobody would write: real ones in which a value, a byte or the end is another."""
 
+import gzip
 import json
 import random
 import signal
@@ -21,8 +22,10 @@ REAL = TOP / "conformance" / "real" / "traces"
 MARK = b"\x1e"
 # Of a log so many records are kept, so that a case takes milliseconds.
 RECORDS = 60
-# How long a case may take.
+# How much processor time a case may take, and how long if it waits for something: on a busy
+# computer it waits for a processor too.
 SECONDS = 5.0
+SECONDS_OF_WAITING = 120.0
 # Texts that take the place of a value; some are no JSON.
 VALUES = (
     *("null", "true", "false", "0", "-1", "1", "1.5", "-0.0", '""', '"x"', "[]", "{}", "[[]]"),
@@ -39,6 +42,10 @@ VALUES = (
 BYTES = (b"\x00", b"\x1b[2J", b"\xff", b"\xed\xa0\x80", MARK, b"\n", b'"', b"{", b"}", b"[", b",")
 # What stands for a value until the log is written.
 PLACE = "\u0001place\u0001"
+
+
+# Keys and indexes that lead to a value of a log.
+Way = tuple[str | int, ...]
 
 
 class Case(NamedTuple):
@@ -84,6 +91,24 @@ class Seed:
         mark = MARK if self.is_marked else b""
         return b"".join(mark + json.dumps(it).encode() + b"\n" for it in value)
 
+    def fields(self, chance: random.Random) -> list[Way]:
+        """A way to each field: to one of those that have the same keys on the way, and the same
+        name of the event."""
+        found: dict[Way, list[Way]] = {}
+        for way, kind in ways_into(self.value):
+            found.setdefault(kind, []).append(way)
+        return [chance.choice(ways) for ways in found.values()]
+
+    def with_value(self, way: Way, text: str) -> Case:
+        """A case with this text in place of a value."""
+        value = json.loads(json.dumps(self.value))
+        parent: Any = value
+        for key in way[:-1]:
+            parent = parent[key]
+        parent[way[-1]] = PLACE
+        data = self.text(value).replace(json.dumps(PLACE).encode(), text.encode(), 1)
+        return Case(f"{self.name}: {'.'.join(map(str, way))} is {text}"[:300], data)
+
     def mutated(self, chance: random.Random) -> Case:
         """A case."""
         if chance.random() < 0.2:
@@ -127,13 +152,38 @@ class Seed:
         """A torn log, or one with a byte more or less."""
         data = self.text(self.value)
         place = chance.randrange(len(data))
-        match chance.randrange(3):
+        match chance.randrange(6):
             case 0:
                 return Case(f"{self.name}: torn at byte {place}", data[:place])
             case 1:
                 return Case(f"{self.name}: without byte {place}", data[:place] + data[place + 1 :])
+            case 2:
+                return Case(f"{self.name}: from byte {place} on", data[place:])
+            case 3:
+                end = place + chance.choice((1, 2, 10, 1_000, 100_000))
+                name = f"{self.name}: white space from byte {place} to {end}"
+                return Case(name, data[:place] + b" " * (end - place) + data[end:])
+            case 4:
+                packed = gzip.compress(data, 1)
+                place %= len(packed)
+                name = f"{self.name}: packed, and without byte {place}"
+                return Case(name, packed[:place] + packed[place + 1 :])
         more = chance.choice(BYTES)
         return Case(f"{self.name}: {more!r} at byte {place}", data[:place] + more + data[place:])
+
+
+def ways_into(value: Any, way: Way = (), kind: Way = ()) -> Iterator[tuple[Way, Way]]:
+    """The way to each value within a value, and its kind: without indexes, and with the name of an
+    event."""
+    if isinstance(value, dict):
+        name = str(value.get("name") or value.get("type") or "")
+        for key, member in value.items():
+            yield (*way, key), (*kind, name, key)
+            yield from ways_into(member, (*way, key), (*kind, name, key))
+    elif isinstance(value, list):
+        for index, member in enumerate(value):
+            yield (*way, index), (*kind, "")
+            yield from ways_into(member, (*way, index), (*kind, ""))
 
 
 def seeds() -> list[Seed]:
@@ -141,9 +191,21 @@ def seeds() -> list[Seed]:
     return [Seed(path) for path in sorted([*REAL.glob("*.qlog"), *REAL.glob("*.netlog")])]
 
 
-def cases(seed: int) -> Iterator[Case]:
-    """Cases without an end."""
-    chance, logs = random.Random(seed), seeds()
+def each_value(logs: list[Seed], chance: random.Random) -> list[tuple[Seed, Way, str]]:
+    """Each field of each log with each value, in an order by chance."""
+    found = [(log, way, text) for log in logs for way in log.fields(chance) for text in VALUES]
+    chance.shuffle(found)
+    return found
+
+
+def cases(seed: int, part: int = 0, parts: int = 1) -> Iterator[Case]:
+    """Cases without an end. Every second one is of a field that is given a value, as long as there
+    are some. Of these it is one part of so many; the seed of a part is that of the first and its
+    number."""
+    logs, chance = seeds(), random.Random(seed)
+    for log, way, text in each_value(logs, random.Random(seed - part))[part::parts]:
+        yield log.with_value(way, text)
+        yield chance.choice(logs).mutated(chance)
     while True:
         yield chance.choice(logs).mutated(chance)
 
@@ -155,16 +217,22 @@ def too_slow(_: int, __: FrameType | None) -> None:
 
 def failure_of(case: Case) -> str | None:
     """How the converter fails on a case; nothing if it does not."""
-    signal.signal(signal.SIGALRM, too_slow)
-    signal.setitimer(signal.ITIMER_REAL, SECONDS)
+    timers = (
+        (signal.SIGPROF, signal.ITIMER_PROF, SECONDS),
+        (signal.SIGALRM, signal.ITIMER_REAL, SECONDS_OF_WAITING),
+    )
+    for number, timer, seconds in timers:
+        signal.signal(number, too_slow)
+        signal.setitimer(timer, seconds)
     try:
         end = End(case.data)
     except TooSlowError:
-        return f"it takes more than {SECONDS} seconds"
+        return f"it takes more than {SECONDS} seconds of processor time, or waits for something"
     except BaseException:
         return traceback.format_exc()
     finally:
-        signal.setitimer(signal.ITIMER_REAL, 0)
+        for _, timer, _ in timers:
+            signal.setitimer(timer, 0)
     return failure_of_end(end)
 
 

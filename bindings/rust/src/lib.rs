@@ -235,6 +235,25 @@ pub enum Verdict {
 }
 
 /// An audit that is handed bytes and events.
+///
+/// It may go to another thread:
+///
+/// ```
+/// fn goes<T: Send>() {}
+/// goes::<qaudit::Auditor>();
+/// ```
+///
+/// Threads that share one need a lock around it:
+///
+/// ```compile_fail,E0277
+/// fn is_shared<T: Sync>() {}
+/// is_shared::<qaudit::Auditor>();
+/// ```
+///
+/// ```
+/// fn is_shared<T: Sync>() {}
+/// is_shared::<std::sync::Mutex<qaudit::Auditor>>();
+/// ```
 pub struct Auditor(raw::Qaudit);
 
 // SAFETY: an open `qaudit` may go from thread to thread, and each call here has it alone.

@@ -63,3 +63,33 @@ fn what_is_out_of_range_is_not_taken() {
     assert!(Auditor::new(&Header::new(Role::Server, 1199)).is_err());
     assert_eq!(auditor.verdict(), None);
 }
+
+#[test]
+fn an_auditor_goes_from_thread_to_thread() {
+    let mut auditor = Auditor::new(&Header::new(Role::Server, 1200)).unwrap();
+    for time in 0..4 {
+        auditor = std::thread::spawn(move || {
+            auditor.keys(time).unwrap();
+            auditor
+        })
+        .join()
+        .unwrap();
+    }
+    assert!(matches!(auditor.finish(), Ok(Verdict::Accepted { totals }) if totals.events == 4));
+}
+
+#[test]
+fn threads_that_share_an_auditor_take_a_lock() {
+    let auditor = std::sync::Mutex::new(Auditor::new(&Header::new(Role::Server, 1200)).unwrap());
+    std::thread::scope(|scope| {
+        for _ in 0..4 {
+            scope.spawn(|| {
+                for _ in 0..1000 {
+                    auditor.lock().unwrap().metrics(0, &Metrics::default()).unwrap();
+                }
+            });
+        }
+    });
+    let verdict = auditor.into_inner().unwrap().finish();
+    assert!(matches!(verdict, Ok(Verdict::Accepted { totals }) if totals.events == 4000));
+}

@@ -1,0 +1,86 @@
+"""The table of docs/proofs.md that says for how long programs were tried on inputs by chance.
+
+Each of these programs writes its own row, at the end of a run that is told to; others stay.
+"""
+
+import os
+import subprocess
+from collections.abc import Sequence
+from dataclasses import dataclass
+from datetime import UTC, datetime
+from pathlib import Path
+
+TOP = Path(__file__).resolve().parent.parent
+PAGE = Path("docs/proofs.md")
+BEGIN = "<!-- qlog/fuzz and conformance/fuzz_library put what follows here -->\n"
+END = "<!-- up to here -->\n"
+HEAD = """
+| Program | Cases | Minutes | Processes | Seeds | Findings | Date | Commit |
+|---|---:|---:|---:|---|---:|---|---|
+"""
+MINUTE = 60
+
+
+class NoPlaceError(Exception):
+    """The page has no place for the table."""
+
+
+@dataclass(frozen=True)
+class Figures:
+    """What a run of a program came to."""
+
+    program: str
+    cases: int
+    seconds: float
+    seeds: Sequence[int]
+    findings: int
+    commit: str
+
+    def row(self) -> str:
+        """Its row in the table."""
+        minutes, seconds = divmod(round(self.seconds), MINUTE)
+        seeds = ", ".join(map(str, self.seeds))
+        date = datetime.now(UTC).date().isoformat()
+        return (
+            f"| `{self.program}` | {self.cases:,} | {minutes}:{seconds:02} | {len(self.seeds)} "
+            f"| {seeds} | {self.findings} | {date} | {self.commit} |\n"
+        )
+
+
+def told_by_git(*words: str) -> str:
+    """What git says of this repository."""
+    command = ["git", "-C", str(TOP), *words]
+    return subprocess.run(command, capture_output=True, text=True, check=True).stdout.strip()
+
+
+def commit_of(*folders: str) -> str:
+    """The commit that these folders are of, with a word if they have changes."""
+    commit = told_by_git("rev-parse", "--short", "HEAD")
+    is_changed = told_by_git("status", "--porcelain", "--", *folders)
+    return f"{commit} with changes" if is_changed else commit
+
+
+def key_of(row: str) -> tuple[str, str]:
+    """The program of a row, and its seeds."""
+    cells = row.split(" | ")
+    return cells[0], cells[4]
+
+
+def with_row(page: str, figures: Figures) -> str:
+    """The page with a row for this run, in place of one of the program with the same seeds."""
+    before, begin, rest = page.partition(BEGIN)
+    table, end, after = rest.partition(END)
+    if not begin or not end:
+        raise NoPlaceError(f"{PAGE} has no place for the table: {BEGIN.strip()}")
+    rows = [line for line in table.splitlines(True) if line.startswith("| `")]
+    key = key_of(figures.row())
+    text = "".join(sorted([*(it for it in rows if key_of(it) != key), figures.row()], key=key_of))
+    return f"{before}{BEGIN}{HEAD}{text}\n{END}{after}"
+
+
+def record(figures: Figures) -> None:
+    """Writes the row, at once or not at all."""
+    path = TOP / PAGE
+    beside = path.with_name(f".{path.name}.{os.getpid()}")
+    beside.write_text(with_row(path.read_text(), figures))
+    beside.replace(path)
