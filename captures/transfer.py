@@ -6,6 +6,7 @@ transfer.py client PORT QLOG down|up BYTES PARTS CONTROLLER
 
 import asyncio
 import json
+import os
 import ssl
 import sys
 from pathlib import Path
@@ -17,6 +18,8 @@ from aioquic.quic.logger import QuicLogger
 
 HEADER = 9
 SECONDS_OF_SERVER = 35
+# How many words each side is told, its name among them.
+WORDS = {"server": 6, "client": 7}
 
 
 class Server(QuicConnectionProtocol):
@@ -70,7 +73,11 @@ async def ask(port: int, way: str, size: int, parts: int, configuration: QuicCon
 
 async def main() -> None:
     """Runs a side of the transfer, and writes its log."""
-    side, port, path, *rest, controller = sys.argv[1:]
+    words = sys.argv[1:]
+    if len(words) != WORDS.get("".join(words[:1])):
+        print((__doc__ or "").strip(), file=sys.stderr)
+        sys.exit(os.EX_USAGE)
+    side, port, path, *rest, controller = words
     logger = QuicLogger()
     configuration = QuicConfiguration(
         is_client=side == "client",

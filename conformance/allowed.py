@@ -10,13 +10,14 @@ import json
 from collections.abc import Iterator
 from typing import NamedTuple
 
+from amounts import bytes_text, in_bytes, time_text
 from caveats import is_guessed
 from constants import METRICS, METRICS_IN_BYTES, NANOSECONDS_IN_A_MICROSECOND, Rule
 from sender import Deadline, Event, Sender
 
 Object = dict[str, object]
 
-# The key of the header by which a rule allows more, and whether its amounts are bytes.
+# The key of the header by which a rule allows more.
 KEYS: dict[str, str] = {
     Rule.PAST_WINDOW: "window_overshoot",
     Rule.TIMER_EARLY: "timer_early_us",
@@ -29,7 +30,6 @@ KEYS: dict[str, str] = {
         for name in METRICS
     },
 }
-IN_BYTES = (Rule.PAST_WINDOW, Rule.COLLAPSE_MISSING)
 # The rules in their order, as a report names them.
 IN_ORDER = (
     Rule.PAST_WINDOW,
@@ -215,7 +215,7 @@ class Rest:
     def row(self, what: str, found: list[Allowance]) -> str:
         """How often a rule was passed, where, by how much, and by which key."""
         amounts = [it.amount for it in found]
-        most = f"{max(amounts)} bytes" if in_bytes(what) else self.time(max(amounts))
+        most = bytes_text(max(amounts)) if in_bytes(what) else self.time(max(amounts))
         limit = self.limit_of(what)
         key = KEYS[what] if limit is None else f"{KEYS[what]} {limit}"
         if len(found) == 1:
@@ -225,18 +225,7 @@ class Rest:
 
     def time(self, value: int) -> str:
         """A time as people read it, exact."""
-        nanoseconds = value if self.is_in_nanoseconds else value * NANOSECONDS_IN_A_MICROSECOND
-        if nanoseconds == 0:
-            return f"0 {self.unit}"
-        for least, whole, name in (
-            (10**9, 10**9, "s"),
-            (10**5, 10**6, "ms"),
-            (10**3, 10**3, "us"),
-            (1, 1, "ns"),
-        ):
-            if nanoseconds >= least:
-                return f"{quotient(nanoseconds, whole)} {name}"
-        raise ValueError(f"{value} is below 0")
+        return time_text(value, is_in_nanoseconds=self.is_in_nanoseconds)
 
     @property
     def unit(self) -> str:
@@ -287,18 +276,6 @@ class Rest:
             "set_space": due.space if due else None,
             f"deadline_{self.unit}": due.time if due else None,
         }
-
-
-def in_bytes(what: str) -> bool:
-    """Whether the amounts of a rule are bytes, and else times."""
-    return what in IN_BYTES or what.split(" ")[-1] in METRICS_IN_BYTES
-
-
-def quotient(number: int, whole: int) -> str:
-    """A number of parts as so many whole, of which each has a power of ten: exact, and without
-    zeros at its end."""
-    digits = f"{number % whole:0{len(str(whole)) - 1}d}".rstrip("0") if number % whole else ""
-    return f"{number // whole}{'.' if digits else ''}{digits}"
 
 
 def rest_of(trace: bytes) -> Rest:

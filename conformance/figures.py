@@ -60,15 +60,21 @@ def commit_of(*folders: str) -> str:
     return f"{commit} with changes" if is_changed else commit
 
 
+def key_of(row: str) -> tuple[str, str]:
+    """The program of a row, and its seeds."""
+    cells = row.split(" | ")
+    return cells[0], cells[4]
+
+
 def with_row(page: str, figures: Figures) -> str:
-    """The page with a row for this program, in place of an earlier one."""
+    """The page with a row for this run, in place of one of the program with the same seeds."""
     before, begin, rest = page.partition(BEGIN)
     table, end, after = rest.partition(END)
     if not begin or not end:
         raise NoPlaceError(f"{PAGE} has no place for the table: {BEGIN.strip()}")
     rows = [line for line in table.splitlines(True) if line.startswith("| `")]
-    others = [line for line in rows if not line.startswith(f"| `{figures.program}` |")]
-    text = "".join(sorted([*others, figures.row()]))
+    key = key_of(figures.row())
+    text = "".join(sorted([*(it for it in rows if key_of(it) != key), figures.row()], key=key_of))
     return f"{before}{BEGIN}{HEAD}{text}\n{END}{after}"
 
 

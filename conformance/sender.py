@@ -93,8 +93,8 @@ class Settings:
     def __init__(self, header: Event) -> None:
         options = header if header["version"] >= 2 else {}
         choices = header if header["version"] >= 3 else {}
-        is_in_nanoseconds = choices.get("unit") == "ns"
-        self.microsecond = NANOSECONDS_IN_A_MICROSECOND if is_in_nanoseconds else 1
+        self.is_in_nanoseconds = choices.get("unit") == "ns"
+        self.microsecond = NANOSECONDS_IN_A_MICROSECOND if self.is_in_nanoseconds else 1
         self.granularity = K_GRANULARITY * self.microsecond
         self.is_server = header["role"] == "server"
         self.max_datagram_size: int = header["max_datagram_size"]

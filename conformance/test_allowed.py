@@ -42,7 +42,7 @@ allowed by the header: V13 timer-early once, line 5, by 1 ms (timer_early_us 100
     # After one sample of 100 ms the variation is 50 ms; the window of 12000 was halved.
     "allowed-of-each-value": """\
 allowed by the header: V16 metric window once, line 8, by 7 bytes (report_slack_bytes 7)
-allowed by the header: V16 metric ssthresh once, line 8, by 1 bytes (report_slack_bytes 7)
+allowed by the header: V16 metric ssthresh once, line 8, by 1 byte (report_slack_bytes 7)
 allowed by the header: V16 metric bytes_in_flight once, line 8, by 2 bytes (report_slack_bytes 7)
 allowed by the header: V16 metric latest_rtt once, line 8, by 3 us (report_slack_us 5)
 allowed by the header: V16 metric min_rtt once, line 8, by 1 us (report_slack_us 5)

@@ -1,8 +1,9 @@
 #!/usr/bin/env python3
-"""Tests what the binding for Python hands to the library, by a library that is none.
+"""Tests what the bindings hand to the library, by a library that is none.
 
 It is compiled by `$CC`, or `cc`. Each of its functions takes a while, and notes whether another was
-called meanwhile, and which time it was given.
+called meanwhile, and which time it was given. The bindings for Go and Rust are tried where their
+compilers are.
 """
 
 import json
@@ -11,13 +12,15 @@ import shutil
 import subprocess
 import sys
 import unittest
+from pathlib import Path
 
 from runners import FOLDER
 from testing import new_folder
 
 COMPILER = os.environ.get("CC", "cc")
 NO_COMPILER = "" if shutil.which(COMPILER) else f"there is no {COMPILER}"
-BINDING = FOLDER.parent / "bindings" / "python"
+BINDINGS = FOLDER.parent / "bindings"
+INCLUDE = FOLDER.parent / "include"
 LIBRARY = """
 #include "qaudit.h"
 #include <stdatomic.h>
@@ -56,6 +59,7 @@ size_t qaudit_first_line(qaudit *q, uint8_t *out, size_t room) { return take(); 
 size_t qaudit_rule_name(uint32_t n, uint8_t *out, size_t room) { return 0; }
 size_t qaudit_fault_name(uint32_t n, uint8_t *out, size_t room) { return 0; }
 size_t qaudit_key_name(uint32_t n, uint8_t *out, size_t room) { return 0; }
+uint32_t qaudit_status(qaudit *q) { return 0; }
 """
 # Each thread makes each call, and the number of each kind is printed.
 THREADS = """
@@ -118,20 +122,80 @@ print(json.dumps(len(said) > 0))
 """
 
 
+# What is added to the package: what the library has noted, and goroutines that make each call.
+NOTED_OF_GO = """
+package qaudit
+
+// extern int overlaps, calls;
+import "C"
+
+func noted() (int, int) { return int(C.overlaps), int(C.calls) }
+"""
+TEST_OF_GO = """
+package qaudit
+
+import (
+    "sync"
+    "testing"
+)
+
+func TestNoted(t *testing.T) {
+    a, _ := New(nil)
+    var all sync.WaitGroup
+    for i := 0; i < 4; i++ {
+        all.Add(1)
+        go func() {
+            defer all.Done()
+            for n := 0; n < 20; n++ {
+                a.Feed([]byte("x"))
+                a.Header(&Header{})
+                a.Sent(&Packet{})
+                a.Ack(0, App, []Range{{0, 0}}, 0, false)
+                a.Lost(0, App, nil)
+                a.Timer(0, LossTimer, App)
+                a.Discard(0, App)
+                a.Confirmed(0)
+                a.Keys(0)
+                a.Metrics(0, &Metrics{})
+                a.Report()
+                a.FirstLine()
+                a.Verdict()
+                a.Finish()
+            }
+        }()
+    }
+    all.Wait()
+    if overlaps, calls := noted(); overlaps != 0 || calls != 1+4*20*15 {
+        t.Errorf("overlaps %d, calls %d", overlaps, calls)
+    }
+}
+"""
+
+
+def compiled(folder: Path, *words: str) -> None:
+    """Compiles the library in a folder."""
+    command = [COMPILER, "-fPIC", "-w", "-I", str(INCLUDE), "-x", "c", "-", *words]
+    subprocess.run(command, input=LIBRARY, text=True, cwd=folder, check=True)
+
+
+def archived(folder: Path) -> None:
+    """Makes libqaudit.a of it."""
+    compiled(folder, "-c", "-o", "it.o")
+    subprocess.run(["ar", "rcs", "libqaudit.a", "it.o"], cwd=folder, check=True)
+
+
 @unittest.skipIf(NO_COMPILER, NO_COMPILER)
 class Python(unittest.TestCase):
     """What programs see that use the binding."""
 
     def setUp(self) -> None:
-        self.library = new_folder(self) / "libqaudit.so"
-        include = FOLDER.parent / "include"
-        words = [COMPILER, "-shared", "-fPIC", "-w", "-I", include, "-x", "c", "-"]
-        command = list(map(str, [*words, "-o", self.library]))
-        subprocess.run(command, input=LIBRARY, text=True, check=True)
+        self.folder = new_folder(self)
+        compiled(self.folder, "-shared", "-o", "libqaudit.so")
 
     def said_by(self, program: str) -> object:
         """What a program prints."""
-        environment = {"QAUDIT_LIB": str(self.library), "PYTHONPATH": str(BINDING)}
+        library, binding = self.folder / "libqaudit.so", BINDINGS / "python"
+        environment = {"QAUDIT_LIB": str(library), "PYTHONPATH": str(binding)}
         ended = subprocess.run(
             [sys.executable, "-S", "-c", program],
             env={**os.environ, **environment},
@@ -152,6 +216,45 @@ class Python(unittest.TestCase):
 
     def test_a_handler_of_a_signal_may_make_a_call(self) -> None:
         self.assertIs(self.said_by(SIGNALS), True)
+
+
+@unittest.skipIf(NO_COMPILER or not shutil.which("go"), "there is no go, or no C compiler")
+class Go(unittest.TestCase):
+    """Goroutines that share an auditor."""
+
+    def test_goroutines_wait_for_one_another(self) -> None:
+        top = new_folder(self)
+        shutil.copytree(BINDINGS / "go", top / "bindings" / "go")
+        shutil.copytree(INCLUDE, top / "include")
+        (top / "bin").mkdir()
+        archived(top / "bin")
+        (top / "bindings/go/noted.go").write_text(NOTED_OF_GO)
+        (top / "bindings/go/noted_test.go").write_text(TEST_OF_GO)
+        command = ["go", "test", "-run", "TestNoted", "./..."]
+        ended = subprocess.run(
+            command, cwd=top / "bindings" / "go", capture_output=True, text=True, check=False
+        )
+        self.assertEqual(ended.returncode, 0, ended.stdout + ended.stderr)
+
+
+@unittest.skipIf(NO_COMPILER or not shutil.which("cargo"), "there is no cargo, or no C compiler")
+class Rust(unittest.TestCase):
+    """An auditor goes to another thread, and threads share none without a lock."""
+
+    def test_examples(self) -> None:
+        folder = new_folder(self)
+        archived(folder)
+        shutil.copytree(BINDINGS / "rust", folder / "rust")
+        ended = subprocess.run(
+            ["cargo", "test", "--offline", "--quiet", "--doc", "Auditor"],
+            cwd=folder / "rust",
+            env={**os.environ, "QAUDIT_LIB_DIR": str(folder)},
+            capture_output=True,
+            text=True,
+            check=False,
+        )
+        self.assertEqual(ended.returncode, 0, ended.stdout + ended.stderr)
+        self.assertIn("3 passed", ended.stdout)
 
 
 if __name__ == "__main__":

@@ -11,10 +11,12 @@ from typing import NamedTuple
 
 import caveats
 from allowed import rest_of
+from amounts import bytes_text, time_text
 from constants import (
     K_MINIMUM_WINDOW,
     MAX_LINE_LENGTH,
     METRICS,
+    METRICS_IN_BYTES,
     Rule,
 )
 from names import shown_name
@@ -24,6 +26,9 @@ from sender import Deadline, Event, Ranges, Sender
 SHOWN_BYTES = 200
 SHOWN_RUNS = 16
 SHOWN_OF_STRING = 40
+MICROSECONDS_IN_A_MILLISECOND = 1000
+# By so many units of a trace a time may be off by a rounding.
+ROUNDING = 10
 
 # Where each rule stands, by the beginning of its name in a report.
 SOURCES = {
@@ -329,10 +334,64 @@ def breaks(sender: Sender, event: Event, what: str, line: bytes) -> bytes:
     """How an event breaks a rule that a report names so, its line as it is shown, the facts of the
     sender before it, and the source."""
     rule, field = rule_of(what)
-    front = f"{subject_of(event)} {deed_of(sender, event, rule, field)}\n"
     source = VALUE_SOURCES[field] if rule == Rule.METRIC else SOURCES[rule]
-    facts_and_source = facts_of(sender, event, rule) + f"  {source}\n"
-    return front.encode() + line + facts_and_source.encode()
+    rounding = rounding_of(sender, event, field) if rule == Rule.METRIC else ""
+    below = facts_of(sender, event, rule) + f"  {source}\n{rounding}"
+    return f"{breach_of(sender, event, rule, field)}\n".encode() + line + below.encode()
+
+
+def breach_of(sender: Sender, event: Event, rule: Rule, field: str) -> str:
+    """What an event did that breaks a rule."""
+    match rule:
+        case Rule.METRIC:
+            return report_of(sender, event, field)
+        case Rule.TIMER_LATE:
+            due, limit = packets_due_of(sender), sender.settings.timer_late
+            late = time_of(sender, event["time"] - max(due.time, sender.due_since))
+            return f"no timer for {late} past its deadline (limit {time_of(sender, limit or 0)})"
+    return f"{subject_of(event)} {deed_of(sender, event, rule)}"
+
+
+def time_of(sender: Sender, time: int) -> str:
+    """A time as people read it."""
+    return time_text(time, is_in_nanoseconds=sender.settings.is_in_nanoseconds)
+
+
+def report_of(sender: Sender, event: Event, field: str) -> str:
+    """What is reported, what the model has, and how far that is apart."""
+
+    def text(value: int) -> str:
+        return bytes_text(value) if field in METRICS_IN_BYTES else time_of(sender, value)
+
+    value, held = event[field], sender.total(field)
+    if held is None:
+        return f"reported {field} {text(value)}, the model has none"
+    slack = sender.settings.slack_of(field)
+    allowed = f", {text(slack)} allowed" if slack else ""
+    apart = f"{text(abs(value - held))} apart{allowed}"
+    return f"reported {field} {text(value)}, the model has {text(held)} ({apart})"
+
+
+def rounding_of(sender: Sender, event: Event, field: str) -> str:
+    """A hint where a time is off by no more than a rounding."""
+    held = sender.total(field)
+    if held is None or field in METRICS_IN_BYTES:
+        return ""
+    millisecond = MICROSECONDS_IN_A_MILLISECOND * sender.settings.microsecond
+    apart = abs(event[field] - held)
+    if apart < millisecond and event[field] % millisecond == 0:
+        return (
+            "  Hint: the log may have whole milliseconds."
+            ' "report_slack_us":1000 allows for that.\n'
+        )
+    if apart > ROUNDING:
+        return ""
+    if sender.settings.is_in_nanoseconds:
+        return '  Hint: this may be a rounding. See "report_slack_us".\n'
+    return (
+        '  Hint: this may be a rounding. Log nanoseconds ("unit":"ns"),'
+        ' or see "report_slack_us".\n'
+    )
 
 
 def rule_of(what: str) -> tuple[Rule, str]:
@@ -367,29 +426,23 @@ def subject_of(event: Event) -> str:
     return "the report"
 
 
-def deed_of(sender: Sender, event: Event, rule: Rule, field: str) -> str:
-    """What an event did that breaks a rule."""
-    time, settings = event["time"], sender.settings
+def deed_of(sender: Sender, event: Event, rule: Rule) -> str:
+    """What an event did that breaks a rule, behind what it is."""
+    time, settings = time_of(sender, event["time"]), sender.settings
     match rule:
         case Rule.TIME_BACK:
-            return f"is at {time}, before the event before it at {sender.last_time}"
+            before = time_of(sender, sender.last_time or 0)
+            return f"is at {time}, before the event before it at {before}"
         case Rule.PAST_WINDOW if settings.may_overshoot:
             return f"is sent where the bytes in flight have reached the window of {sender.window}"
         case Rule.PAST_WINDOW:
             total = sender.bytes_in_flight + event["size"]
             return f"takes the bytes in flight to {total}, past the window of {sender.window}"
         case Rule.TIMER_EARLY:
-            early = due_of(sender).time - time
+            early = time_of(sender, due_of(sender).time - event["time"])
             allowed = settings.timer_early
-            allowance = f", where the header allows {allowed}" if allowed else ""
-            return f"fired at {time}, {early} before its deadline{allowance}"
-        case Rule.TIMER_LATE:
-            due = packets_due_of(sender)
-            late = time - max(due.time, sender.due_since)
-            limit = settings.timer_late
-            return f"came {late} after the timer should have fired, where the header allows {limit}"
-        case Rule.METRIC:
-            return f"differs from the machine in {field}"
+            allowance = f" ({time_of(sender, allowed)} allowed)" if allowed else ""
+            return f"fired {early} early, at {time}{allowance}"
     return DEEDS[rule].format(time=time)
 
 
@@ -591,10 +644,10 @@ def reported(sender: Sender, event: Event) -> Iterable[str]:
             continue
         held, slack = sender.total(name), sender.settings.slack_of(name)
         if held is None:
-            yield f"{name}: reported {value}, the machine has none"
+            yield f"{name}: reported {value}, the model has none"
         else:
             gap = f"difference {abs(value - held)}, slack {slack}"
-            yield f"{name}: reported {value}, the machine has {held}, {gap}"
+            yield f"{name}: reported {value}, the model has {held}, {gap}"
 
 
 def collapse_of(sender: Sender, event: Event) -> str:

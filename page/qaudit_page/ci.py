@@ -8,7 +8,7 @@ from urllib.parse import quote
 from xml.etree import ElementTree
 
 from .known import Known, known_by
-from .matrix import FAILED, OTHER, Result
+from .matrix import FAILED, OTHER, WITH_ALLOWANCES, Result
 from .rules import FAULTS, RULES
 from .texts import visible
 from .version import version
@@ -59,6 +59,8 @@ def junit(listed: Listed) -> str:
         kind = outcome(listed, result, case)
         if kind:
             counts[kind] += 1
+        if result.with_allowances:
+            ElementTree.SubElement(case, "system-out").text = allowances(result)
     for name, number in counts.items():
         suite.set(name, str(number))
     ElementTree.indent(suites)
@@ -85,11 +87,20 @@ def outcome(listed: Listed, result: Result, case: ElementTree.Element) -> str:
     return "failures" if new else "skipped"
 
 
+def allowances(result: Result) -> str:
+    """What an accepted verdict rests on, in lines with the path and the line of the trace."""
+    rows = [
+        f"{result.trace}:{it.line}: {it.text}" if it.line else it.text for it in result.grounds
+    ]
+    return "\n".join(map(visible, (WITH_ALLOWANCES, *rows)))
+
+
 # SARIF.
 
 
 def sarif(listed: Listed) -> str:
-    """A result for each violation, at its first line. Known ones are notes, and suppressed."""
+    """A result for each violation, at its first line. Known ones are notes, and suppressed. What
+    was accepted with allowances is no result, but a notification."""
     rules = [
         {
             "id": rule,
@@ -100,14 +111,15 @@ def sarif(listed: Listed) -> str:
         for rule, meaning in {**RULES, **FAULTS}.items()
     ]
     failed = [
-        {"level": "error", "message": {"text": f"{visible(it.key)}: {visible(it.fault)}"}}
-        for it in listed.results
-        if it.kind == FAILED
+        notification("error", result.key, result.fault)
+        for result in listed.results
+        if result.kind == FAILED
     ]
+    allowed = [notification_of(result) for result in listed.results if result.with_allowances]
     run = {
         "tool": {"driver": {"name": NAME, "version": version(), "rules": rules}},
         "invocations": [
-            {"executionSuccessful": not failed, "toolExecutionNotifications": failed}
+            {"executionSuccessful": not failed, "toolExecutionNotifications": failed + allowed}
         ],
         "results": [
             sarif_of(listed, result, violation)
@@ -119,6 +131,24 @@ def sarif(listed: Listed) -> str:
     return json.dumps(whole, indent=1, ensure_ascii=False) + "\n"
 
 
+def notification(level: str, key: str, text: str) -> dict[str, Any]:
+    """What there is to say of a trace that is no violation in it."""
+    return {"level": level, "message": {"text": f"{visible(key)}: {visible(text)}"}}
+
+
+def notification_of(result: Result) -> dict[str, Any]:
+    """A trace that was accepted with allowances, with the places of what it rests on."""
+    text = f"{WITH_ALLOWANCES}: {'; '.join(it.text for it in result.grounds)}"
+    places = [place(result, it.line) for it in result.grounds if it.line]
+    return {**notification("note", result.key, text), "locations": places}
+
+
+def place(result: Result, line: int) -> dict[str, Any]:
+    """A line of a trace."""
+    artifact, region = {"uri": uri(result.trace)}, {"startLine": line}
+    return {"physicalLocation": {"artifactLocation": artifact, "region": region}}
+
+
 def sarif_of(listed: Listed, result: Result, violation: Violation) -> dict[str, Any]:
     """A violation at its first line."""
     is_known = listed.is_known(result, violation)
@@ -126,14 +156,7 @@ def sarif_of(listed: Listed, result: Result, violation: Violation) -> dict[str, 
         "ruleId": violation.rule,
         "level": "note" if is_known else "error",
         "message": {"text": visible(violation.text)},
-        "locations": [
-            {
-                "physicalLocation": {
-                    "artifactLocation": {"uri": uri(result.trace)},
-                    "region": {"startLine": violation.line},
-                }
-            }
-        ],
+        "locations": [place(result, violation.line)],
         "occurrenceCount": violation.count,
         "partialFingerprints": {f"{NAME}/v1": "/".join(listed.as_known(result, violation))},
     }

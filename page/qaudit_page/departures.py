@@ -3,8 +3,10 @@
 from collections.abc import Iterable
 from dataclasses import dataclass
 
+from .banner import folded, with_what
 from .facts import facts_of
 from .failure import Failure
+from .grounds import Basis
 from .program import Object, Verdict
 from .rules import meaning_of
 from .texts import count, html, link, milliseconds, pairs, plural, size
@@ -54,29 +56,33 @@ def greatest(said: Object) -> str:
 # HTML.
 
 
-def section_of(verdict: Verdict, unit: str) -> str:
-    """The table of all departures and how the trace ends past them; empty where there are none."""
+def section_of(verdict: Verdict, basis: Basis, unit: str) -> str:
+    """The table of all departures and how the trace ends past them, with what it rests on where
+    that is accepted; empty where there are none."""
     kinds = departures_of(verdict)
     if not kinds:
         return ""
     names = ("rule", "what it is", "how often", "by at most", "lines")
     head = "".join(f'<th scope="col">{name}</th>' for name in names)
     rows = "".join(map(row_of, kinds))
+    rest = folded(basis.grounds, "What it rests on") if basis.grounds else ""
     return (
         '<section id="departures"><h2>All violations <small>the audit continues after each'
-        f"</small></h2><p>{sentence_of(verdict, kinds)}</p>"
-        f"{end_of(verdict.end, unit)}"
+        f"</small></h2><p>{sentence_of(verdict, basis, kinds)}</p>"
+        f"{rest}{end_of(verdict.end, unit)}"
         f"<table><thead><tr>{head}</tr></thead><tbody>{rows}</tbody></table></section>"
     )
 
 
-def sentence_of(verdict: Verdict, kinds: Iterable[Departures]) -> str:
+def sentence_of(verdict: Verdict, basis: Basis, kinds: Iterable[Departures]) -> str:
     """How often the sender departs, and how the trace ends past that, in a sentence."""
     total, events = sum(kind.count for kind in kinds), verdict.said.get("events")
     times = "once" if total == 1 else f"{count(total)} times"
     among = f" in {plural(events, 'event')}" if isinstance(events, int) else ""
     begins = f"The sender breaks rules <b>{times}{among}</b>."
     end = verdict.end
+    if end.kind == "accepted" and basis.is_amber:
+        return f"{begins} Everything else in the trace is accepted, {with_what(basis)}."
     if end.kind == "accepted":
         return f"{begins} Everything else in the trace follows RFC 9002."
     line = link(end.line, f"line {count(end.line)}")

@@ -10,23 +10,44 @@ from pathlib import Path
 from typing import Any
 from urllib.parse import quote
 
+from .banner import AMBER, MARKS
 from .compressed import ENDINGS
-from .conversion import FIRST_LINES, notes_of
+from .conversion import FIRST_LINES, notes_of, object_of
 from .failure import Failure
 from .files import as_text, name_of, read, write
+from .grounds import Basis, Ground, basis_of
 from .library import resource
-from .page import MARKS, Wanted, filled, page_of, policy
-from .program import find, verdict_of, whole_verdict_of
+from .page import Wanted, audited, filled, page_of, policy
+from .program import Verdict, find, verdict_of, whole_verdict_of
 from .texts import count, html, plural
+from .timers import are_short
 from .violations import Violation, violations_of
 
 OTHER = "other"
 FAILED = "failed"
-KINDS = ("accepted", "refused", "unreadable", FAILED)
+ACCEPTED = "accepted"
+WITH_ALLOWANCES = "accepted with allowances"
+NOTE_OF_ALLOWANCES = (
+    f"<p>{WITH_ALLOWANCES.capitalize()}: the verdict rests on what the cell lists, such as rules"
+    " that the header of the trace relaxes, or lines that were guessed. The page of a trace has the"
+    " amounts and the lines.</p>"
+)
+KINDS = (ACCEPTED, WITH_ALLOWANCES, "refused", "unreadable", FAILED)
 ENDING = ".trace"
 # The form of the file of verdicts that later ones are compared with.
 VERSION = 1
-RECORDED = ("key", "kind", "line", "rule", "name", "fault", "page", "is_doubtful")
+RECORDED = (
+    "key",
+    "kind",
+    "line",
+    "rule",
+    "name",
+    "fault",
+    "page",
+    "is_doubtful",
+    "with_allowances",
+    "rests_on",
+)
 
 
 @dataclass(frozen=True)
@@ -47,11 +68,24 @@ class Result:
     # The path of the trace, and every violation in it, if they were asked for.
     trace: str = ""
     violations: tuple[Violation, ...] = ()
+    # What an accepted verdict rests on, and whether that is more than RFC 9002 leaves to a sender.
+    grounds: tuple[Ground, ...] = ()
+    with_allowances: bool = False
+
+    @property
+    def rests_on(self) -> list[str]:
+        """What the verdict rests on, by the short names."""
+        return Basis(self.grounds).names
+
+    @property
+    def word(self) -> str:
+        """The verdict in a word, by which results are counted."""
+        return WITH_ALLOWANCES if self.with_allowances else self.kind
 
     @property
     def told(self) -> str:
         """The verdict without the line, which moves as a trace grows."""
-        return " ".join(filter(None, (self.kind, self.rule, self.name)))
+        return " ".join(filter(None, (self.word, self.rule, self.name)))
 
 
 @dataclass(frozen=True)
@@ -70,30 +104,57 @@ class Job:
 def judged(job: Job) -> Result:
     """Audits a trace, and writes its page where one is asked for."""
     try:
-        if job.page is None:
-            ask = whole_verdict_of if job.is_whole else verdict_of
-            data = read(job.trace)
-            verdict, fault = ask(find(job.program), data), ""
-            notes = notes_of(data.split(b"\n", FIRST_LINES), verdict)
-        else:
-            # Other traces have the other processors.
-            wanted = Wanted(job.trace, job.program, job.dygraphs, job.key, readers=0)
-            made = page_of(wanted)
-            write(job.page, made.text)
-            verdict, notes, fault = made.verdict, made.notes, ""
-        found = violations_of(verdict) if job.is_whole else ()
+        found = looked_at(job) if job.page is None else shown_on(job, job.page)
+        violations = violations_of(found.verdict) if job.is_whole else ()
     except Failure as failure:
         return unshown(job, failure)
-    told = (verdict.kind, verdict.line, verdict.rule, verdict.name)
+    verdict, basis = found.verdict, found.basis
+    is_accepted = verdict.kind == ACCEPTED
     return Result(
         job.key,
-        *told,
-        fault=fault,
+        verdict.kind,
+        verdict.line,
+        verdict.rule,
+        verdict.name,
         page=str(job.page or ""),
-        is_doubtful=verdict.kind == "refused" and bool(notes),
+        is_doubtful=verdict.kind == "refused" and bool(found.notes),
         trace=as_text(job.trace),
-        violations=found,
+        violations=violations,
+        grounds=basis.grounds if is_accepted else (),
+        with_allowances=is_accepted and basis.is_amber,
     )
+
+
+@dataclass(frozen=True)
+class Found:
+    """What a trace comes to: the verdict, what it rests on, and what is said of the conversion."""
+
+    verdict: Verdict
+    basis: Basis
+    notes: list[str]
+
+
+def looked_at(job: Job) -> Found:
+    """What a trace comes to of which no page is wanted."""
+    program, data = find(job.program), read(job.trace)
+    verdict = (whole_verdict_of if job.is_whole else verdict_of)(program, data)
+    lines = data.split(b"\n", FIRST_LINES)
+    at = next((place for place, line in enumerate(lines, 1) if line.strip()), 0)
+    header = object_of(lines[at - 1])
+
+    def short(most: int) -> bool:
+        # The rows cost more than the verdict, and few verdicts hang on them.
+        return are_short(audited(program, data, readers=0)[1], most)
+
+    return Found(verdict, basis_of(verdict, header, at, short), notes_of(lines, verdict))
+
+
+def shown_on(job: Job, page: Path) -> Found:
+    """What a trace comes to whose page is written."""
+    # Other traces have the other processors.
+    made = page_of(Wanted(job.trace, job.program, job.dygraphs, job.key, readers=0))
+    write(page, made.text)
+    return Found(made.verdict, made.basis, made.notes)
 
 
 def unshown(job: Job, failure: Failure) -> Result:
@@ -153,6 +214,15 @@ def place_of(key: str, named: re.Pattern[str] | None) -> tuple[str, str]:
 
 
 @dataclass(frozen=True)
+class Before:
+    """The verdicts of an earlier run by the keys of the traces, and the keys of those accepted of
+    which it does not say whether with allowances."""
+
+    told: dict[str, str]
+    unclear: frozenset[str] = frozenset()
+
+
+@dataclass(frozen=True)
 class Change:
     """A trace whose verdict is another than before; an empty text stands for no trace."""
 
@@ -163,18 +233,42 @@ class Change:
     @property
     def is_worse(self) -> bool:
         """Whether something is refused that was not, or by another rule."""
-        return bool(self.now) and not self.now.startswith("accepted")
+        return bool(self.now) and not self.now.startswith(ACCEPTED)
+
+    @property
+    def is_allowed(self) -> bool:
+        """Whether it is now accepted with allowances, and was not."""
+        return self.now == WITH_ALLOWANCES
+
+    @property
+    def is_told(self) -> bool:
+        """Whether a person has to hear of it: it is worse, or is accepted with allowances where it
+        was not, or without them where it was."""
+        is_strict = self.now == ACCEPTED and self.before == WITH_ALLOWANCES
+        return self.is_worse or self.is_allowed or is_strict
+
+    @property
+    def text(self) -> str:
+        """In words."""
+        return f"{self.key}: {self.now}, before {self.before or 'not there'}"
 
 
-def changes_of(results: list[Result], before: dict[str, str]) -> list[Change]:
-    """The traces whose verdict is another than before, the worse ones first."""
-    now = {result.key: result.told for result in results}
+def changes_of(results: list[Result], before: Before) -> list[Change]:
+    """The traces whose verdict is another than before, the worse ones first, and then those newly
+    accepted with allowances."""
+    now = {it.key: now_of(it, before) for it in results}
     changes = [
-        Change(key, before.get(key, ""), now.get(key, ""))
-        for key in sorted(before.keys() | now.keys())
-        if before.get(key, "") != now.get(key, "")
+        Change(key, before.told.get(key, ""), now.get(key, ""))
+        for key in sorted(before.told.keys() | now.keys())
+        if before.told.get(key, "") != now.get(key, "")
     ]
-    return sorted(changes, key=lambda it: not it.is_worse)
+    return sorted(changes, key=lambda it: (not it.is_worse, not it.is_allowed))
+
+
+def now_of(result: Result, before: Before) -> str:
+    """A verdict as it is compared with the one before."""
+    is_unclear = result.kind == ACCEPTED and result.key in before.unclear
+    return ACCEPTED if is_unclear else result.told
 
 
 def recorded(results: list[Result], named: re.Pattern[str] | None) -> str:
@@ -187,18 +281,28 @@ def recorded(results: list[Result], named: re.Pattern[str] | None) -> str:
     return json.dumps({"version": VERSION, "traces": listed}, indent=1) + "\n"
 
 
-def told_before(path: Path) -> dict[str, str]:
-    """The verdicts of a run before, by the key of each trace."""
+def told_before(path: Path) -> Before:
+    """The verdicts of a run before."""
     try:
         said: Any = json.loads(read(path))
         if said["version"] != VERSION:
             raise ValueError("another version")
         fields = ("key", "kind", "line", "rule", "name")
-        results = [Result(**{name: it[name] for name in fields}) for it in said["traces"]]
+        results = [
+            Result(**{name: it[name] for name in fields}, with_allowances=is_allowed(it))
+            for it in said["traces"]
+        ]
+        lacking = [it["key"] for it in said["traces"] if "with_allowances" not in it]
     except (ValueError, KeyError, TypeError) as fault:
         text = f"{as_text(path)} is not what qaudit-matrix --json writes: {fault}"
         raise Failure(text) from fault
-    return {result.key: result.told for result in results}
+    unclear = set(lacking) & {it.key for it in results if it.kind == ACCEPTED}
+    return Before({it.key: it.told for it in results}, frozenset(unclear))
+
+
+def is_allowed(said: Any) -> bool:
+    """Whether a trace was accepted with allowances, where a record says so."""
+    return bool(said.get("with_allowances", False))
 
 
 # The table.
@@ -208,18 +312,19 @@ def table(
     results: list[Result],
     named: re.Pattern[str] | None,
     beside: Path,
-    changes: list[Change] | None,
+    since: str,
 ) -> str:
-    """The page with the table, which will lie in a folder."""
+    """The page with the table, which will lie in a folder, with what is new."""
     style = resource("matrix.css")
-    total = Counter(result.kind for result in results)
+    total = Counter(result.word for result in results)
     return filled(
         resource("matrix.html"),
         POLICY=policy([], [style]),
         STYLE=style,
         TITLE=plural(len(results), "trace"),
         SUM=counted(total),
-        CHANGES="" if changes is None else changes_shown(changes),
+        NOTE=NOTE_OF_ALLOWANCES if total[WITH_ALLOWANCES] else "",
+        CHANGES=since,
         TABLE=cells(results, named, beside),
         RULES=rules(results),
     )
@@ -230,21 +335,34 @@ def counted(by_kind: Counter[str]) -> str:
     return ", ".join(f"{count(by_kind[kind])} {kind}" for kind in KINDS if by_kind[kind])
 
 
-def changes_shown(changes: list[Change]) -> str:
+def changes_shown(changes: list[Change], before: Before) -> str:
     """What is new and what is gone since the run before."""
+    note = f"<p>{html(unclear_note(before))}</p>" if before.unclear else ""
+    title = f"<h2>Since the run before</h2>{note}"
     if not changes:
-        return "<h2>Since the run before</h2><p>No verdict is another.</p>"
+        return f"{title}<p>No verdict is another.</p>"
     head = "<thead><tr><th>trace</th><th>before</th><th>now</th></tr></thead>"
     rows = "".join(
-        f'<tr class="{"worse" if it.is_worse else "better"}"><th>{html(it.key)}</th>'
+        f'<tr class="{class_of(it)}"><th>{html(it.key)}</th>'
         f"<td>{html(it.before) or 'not there'}</td><td>{html(it.now) or 'not there'}</td></tr>"
         for it in changes
     )
-    worse = sum(it.is_worse for it in changes)
-    told = (
-        f"{plural(worse, 'trace')} newly refused or by another rule, {len(changes) - worse} other"
-    )
-    return f'<h2>Since the run before</h2><p>{told}</p><table class="changes">{head}{rows}</table>'
+    worse, allowed = sum(it.is_worse for it in changes), sum(it.is_allowed for it in changes)
+    told = [f"{plural(worse, 'trace')} newly refused or by another rule"]
+    told += [f"{count(allowed)} newly {WITH_ALLOWANCES}"] if allowed else []
+    told += [f"{len(changes) - worse - allowed} other"]
+    return f'{title}<p>{", ".join(told)}</p><table class="changes">{head}{rows}</table>'
+
+
+def class_of(change: Change) -> str:
+    """The class of a change, by which it has a colour."""
+    return "worse" if change.is_worse else "allowed" if change.is_allowed else "better"
+
+
+def unclear_note(before: Before) -> str:
+    """What to say of a record that does not have which traces were accepted with allowances."""
+    traces = plural(len(before.unclear), "accepted trace")
+    return f"The earlier results do not list allowances of {traces}; these are not compared."
 
 
 def cells(results: list[Result], named: re.Pattern[str] | None, beside: Path) -> str:
@@ -259,10 +377,10 @@ def cells(results: list[Result], named: re.Pattern[str] | None, beside: Path) ->
     for case in cases:
         shown = [by_place.get((case, stacks), []) for stacks in columns]
         told = "".join(f"<td>{''.join(cell(it, beside) for it in here)}</td>" for here in shown)
-        kinds = Counter(it.kind for here in shown for it in here)
+        kinds = Counter(it.word for here in shown for it in here)
         rows.append(f'<tr><th scope="row">{html(case)}</th>{told}<td>{counted(kinds)}</td></tr>')
     sums = [
-        Counter(it.kind for (_, at), here in by_place.items() if at == stacks for it in here)
+        Counter(it.word for (_, at), here in by_place.items() if at == stacks for it in here)
         for stacks in columns
     ]
     foot = "".join(f"<td>{counted(it)}</td>" for it in sums)
@@ -272,14 +390,17 @@ def cells(results: list[Result], named: re.Pattern[str] | None, beside: Path) ->
 
 def cell(result: Result, beside: Path) -> str:
     """A trace in the table: a sign, a word, the first rule and its line, and a link to its page."""
-    told = f"{MARKS.get(result.kind, '!')} {result.kind}"
+    kind = AMBER if result.with_allowances else result.kind
+    told = f"{MARKS.get(kind, '!')} {result.word}"
+    if result.with_allowances:
+        told += f"<small>{html(', '.join(result.rests_on))}</small>"
     if result.rule:
         told += f"<small>{html(result.rule)} {html(result.name)}, line {count(result.line)}</small>"
     if result.is_doubtful:
         told += "<small>its log may be misread</small>"
     if result.fault:
         told += f"<small>{html(result.fault[:200])}</small>"
-    about = f'class="{result.kind}" title="{html(result.key)}"'
+    about = f'class="{kind}" title="{html(result.key)}"'
     if not result.page:
         return f"<span {about}>{told}</span>"
     link = quote(os.path.relpath(os.fsencode(result.page), os.fsencode(beside)))

@@ -21,10 +21,12 @@ from .known import written as known_text
 from .library import dygraphs
 from .matrix import (
     FAILED,
+    Before,
     Change,
     Job,
     Result,
     changes_of,
+    changes_shown,
     judged,
     pattern,
     place_of,
@@ -32,6 +34,7 @@ from .matrix import (
     table,
     told_before,
     traces_of,
+    unclear_note,
 )
 from .program import find
 from .streams import ended, follow
@@ -186,12 +189,14 @@ def status_of(
     return Status.REFUSED if "refused" in kinds else Status.WRITTEN
 
 
-def tell(changes: list[Change]) -> None:
-    """A line on standard error for each trace that is worse than before."""
+def tell(changes: list[Change], before: Before) -> None:
+    """A line on standard error for each trace that is worse than before, or newly accepted with
+    allowances or without, and one if the run before does not say that."""
     for it in changes:
-        if it.is_worse:
-            before = visible(it.before) or "not there"
-            print(f"{visible(it.key)}: {visible(it.now)}, before {before}", file=sys.stderr)
+        if it.is_told:
+            print(visible(it.text), file=sys.stderr)
+    if before.unclear:
+        print(f"qaudit-matrix: {unclear_note(before)}", file=sys.stderr)
 
 
 class Ci:
@@ -241,20 +246,24 @@ class Ci:
 def main() -> Status:
     """Writes the table."""
     given = arguments()
+    changes, since = None, ""
     try:
         before = told_before(given.against) if given.against else None
         ci = Ci(given)
         results = results_of(given)
-        changes = None if before is None else changes_of(results, before)
+        if before is not None:
+            changes = changes_of(results, before)
+            since = changes_shown(changes, before)
         beside = given.output.parent if given.output else Path()
-        write(given.output, table(results, given.pattern, beside, changes))
+        write(given.output, table(results, given.pattern, beside, since))
         if given.json:
             write(given.json, recorded(results, given.pattern))
         new = ci.write(results)
     except Failure as failure:
         print(f"qaudit-matrix: {visible(str(failure))}", file=sys.stderr)
         return failure.status
-    tell(changes or [])
+    if before is not None:
+        tell(changes or [], before)
     return status_of(results, changes, new)
 
 

@@ -10,22 +10,23 @@ from contextlib import contextmanager
 from dataclasses import dataclass
 from pathlib import Path
 
+from .banner import MARKS, banner, kind_of, title_of
 from .conversion import notes_of
 from .departures import section_of
 from .facts import Facts, facts_of
 from .failure import Failure
 from .files import name_of, read
+from .grounds import Basis, basis_of
 from .library import dygraphs, licence, resource, script
 from .payload import Part, packed, part_of, payload, shown, text_of
 from .program import PAST, STRICT, Mode, Run, UnknownOptionError, Verdict, find, verdict_by
 from .rows import rows_by
-from .rules import meaning_of
-from .texts import count, html, link, milliseconds, pairs, plural
+from .texts import count, html, milliseconds, pairs, plural
+from .timers import are_short, longest_silence
 from .trace import Trace, trace_of
 
 # Of the line of the verdict, as many characters stand above the diagrams.
 MAX_QUOTE = 4_000
-MARKS = {"accepted": "\u2713", "refused": "\u2717", "unreadable": "?"}
 NO_EVENTS = b"hbu"
 
 
@@ -50,10 +51,12 @@ class Wanted:
 
 @dataclass(frozen=True)
 class Made:
-    """A page, with the verdict on its trace and what is said of the conversion of the log."""
+    """A page, with the verdict on its trace, what that rests on where it is accepted, and what is
+    said of the conversion of the log."""
 
     text: str
     verdict: Verdict
+    basis: Basis
     notes: list[str]
 
 
@@ -62,8 +65,13 @@ def page_of(wanted: Wanted) -> Made:
     library, program = dygraphs(wanted.dygraphs), find(wanted.program)
     verdict, trace = audited(program, read(wanted.trace, is_shown=True), wanted.readers)
     part = part_of(trace, verdict, wanted.first, wanted.last)
-    text = written(wanted, library, trace, verdict, part)
-    return Made(text, verdict, notes_of(trace.lines, verdict))
+    return written(wanted, library, trace, verdict, part)
+
+
+def basis_by(trace: Trace, verdict: Verdict) -> Basis:
+    """What a trace rests on that is accepted, or that is but for departures."""
+    header = trace.state.line[0] if trace.header else 0
+    return basis_of(verdict.end, trace.header, header, lambda most: are_short(trace, most))
 
 
 def audited(program: str, data: bytes, readers: int) -> tuple[Verdict, Trace]:
@@ -101,7 +109,7 @@ def without_collector() -> Iterator[None]:
             gc.enable()
 
 
-def written(wanted: Wanted, library: str, trace: Trace, verdict: Verdict, part: Part) -> str:
+def written(wanted: Wanted, library: str, trace: Trace, verdict: Verdict, part: Part) -> Made:
     """The whole page."""
     with ThreadPoolExecutor() as pool:
         lines = pool.submit(lambda: packed(text_of(trace, part)))
@@ -109,19 +117,22 @@ def written(wanted: Wanted, library: str, trace: Trace, verdict: Verdict, part: 
         data = packed(columns)
         text = lines.result()
     style, own, loader = resource("page.css"), script(), resource("script/load.js")
-    return filled(
+    basis = basis_by(trace, verdict)
+    kind, notes = kind_of(verdict, basis), notes_of(trace.lines, verdict)
+    silence = longest_silence(trace, verdict.first_unjudged)
+    page = filled(
         resource("page.html"),
         POLICY=policy([loader, library, own], [style]),
         TITLE=html(wanted.name),
-        VERDICT_TEXT=html(verdict.text),
+        VERDICT_TEXT=html(title_of(verdict, basis)),
         STYLE=style,
-        KIND=verdict.kind,
-        MARK=MARKS[verdict.kind],
-        SENTENCE=sentence(verdict),
+        KIND=kind,
+        MARK=MARKS[kind],
+        BANNER=banner(verdict, basis, silence, trace.unit),
         FACTS=pairs(facts_of(verdict.said, trace.unit)),
-        CONVERTED=converted(trace, verdict),
+        CONVERTED="".join(f'<p class="note">{html(note)}</p>' for note in notes),
         QUOTE=quote(trace, verdict),
-        DEPARTURES=section_of(verdict, trace.unit),
+        DEPARTURES=section_of(verdict, basis, trace.unit),
         OVERVIEW=pairs(overview(wanted, trace, verdict, part)),
         OPTIONS=pairs(options(trace)),
         LICENCE=html_of_lines(licence()),
@@ -131,6 +142,7 @@ def written(wanted: Wanted, library: str, trace: Trace, verdict: Verdict, part: 
         SCRIPT=packed(own),
         LOADER=loader,
     )
+    return Made(page, verdict, basis, notes)
 
 
 def filled(template: str, **parts: str) -> str:
@@ -160,23 +172,6 @@ def hashed(text: str) -> str:
 def html_of_lines(text: str) -> str:
     """A text of several lines as HTML."""
     return "\n".join(html(line) for line in text.splitlines())
-
-
-def sentence(verdict: Verdict) -> str:
-    """The verdict in a sentence."""
-    if verdict.kind == "accepted":
-        told = "In everything that the trace shows, the sender followed RFC 9002."
-        return f"<b>Accepted.</b> {told}"
-    word = verdict.kind.capitalize()
-    line = link(verdict.line, f"line {count(verdict.line)}")
-    what = f"{html(verdict.rule)} {html(verdict.name)}"
-    return f"<b>{word} at {line}: {what}.</b> {meaning_of(verdict.rule)}"
-
-
-def converted(trace: Trace, verdict: Verdict) -> str:
-    """What says that the log of a trace may be misread."""
-    notes = notes_of(trace.lines, verdict)
-    return "".join(f'<p class="note">{html(note)}</p>' for note in notes)
 
 
 def quote(trace: Trace, verdict: Verdict) -> str:

@@ -6,6 +6,7 @@ from html import escape
 
 NANOSECONDS = {"us": 1_000, "ns": 1}
 NANOSECONDS_IN_A_MILLISECOND = 1_000_000
+NANOSECONDS_IN_A_SECOND = 1_000_000_000
 SHOWN_RUNS = 16
 # What Python calls printable and nobody sees: fillers, selectors of variations, tags.
 UNSEEN = re.compile("[\u034f\u115f\u1160\u17b4\u17b5\u180b-\u180f\u2800\u3164\ufe00-\ufe0f\uffa0]")
@@ -29,6 +30,16 @@ def milliseconds(value: int, unit: str) -> str:
     whole, rest = divmod(amount, NANOSECONDS_IN_A_MILLISECOND)
     digits = f".{rest:06}".rstrip("0") if rest else ""
     return f"{sign}{whole:,}{digits} ms"
+
+
+def span(value: int, unit: str) -> str:
+    """A length of time with all of its digits: in seconds from one on, and else in milliseconds."""
+    amount = value * NANOSECONDS[unit]
+    if amount < NANOSECONDS_IN_A_SECOND:
+        return milliseconds(value, unit)
+    whole, rest = divmod(amount, NANOSECONDS_IN_A_SECOND)
+    digits = f".{rest:09}".rstrip("0") if rest else ""
+    return f"{whole:,}{digits} s"
 
 
 def size(value: int) -> str:

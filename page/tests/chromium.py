@@ -24,6 +24,9 @@ WEBDRIVER = module("")
 DRIVER = shutil.which("chromedriver")
 MISSING = "" if WEBDRIVER and DRIVER else "no chromium-driver or no python3-selenium is installed"
 READY = "return window.qauditPage !== undefined || !document.getElementById('trouble').hidden"
+PLACE = """const {x, y, width, height} =
+  document.querySelector(arguments[0]).getBoundingClientRect();
+return {x: x + scrollX, y: y + scrollY, width, height};"""
 SECONDS = 30
 
 
@@ -97,14 +100,17 @@ class Browser:
                 found.append(message["params"]["request"]["url"])
         return found
 
-    def picture(self, file: Path, *, is_whole: bool = True) -> None:
-        """Keeps a picture of the page."""
+    def picture(self, file: Path, *, is_whole: bool = True, part: str = "") -> None:
+        """Keeps a picture of the page, or of a part of it, by a selector."""
         height = self.run("return document.documentElement.scrollHeight")
         width = self.run("return innerWidth")
-        if is_whole:
+        if is_whole or part:
             self.resize(width, height)
             self.settled()
-        shot = self.driver.execute_cdp_cmd("Page.captureScreenshot", {"format": "png"})
+        wanted: dict[str, Any] = {"format": "png"}
+        if part:
+            wanted["clip"] = {**self.run(PLACE, part), "scale": 1}
+        shot = self.driver.execute_cdp_cmd("Page.captureScreenshot", wanted)
         file.write_bytes(base64.b64decode(shot["data"]))
 
     def close(self) -> None:

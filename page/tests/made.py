@@ -89,7 +89,7 @@ def made(data: bytes, report: str | None = None, *, is_strict: bool = False, **w
     fields: dict[str, Any] = {"trace": Path("made.trace"), **wanted}
     asked = Wanted(**fields)
     part = part_of(trace, verdict, asked.first, asked.last)
-    return written(asked, LIBRARY, trace, verdict, part)
+    return written(asked, LIBRARY, trace, verdict, part).text
 
 
 class Page(HTMLParser):

@@ -296,6 +296,17 @@ class Using(Browsing):
         self.assertEqual(self.selected(), 4)
         self.assertIn(f"packet {great} of app", self.text("#said"))
 
+    def test_great_numbers_fit_their_axis(self) -> None:
+        # Senders begin at 0, or at a random number, as ngtcp2 does.
+        cut = """return [...document.querySelectorAll('.dygraph-axis-label-y')]
+            .filter(it => it.scrollWidth > it.clientWidth).map(it => it.textContent)"""
+        for number in (0, 1_955_220_002):
+            text = joined(HEADER, *(sent(number + it, it) for it in range(9)))
+            self.show(made(text))
+            shown = self.browser.run("return document.getElementById('chart-packets').textContent")
+            self.assertIn(f"{number + 2:,}", shown)
+            self.assertEqual(self.browser.run(cut), [])
+
     def test_a_space_is_hidden(self) -> None:
         self.show(self.page)
         labels = "return document.querySelectorAll('#chart-packets .dygraph-axis-label-y').length"

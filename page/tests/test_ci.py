@@ -257,6 +257,33 @@ class Files(unittest.TestCase):
         prints = {json.dumps(it["partialFingerprints"]) for it in results}
         self.assertEqual(len(prints), 2)
 
+    def test_what_is_accepted_with_allowances(self) -> None:
+        shutil.copyfile(TRACES / "silence-past-a-pto.trace", self.traces / "quiet.trace")
+        words = ("--junit", "junit.xml", "--sarif", "all.sarif", "--annotate")
+        ended = self.run_command(*words)
+        self.assertEqual(ended.returncode, 1)
+        self.assertNotIn("quiet", ended.stdout)
+        suite = ElementTree.parse(self.folder / "junit.xml").getroot()[0]
+        self.assertEqual((suite.get("failures"), suite.get("skipped")), ("1", "0"))
+        by_name = {case.get("name"): case for case in suite}
+        (told,) = by_name["quiet"]
+        line = "V18 timer-late: once, at line 13, by 5.92 s (no timer_late_us in the header)"
+        text = f"accepted with allowances\ntraces/quiet.trace:13: {line}"
+        self.assertEqual((told.tag, told.text), ("system-out", text))
+        self.assertEqual(list(by_name["quinn_ngtcp2_loss"]), [])
+        run = json.loads((self.folder / "all.sarif").read_text())["runs"][0]
+        self.assertEqual([it["ruleId"] for it in run["results"]], ["V6"])
+        (invocation,) = run["invocations"]
+        self.assertTrue(invocation["executionSuccessful"])
+        (note,) = invocation["toolExecutionNotifications"]
+        self.assertEqual(note["level"], "note")
+        self.assertEqual(note["message"]["text"], f"quiet: accepted with allowances: {line}")
+        (place,) = note["locations"]
+        self.assertEqual(
+            place["physicalLocation"],
+            {"artifactLocation": {"uri": "traces/quiet.trace"}, "region": {"startLine": 13}},
+        )
+
     def test_annotations(self) -> None:
         self.run_command("--known", "known.json", "--write-known")
         self.put("quinn_ngtcp2_loss", BAD)

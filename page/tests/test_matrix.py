@@ -15,15 +15,25 @@ import unittest
 from pathlib import Path
 from typing import Any
 
-from tests.made import HEADER, NO_LIBRARY, PAGE, PROGRAM, TRACES, Page, joined, sent
+from tests.made import HEADER, NO_LIBRARY, PAGE, PROGRAM, TRACES, Page, acked, joined, sent
 
-from qaudit_page.matrix import Change, Result, changes_of, pattern, place_of
+from qaudit_page.matrix import Before, Change, Result, changes_of, pattern, place_of
 from qaudit_page.matrix_command import workers
 
 COMMAND = PAGE / "qaudit-matrix"
 GOOD = joined(HEADER, sent(0))
 BAD = joined(HEADER, sent(0), sent(0))
 EVIL = 'a<script>b"&\u202e'
+ALLOWED = "accepted with allowances"
+# A timer is 79.999 ms late, less than its timeout of 80 ms, and as late as that.
+TIMED = (
+    '{"event":"header","version":1,"role":"server","max_datagram_size":1200,'
+    '"max_ack_delay":20000,"initial_rtt":20000}',
+    '{"event":"confirmed","time":0}',
+    sent(0),
+)
+SHORTLY_LATE = joined(*TIMED, acked(159_999, (0, 0)))
+LATE = joined(*TIMED, acked(160_000, (0, 0)))
 
 
 def children_of(number: int) -> list[int]:
@@ -82,15 +92,43 @@ class Names(unittest.TestCase):
             "d": "accepted",
             "e": "accepted",
         }
+        changes = changes_of(results, Before(before))
         self.assertEqual(
-            changes_of(results, before),
+            changes,
             [
                 Change("c", "accepted", "refused V1 time-back"),
                 Change("a", "refused V7 past-window", "accepted"),
                 Change("d", "accepted", ""),
             ],
         )
-        self.assertEqual([it.is_worse for it in changes_of(results, before)], [True, False, False])
+        self.assertEqual([it.is_worse for it in changes], [True, False, False])
+        self.assertEqual([it.is_told for it in changes], [True, False, False])
+
+    def test_changes_of_allowances(self) -> None:
+        allowed, strict = Result("a", "accepted", with_allowances=True), Result("a", "accepted")
+        refused = Result("a", "refused", 9, "V7", "past-window")
+        for now, before, is_told in (
+            (allowed, "accepted", True),
+            (allowed, "refused V7 past-window", True),
+            (allowed, "", True),
+            (strict, ALLOWED, True),
+            (strict, "refused V7 past-window", False),
+            (strict, "", False),
+            (refused, ALLOWED, True),
+        ):
+            with self.subTest(now=now, before=before):
+                known = Before({"a": before} if before else {})
+                (change,) = changes_of([now], known)
+                self.assertEqual(change, Change("a", before, now.told))
+                self.assertEqual((change.is_told, change.is_worse), (is_told, now is refused))
+        for now in (allowed, strict):
+            self.assertEqual(changes_of([now], Before({"a": now.told})), [])
+            unclear = Before({"a": "accepted"}, frozenset("a"))
+            self.assertEqual(changes_of([now], unclear), [])
+        (change,) = changes_of([refused], unclear)
+        self.assertTrue(change.is_worse)
+        (change,) = changes_of([], Before({"a": ALLOWED}))
+        self.assertFalse(change.is_told)
 
 
 @unittest.skipIf(NO_LIBRARY, NO_LIBRARY)
@@ -179,6 +217,92 @@ class Tables(unittest.TestCase):
         ended = self.run_command("--against", self.json)
         self.assertEqual((ended.returncode, ended.stderr), (0, ""))
         self.assertIn("not there", Page(self.table.read_text()).by_id["changes"])
+
+    def copied(self, *names: str) -> None:
+        """Traces of the corpus."""
+        for name in names:
+            shutil.copyfile(TRACES / f"{name}.trace", self.traces / f"{name}.trace")
+
+    def test_a_third_colour(self) -> None:
+        names = ("silence-past-a-pto", "each-choice", "guessed-and-accepted", "timer-late")
+        # The last one goes on past its violation, and with allowances.
+        self.copied(*names, "no-event", "late-since-confirmed", "broken-and-allowed")
+        (self.traces / "as-late-as-its-timeout.trace").write_bytes(LATE)
+        (self.traces / "less-late.trace").write_bytes(SHORTLY_LATE)
+        choices = ["refresh_min_rtt", "window", "sample_eliciting_only", "packet_threshold"]
+        wanted = {
+            "as-late-as-its-timeout": (True, ["V18"]),
+            "broken-and-allowed": (False, []),
+            "each-choice": (True, [*choices, "loss_by_number"]),
+            "guessed-and-accepted": (True, ["guesses"]),
+            "late-since-confirmed": (False, ["V18"]),
+            "less-late": (False, ["V18"]),
+            "no-event": (False, []),
+            "quinn_ngtcp2_loss": (False, []),
+            "quinn_quic-go_loss": (False, []),
+            "silence-past-a-pto": (True, ["V18"]),
+            "timer-late": (False, []),
+        }
+        for more in ((), ("--pages", self.folder / "pages"), ("--junit", self.folder / "j.xml")):
+            self.assertEqual(self.run_command("--json", self.json, *more).returncode, 2)
+            listed = json.loads(self.json.read_text())["traces"]
+            found = {it["key"]: (it["with_allowances"], it["rests_on"]) for it in listed}
+            self.assertEqual(found, wanted)
+            kinds = {it["kind"] for it in listed if it["rests_on"]}
+            self.assertEqual(kinds, {"accepted"})
+            page = Page(self.table.read_text())
+            told = "3 accepted, 4 accepted with allowances, 3 refused, 1 unreadable"
+            self.assertEqual(page.by_id["sum"], told)
+            classes = [it["class"] for _, it in page.tags if it.get("title") in wanted]
+            colours = ("amber", "accepted", "refused", "unreadable")
+            self.assertEqual([classes.count(it) for it in colours], [4, 3, 3, 1])
+            self.assertIn(f"(\u2713) {ALLOWED}guesses", page.by_id["table"])
+            self.assertIn("Accepted with allowances: the verdict rests on", page.by_id["p"])
+
+    def test_allowances_do_not_fail(self) -> None:
+        (self.traces / "quinn_quic-go_loss.trace").unlink()
+        self.copied("silence-past-a-pto")
+        self.assertEqual(self.run_command("--json", self.json).returncode, 0)
+        self.assertEqual(self.run_command("--against", self.json).returncode, 0)
+        (self.traces / "silence-past-a-pto.trace").unlink()
+        self.run_command()
+        self.assertNotIn("p", Page(self.table.read_text()).by_id)
+
+    def test_a_trace_that_became_amber_and_one_that_is_no_more(self) -> None:
+        self.copied("silence-past-a-pto")
+        self.assertEqual(self.run_command("--json", self.json).returncode, 1)
+        (self.traces / "quinn_ngtcp2_loss.trace").write_bytes(LATE)
+        (self.traces / "silence-past-a-pto.trace").write_bytes(GOOD)
+        ended = self.run_command("--against", self.json)
+        self.assertEqual(ended.returncode, 0)
+        told = [
+            f"quinn_ngtcp2_loss: {ALLOWED}, before accepted\n",
+            f"silence-past-a-pto: accepted, before {ALLOWED}\n",
+        ]
+        self.assertEqual(ended.stderr, "".join(told))
+        changes = Page(self.table.read_text()).by_id["changes"]
+        wanted = f"0 traces newly refused or by another rule, 1 newly {ALLOWED}, 1 other"
+        self.assertIn(wanted, changes)
+
+    def test_against_results_without_allowances(self) -> None:
+        self.copied("silence-past-a-pto", "timer-late")
+        self.assertEqual(self.run_command("--json", self.json).returncode, 1)
+        said = json.loads(self.json.read_text())
+        for it in said["traces"]:
+            del it["with_allowances"], it["rests_on"]
+        self.json.write_text(json.dumps(said))
+        note = (
+            "The earlier results do not list allowances of 2 accepted traces;"
+            " these are not compared."
+        )
+        ended = self.run_command("--against", self.json)
+        self.assertEqual((ended.returncode, ended.stderr), (0, f"qaudit-matrix: {note}\n"))
+        self.assertIn(note, Page(self.table.read_text()).by_id["changes"])
+        (self.traces / "silence-past-a-pto.trace").write_bytes(BAD)
+        ended = self.run_command("--against", self.json)
+        self.assertEqual(ended.returncode, 1)
+        worse = "silence-past-a-pto: refused V6 number-not-higher, before accepted\n"
+        self.assertEqual(ended.stderr, f"{worse}qaudit-matrix: {note}\n")
 
     def test_a_terminal_shows_how_far_it_is(self) -> None:
         main, other = pty.openpty()

@@ -35,6 +35,7 @@ from tests.made import (
 from qaudit_page import payload, rows
 from qaudit_page.departures import departures_of, section_of
 from qaudit_page.failure import Failure, Status
+from qaudit_page.grounds import Basis
 from qaudit_page.program import PAST, Run, Verdict
 from qaudit_page.rows import AMOUNTS, Rows, rows_by
 from qaudit_page.rules import FAULTS, RULES
@@ -202,7 +203,8 @@ class Departures(unittest.TestCase):
             ],
         )
         links = [found["href"] for tag, found in page.tags if tag == "a"]
-        self.assertEqual(links, [f"#line={line}" for line in (13, 13, 15, 17, 22, 24)])
+        # The verdict, the longest silence, and the table.
+        self.assertEqual(links, [f"#line={line}" for line in (13, 24, 13, 15, 17, 22, 24)])
         told_of_all = " ".join(page.by_id["departures"].split())
         self.assertIn("The sender breaks rules 5 times in 22 events.", told_of_all)
         self.assertIn("Everything else in the trace follows RFC 9002.", told_of_all)
@@ -280,7 +282,7 @@ class Departures(unittest.TestCase):
         kind = verdict.said["departures"][0] | {"name": EVIL}
         end = {"verdict": "refused", "line": 9, "rule": "V0", "name": EVIL}
         evil = Verdict(verdict.said | {"departures": [kind], "end": end})
-        text = section_of(evil, trace.unit)
+        text = section_of(evil, Basis(), trace.unit)
         self.assertNotIn("<img", text)
         self.assertNotIn("<script", text)
         self.assertEqual(text.count("&lt;img"), 2)

@@ -26,6 +26,10 @@ MAY = "may"
 NO_LIMIT = "no"
 # RFC 9002, 6.2.1 and 6.2.2: the first probe timeout, in initial round-trip times.
 RTTS_OF_FIRST_TIMEOUT = 3
+# RFC 9002, 6.2.1: how often smoothed_rtt and rttvar are in a probe timeout, and beyond which count
+# of timeouts a sender has given up.
+RTTS_OF_TIMEOUT = 1 + 4
+MOST_TIMEOUTS = 32
 
 
 @dataclass(frozen=True)
@@ -83,10 +87,27 @@ def limit_of(dialect: Dialect, survey: Survey, notes: Notes) -> int | None:
             f"no probe timeouts; of one that does not show, the next one is late, so timers may be"
             f" {limit} microseconds late"
         )
+    off = deadline_is_off_by(dialect, survey)
+    if off > limit:
+        limit = off
+        notes.findings.append(
+            f"whole milliseconds, and {survey.highest_pto_count} probe timeouts in a row, each of"
+            f" which doubles by how much the deadline is off, so timers may be {limit} microseconds"
+            " late"
+        )
     if is_past(dialect, survey, limit):
         notes.omit(Omission.LIMIT)
         return None
     return limit
+
+
+def deadline_is_off_by(dialect: Dialect, survey: Survey) -> int:
+    """By how much the deadline of the last probe timeout in a row can be off in a log of whole
+    milliseconds, in microseconds: each round-trip time in it is off by the slack at most."""
+    count = min(survey.highest_pto_count, MOST_TIMEOUTS)
+    if not survey.has_milliseconds or not count:
+        return 0
+    return RTTS_OF_TIMEOUT * dialect.slack_us << (count - 1)
 
 
 def is_past(dialect: Dialect, survey: Survey, limit: int) -> bool:

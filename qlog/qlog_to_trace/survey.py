@@ -75,8 +75,9 @@ class Survey:
         # The spaces of whose discard the log tells.
         self.retired: set[str] = set()
         self.has_timers = False
-        # Whether it counts probe timeouts.
+        # Whether it counts probe timeouts, and the highest count.
         self.has_pto_counts = False
+        self.highest_pto_count = 0
         # Whether a congestion window is logged, and whether a time is no whole microsecond.
         self.has_window = self.has_nanoseconds = False
         # Whether packets were marked by CE, and whether the peer was asked for another delay.
@@ -222,8 +223,10 @@ class Survey:
 
     def _see_metrics(self, event: Event) -> None:
         self.has_window = self.has_window or event.has_window
-        if event.pto_count() is not None:
+        count = event.pto_count()
+        if count is not None:
             self.has_pto_counts = True
+            self.highest_pto_count = max(self.highest_pto_count, count)
             self.counts_at_timers |= self._is_after_timer
         if self._has_ack:
             return

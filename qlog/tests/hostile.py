@@ -22,8 +22,10 @@ REAL = TOP / "conformance" / "real" / "traces"
 MARK = b"\x1e"
 # Of a log so many records are kept, so that a case takes milliseconds.
 RECORDS = 60
-# How long a case may take.
+# How much processor time a case may take, and how long if it waits for something: on a busy
+# computer it waits for a processor too.
 SECONDS = 5.0
+SECONDS_OF_WAITING = 120.0
 # Texts that take the place of a value; some are no JSON.
 VALUES = (
     *("null", "true", "false", "0", "-1", "1", "1.5", "-0.0", '""', '"x"', "[]", "{}", "[[]]"),
@@ -215,16 +217,22 @@ def too_slow(_: int, __: FrameType | None) -> None:
 
 def failure_of(case: Case) -> str | None:
     """How the converter fails on a case; nothing if it does not."""
-    signal.signal(signal.SIGALRM, too_slow)
-    signal.setitimer(signal.ITIMER_REAL, SECONDS)
+    timers = (
+        (signal.SIGPROF, signal.ITIMER_PROF, SECONDS),
+        (signal.SIGALRM, signal.ITIMER_REAL, SECONDS_OF_WAITING),
+    )
+    for number, timer, seconds in timers:
+        signal.signal(number, too_slow)
+        signal.setitimer(timer, seconds)
     try:
         end = End(case.data)
     except TooSlowError:
-        return f"it takes more than {SECONDS} seconds"
+        return f"it takes more than {SECONDS} seconds of processor time, or waits for something"
     except BaseException:
         return traceback.format_exc()
     finally:
-        signal.setitimer(signal.ITIMER_REAL, 0)
+        for _, timer, _ in timers:
+            signal.setitimer(timer, 0)
     return failure_of_end(end)
 
 

@@ -13,7 +13,9 @@ import time
 import unittest
 from itertools import islice
 from pathlib import Path
+from unittest import mock
 
+from . import hostile
 from .hostile import VALUES, cases, each_value, failure_of, failure_of_end, seeds
 from .made import (
     PROGRAM,
@@ -214,6 +216,20 @@ class Cases(unittest.TestCase):
         self.assertNotEqual(value.data, log.text(log.value))
         self.assertIn("null", value.name)
 
+    def test_a_case_that_takes_long_is_seen(self) -> None:
+        def spin(_: object) -> None:
+            while True:
+                pass
+
+        case = next(cases(1))
+        for slow, limits in ((spin, (0.1, 60.0)), (lambda _: time.sleep(60), (60.0, 0.1))):
+            with (
+                mock.patch.object(hostile, "End", slow),
+                mock.patch.object(hostile, "SECONDS", limits[0]),
+                mock.patch.object(hostile, "SECONDS_OF_WAITING", limits[1]),
+            ):
+                self.assertIn("seconds of processor time", failure_of(case) or "")
+
     def test_failures_are_seen(self) -> None:
         end = converted([sent(0, 0)])
         self.assertIsNone(failure_of_end(end))
@@ -277,6 +293,7 @@ class Fuzz(unittest.TestCase):
             figures.Figures("b", 1_234, 61.4, [7, 8], 0, "abc"),
             figures.Figures("a", 1, 3_600, [1], 2, "abc with changes"),
             figures.Figures("b", 9, 1, [7], 0, "def"),
+            figures.Figures("b", 5, 2, [7, 8], 1, "ghi"),
         ]
         page = f"Before.\n{self.before}After.\n"
         for row in rows:
@@ -285,6 +302,7 @@ class Fuzz(unittest.TestCase):
         table = (
             f"| `a` | 1 | 60:00 | 1 | 1 | 2 | {day} | abc with changes |\n"
             f"| `b` | 9 | 0:01 | 1 | 7 | 0 | {day} | def |\n"
+            f"| `b` | 5 | 0:02 | 2 | 7, 8 | 1 | {day} | ghi |\n"
         )
         wanted = f"Before.\n{figures.BEGIN}{figures.HEAD}{table}\n{figures.END}After.\n"
         self.assertEqual(page, wanted)

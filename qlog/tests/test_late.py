@@ -99,6 +99,34 @@ class Silences(unittest.TestCase):
             self.assertEqual(verdict_on(late.lines), LATE)
         self.assertIn("no probe timeouts", converted([sent(0, 0)], "--notes", name="x").errors)
 
+    def long_stall(self, count: int, *words: str, part: float = 0) -> End:
+        """A log of so many probe timeouts in a row, by a sample that is longer than it says."""
+        sample, first = 100.9, 101 + part
+        before = [sent(0, 0, "initial"), received(100, [[0]], "initial")]
+        probes = [sent(first, 1, "initial"), metrics(101, pto_count=0)]
+        time = 101.0
+        for number in range(1, count + 1):
+            time += 3 * sample * 2 ** (number - 1)
+            probe = sent(int(time), number + 1, "initial")
+            probes += [probe, metrics(int(time), pto_count=number)]
+        return converted([*before, *probes], *words, name="ngtcp2", role="client")
+
+    def test_each_timeout_in_a_row_doubles_what_a_clock_of_milliseconds_is_off(self) -> None:
+        for count, limit in ((1, TIMER_LATE), (5, TIMER_LATE), (6, 320_000), (8, 1_280_000)):
+            lines = self.long_stall(count).lines
+            self.assertEqual(lines[0]["timer_late_us"], limit)
+            self.assertEqual(verdict_on(lines), GOOD)
+        refused = self.long_stall(8, "--timer-late", str(TIMER_LATE)).lines
+        self.assertRegex(verdict_on(refused), "V18 timer-late$")
+        self.assertIn("found: whole milliseconds, and 6 ", self.long_stall(6, "--notes").errors)
+        # A clock that is finer is not off, and a count has no end.
+        finer = self.long_stall(8, part=0.5).lines[0]
+        self.assertEqual(finer["timer_late_us"], TIMER_LATE)
+        events = [sent(0, 0), metrics(0, pto_count=1 << 60)]
+        largest = converted([sent(0, 0), metrics(0, pto_count=32)]).lines[0]["timer_late_us"]
+        self.assertEqual(largest, 10_000 << 31)
+        self.assertIn("pto_count", converted(events).errors)
+
     def test_no_real_log_is_refused_for_its_grain(self) -> None:
         for path in [*sorted(REAL.glob("*.qlog")), *sorted(REAL.glob("*.netlog"))]:
             with self.subTest(path.name):

@@ -1,9 +1,13 @@
 pub mod Pieces
 pub mod Subjects
+pub mod Times
+pub mod Values
 pub mod Runs
 pub mod Deadlines
 pub mod Sending
 pub mod Reports
+pub mod Roundings
 pub mod Predicates
+pub mod Sentences
 pub mod Facts
 pub mod Sources

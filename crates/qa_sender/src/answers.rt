@@ -17,6 +17,7 @@ use qa_ledger::State;
 use qa_sent_packets::{FreePackets, SentPackets};
 
 /// What the timer asks of the open packets of a space.
+#[inline(always)]
 pub(crate) fn open_in(packets: &SentPackets, space: Space) -> OpenInSpace
     ensures { (c : Settings) (h : List AnEvent) → IsToleratedRun c h → StandsFor packets.now c h
         → IsOpenIn result c h space }
@@ -28,6 +29,7 @@ pub(crate) fn open_in(packets: &SentPackets, space: Space) -> OpenInSpace
 }
 
 /// What the timer asks of the open packets.
+#[inline(always)]
 pub(crate) fn open_packets(packets: &SentPackets) -> PerSpace<OpenInSpace>
     ensures { (c : Settings) (h : List AnEvent) → IsToleratedRun c h → StandsFor packets.now c h
         → AreOpen result c h }

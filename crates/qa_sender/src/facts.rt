@@ -92,4 +92,12 @@ impl Explains for Running {
     fn deadline(&self) -> Option<Due> {
         State::deadline(self)
     }
+
+    fn packet_deadline(&self) -> Option<Due> {
+        Facts::packet_deadline(self)
+    }
+
+    fn acknowledged_since_collapse(&self) -> Option<u64> {
+        State::acknowledged_since_collapse(self)
+    }
 }

@@ -5,3 +5,4 @@ pub mod Breaking
 pub mod Agreement
 pub mod Unviolated
 pub mod Amounts
+pub mod Strict

@@ -1,7 +1,6 @@
 pub mod Allowed
 pub mod Lines
 pub mod Keeping
-pub mod Times
 pub mod Choices
 pub mod Texts
 pub mod Members

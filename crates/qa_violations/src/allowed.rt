@@ -11,7 +11,6 @@ mod members;
 mod rests;
 mod tally;
 mod texts;
-mod times;
 mod told;
 
 pub(crate) use allowances::Allowances;

@@ -10,4 +10,4 @@ mod table;
 
 pub use all::{Tolerating, Violation, rows_all, why_all};
 pub use around::{Latest, LatestObjects, Manner, why_around};
-pub use table::{Finding, Row, Table, amount, is_in_bytes, is_kind, unit_of};
+pub use table::{Finding, Row, Table, amount, is_kind, unit_of};

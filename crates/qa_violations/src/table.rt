@@ -8,8 +8,8 @@ mod row;
 mod table;
 mod texts;
 
-pub(crate) use amounts::{gap, held_of, past_collapse, reported_of};
-pub use amounts::{amount, is_in_bytes};
+pub use amounts::amount;
+pub(crate) use amounts::{gap, past_collapse};
 pub use finding::Finding;
 pub(crate) use members::{push_counts, push_greatest};
 pub use row::{Row, is_kind};

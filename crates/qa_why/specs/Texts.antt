@@ -3,6 +3,7 @@ use Rattle.std.specs.Prelude.{ℕ, Bool, false, codes, List, [], ◌++◌, Optio
 use Rattle.qa_base.specs.declared.event.Event.{Event}
 use Rattle.qa_base.specs.declared.rule.Rule.{Rule}
 use Rattle.qa_base.specs.declared.rule.Rule.TheVariants as rule
+use Rattle.qa_base.specs.declared.space.TimeUnit.{TimeUnit}
 use Rattle.qa_base.specs.declared.totals.Totals.{Totals}
 use Rattle.qa_base.specs.values.Names.{rule_text}
 use Rattle.qa_ledger.specs.declared.causes.cause.Cause.{Cause}
@@ -13,10 +14,10 @@ use Rattle.qa_format.specs.verdicts.Report.{fault_text}
 use Rattle.qa_check.specs.names.Names.{shown_name}
 use Rattle.qa_explain.specs.text.Facts.{facts_text}
 use Rattle.qa_explain.specs.text.Pieces.{named, numbered}
-use Rattle.qa_explain.specs.text.Predicates.{predicate}
+use Rattle.qa_explain.specs.text.Roundings.{rounding_hint}
 use Rattle.qa_explain.specs.text.Runs.{owed_text}
+use Rattle.qa_explain.specs.text.Sentences.{sentence}
 use Rattle.qa_explain.specs.text.Sources.{source}
-use Rattle.qa_explain.specs.text.Subjects.{subject}
 use Rattle.qa_why.specs.Faults.{fault_sentence}
 use Rattle.qa_why.specs.Hints.{hint}
 use Rattle.qa_why.specs.Lines.{line_text}
@@ -41,22 +42,24 @@ accepted_text name t = shown_name name ++ accepted_tail t.events
 
 -- ---- refused
 
--- the sentence: what the event is, and what it did
-unfoldable pub refused_sentence : Rule → Event → Cause → List ℕ
-refused_sentence r e k = subject e ++ predicate e r k ++ codes "\n"
+-- what the event did, as a sentence
+unfoldable pub refused_sentence : TimeUnit → Rule → Event → Cause → List ℕ
+refused_sentence u r e k = sentence u e r k ++ codes "\n"
 
--- the facts, and where the rule stands
-unfoldable pub grounds : Rule → Event → Cause → List ℕ
-grounds r e k = facts_text e k ++ source r
+-- the facts, where the rule stands, and a hint where the value may be off by a rounding
+unfoldable pub grounds : TimeUnit → Rule → Event → Cause → List ℕ
+grounds u r e k = facts_text e k ++ source r ++ rounding_hint u e r k
 
--- of line n, which says an event that breaks a rule, with a word for what follows from that
-unfoldable pub broken_text : List ℕ → List ℕ → ℕ → Rule → Event → Cause → List ℕ → List ℕ
-broken_text word name n r e k l =
-    head name n word (rule_text r) ++ refused_sentence r e k ++ line_text n l ++ grounds r e k
+-- of line n, which says an event that breaks a rule, with a word for what follows from that; times
+-- are in the unit
+unfoldable pub broken_text : List ℕ → List ℕ → ℕ → TimeUnit → Rule → Event → Cause → List ℕ
+    → List ℕ
+broken_text word name n u r e k l =
+    head name n word (rule_text r) ++ refused_sentence u r e k ++ line_text n l ++ grounds u r e k
 
 -- why line n, which says an event that breaks a rule, is refused
-abbrev pub refused_text : List ℕ → ℕ → Rule → Event → Cause → List ℕ → List ℕ
-refused_text name n r e k l = broken_text (codes "refused") name n r e k l
+abbrev pub refused_text : List ℕ → ℕ → TimeUnit → Rule → Event → Cause → List ℕ → List ℕ
+refused_text name n u r e k l = broken_text (codes "refused") name n u r e k l
 
 -- V17: why a trace is refused that ends while a loss is owed, with its last event on line n
 unfoldable pub debt_tail : Owed → List ℕ

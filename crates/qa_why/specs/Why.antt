@@ -37,7 +37,7 @@ accepted_in forms.Text name t = accepted_text name t
 accepted_in forms.Json name t = accepted_members t
 
 abbrev pub refused_in : Form → TimeUnit → List ℕ → ℕ → Rule → Event → Cause → List ℕ → List ℕ
-refused_in forms.Text u name n r e k l = refused_text name n r e k l
+refused_in forms.Text u name n r e k l = refused_text name n u r e k l
 refused_in forms.Json u name n r e k l = refused_members u n r e k
 
 abbrev pub owed_at_end_in : Form → List ℕ → ℕ → Owed → List ℕ

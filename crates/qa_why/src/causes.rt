@@ -99,6 +99,7 @@ fn of_line<J: Reasons + Drop>(
                         n,
                         word: "refused",
                         rule,
+                        unit: ledger.time_unit(),
                     };
                     broken(alloc, &heading, event, &cause, &line.bytes)
                 }

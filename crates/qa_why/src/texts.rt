@@ -8,10 +8,10 @@ use crate::hints::hint;
 use crate::lines::{extend, push_line};
 use crate::meant::push_meant;
 use crate::values::push_wrong_value;
-use qa_base::{Event, Rule, Totals};
+use qa_base::{Event, Rule, TimeUnit, Totals};
 use qa_check::shown_name;
 use qa_explain::text::{
-    push_facts, push_name, push_number, push_owed, push_predicate, push_subject, push_words, source,
+    push_facts, push_name, push_number, push_owed, push_sentence, push_words, rounding_hint, source,
 };
 use qa_format::Fault;
 use qa_ledger::{Cause, Owed};
@@ -69,28 +69,35 @@ pub fn accepted(alloc: Global, name: &str, totals: &Totals) -> Result<Vec<u8>, A
 #[tactic(auto, unfolding(crate::specs::Texts::refused_sentence))]
 fn refused_sentence(
     alloc: Global,
+    unit: TimeUnit,
     rule: Rule,
     event: &Event,
     cause: &Cause,
 ) -> Result<String, AllocError>
     ensures { IfOk result (λ sentence. string_bytes sentence
-        ≡ text.refused_sentence rule event.now cause.now) }
+        ≡ text.refused_sentence unit rule event.now cause.now) }
 {
     let mut sentence = String::new(alloc);
-    push_subject(&mut sentence, event)?;
-    push_predicate(&mut sentence, event, rule, cause)?;
+    push_sentence(&mut sentence, unit, event, rule, cause)?;
     push_words(&mut sentence, "\n")?;
     Ok(sentence)
 }
 
 #[tactic(auto, unfolding(crate::specs::Texts::grounds))]
-fn grounds(alloc: Global, rule: Rule, event: &Event, cause: &Cause) -> Result<String, AllocError>
+fn grounds(
+    alloc: Global,
+    unit: TimeUnit,
+    rule: Rule,
+    event: &Event,
+    cause: &Cause,
+) -> Result<String, AllocError>
     ensures { IfOk result (λ grounds. string_bytes grounds
-        ≡ text.grounds rule event.now cause.now) }
+        ≡ text.grounds unit rule event.now cause.now) }
 {
     let mut grounds = String::new(alloc);
     push_facts(&mut grounds, event, cause)?;
     push_words(&mut grounds, source(rule))?;
+    push_words(&mut grounds, rounding_hint(unit, event, rule, cause))?;
     Ok(grounds)
 }
 
@@ -105,6 +112,8 @@ pub struct Heading<'t> {
     pub word: &'t str,
     /// The rule.
     pub rule: Rule,
+    /// The unit of the trace's times.
+    pub unit: TimeUnit,
 }
 
 /// What is told of a line, which says an event that breaks a rule for this cause. `AllocError`
@@ -118,13 +127,13 @@ pub fn broken(
     line: &[u8],
 ) -> Result<Vec<u8>, AllocError>
     ensures { IfOk result (λ told. told.items
-        ≡ text.broken_text heading.now.word.now heading.now.name.now heading.now.n heading.now.rule
-        event.now cause.now line.now) }
+        ≡ text.broken_text heading.now.word.now heading.now.name.now heading.now.n
+        heading.now.unit heading.now.rule event.now cause.now line.now) }
 {
-    let (n, rule) = (heading.n, heading.rule);
+    let (n, rule, unit) = (heading.n, heading.rule, heading.unit);
     let what = format!(in alloc; "{rule}")?;
-    let sentence = refused_sentence(alloc, rule, event, cause)?;
-    let grounds = grounds(alloc, rule, event, cause)?;
+    let sentence = refused_sentence(alloc, unit, rule, event, cause)?;
+    let grounds = grounds(alloc, unit, rule, event, cause)?;
     let mut told = head(alloc, heading.name, n, heading.word, what.as_str())?;
     extend(&mut told, sentence.as_bytes())?;
     push_line(alloc, &mut told, n, line)?;

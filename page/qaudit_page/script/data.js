@@ -181,15 +181,25 @@ function marksOf() {
   return marks;
 }
 
-// Where nothing happened for longer than the deadline of the timer that was set.
+// Where nothing happened for longer than the deadline of the timer that was set. A report ends no
+// such silence.
 function silencesOf() {
-  const found = [], {deadline, in_flight: flying} = trace.state;
-  for (let at = 1; at < trace.count && at <= trace.limit; at++) {
-    if ('hbu'.includes(trace.kind[at])) continue;
-    // Where a deadline lies behind the time at which it was set, it counts from then.
-    const over = trace.time[at] - Math.max(deadline[at - 1], trace.time[at - 1]);
-    if (over > 0) found.push({at, over, long: trace.time[at] - trace.time[at - 1],
-      flying: flying[at - 1]});
+  const found = [], {deadline, timer, in_flight: flying} = trace.state;
+  // A deadline that is past when it is set counts from then.
+  let from = -1, since = 0;
+  for (let at = 0; at < trace.count && at <= trace.limit; at++) {
+    if (!hasTime(at)) continue;
+    const over = trace.time[at] - Math.max(deadline[from], since);
+    if (over > 0) {
+      // One that went on past a report is one.
+      if (found.length && found[found.length - 1].from === from) found.pop();
+      const long = trace.time[at] - trace.time[from];
+      found.push({from, at, over, long, flying: flying[from]});
+    }
+    if (trace.kind[at] === 'm') continue;
+    const isAnother = timer[at] !== timer[from] || deadline[at] !== deadline[from];
+    if (isAnother) since = trace.time[at];
+    from = at;
   }
   return found.sort((a, b) => b.over - a.over).slice(0, 2000);
 }

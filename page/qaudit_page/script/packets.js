@@ -346,7 +346,7 @@ function drawSilences(context, area, to) {
   const bottom = area.y + (timerLane ? timerLane.top - LANE_GAP : area.h) - 6;
   let drawn = 0;
   for (const it of trace.silences) {
-    const left = Math.max(area.x, to.x(view.x[it.at - 1]));
+    const left = Math.max(area.x, to.x(view.x[it.from]));
     const right = Math.min(area.x + area.w, to.x(view.x[it.at]));
     const over = it.over / trace.scale * area.w / (view.to - view.from);
     if (right - left < 24 || over < 3 || drawn > 20) continue;

@@ -2,7 +2,7 @@
 
 const TONES = [
   'paper', 'ink', 'soft', 'line', 'initial', 'handshake', 'app', 'lost', 'timer', 'refused',
-  'unread', 'shade', 'veil', 'flight', 'least', 'latest',
+  'shade', 'veil', 'flight', 'least', 'latest',
 ];
 const FONT = '12px system-ui, "DejaVu Sans", sans-serif';
 const DASHES = {
@@ -19,7 +19,6 @@ function readColors() {
 
 const toneOfMark = of => of === 'pto' || of === 'loss' ? colors.timer : colors.soft;
 const toneOfSpace = (space, isJudged) => isJudged ? colors[SPACES[space]] : colors.soft;
-const toneOfVerdict = ({kind}) => kind === 'refused' ? colors.refused : colors.unread;
 
 // Strokes what a function puts into a path.
 function stroked(context, color, width, dashes, path, alpha = 1) {

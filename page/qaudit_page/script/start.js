@@ -2,7 +2,14 @@
 
 const nameOfAxis = () => view.byLine ? 'line of the trace' : 'time (ms)';
 const tickOf = value => grouped(+value.toPrecision(12));
-const widthOfLabels = () => innerWidth < 600 ? 56 : 74;
+
+// As wide as the largest packet number, unless that takes a quarter of the page.
+function widthOfLabels() {
+  const {space, number, least, count} = trace.packets, most = [0, 0, 0];
+  for (let p = 0; p < count; p++) most[space[p]] = Math.max(most[space[p]], number[p]);
+  const digits = Math.max(...least.map((n, s) => grouped(n + BigInt(Math.round(most[s]))).length));
+  return Math.max(innerWidth < 600 ? 56 : 74, Math.min(innerWidth / 4, 7 * digits + 8));
+}
 
 // The range selector shows how many packets had been sent.
 function progress() {
@@ -158,7 +165,7 @@ function fillKeys() {
     [has('loss'), 'loss timer', c => shaped(c, colors.timer, 1.6, triangle, 5)],
     [has('discard'), 'keys discarded', c => standingLine(c, colors.soft, 1.3, DASHES.discard)],
     [trace.verdictAt >= 0, 'line of the verdict', c =>
-      standingLine(c, toneOfVerdict(trace.verdict), 2.5, [])],
+      standingLine(c, colors.refused, 2.5, [])],
     [trace.departed.size > 1, 'other violation', c =>
       standingLine(c, colors.refused, 1.3, DASHES.departed)],
     [trace.limit < trace.count, 'not judged', c => hatched(c, 1, 1, 24, 14, 1)],

@@ -149,7 +149,7 @@ function drawOver(context, area, hasLabels) {
 
 // The upright of a line that is refused or cannot be read; its flag.
 function drawVerdict(context, area, to, at, verdict) {
-  const {line, rule, name, kind} = verdict, x = to.x(view.x[at]), color = toneOfVerdict(verdict);
+  const {line, rule, name, kind} = verdict, x = to.x(view.x[at]), color = colors.refused;
   upright(context, area, x, color, 2.5, []);
   const sign = kind === 'refused' ? '\u2717' : '?';
   return {x, text: `${sign} line ${line}: ${rule} ${name}`, color, full: true};

@@ -18,12 +18,12 @@ use Rattle.qa_explain.specs.text.Pieces.{named, numbered}
 
 unfoldable pub some_gap_text : ℕ → ℕ → ℕ → List ℕ
 some_gap_text slack difference held =
-    numbered (codes ", the machine has ") held ++ numbered (codes ", difference ") difference
+    numbered (codes ", the model has ") held ++ numbered (codes ", difference ") difference
     ++ numbered (codes ", slack ") slack ++ codes "\n"
 
 -- how far a reported value is from the machine's, which may be none
 abbrev pub gap_text : ℕ → ℕ → Option ℕ → List ℕ
-gap_text slack reported None = codes ", the machine has none\n"
+gap_text slack reported None = codes ", the model has none\n"
 gap_text slack reported (Some held) = some_gap_text slack (distance reported held) held
 
 unfoldable pub field_line : Field → ℕ → ℕ → Option ℕ → List ℕ

@@ -1,11 +1,12 @@
-//! What an event did, behind what it is.
+//! What an event did that breaks a rule, behind what it is.
 ghost use Rattle.std.specs.Prelude.{◌≡◌, ◌++◌, OnOk, string_bytes, unwrap_or};
 ghost use Rattle.qa_explain.specs.text.Predicates as text;
 
 use crate::text::deadlines::due_time;
 use crate::text::pieces::{push_name, push_number, push_wide, push_words};
 use crate::text::sending::size_of;
-use qa_base::{Event, Rule, Ticks};
+use crate::text::times::push_timed;
+use qa_base::{Event, Rule, Ticks, TimeUnit};
 use qa_ledger::Cause;
 use std::alloc::AllocError;
 
@@ -22,12 +23,17 @@ fn time_or_zero(time: Option<Ticks>) -> u64
 }
 
 #[tactic(auto, unfolding(crate::specs::text::Predicates::before_text))]
-fn push_before(out: &mut String, time: u64, before: u64) -> Result<(), AllocError>
+fn push_before(out: &mut String, unit: TimeUnit, time: u64, before: u64) -> Result<(), AllocError>
     ensures { OnOk result (string_bytes out.new
-        ≡ string_bytes out.old ++ text.before_text time before) }
+        ≡ string_bytes out.old ++ text.before_text unit time before) }
 {
-    push_number(out, " is at ", time)?;
-    push_number(out, ", before the event before it at ", before)
+    push_timed(out, " is at ", unit, u128::from(time))?;
+    push_timed(
+        out,
+        ", before the event before it at ",
+        unit,
+        u128::from(before),
+    )
 }
 
 #[tactic(auto, unfolding(crate::specs::text::Predicates::passed_text))]
@@ -58,56 +64,56 @@ fn push_past_window(
     push_passed(out, sum, window)
 }
 
-#[tactic(auto, unfolding(crate::specs::text::Predicates::tolerance_text))]
-fn push_tolerance(out: &mut String, early: u64) -> Result<(), AllocError>
+#[tactic(auto, unfolding(crate::specs::text::Predicates::some_tolerance))]
+fn push_some_tolerance(out: &mut String, unit: TimeUnit, early: u64) -> Result<(), AllocError>
     ensures { OnOk result (string_bytes out.new
-        ≡ string_bytes out.old ++ text.tolerance_text early) }
+        ≡ string_bytes out.old ++ text.some_tolerance unit early) }
+{
+    push_timed(out, " (", unit, u128::from(early))?;
+    push_words(out, " allowed)")
+}
+
+fn push_tolerance(out: &mut String, unit: TimeUnit, early: u64) -> Result<(), AllocError>
+    ensures { OnOk result (string_bytes out.new
+        ≡ string_bytes out.old ++ text.tolerance_text unit early) }
 {
     if 0 < early {
-        return push_number(out, ", where the header allows ", early);
+        return push_some_tolerance(out, unit, early);
     }
     Ok(())
 }
 
 #[tactic(auto, unfolding(crate::specs::text::Predicates::early_predicate))]
-fn push_fired_early(out: &mut String, time: u64, by: u128, early: u64) -> Result<(), AllocError>
+fn push_fired_early(
+    out: &mut String,
+    unit: TimeUnit,
+    time: u64,
+    by: u128,
+    early: u64,
+) -> Result<(), AllocError>
     ensures { OnOk result (string_bytes out.new
-        ≡ string_bytes out.old ++ text.early_predicate time by early) }
+        ≡ string_bytes out.old ++ text.early_predicate unit time by early) }
 {
-    push_number(out, " fired at ", time)?;
-    push_wide(out, ", ", by)?;
-    push_words(out, " before its deadline")?;
-    push_tolerance(out, early)
-}
-
-#[tactic(auto, unfolding(crate::specs::text::Predicates::late_predicate))]
-fn push_came_late(out: &mut String, by: u128, limit: u128) -> Result<(), AllocError>
-    ensures { OnOk result (string_bytes out.new
-        ≡ string_bytes out.old ++ text.late_predicate by limit) }
-{
-    push_wide(out, " came ", by)?;
-    push_wide(
-        out,
-        " after the timer should have fired, where the header allows ",
-        limit,
-    )
+    push_timed(out, " fired ", unit, by)?;
+    push_timed(out, " early, at ", unit, u128::from(time))?;
+    push_tolerance(out, unit, early)
 }
 
 // ---- by the rule and the event's time
 
 #[tactic(auto, unfolding(crate::specs::text::Predicates::fired_text))]
-fn push_fired(out: &mut String, time: u64, words: &str) -> Result<(), AllocError>
+fn push_fired(out: &mut String, unit: TimeUnit, time: u64, words: &str) -> Result<(), AllocError>
     ensures { OnOk result (string_bytes out.new
-        ≡ string_bytes out.old ++ text.fired_text time words.now) }
+        ≡ string_bytes out.old ++ text.fired_text unit time words.now) }
 {
-    push_number(out, " fired at ", time)?;
+    push_timed(out, " fired at ", unit, u128::from(time))?;
     push_words(out, words)
 }
 
 #[tactic(auto, unfolding(crate::specs::text::Predicates::plain_predicate))]
-fn push_plain(out: &mut String, time: u64, rule: Rule) -> Result<(), AllocError>
+fn push_plain(out: &mut String, unit: TimeUnit, time: u64, rule: Rule) -> Result<(), AllocError>
     ensures { OnOk result (string_bytes out.new
-        ≡ string_bytes out.old ++ text.plain_predicate time rule) }
+        ≡ string_bytes out.old ++ text.plain_predicate unit time rule) }
 {
     match rule {
         Rule::TimeBack => push_words(out, " is before the event before it"),
@@ -120,12 +126,12 @@ fn push_plain(out: &mut String, time: u64, rule: Rule) -> Result<(), AllocError>
         Rule::PastProbe => push_words(out, " goes past what a probe timeout allows"),
         Rule::PastRecovery => push_words(out, " goes past what an entry into recovery allows"),
         Rule::AckUnsent => push_words(out, " covers a packet that was never sent"),
-        Rule::TimerNotSet => push_fired(out, time, ", where no timer is set"),
-        Rule::TimerOther => push_fired(out, time, ", where another is set"),
-        Rule::TimerEarly => push_fired(out, time, ", before its deadline"),
-        Rule::ProbeOwed => push_fired(out, time, ", while a probe was owed"),
+        Rule::TimerNotSet => push_fired(out, unit, time, ", where no timer is set"),
+        Rule::TimerOther => push_fired(out, unit, time, ", where another is set"),
+        Rule::TimerEarly => push_fired(out, unit, time, ", before its deadline"),
+        Rule::ProbeOwed => push_fired(out, unit, time, ", while a probe was owed"),
         Rule::NotConfirmed => push_words(out, " came before the handshake was confirmed"),
-        Rule::Metric(field) => push_name(out, " differs from the machine in ", field.name()),
+        Rule::Metric(field) => push_name(out, " differs from the model in ", field.name()),
         Rule::OwedAtEnd => push_words(out, " is the last, and a loss is owed"),
         Rule::TimerLate => push_words(out, " came after the timer should have fired"),
         Rule::CollapseMissing => {
@@ -136,20 +142,22 @@ fn push_plain(out: &mut String, time: u64, rule: Rule) -> Result<(), AllocError>
 
 // ---- what it did
 
-/// Appends what the event did that breaks the rule, with the amounts of the cause.
+/// Appends what the event did that breaks the rule, behind what it is, with the amounts of the
+/// cause.
 pub fn push_predicate(
     out: &mut String,
+    unit: TimeUnit,
     event: &Event,
     rule: Rule,
     cause: &Cause,
 ) -> Result<(), AllocError>
     ensures { OnOk result (string_bytes out.new
-        ≡ string_bytes out.old ++ text.predicate event.now rule cause.now) }
+        ≡ string_bytes out.old ++ text.predicate unit event.now rule cause.now) }
 {
     let time = event.time().get();
     match (rule, cause) {
         (Rule::TimeBack, Cause::TimeBack { before }) => {
-            push_before(out, time, time_or_zero(*before))
+            push_before(out, unit, time, time_or_zero(*before))
         }
         (
             Rule::PastWindow,
@@ -164,13 +172,8 @@ pub fn push_predicate(
         }
         (Rule::TimerEarly, Cause::TimerEarly { due, early, .. }) => {
             let by = due_time(*due).saturating_sub(u128::from(time));
-            push_fired_early(out, time, by, *early)
+            push_fired_early(out, unit, time, by, *early)
         }
-        (Rule::TimerLate, Cause::TimerLate { due, since, limit }) => {
-            let from = due_time(*due).max(u128::from(since.get()));
-            let by = u128::from(time).saturating_sub(from);
-            push_came_late(out, by, limit.unwrap_or(0))
-        }
-        _ => push_plain(out, time, rule),
+        _ => push_plain(out, unit, time, rule),
     }
 }

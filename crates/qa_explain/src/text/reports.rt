@@ -20,7 +20,7 @@ fn push_some_gap(
     ensures { OnOk result (string_bytes out.new
         ≡ string_bytes out.old ++ text.some_gap_text slack difference held) }
 {
-    push_number(out, ", the machine has ", held)?;
+    push_number(out, ", the model has ", held)?;
     push_number(out, ", difference ", difference)?;
     push_wide(out, ", slack ", slack)?;
     push_words(out, "\n")
@@ -37,7 +37,7 @@ fn push_gap(
         ≡ string_bytes out.old ++ text.gap_text slack reported held) }
 {
     match held {
-        None => push_words(out, ", the machine has none\n"),
+        None => push_words(out, ", the model has none\n"),
         Some(held) => push_some_gap(out, slack, reported.abs_diff(held), held),
     }
 }

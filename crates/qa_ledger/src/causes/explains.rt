@@ -2,6 +2,7 @@
 ghost use Rattle.std.specs.Prelude.{◌≡◌, false, List, IfOk};
 ghost use Rattle.qa_base.specs.declared.event.Event.{Event as AnEvent};
 ghost use Rattle.qa_base.specs.machine.Timer as timers;
+ghost use Rattle.qa_base.specs.machine.Window as windows;
 ghost use Rattle.qa_base.specs.values.Settings.{Settings};
 ghost use Rattle.qa_ledger.specs.causes.Causes as causes;
 
@@ -12,7 +13,8 @@ use std::alloc::AllocError;
 
 /// A ledger that says why it refuses an event, or why the end of a trace breaks V17.
 ///
-/// It is asked once, for the event that is refused, and may take memory then.
+/// For a cause, and for what is owed, it is asked once, for the event that is refused, and may take
+/// memory then.
 pub trait Explains: Ledger {
     /// The facts of the rule for an event after those that were admitted. `AllocError` comes where
     /// it is out of memory.
@@ -37,4 +39,15 @@ pub trait Explains: Ledger {
     fn deadline(&self) -> Option<Due>
         ensures { Self.has_failed self.now ≡ false → (c : Settings) (h : List AnEvent)
             → Self.stands self.now c h → result ≡ timers.deadline c h };
+
+    /// The same where packets set it, and not a client that is not validated yet.
+    fn packet_deadline(&self) -> Option<Due>
+        ensures { Self.has_failed self.now ≡ false → (c : Settings) (h : List AnEvent)
+            → Self.stands self.now c h → result ≡ timers.packet_deadline c h };
+
+    /// The bytes that were newly acknowledged since persistent congestion (RFC 9002, section
+    /// 7.6.2); None without it, or where another window was reported since.
+    fn acknowledged_since_collapse(&self) -> Option<u64>
+        ensures { Self.has_failed self.now ≡ false → (c : Settings) (h : List AnEvent)
+            → Self.stands self.now c h → result ≡ windows.acknowledged_since_collapse c h };
 }

@@ -1,9 +1,8 @@
 -- What an event makes of the estimate, and whether the peer has validated the sender's address.
-use Rattle.std.proofs.Common.{◌≡◌, List, ◌∷◌, ℕ, Bool, true, false, refl, ap}
+use Rattle.std.proofs.Common.{◌≡◌, List, ◌∷◌, Bool, true, false, refl, ap}
 use Rattle.qa_base.specs.declared.event.Event.{Event}
 use Rattle.qa_base.specs.declared.event.Ack.{Ack as Acknowledgment}
 use Rattle.qa_base.specs.declared.event.Event.TheVariants.{Ack}
-use Rattle.qa_base.specs.declared.space.Space.{Space}
 use Rattle.qa_base.specs.machine.Detection.{is_persistent_by}
 use Rattle.qa_base.specs.machine.Estimates.{refreshed_by, rtt, sampled}
 use Rattle.qa_base.specs.machine.Handshake.{is_confirmed}

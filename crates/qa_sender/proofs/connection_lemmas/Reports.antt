@@ -10,7 +10,6 @@ use Rattle.qa_base.specs.declared.event.Event.{Event}
 use Rattle.qa_base.specs.declared.event.Ack.{Ack as Acknowledgment}
 use Rattle.qa_base.specs.declared.event.Event.TheVariants.{Ack, Metrics}
 use Rattle.qa_base.specs.declared.event.MetricValues.{MetricValues}
-use Rattle.qa_base.specs.declared.space.Space.{Space}
 use Rattle.qa_base.specs.machine.Loss.{is_persistent}
 use Rattle.qa_base.specs.machine.Moments.{detection_of}
 use Rattle.qa_base.specs.machine.Packets.{Packet, packets, is_newly_acknowledged, newly_acknowledged}

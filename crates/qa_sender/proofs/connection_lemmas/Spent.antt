@@ -8,7 +8,6 @@ use Rattle.qa_base.specs.declared.event.SentPacket.{SentPacket as PacketOfEvent}
 use Rattle.qa_base.specs.declared.event.Event.TheVariants.{Sent}
 use Rattle.qa_base.specs.declared.space.Permission.{Permission}
 use Rattle.qa_base.specs.declared.space.Permission.TheVariants.{Window, Probe, Recovery}
-use Rattle.qa_base.specs.declared.space.Space.{Space}
 use Rattle.qa_base.specs.machine.Permission.{is_recovery_packet, probe_size, probe_spent, recovery_spent}
 use Rattle.qa_base.specs.machine.Loss.{declared}
 use Rattle.qa_base.specs.machine.Reno.{is_entry}

@@ -6,7 +6,6 @@ use Rattle.qa_base.specs.declared.event.Event.{Event}
 use Rattle.qa_base.specs.declared.event.SentPacket.{SentPacket as PacketOfEvent}
 use Rattle.qa_base.specs.declared.event.Event.TheVariants.{Sent, Timer}
 use Rattle.qa_base.specs.declared.space.TimerKind.TheVariants.{Loss, Pto}
-use Rattle.qa_base.specs.declared.space.Permission.{Permission}
 use Rattle.qa_base.specs.declared.space.Space.{Space}
 use Rattle.qa_base.specs.machine.Handshake.{is_validated}
 use Rattle.qa_base.specs.machine.Permission.{answers_pto, timer_space}

@@ -7,7 +7,6 @@ use Rattle.std.specs.Prelude.{if◌then◌else◌}
 use Rattle.qa_base.specs.declared.event.Event.{Event}
 use Rattle.qa_base.specs.declared.event.Ack.{Ack as Acknowledgment}
 use Rattle.qa_base.specs.declared.event.Event.TheVariants.{Ack}
-use Rattle.qa_base.specs.declared.space.Space.{Space}
 use Rattle.qa_base.specs.machine.Handshake.{is_confirmed}
 use Rattle.qa_base.specs.machine.Packets.{Packet, newly_acknowledged, acknowledges_new, is_some_packet, greatest}
 use Rattle.qa_base.specs.machine.Rtt.{Sample, gives_sample, sample_by, sample_of}

@@ -1,6 +1,6 @@
 -- The deadline of the timer, from what is kept of the connection and of the packets that are open.
-use Rattle.std.specs.Prelude.{◌≡◌, ℕ, ◌+◌, ◌*◌, ◌^◌, min, Bool, List, Option, Some, None}
-use Rattle.std.specs.Prelude.{option_map, if◌then◌else◌}
+use Rattle.std.specs.Prelude.{◌≡◌, ℕ, ◌+◌, ◌*◌, ◌^◌, ◌&&◌, min, not, is_none, Bool, List}
+use Rattle.std.specs.Prelude.{Option, Some, None, option_map, if◌then◌else◌}
 use Rattle.std.specs.List.{list_any}
 use Rattle.std.specs.Option.{option_or}
 use Rattle.qa_base.specs.declared.event.Event.{Event}
@@ -77,6 +77,16 @@ anti_deadlock k =
     if is_validated k.header.role k.handshake then None
     else pto_at (if k.handshake.has_keys then Handshake else Initial) k.timer.last_set
     (pto_base (granularity k.header) k.rtt) k.timer.pto_count
+
+-- no packet of the space sets the timer
+abbrev pub is_idle : OpenInSpace → Bool
+is_idle told = not told.awaits && is_none told.oldest
+
+-- where those of application data are the only ones
+abbrev pub app_deadline : Connection → OpenInSpace → Option Due
+app_deadline k told =
+    option_or (loss_due (granularity k.header) k.rtt k.spaces.app.largest App told.oldest)
+    (app_pto k told.awaits)
 
 abbrev pub packet_deadline : Connection → PerSpace OpenInSpace → Option Due
 packet_deadline k told = option_or (earliest_loss k told) (earliest_pto k told)

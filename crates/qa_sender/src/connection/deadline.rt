@@ -26,6 +26,15 @@ pub struct OpenInSpace {
     pub oldest: Option<SentPacket>,
 }
 
+impl OpenInSpace {
+    /// Whether no packet of the space sets the timer.
+    fn is_idle(&self) -> bool
+        ensures { result ≡ deadlines.is_idle self.now }
+    {
+        !self.awaits && self.oldest.is_none()
+    }
+}
+
 // ---- losses
 
 /// Whether the number is below the largest that was acknowledged.
@@ -198,6 +207,29 @@ impl Connection {
         }
     }
 
+    /// What the packets of application data set the timer for, where no others are open.
+    fn app_deadline(&self, packets: &OpenInSpace) -> Option<Due>
+        ensures { result ≡ deadlines.app_deadline self.now packets.now }
+    {
+        let granularity = self.header.granularity();
+        let largest = self.spaces.app.largest;
+        match loss_due(granularity, self.rtt, largest, Space::App, packets.oldest) {
+            Some(due) => Some(due),
+            None => self.app_pto(packets.awaits),
+        }
+    }
+
+    /// What the packets that are open set the timer for. After the handshake those of application
+    /// data are the only ones, so the other spaces are passed over.
+    fn due_by_packets(&self, packets: &PerSpace<OpenInSpace>) -> Option<Due>
+        ensures { result ≡ deadlines.packet_deadline self.now packets.now }
+    {
+        if packets.initial.is_idle() && packets.handshake.is_idle() {
+            return self.app_deadline(&packets.app);
+        }
+        self.earliest_loss(packets).or(self.earliest_pto(packets))
+    }
+
     /// What the loss detection timer is set for by the packets that are open: the first of them
     /// that is old enough to be lost, else a probe timeout; None where they do not set it. The
     /// timer that a client keeps until its address is validated is no part of it. `packets` is what
@@ -208,7 +240,7 @@ impl Connection {
             → IsProperToleratedRun c h
             → AreOpen packets.now c h → result ≡ timers.packet_deadline c h }
     {
-        self.earliest_loss(packets).or(self.earliest_pto(packets))
+        self.due_by_packets(packets)
     }
 
     /// What the loss detection timer is set for; None where it is not set (RFC 9002, A.8).

@@ -32,7 +32,8 @@ use Rattle.qa_violations.specs.all.Tolerating.{explained, unviolated}
 use Rattle.qa_violations.specs.allowed.Allowed.{before, beyond, early_by, late_by, metric_off, past_collapse_by, past_due, past_window}
 use Rattle.qa_violations.specs.allowed.Lines.{allowed_on, allowed_said}
 use Rattle.qa_violations.specs.laws.Strict.{differs_at, slack_in}
-use Rattle.qa_violations.specs.table.Amounts.{gap, held_of, past_collapse}
+use Rattle.qa_explain.specs.text.Values.{held_of}
+use Rattle.qa_violations.specs.table.Amounts.{gap, past_collapse}
 use Rattle.qa_violations.specs.table.Table.{is_nil}
 
 -- ---- numbers

@@ -36,7 +36,8 @@ past_sender_rules = record { says = reading; breaks = first_untolerated }
 -- of a violation, and the last rows before its line, up to so many
 abbrev pub violated_text : ℕ → List ℕ → Violated → List ℕ
 violated_text count name d =
-    broken_text (codes "departure") name d.line d.violation.rule d.event d.violation.cause d.bytes
+    broken_text (codes "departure") name d.line d.unit d.violation.rule d.event d.violation.cause
+    d.bytes
     ++ rows_before count d.before
 
 -- it is told of a violation, where none of its kind was found before

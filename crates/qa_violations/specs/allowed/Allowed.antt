@@ -21,10 +21,9 @@ use Rattle.qa_base.specs.values.Constants.{minimum_window}
 use Rattle.qa_base.specs.values.Events.{is_in_flight_by, time_of}
 use Rattle.qa_base.specs.values.Settings.{Settings, is_reported}
 use Rattle.qa_explain.specs.text.Deadlines.{due_time}
-use Rattle.qa_ledger.specs.declared.causes.cause.Cause.{Cause}
-use Rattle.qa_ledger.specs.declared.causes.cause.Cause.TheVariants as cause
+use Rattle.qa_explain.specs.text.Values.{held_of, reported_of}
 use Rattle.qa_violations.specs.declared.allowed.before.Before.{Before}
-use Rattle.qa_violations.specs.table.Amounts.{gap, held_of, past_collapse, reported_of}
+use Rattle.qa_violations.specs.table.Amounts.{gap, past_collapse}
 
 -- what the machine holds before an event, as far as these rules ask
 abbrev pub before : Settings → List Event → Before
@@ -45,11 +44,6 @@ followed b e totals due packet_due acknowledged = record {
   since = if is_same_due b.due due then b.since else time_of e;
   acknowledged = acknowledged;
 }
-
--- what the timer is set for by packets, in the facts of V18
-abbrev pub due_in : Cause → Option Due
-due_in (cause.TimerLate due since limit) = due
-due_in _ = None
 
 -- ---- V7
 

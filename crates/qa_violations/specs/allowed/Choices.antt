@@ -10,7 +10,7 @@ use Rattle.qa_base.specs.declared.rule.Rule.{Rule}
 use Rattle.qa_base.specs.declared.rule.Rule.TheVariants as rule
 use Rattle.qa_base.specs.values.Constants.{default_packet_threshold}
 use Rattle.qa_base.specs.values.Settings.{is_may, is_reported}
-use Rattle.qa_violations.specs.table.Amounts.{is_of_bytes}
+use Rattle.qa_explain.specs.text.Values.{is_of_bytes}
 
 -- ---- what a rule allows
 

@@ -16,7 +16,7 @@ use Rattle.qa_explain.specs.members.Object.{amount_at, closed, list_begin, list_
 use Rattle.qa_explain.specs.members.Object.{opened, some_amount_at, string_at, text_of_all}
 use Rattle.qa_violations.specs.allowed.Choices.{choices, key_of, limit_of}
 use Rattle.qa_violations.specs.declared.table.row.Row.{Row}
-use Rattle.qa_violations.specs.table.Amounts.{is_in_bytes}
+use Rattle.qa_explain.specs.text.Values.{is_in_bytes}
 use Rattle.qa_violations.specs.table.Members.{counts, greatest_at}
 use Rattle.qa_violations.specs.table.Texts as texts
 use Rattle.qa_why.specs.Objects.{rule_members}

@@ -17,11 +17,11 @@ use Rattle.qa_base.specs.machine.Timer.{Due}
 use Rattle.qa_base.specs.values.Names.{key_name, kind_name, rule_text, space_name}
 use Rattle.qa_base.specs.values.Settings.{Settings}
 use Rattle.qa_explain.specs.text.Pieces.{named, numbered}
+use Rattle.qa_explain.specs.text.Times.{time_text}
+use Rattle.qa_explain.specs.text.Values.{amount_text}
 use Rattle.qa_violations.specs.allowed.Choices.{choices, key_of, limit_of}
-use Rattle.qa_violations.specs.allowed.Times.{time_text}
 use Rattle.qa_violations.specs.declared.allowed.late.Late.{Late}
 use Rattle.qa_violations.specs.declared.table.row.Row.{Row}
-use Rattle.qa_violations.specs.table.Amounts.{is_in_bytes}
 use Rattle.qa_violations.specs.table.Texts.{by_words}
 use Rattle.qa_why.specs.declared.caveats.guesses.Guessed.{Guessed}
 
@@ -38,12 +38,6 @@ often_text count first last =
 abbrev pub where_text : Row → List ℕ
 where_text row =
     if row.count == 1 then once_text row.first else often_text row.count row.first row.last
-
-unfoldable pub bytes_text : ℕ → List ℕ
-bytes_text n = numbered [] n ++ codes " bytes"
-
-abbrev pub amount_text : TimeUnit → Rule → ℕ → List ℕ
-amount_text u r n = if is_in_bytes r then bytes_text n else time_text u n
 
 unfoldable pub by_text : TimeUnit → Rule → ℕ → ℕ → List ℕ
 by_text u r count n = by_words count ++ amount_text u r n

@@ -1,10 +1,8 @@
 -- By how much an event violates a rule that it breaks.
-use Rattle.std.specs.Prelude.{ℕ, min, max, ◌+◌, ◌-◌, ◌^◌, Bool, true, false, Option, Some, None}
+use Rattle.std.specs.Prelude.{ℕ, min, max, ◌+◌, ◌-◌, ◌^◌, Option, Some, None}
 use Rattle.qa_base.specs.declared.event.Event.{Event}
 use Rattle.qa_base.specs.declared.event.Event.TheVariants.{Metrics}
-use Rattle.qa_base.specs.declared.event.MetricValues.{MetricValues}
 use Rattle.qa_base.specs.declared.rule.Field.{Field}
-use Rattle.qa_base.specs.declared.rule.Field.TheVariants as field
 use Rattle.qa_base.specs.declared.rule.Rule.{Rule}
 use Rattle.qa_base.specs.declared.rule.Rule.TheVariants as rule
 use Rattle.qa_base.specs.declared.totals.Totals.{Totals}
@@ -14,6 +12,7 @@ use Rattle.qa_ledger.specs.declared.causes.cause.Cause.{Cause}
 use Rattle.qa_ledger.specs.declared.causes.cause.Cause.TheVariants as cause
 use Rattle.qa_explain.specs.text.Deadlines.{due_time}
 use Rattle.qa_explain.specs.text.Sending.{size_of}
+use Rattle.qa_explain.specs.text.Values.{held_of, reported_of}
 
 -- ---- V8
 
@@ -28,24 +27,6 @@ past_allowance allowance None size = None
 past_allowance allowance (Some spent) size = Some (min (spent + size) most_bytes - allowance)
 
 -- ---- V16
-
-abbrev pub reported_of : Field → MetricValues → Option ℕ
-reported_of field.Window values = values.window
-reported_of field.Ssthresh values = values.ssthresh
-reported_of field.BytesInFlight values = values.bytes_in_flight
-reported_of field.LatestRtt values = values.latest_rtt
-reported_of field.MinRtt values = values.min_rtt
-reported_of field.SmoothedRtt values = values.smoothed_rtt
-reported_of field.Rttvar values = values.rttvar
-
-abbrev pub held_of : Field → Totals → Option ℕ
-held_of field.Window held = Some held.window
-held_of field.Ssthresh held = held.ssthresh
-held_of field.BytesInFlight held = Some held.bytes_in_flight
-held_of field.LatestRtt held = Some held.latest_rtt
-held_of field.MinRtt held = Some held.min_rtt
-held_of field.SmoothedRtt held = Some held.smoothed_rtt
-held_of field.Rttvar held = Some held.rttvar
 
 -- how far two values are from each other, where there are two
 abbrev pub gap : Option ℕ → Option ℕ → Option ℕ
@@ -78,20 +59,3 @@ amount e rule.TimerLate (cause.TimerLate due since limit) =
 amount e rule.CollapseMissing (cause.CollapseMissing least acknowledged slack reported) =
     past_collapse least acknowledged reported
 amount e r k = None
-
--- ---- the unit
-
--- the value is a number of bytes, and else a time
-abbrev pub is_of_bytes : Field → Bool
-is_of_bytes field.Window = true
-is_of_bytes field.Ssthresh = true
-is_of_bytes field.BytesInFlight = true
-is_of_bytes _ = false
-
--- the amounts of the rule are in bytes, and else in the unit of times
-abbrev pub is_in_bytes : Rule → Bool
-is_in_bytes rule.PastWindow = true
-is_in_bytes rule.PastProbe = true
-is_in_bytes rule.CollapseMissing = true
-is_in_bytes (rule.Metric f) = is_of_bytes f
-is_in_bytes _ = false

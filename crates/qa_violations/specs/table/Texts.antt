@@ -4,7 +4,7 @@ use Rattle.std.specs.Prelude.{None, if◌then◌else◌}
 use Rattle.qa_base.specs.declared.rule.Rule.{Rule}
 use Rattle.qa_base.specs.declared.space.TimeUnit.{TimeUnit}
 use Rattle.qa_base.specs.values.Names.{rule_text, unit_name}
-use Rattle.qa_violations.specs.table.Amounts.{is_in_bytes}
+use Rattle.qa_explain.specs.text.Values.{is_in_bytes}
 use Rattle.qa_violations.specs.table.Table.{counted, table}
 use Rattle.qa_violations.specs.declared.table.finding.Finding.{Finding}
 use Rattle.qa_violations.specs.declared.table.row.Row.{Row}

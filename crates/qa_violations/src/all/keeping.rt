@@ -74,13 +74,14 @@ impl Kept {
         event: &Event,
         violation: &Violation,
     ) -> Result<(), AllocError>
-        ensures first { OnOk result ((count : ℕ) (u : AUnit) (ls : List (List ℕ))
+        ensures first { OnOk result ((count : ℕ) (ls : List (List ℕ))
             (ds : List Violated) → Keeps count name.now self.old ds
             → KeepsRows count self.old (all_rows ls)
             → self.new.firsts.items ≡ self.old.firsts.items
             ++ all.first_text count name.now (violated.findings ds)
-            (violated.violated u n ls line.now event.now violation.now)) }
-        ensures rest { (self.new.table ≡ self.old.table) × (self.new.latest ≡ self.old.latest) }
+            (violated.violated self.old.unit n ls line.now event.now violation.now)) }
+        ensures rest { (self.new.table ≡ self.old.table) × (self.new.latest ≡ self.old.latest)
+            × (self.new.unit ≡ self.old.unit) }
     {
         if self.table.has(violation.rule) {
             return Ok(());
@@ -90,6 +91,7 @@ impl Kept {
             n,
             word: "departure",
             rule: violation.rule,
+            unit: self.unit,
         };
         let mut text = broken(self.alloc, &heading, event, &violation.cause, line)?;
         self.latest.push_text(&mut text)?;
@@ -106,11 +108,11 @@ impl Kept {
         violation: &Violation,
     ) -> Result<(), AllocError>
         ensures kept { OnOk result ((count : ℕ) (u : AUnit) (ls : List (List ℕ))
-            (ds : List Violated) → Keeps count name.now self.old ds
+            (ds : List Violated) → self.old.unit ≡ u → Keeps count name.now self.old ds
             → KeepsRows count self.old (all_rows ls)
             → Keeps count name.now self.new
             (ds ++ violated.violated u n ls line.now event.now violation.now ∷ [])) }
-        ensures rest { self.new.latest ≡ self.old.latest }
+        ensures rest { (self.new.latest ≡ self.old.latest) × (self.new.unit ≡ self.old.unit) }
     {
         self.tell(name, n, line, event, violation)?;
         self.table.note(&finding(n, event, violation));
@@ -127,11 +129,12 @@ impl Kept {
         violations: &[Violation],
     ) -> Result<(), AllocError>
         ensures kept { OnOk result ((count : ℕ) (u : AUnit) (ls : List (List ℕ))
-            (ds : List Violated) → Keeps count name.now self.old ds
+            (ds : List Violated) → self.old.unit ≡ u → Keeps count name.now self.old ds
             → KeepsRows count self.old (all_rows ls)
             → Keeps count name.now self.new
-            (ds ++ map (violated.violated u n ls line.now event.now) violations.now)) }
-        ensures rest { self.new.latest ≡ self.old.latest }
+            (ds ++ map (violated.violated u n ls line.now event.now)
+            violations.now)) }
+        ensures rest { (self.new.latest ≡ self.old.latest) × (self.new.unit ≡ self.old.unit) }
     {
         for violation in violations {
             self.note(name, n, line, event, violation)?;
@@ -156,11 +159,11 @@ impl Kept {
             × Keeps count name.now self.new (ds ++ violated_by n ls line.now said.now c h)
             × (self.new.unit ≡ c.unit) × (self.new.events ≡ length h)) }
     {
+        self.unit = judge.unit();
         if let Line::Event(event) = said {
             self.note_each(name, n, line, event, judge.latest())?;
         }
         self.latest.note_said(n, said, judge.ledger())?;
-        self.unit = judge.unit();
         self.events = judge.state().events;
         Ok(())
     }

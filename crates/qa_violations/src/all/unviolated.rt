@@ -42,9 +42,10 @@ impl<L: Tolerates + Explains + Drop> Notes<Tolerating<L>> for Unviolated {
         match judge {
             Some(judge) => {
                 let counts = judge.latest().is_empty();
-                self.allowances.note_said(n, said, counts, judge.ledger())
+                self.allowances.note_said(n, said, counts, judge.ledger());
             }
-            None => Ok(()),
+            None => (),
         }
+        Ok(())
     }
 }

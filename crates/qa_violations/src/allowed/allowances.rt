@@ -1,5 +1,5 @@
 //! What is kept of what a header allowed while a trace is judged.
-ghost use Rattle.std.specs.Prelude.{◌≡◌, ◌++◌, ◌∷◌, [], List, ℕ, Option, Some, false, OnOk};
+ghost use Rattle.std.specs.Prelude.{◌≡◌, ◌++◌, ◌∷◌, [], List, ℕ, Option, Some, false};
 ghost use Rattle.std.specs.Option.{option_or};
 ghost use Rattle.qa_base.specs.declared.event.Event.{Event as AnEvent};
 ghost use Rattle.qa_base.specs.values.Settings.{Settings};
@@ -14,7 +14,6 @@ use crate::allowed::tally::Tally;
 use qa_base::{Event, Header, Totals};
 use qa_format::Line;
 use qa_ledger::Explains;
-use std::alloc::AllocError;
 
 /// The header of a trace, what the machine holds after its last event, and in sum what the header
 /// allowed its events that break no rule. Memory does not grow.
@@ -70,56 +69,40 @@ impl Allowances {
     }
 
     /// Notes what an event on line n was allowed, where it counts, by the ledger after it.
-    fn note_event<L: Explains>(
-        &mut self,
-        n: u64,
-        event: &Event,
-        counts: bool,
-        ledger: &L,
-    ) -> Result<(), AllocError>
+    fn note_event<L: Explains>(&mut self, n: u64, event: &Event, counts: bool, ledger: &L)
         requires works { L.has_failed ledger.now ≡ false }
-        ensures { OnOk result ((c : Settings) (h : List AnEvent) (fs : List AFinding)
+        ensures { (c : Settings) (h : List AnEvent) (fs : List AFinding)
             (lates : List ALate) → IsAt self.old (Some c) h
             → L.stands ledger.now c (event.now ∷ h) → Tallies self.old.tally fs lates
             → IsAt self.new (Some c) (event.now ∷ h)
             × Tallies self.new.tally
             (fs ++ lines.allowed_if counts n c (event.now ∷ h))
-            (lates ++ lines.lates_if counts n c (event.now ∷ h))) }
+            (lates ++ lines.lates_if counts n c (event.now ∷ h)) }
     {
         let Some(header) = &self.header else {
-            return Ok(());
+            return;
         };
         self.tally.note_if(counts, n, header, &self.before, event);
-        self.before = self.before.after(event, ledger)?;
+        self.before = self.before.after(event, ledger);
         self.time = Some(event.time().get());
-        Ok(())
     }
 
     /// Notes what a good line says, by the ledger after it: what its event was allowed, where that
-    /// counts. `AllocError` comes where it is out of memory; nothing is promised then.
-    pub(crate) fn note_said<L: Explains>(
-        &mut self,
-        n: u64,
-        said: &Line,
-        counts: bool,
-        ledger: &L,
-    ) -> Result<(), AllocError>
+    /// counts.
+    pub(crate) fn note_said<L: Explains>(&mut self, n: u64, said: &Line, counts: bool, ledger: &L)
         requires works { L.has_failed ledger.now ≡ false }
-        ensures { OnOk result ((old : Option Settings) (c : Settings) (h : List AnEvent)
+        ensures { (old : Option Settings) (c : Settings) (h : List AnEvent)
             (fs : List AFinding) (lates : List ALate) → IsAt self.old old h
             → IsHeaderAfter old said.now c
             → L.stands ledger.now c (history_after h said.now) → Tallies self.old.tally fs lates
             → IsAt self.new (Some c) (history_after h said.now)
             × Tallies self.new.tally
             (fs ++ lines.allowed_said counts n said.now c (history_after h said.now))
-            (lates ++ lines.lates_said counts n said.now c (history_after h said.now))) }
+            (lates ++ lines.lates_said counts n said.now c (history_after h said.now)) }
     {
         match said {
-            Line::Blank => Ok(()),
-            Line::Header(header) => {
-                self.begin(*header, ledger);
-                Ok(())
-            }
+            Line::Blank => (),
+            Line::Header(header) => self.begin(*header, ledger),
             Line::Event(event) => self.note_event(n, event, counts, ledger),
         }
     }

@@ -4,10 +4,10 @@ ghost use Rattle.qa_base.specs.machine.Window as windows;
 ghost use Rattle.qa_violations.specs.allowed.Allowed as allowed;
 
 use crate::allowed::before::Before;
-use crate::table::{gap, held_of, past_collapse, reported_of};
+use crate::table::{gap, past_collapse};
 use qa_base::constants::minimum_window;
 use qa_base::{Due, Event, Field, Header, MetricValues, Permission, SentPacket, Totals};
-use qa_explain::text::due_time;
+use qa_explain::text::{due_time, held_of, reported_of};
 
 // ---- V7
 

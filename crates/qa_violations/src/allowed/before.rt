@@ -1,15 +1,13 @@
 //! What the machine holds before an event, by which is told what the header allows it.
-ghost use Rattle.std.specs.Prelude.{◌≡◌, [], ◌∷◌, List, false, IfOk};
+ghost use Rattle.std.specs.Prelude.{◌≡◌, [], ◌∷◌, List, false};
 ghost use Rattle.qa_base.specs.declared.event.Event.{Event as AnEvent};
 ghost use Rattle.qa_base.specs.machine.State as state;
 ghost use Rattle.qa_base.specs.machine.Timer as timers;
-ghost use Rattle.qa_base.specs.machine.Window as windows;
 ghost use Rattle.qa_base.specs.values.Settings.{Settings};
 ghost use Rattle.qa_violations.specs.allowed.Allowed as allowed;
 
-use qa_base::{Due, Event, Rule, Totals};
-use qa_ledger::{Cause, Explains};
-use std::alloc::AllocError;
+use qa_base::{Due, Event, Totals};
+use qa_ledger::Explains;
 
 /// What the machine holds before an event, as far as V7, V13, V16, V18 and V19 ask.
 #[derive(Clone, Copy, Drop)]
@@ -66,18 +64,17 @@ impl Before {
         }
     }
 
-    /// What is held after the event, by the ledger that admitted it. `AllocError` comes where it is
-    /// out of memory.
-    pub(crate) fn after<L: Explains>(&self, event: &Event, ledger: &L) -> Result<Before, AllocError>
+    /// What is held after the event, by the ledger that admitted it.
+    pub(crate) fn after<L: Explains>(&self, event: &Event, ledger: &L) -> Before
         requires works { L.has_failed ledger.now ≡ false }
-        ensures { IfOk result (λ b. (c : Settings) (h : List AnEvent)
+        ensures { (c : Settings) (h : List AnEvent)
             → self.now ≡ allowed.before c h → L.stands ledger.now c (event.now ∷ h)
-            → b ≡ allowed.before c (event.now ∷ h)) }
+            → result ≡ allowed.before c (event.now ∷ h) }
     {
-        let packet_due = packet_due(event, ledger)?;
-        let acknowledged = acknowledged(event, ledger)?;
+        let packet_due = ledger.packet_deadline();
         let due = due_beside(&packet_due, ledger);
-        Ok(self.followed(event, ledger.totals(), due, packet_due, acknowledged))
+        let acknowledged = ledger.acknowledged_since_collapse();
+        self.followed(event, ledger.totals(), due, packet_due, acknowledged)
     }
 }
 
@@ -91,37 +88,5 @@ fn due_beside<L: Explains>(packet_due: &Option<Due>, ledger: &L) -> Option<Due>
     match packet_due {
         Some(due) => Some(*due),
         None => ledger.deadline(),
-    }
-}
-
-/// What the timer is set for by packets, in the facts of V18.
-fn due_in(cause: &Cause) -> Option<Due>
-    ensures { result ≡ allowed.due_in cause.now }
-{
-    match cause {
-        Cause::TimerLate { due, .. } => *due,
-        _ => None,
-    }
-}
-
-/// What the timer is set for by packets.
-fn packet_due<L: Explains>(event: &Event, ledger: &L) -> Result<Option<Due>, AllocError>
-    requires works { L.has_failed ledger.now ≡ false }
-    ensures { IfOk result (λ due. (c : Settings) (h : List AnEvent)
-        → L.stands ledger.now c h → due ≡ timers.packet_deadline c h) }
-{
-    let cause = ledger.cause(event, Rule::TimerLate)?;
-    Ok(due_in(&cause))
-}
-
-/// The bytes that were newly acknowledged since persistent congestion.
-fn acknowledged<L: Explains>(event: &Event, ledger: &L) -> Result<Option<u64>, AllocError>
-    requires works { L.has_failed ledger.now ≡ false }
-    ensures { IfOk result (λ bytes. (c : Settings) (h : List AnEvent)
-        → L.stands ledger.now c h → bytes ≡ windows.acknowledged_since_collapse c h) }
-{
-    match ledger.cause(event, Rule::CollapseMissing)? {
-        Cause::CollapseMissing { acknowledged, .. } => Ok(acknowledged),
-        _ => Ok(None),
     }
 }

@@ -4,9 +4,10 @@ ghost use Rattle.qa_violations.specs.allowed.Members as text;
 ghost use Rattle.qa_violations.specs.table.Table.{has_findings};
 
 use crate::allowed::choices::{key_of, limit_of};
-use crate::table::{Row, is_in_bytes, push_counts, push_greatest, unit_of};
+use crate::table::{Row, push_counts, push_greatest, unit_of};
 use qa_base::{Due, Key, Options, Rule, TimeUnit};
 use qa_explain::members::{Object, push_due};
+use qa_explain::text::is_in_bytes;
 use qa_why::{Guessed, extend, push_rule};
 use std::alloc::{AllocError, Global};
 

@@ -7,10 +7,9 @@ ghost use Rattle.qa_violations.specs.table.Table.{has_findings};
 
 use crate::allowed::choices::{key_of, limit_of};
 use crate::allowed::late::Late;
-use crate::allowed::times::push_time;
-use crate::table::{Row, by_words, is_in_bytes};
+use crate::table::{Row, by_words};
 use qa_base::{Due, Key, Options, Rule, Space, TimeUnit, TimerKind};
-use qa_explain::text::{push_name, push_number, push_wide, push_words};
+use qa_explain::text::{push_amount, push_name, push_number, push_time, push_wide, push_words};
 use qa_why::Guessed;
 use std::alloc::AllocError;
 use std::fmt::Write;
@@ -37,25 +36,6 @@ fn push_where(out: &mut String, row: &Row) -> Result<(), AllocError>
         return push_number(out, " once, line ", row.first);
     }
     push_often(out, row.count, row.first, row.last)
-}
-
-#[tactic(auto, unfolding(crate::specs::allowed::Texts::bytes_text))]
-fn push_bytes(out: &mut String, bytes: u128) -> Result<(), AllocError>
-    ensures { OnOk result (string_bytes out.new
-        ≡ string_bytes out.old ++ text.bytes_text bytes) }
-{
-    push_wide(out, "", bytes)?;
-    push_words(out, " bytes")
-}
-
-fn push_amount(out: &mut String, unit: TimeUnit, rule: Rule, amount: u128) -> Result<(), AllocError>
-    ensures { OnOk result (string_bytes out.new
-        ≡ string_bytes out.old ++ text.amount_text unit rule amount) }
-{
-    if is_in_bytes(rule) {
-        return push_bytes(out, amount);
-    }
-    push_time(out, unit, amount)
 }
 
 #[tactic(auto, unfolding(crate::specs::allowed::Texts::by_text))]

@@ -81,8 +81,9 @@ impl<L: Explains + Drop> Notes<L> for Allowances {
     ) -> Result<(), AllocError> {
         match judge {
             Some(judge) => self.note_said(n, said, true, judge),
-            None => Ok(()),
+            None => (),
         }
+        Ok(())
     }
 }
 

@@ -8,7 +8,9 @@ ghost use Rattle.qa_base.specs.declared.rule.Rule.TheVariants as rules;
 ghost use Rattle.qa_base.specs.declared.totals.Totals.{Totals};
 ghost use Rattle.qa_base.specs.machine.Breaches.{is_collapse_missing, is_past_window};
 ghost use Rattle.qa_base.specs.machine.Breaches.{is_timer_early, is_timer_late};
-ghost use Rattle.qa_base.specs.machine.Rules.{first_broken};
+ghost use Rattle.qa_base.specs.machine.Loss.{owed};
+ghost use Rattle.qa_base.specs.machine.Rules.{IsRun, first_broken};
+ghost use Rattle.qa_base.specs.machine.State.{totals};
 ghost use Rattle.qa_base.specs.machine.Violations.{violations};
 ghost use Rattle.qa_base.specs.values.Settings.{Settings, early, in_unit};
 ghost use Rattle.qa_format.specs.declared.line.Line.TheVariants as line;
@@ -16,8 +18,21 @@ ghost use Rattle.qa_violations.specs.all.Tolerating.{unviolated};
 ghost use Rattle.qa_violations.specs.allowed.Allowed.{before, beyond, early_by, late_by, metric_off};
 ghost use Rattle.qa_violations.specs.allowed.Allowed.{past_collapse_by, past_window};
 ghost use Rattle.qa_violations.specs.allowed.Lines.{allowed_on};
-ghost use Rattle.qa_violations.specs.laws.Strict.{differs_at, slack_in};
-ghost use Rattle.qa_violations.specs.table.Amounts.{held_of};
+ghost use Rattle.qa_violations.specs.laws.Strict.{IsAllowedNothing, differs_at, slack_in};
+ghost use Rattle.qa_violations.specs.laws.Strict.{strict_header};
+ghost use Rattle.qa_explain.specs.text.Values.{held_of};
+
+/// A run to whose events nothing was allowed is one, owes the same and has the same totals under
+/// the header that allows nothing: no window that may be overshot, no slack, and timers that are
+/// neither early nor late. So what is not told was not needed.
+pub fn nothing_allowed_is_strict()
+    ensures run { (c : Settings) (h : List Event) → IsRun c h → IsAllowedNothing c h
+        → IsRun (strict_header c) h }
+    ensures owed { (c : Settings) (h : List Event) → IsRun c h → IsAllowedNothing c h
+        → owed (strict_header c) h ≡ owed c h }
+    ensures totals { (c : Settings) (h : List Event) → IsRun c h → IsAllowedNothing c h
+        → totals (strict_header c) h ≡ totals c h }
+{}
 
 /// What is broken is not allowed: an event that breaks a rule is allowed nothing where it is told
 /// past violations. And each of the five rules is broken exactly if the amount by which an event

@@ -3,8 +3,8 @@ ghost use Rattle.std.specs.Prelude.{◌≡◌};
 ghost use Rattle.qa_violations.specs.table.Amounts as amounts;
 ghost use Rattle.qa_explain.specs.text.Sending.{size_of as size_in};
 
-use qa_base::{Event, Field, MetricValues, Rule, Totals};
-use qa_explain::text::due_time;
+use qa_base::{Event, Field, Rule, Totals};
+use qa_explain::text::{due_time, held_of, reported_of};
 use qa_ledger::Cause;
 
 /// The bytes of the packet that the event sends.
@@ -33,36 +33,6 @@ fn past_allowance(allowance: u64, spent: Option<u128>, size: u64) -> Option<u128
 }
 
 // ---- V16
-
-/// The reported value, where it is reported.
-pub(crate) fn reported_of(field: Field, values: &MetricValues) -> Option<u64>
-    ensures { result ≡ amounts.reported_of field values.now }
-{
-    match field {
-        Field::Window => values.window,
-        Field::Ssthresh => values.ssthresh,
-        Field::BytesInFlight => values.bytes_in_flight,
-        Field::LatestRtt => values.latest_rtt,
-        Field::MinRtt => values.min_rtt,
-        Field::SmoothedRtt => values.smoothed_rtt,
-        Field::Rttvar => values.rttvar,
-    }
-}
-
-/// The machine's value, where it has one.
-pub(crate) fn held_of(field: Field, held: &Totals) -> Option<u64>
-    ensures { result ≡ amounts.held_of field held.now }
-{
-    match field {
-        Field::Window => Some(held.window),
-        Field::Ssthresh => held.ssthresh,
-        Field::BytesInFlight => Some(held.bytes_in_flight),
-        Field::LatestRtt => Some(held.latest_rtt),
-        Field::MinRtt => Some(held.min_rtt),
-        Field::SmoothedRtt => Some(held.smoothed_rtt),
-        Field::Rttvar => Some(held.rttvar),
-    }
-}
 
 /// How far two values are from each other, where there are two.
 pub(crate) fn gap(reported: Option<u64>, held: Option<u64>) -> Option<u128>
@@ -106,7 +76,7 @@ pub(crate) fn past_collapse(
 // ---- each rule
 
 /// By how much the event violates the rule, which it breaks for this cause: in bytes, or in the
-/// unit of times (`is_in_bytes`). None where the rule has no amount.
+/// unit of times (`qa_explain::text::is_in_bytes`). None where the rule has no amount.
 pub fn amount(event: &Event, rule: Rule, cause: &Cause) -> Option<u128>
     ensures { result ≡ amounts.amount event.now rule cause.now }
 {
@@ -144,28 +114,5 @@ pub fn amount(event: &Event, rule: Rule, cause: &Cause) -> Option<u128>
             },
         ) => past_collapse(*least, *acknowledged, *reported),
         _ => None,
-    }
-}
-
-// ---- the unit
-
-/// Whether the value is a number of bytes, and else a time.
-fn is_of_bytes(field: Field) -> bool
-    ensures { result ≡ amounts.is_of_bytes field }
-{
-    matches!(
-        field,
-        Field::Window | Field::Ssthresh | Field::BytesInFlight
-    )
-}
-
-/// Whether the amounts of the rule are in bytes, and else in the unit of times.
-pub fn is_in_bytes(rule: Rule) -> bool
-    ensures { result ≡ amounts.is_in_bytes rule }
-{
-    match rule {
-        Rule::PastWindow | Rule::PastProbe | Rule::CollapseMissing => true,
-        Rule::Metric(field) => is_of_bytes(field),
-        _ => false,
     }
 }

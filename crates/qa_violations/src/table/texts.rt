@@ -3,10 +3,9 @@ ghost use Rattle.std.specs.Prelude.{◌≡◌, ◌++◌, OnOk, string_bytes, fil
 ghost use Rattle.qa_violations.specs.table.Table.{has_findings};
 ghost use Rattle.qa_violations.specs.table.Texts as text;
 
-use crate::table::amounts::is_in_bytes;
 use crate::table::row::Row;
 use qa_base::{Rule, TimeUnit};
-use qa_explain::text::{push_name, push_number, push_wide, push_words};
+use qa_explain::text::{is_in_bytes, push_name, push_number, push_wide, push_words};
 use std::alloc::AllocError;
 use std::fmt::Write;
 

@@ -7,9 +7,10 @@ use qa_base::{
     Event, Header, PacketNumber, Permission, Role, Rule, SentPacket, Space, Ticks, TimeUnit,
 };
 use qa_check::Judge;
+use qa_explain::text::is_in_bytes;
 use qa_ledger::{Cause, Ledger, LedgerFault};
 use qa_sender::Running;
-use qa_violations::{Finding, Table, Tolerating, amount, is_in_bytes};
+use qa_violations::{Finding, Table, Tolerating, amount};
 use std::alloc::Global;
 use std::test::Fail;
 

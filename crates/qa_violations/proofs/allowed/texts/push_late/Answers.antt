@@ -1,7 +1,7 @@
 use Rattle.std.proofs.Common.{◌++◌, codes, string_bytes}
 use Rattle.qa_explain.proofs.text_lemmas.Pushed.{join, last}
 use Rattle.qa_violations.specs.allowed.Texts.{late_text, past_text}
-use Rattle.qa_violations.specs.allowed.Times.{time_text}
+use Rattle.qa_explain.specs.text.Times.{time_text}
 use Rattle.qa_violations.proofs.allowed.texts.push_late.Goals as goal
 
 pub returns : goal.returns

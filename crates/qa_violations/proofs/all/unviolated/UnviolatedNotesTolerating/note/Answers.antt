@@ -1,5 +1,4 @@
 use Rattle.std.proofs.Common.{◌≡◌, ◌∙◌, ◌++◌, Bool, List, ap, refl, subst, sym}
-use Rattle.std.proofs.lemmas.Result.{on_ok_weaker}
 use Rattle.qa_base.specs.declared.event.Event.{Event}
 use Rattle.qa_check.specs.Standing.{history_after}
 use Rattle.qa_format.specs.format.Reading.{reading}
@@ -20,8 +19,7 @@ note_said-requires g c =
     record { works = c.ledger.ensures.works (works c.in-Some.judge.now refl) }
 
 pub returns-in-Some : goal.returns-in-Some
-returns-in-Some g c =
-    on_ok_weaker c.note_said.result (λ noted begun ls covers number held.
+returns-in-Some g c = λ begun ls covers number held.
     let run = rw c.in-Some.is at held in
     let line = c.args._line.now in
     let said = c.args.said.now in
@@ -32,9 +30,9 @@ returns-in-Some g c =
     let counts : c.is_empty-counts.result ≡ unviolated run.0 h = c.is_empty-counts.ensures ∙ (nil_is c.latest.result.now ∙ ap (λ (xs : List Violation). is_nil xs) (c.latest.ensures.latest ∙ latest)) in
     let ledger = subst (λ (k : List Event). g.L.Ledger.stands c.in-Some.judge.now.ledger run.0 k) behind run.2.0 in
     let stands = subst (λ l. g.L.Ledger.stands l run.0 h) (sym c.ledger.ensures.ledger) ledger in
-    let kept = noted (header_in reading ls) run.0 (history_in ls) (all_allowed unviolated ls) (all_lates unviolated ls) covers.0 (header_said_so ls line said run.0 c.requires.says run.1) stands covers.1 in
+    let kept = c.note_said.ensures (header_in reading ls) run.0 (history_in ls) (all_allowed unviolated ls) (all_lates unviolated ls) covers.0 (header_said_so ls line said run.0 c.requires.says run.1) stands covers.1 in
     let tallies = subst (λ (b : Bool). Tallies allowances.tally (all_allowed unviolated ls ++ allowed_said b c.args.n said run.0 h) (all_lates unviolated ls ++ lates_said b c.args.n said run.0 h)) counts kept.1 in
-    covers_more unviolated allowances ls line said c.args.n run.0 c.requires.says number run.1 kept.0 tallies) c.note_said.ensures
+    covers_more unviolated allowances ls line said c.args.n run.0 c.requires.says number run.1 kept.0 tallies
 
 pub returns-in-None : goal.returns-in-None
 returns-in-None g c = λ begun ls covers number held.

@@ -1,5 +1,4 @@
 use Rattle.std.proofs.Common.{List, refl, subst}
-use Rattle.std.proofs.lemmas.Result.{on_ok_weaker}
 use Rattle.qa_base.specs.declared.event.Event.{Event}
 use Rattle.qa_format.specs.format.Reading.{reading}
 use Rattle.qa_format.specs.verdicts.Verdict.{header_in}
@@ -14,14 +13,13 @@ note_said-requires g c =
     record { works = works c.in-Some.judge.now refl }
 
 pub returns-in-Some : goal.returns-in-Some
-returns-in-Some g c =
-    on_ok_weaker c.note_said.result (λ noted begun ls covers number held.
+returns-in-Some g c = λ begun ls covers number held.
     let run = rw c.in-Some.is at held in
     let line = c.args._line.now in
     let said = c.args.said.now in
     let stands = subst (λ (h : List Event). g.L.Ledger.stands c.in-Some.judge.now run.0 h) (history_said ls line said c.requires.says) run.2 in
-    let kept = noted (header_in reading ls) run.0 (history_in ls) (all_allowed each ls) (all_lates each ls) covers.0 (header_said_so ls line said run.0 c.requires.says run.1) stands covers.1 in
-    covers_more each c.note_said.new.self ls line said c.args.n run.0 c.requires.says number run.1 kept.0 kept.1) c.note_said.ensures
+    let kept = c.note_said.ensures (header_in reading ls) run.0 (history_in ls) (all_allowed each ls) (all_lates each ls) covers.0 (header_said_so ls line said run.0 c.requires.says run.1) stands covers.1 in
+    covers_more each c.note_said.new.self ls line said c.args.n run.0 c.requires.says number run.1 kept.0 kept.1
 
 pub returns-in-None : goal.returns-in-None
 returns-in-None g c = λ begun ls covers number held.

@@ -1,9 +1,9 @@
 //! A time as people read it, exact.
 ghost use Rattle.std.specs.Prelude.{◌≡◌, ◌++◌, ◌<◌, OnOk, decimal, string_bytes};
-ghost use Rattle.qa_violations.specs.allowed.Times as text;
+ghost use Rattle.qa_explain.specs.text.Times as text;
 
+use crate::text::pieces::{push_name, push_words};
 use qa_base::TimeUnit;
-use qa_explain::text::push_name;
 use std::alloc::AllocError;
 use std::fmt::Write;
 
@@ -18,7 +18,7 @@ enum Places {
 
 // ---- the digits behind a point, without the zeros at the end
 
-#[tactic(auto, unfolding(crate::specs::allowed::Times::three_digits))]
+#[tactic(auto, unfolding(crate::specs::text::Times::three_digits))]
 fn push_three_digits(out: &mut String, number: u128) -> Result<(), AllocError>
     ensures { OnOk result (string_bytes out.new
         ≡ string_bytes out.old ++ text.three_digits number) }
@@ -26,7 +26,7 @@ fn push_three_digits(out: &mut String, number: u128) -> Result<(), AllocError>
     write!(out, "{}{}{}", number / 100, number / 10 % 10, number % 10)
 }
 
-#[tactic(auto, unfolding(crate::specs::allowed::Times::two_digits))]
+#[tactic(auto, unfolding(crate::specs::text::Times::two_digits))]
 fn push_two_digits(out: &mut String, number: u128) -> Result<(), AllocError>
     ensures { OnOk result (string_bytes out.new
         ≡ string_bytes out.old ++ text.two_digits number) }
@@ -64,7 +64,7 @@ fn push_thousandths(out: &mut String, number: u128) -> Result<(), AllocError>
 }
 
 /// Three digits, and more behind them.
-#[tactic(auto, unfolding(crate::specs::allowed::Times::after_thousandths))]
+#[tactic(auto, unfolding(crate::specs::text::Times::after_thousandths))]
 fn push_after_thousandths(out: &mut String, number: u128) -> Result<(), AllocError>
     ensures { OnOk result (string_bytes out.new
         ≡ string_bytes out.old ++ text.after_thousandths number) }
@@ -84,7 +84,7 @@ fn push_millionths(out: &mut String, number: u128) -> Result<(), AllocError>
 }
 
 /// Three digits, and three or more behind them.
-#[tactic(auto, unfolding(crate::specs::allowed::Times::after_millionths))]
+#[tactic(auto, unfolding(crate::specs::text::Times::after_millionths))]
 fn push_after_millionths(out: &mut String, number: u128) -> Result<(), AllocError>
     ensures { OnOk result (string_bytes out.new
         ≡ string_bytes out.old ++ text.after_millionths number) }
@@ -132,7 +132,7 @@ fn push_digits(out: &mut String, places: Places, number: u128) -> Result<(), All
     }
 }
 
-#[tactic(auto, unfolding(crate::specs::allowed::Times::point_text))]
+#[tactic(auto, unfolding(crate::specs::text::Times::point_text))]
 fn push_point(out: &mut String, places: Places, number: u128) -> Result<(), AllocError>
     ensures { OnOk result (string_bytes out.new
         ≡ string_bytes out.old ++ text.point_text places number) }
@@ -153,7 +153,7 @@ fn push_fraction(out: &mut String, places: Places, number: u128) -> Result<(), A
 }
 
 /// So many parts, in a unit of this name.
-#[tactic(auto, unfolding(crate::specs::allowed::Times::scaled_text))]
+#[tactic(auto, unfolding(crate::specs::text::Times::scaled_text))]
 fn push_scaled(out: &mut String, places: Places, number: u128, name: &str) -> Result<(), AllocError>
     ensures { OnOk result (string_bytes out.new
         ≡ string_bytes out.old ++ text.scaled_text places number name.now) }
@@ -202,7 +202,7 @@ fn microsecond_places(unit: TimeUnit) -> Places
 /// Appends a time in this unit as people read it, exact: in seconds from one on, in milliseconds
 /// from a tenth of one on, in microseconds from one on, and else in nanoseconds. `AllocError` comes
 /// where it is out of memory.
-pub(crate) fn push_time(out: &mut String, unit: TimeUnit, time: u128) -> Result<(), AllocError>
+pub fn push_time(out: &mut String, unit: TimeUnit, time: u128) -> Result<(), AllocError>
     ensures { OnOk result (string_bytes out.new
         ≡ string_bytes out.old ++ text.time_text unit time) }
 {
@@ -216,4 +216,19 @@ pub(crate) fn push_time(out: &mut String, unit: TimeUnit, time: u128) -> Result<
         return push_scaled(out, microsecond_places(unit), time, "us");
     }
     push_scaled(out, Places::Zero, time, unit.name())
+}
+
+/// Appends some words and then a time.
+#[tactic(auto, unfolding(crate::specs::text::Times::timed))]
+pub fn push_timed(
+    out: &mut String,
+    words: &str,
+    unit: TimeUnit,
+    time: u128,
+) -> Result<(), AllocError>
+    ensures { OnOk result (string_bytes out.new
+        ≡ string_bytes out.old ++ text.timed words.now unit time) }
+{
+    push_words(out, words)?;
+    push_time(out, unit, time)
 }

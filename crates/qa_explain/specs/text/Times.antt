@@ -7,8 +7,8 @@ use Rattle.qa_base.specs.declared.space.TimeUnit.TheVariants.{Microseconds, Nano
 use Rattle.qa_base.specs.values.Names.{unit_name}
 use Rattle.qa_base.specs.values.Settings.{in_unit}
 use Rattle.qa_explain.specs.text.Pieces.{named}
-use Rattle.qa_violations.specs.declared.allowed.times.Places.{Places}
-use Rattle.qa_violations.specs.declared.allowed.times.Places.TheVariants as places
+use Rattle.qa_explain.specs.declared.text.times.Places.{Places}
+use Rattle.qa_explain.specs.declared.text.times.Places.TheVariants as places
 
 -- ---- the digits behind a point, without the zeros at the end
 
@@ -87,3 +87,6 @@ time_text u n =
     else if nat_le (in_unit u 100) n then scaled_text (millisecond_places u) n (codes "ms")
     else if nat_le (in_unit u 1) n then scaled_text (microsecond_places u) n (codes "us")
     else scaled_text places.Zero n (unit_name u)
+
+unfoldable pub timed : List ℕ → TimeUnit → ℕ → List ℕ
+timed words u n = words ++ time_text u n

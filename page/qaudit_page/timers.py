@@ -1,0 +1,147 @@
+"""How long a sender was silent and how late its timers were, from the rows of a trace."""
+
+from collections.abc import Iterator
+from dataclasses import dataclass
+from itertools import accumulate
+from typing import NamedTuple
+
+from .facts import SET_FOR
+from .lenient import SPACES
+from .rows import NO_SPACE, OF_LOSS
+from .texts import NANOSECONDS, NANOSECONDS_IN_A_MILLISECOND, size, span
+from .trace import BLANK, ELICITING, KINDS, OTHER, Trace
+
+# Lines without a time of their own; a report has one, but nothing happens at it.
+TIMELESS = frozenset(map(ord, (KINDS["header"], BLANK, OTHER)))
+REPORT = ord(KINDS["metrics"])
+APP = SPACES.index("app")
+
+
+@dataclass(frozen=True)
+class Silence:
+    """A time in which nothing happened while something was in flight or a timer was set, in the
+    unit of the trace."""
+
+    # The line that ended it, or the last report in it.
+    line: int
+    long: int
+    in_flight: int
+    # What the timer was set for, as `State.timer` says it, and how long the silence went on past
+    # its deadline; 0 where it did not.
+    timer: int
+    over: int
+
+    def text(self, unit: str) -> str:
+        """In words, without how long it was."""
+        flying = f"{size(self.in_flight)} in flight" if self.in_flight else "nothing in flight"
+        if self.timer == NO_SPACE:
+            return f"{flying}, no timer was set"
+        over = f"{span(self.over, unit)} past the" if self.over else "not past the"
+        return f"{flying}, {over} {name_of(self.timer)}"
+
+
+class Late(NamedTuple):
+    """An event before which a timer that packets set should have fired: its line, how late it was,
+    and how long that timer runs."""
+
+    line: int
+    amount: int
+    timeout: int
+
+
+def name_of(timer: int) -> str:
+    """What a timer is set for, in words."""
+    return f"{SET_FOR['loss' if timer >= OF_LOSS else 'pto']} of {SPACES[timer % OF_LOSS]}"
+
+
+class Clock:
+    """What the timer is set for, and since when."""
+
+    def __init__(self) -> None:
+        self.set_for: tuple[int, int | None] = (NO_SPACE, None)
+        self.since = 0
+
+    def after(self, timer: int, deadline: int | None, time: int) -> None:
+        """What it is set for after an event."""
+        if (timer, deadline) != self.set_for:
+            self.set_for, self.since = (timer, deadline), time
+
+    def late_by(self, time: int) -> int:
+        """How long before a time it should have fired; 0 where it is not set."""
+        deadline = self.set_for[1]
+        return 0 if deadline is None else max(0, time - max(deadline, self.since))
+
+
+def longest_silence(trace: Trace, unjudged: int | None) -> Silence | None:
+    """The longest silence, the first of such. The first line that was not judged may end one."""
+    state, clock, lines = trace.state, Clock(), [*trace.state.line]
+    deadlines, flying = state.amounts["deadline"], state.amounts["in_flight"]
+    found: Silence | None = None
+    begin, in_flight = 0, 0
+    if unjudged is not None and unjudged <= len(trace.lines):
+        lines.append(unjudged)
+    for row, line in enumerate(lines):
+        if trace.kind[line - 1] in TIMELESS:
+            continue
+        time, timer = trace.time[line - 1], clock.set_for[0]
+        long = time - begin
+        if (in_flight or timer != NO_SPACE) and long > (found.long if found else 0):
+            found = Silence(line, long, in_flight, timer, clock.late_by(time))
+        if row < len(state.line) and trace.kind[line - 1] != REPORT:
+            clock.after(state.timer[row], deadlines[row], time)
+            begin, in_flight = time, flying[row] or 0
+    return found
+
+
+def late_timers(trace: Trace) -> Iterator[Late]:
+    """The events before which a timer of packets should have fired, as V18 finds them."""
+    state, clock, awaited = trace.state, Clock(), awaited_early(trace)
+    deadlines = state.amounts["deadline"]
+    for row, line in enumerate(state.line):
+        time, timer = trace.time[line - 1], clock.set_for[0]
+        is_of_packets = timer >= APP and timer != NO_SPACE or (row > 0 and awaited[row - 1])
+        late = clock.late_by(time) if is_of_packets else 0
+        if late:
+            yield Late(line, late, timeout_of(trace, row - 1))
+        clock.after(state.timer[row], deadlines[row], time)
+
+
+def are_short(trace: Trace, most: int) -> bool:
+    """Whether each timer that was late by so much at most was late by less than its timeout."""
+    return all(it.amount < it.timeout for it in late_timers(trace) if it.amount <= most)
+
+
+def awaited_early(trace: Trace) -> list[bool]:
+    """Of each row, whether ack-eliciting packets of the Initial or the Handshake space are awaited
+    after it. Without them a client's timer there is that against a deadlock."""
+    packets = trace.packets
+    changes = [0] * (len(trace.lines) + 1)
+    for place, line in enumerate(packets.line):
+        if packets.space[place] == APP or not packets.flags[place] & ELICITING:
+            continue
+        ends = (packets.acked[place], packets.lost[place], packets.gone[place])
+        changes[line] += 1
+        changes[min(filter(None, ends), default=0)] -= 1
+    # Those that never end were taken off at the line 0, which there is not.
+    changes[0] = 0
+    awaited = list(accumulate(changes))
+    return [awaited[line] > 0 for line in trace.state.line]
+
+
+def timeout_of(trace: Trace, row: int) -> int:
+    """How long the timer runs that is set after a row: the loss delay (RFC 9002, 6.1.2), or the
+    probe timeout with its doubling (6.2.1)."""
+    amounts, timer = trace.state.amounts, trace.state.timer[row]
+    latest, smoothed, rttvar, doubled = (
+        amounts[name][row] or 0 for name in ("latest_rtt", "smoothed_rtt", "rttvar", "pto_count")
+    )
+    granularity = millisecond(trace.unit)
+    if timer >= OF_LOSS:
+        return max((9 * max(latest, smoothed) + 7) // 8, granularity)
+    delay = int(trace.header.get("max_ack_delay", 0)) if timer == APP else 0
+    return (smoothed + max(4 * rttvar, granularity) + delay) << doubled
+
+
+def millisecond(unit: str) -> int:
+    """How many units of time are a millisecond, the granularity of timers. None runs shorter."""
+    return NANOSECONDS_IN_A_MILLISECOND // NANOSECONDS[unit]
