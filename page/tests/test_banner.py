@@ -19,7 +19,7 @@ from qaudit_page.banner import banner
 from qaudit_page.failure import Failure
 from qaudit_page.grounds import Basis, basis_of
 from qaudit_page.lenient import SPACES
-from qaudit_page.page import basis_by
+from qaudit_page.page import basis_by, opening_of
 from qaudit_page.program import Object, Verdict
 from qaudit_page.rows import OF_LOSS
 from qaudit_page.texts import span
@@ -360,6 +360,40 @@ class Words(unittest.TestCase):
                 basis_of(Verdict(known | wrong), {}, 1, lambda _: True)
         with self.assertRaisesRegex(Failure, "unknown end"):
             banner(Verdict(known | {"last": {"time_us": 0}}), Basis(), None, "us")
+
+
+class Opening(unittest.TestCase):
+    """The line about which a page opens."""
+
+    def opens(self, data: bytes, report: str | None = None) -> int:
+        """That line; 0 for the whole run."""
+        found: int = Page(made(data, report)).data()["opens"]
+        return found
+
+    def test_what_is_refused_or_cannot_be_read(self) -> None:
+        for name, line in (("several-departures", 13), ("no-event", 2)):
+            path = TRACES / f"{name}.trace"
+            self.assertEqual(self.opens(path.read_bytes(), report_of(path)), line)
+
+    def test_green(self) -> None:
+        self.assertEqual(self.opens(joined(*TIMED, ack(70_000))), 0)
+
+    def test_a_silence_that_was_mostly_past_its_deadline(self) -> None:
+        self.assertEqual(self.opens(joined(*TIMED, ack(6_000_000))), 4)
+
+    def test_the_first_ground_after_the_header(self) -> None:
+        path = REAL / "curl-8.23-ngtcp2-loss.trace"
+        self.assertEqual(self.opens(path.read_bytes(), report_of(path)), 43)
+        # The header has no event: what it chooses leads to the longest silence.
+        header = TIMED[0].replace('"version":1', '"version":3,"sample_eliciting_only":true')
+        self.assertEqual(self.opens(joined(header, *TIMED[1:], ack(70_000))), 4)
+
+    def test_an_older_program(self) -> None:
+        trace, verdict = seen(joined(*TIMED, ack(70_000)))
+        old = Verdict({"verdict": "accepted"})
+        silence = longest_silence(trace, verdict.first_unjudged)
+        self.assertEqual(opening_of(old, basis_by(trace, old), silence, trace), 4)
+        self.assertEqual(opening_of(old, basis_by(trace, old), None, trace), 0)
 
 
 class Timers(unittest.TestCase):

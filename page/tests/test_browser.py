@@ -172,6 +172,7 @@ class Using(Browsing):
         self.assertEqual(self.selected(), 83)
         self.assertTrue(self.browser.run("return location.hash") == "#line=83")
         self.assertIn("Line 83, lost", self.text("#said"))
+        self.key("0")
         whole = self.view()
         self.key("+")
         near = self.view()
@@ -198,6 +199,7 @@ class Using(Browsing):
 
     def test_a_click_selects_and_a_drag_zooms_or_pans(self) -> None:
         self.show(self.page)
+        self.key("0")
         left, top, width, height = self.box("#chart-window")
         x, y = left + width / 2, top + height / 2
         self.mouse("mouseMoved", x, y, button="none")
@@ -254,14 +256,6 @@ class Using(Browsing):
         self.browser.settled()
         pinched = self.view()
         self.assertAlmostEqual((pinched[1] - pinched[0]) / (panned[1] - panned[0]), 0.5, delta=0.1)
-
-    def test_the_range_selector_moves_all(self) -> None:
-        self.show(self.page)
-        left, top, width, height = self.box(".dygraph-rangesel-zoomhandle")
-        before = self.view()
-        self.drag(left + width / 2, top + height / 2, 300)
-        self.assertGreater(self.view()[0], before[0])
-        self.assertAlmostEqual(self.view()[1], before[1], places=6)
 
     def find(self, text: str) -> None:
         """Looks for something."""
@@ -506,10 +500,7 @@ class Harm(Browsing):
         )
         self.assertIsNone(self.browser.run("return window.pwned ?? null"))
         self.assertEqual(
-            self.browser.run(
-                "return document.querySelectorAll("
-                "'img:not(.dygraph-rangesel-zoomhandle), svg, iframe').length"
-            ),
+            self.browser.run("return document.querySelectorAll('img, svg, iframe').length"),
             0,
         )
         # Four blocks, what unpacks two of them, and these two.

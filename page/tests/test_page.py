@@ -257,7 +257,8 @@ class Departures(unittest.TestCase):
         rows = {row[0]: row for row in page.rows()}
         self.assertEqual(rows["V16 metric window"][2], "833")
         self.assertEqual(len(rows["V16 metric window"][4].split()), 833)
-        self.assertEqual(page.texts["summary"][:3], ["73 more", "821 more", "821 more"])
+        more = [text for text in page.texts["summary"] if text.endswith(" more")]
+        self.assertEqual(more[:3], ["73 more", "821 more", "821 more"])
 
     def test_of_more_than_a_thousand_the_first_are_named(self) -> None:
         data = joined(HEADER, *(sent(n) for n in range(1015)))

@@ -36,17 +36,13 @@ function changeAxis(event) {
   const first = placeAt(view.from), last = Math.max(first, placeAt(view.to) - 1);
   view.byLine = event.target.value === 'line';
   setAxis();
-  isDrawing = true;
-  const options = {xlabel: nameOfAxis()};
-  charts.packets.updateOptions({...options, file: progress(), dateWindow: [view.low, view.high]});
-  charts.window.updateOptions(options, true);
-  charts.rtt.updateOptions(options, true);
-  isDrawing = false;
+  charts.packets.updateOptions({file: ends(), dateWindow: [view.low, view.high]}, true);
+  charts.rtt.updateOptions({xlabel: nameOfAxis()}, true);
   if (isWhole) showAll();
   else showAround(first, last, 0);
 }
 
-const toVerdict = () => trace.verdictAt >= 0 && select(trace.verdictAt, {zooms: true});
+const toVerdict = () => trace.opensAt >= 0 && select(trace.opensAt, {zooms: true});
 
 // Selects the next line that departs, or the one before.
 function toDeparture(by) {
@@ -96,11 +92,12 @@ function addControls() {
   addEventListener('hashchange', followAddress);
   addEventListener('resize', redraw);
   byId('departures-bar').hidden = !trace.departed.size;
-  byId('to-verdict').hidden = trace.verdictAt < 0;
-  byId('to-verdict').textContent = `Go to line ${trace.verdict.line}`;
+  byId('to-verdict').hidden = trace.opensAt < 0;
+  byId('to-verdict').textContent = `Go to line ${trace.opens}`;
   byId('to-verdict').classList.add(trace.verdict.kind);
   for (const space of [0, 1, 2]) addSpace(space);
   for (const name of Object.keys(charts)) addPointer(name);
+  addStrip();
 }
 
 // A button that shows and hides the packets of a space.

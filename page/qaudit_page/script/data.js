@@ -51,6 +51,8 @@ function unpack(said, text) {
   trace.verdictAt = placeShown(said.verdict.line);
   // Past departures the trace ends in another way, and at another line.
   trace.endAt = said.end && said.end.kind !== 'accepted' ? placeShown(said.end.line) : -1;
+  // The line about which the page opens.
+  trace.opensAt = placeShown(said.opens);
   trace.departed = departedOf(said.departures);
   unpackState(said.state);
   unpackPackets(said.packets);
