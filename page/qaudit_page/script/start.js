@@ -23,6 +23,9 @@ const seriesOfWindow = () => ({
   window: line(colors.app, 2.2), ssthresh: line(colors.soft, 1.4, DASHES.ssthresh),
   flight: {...line(colors.flight, 1.5), fillGraph: true}, marks: {plotter: drawWindowMarks},
 });
+const seriesOfHeadroom = () => ({
+  headroom: {...line(colors.flight, 1.5), fillGraph: true}, marks: {plotter: drawHeadroomMarks},
+});
 const seriesOfRtt = () => ({
   smoothed: line(colors.initial, 2.2), latest: line(colors.latest, 1),
   least: line(colors.least, 1.4, DASHES.least),
@@ -46,6 +49,10 @@ function makeCharts() {
     labels: ['x', 'window', 'ssthresh', 'flight', 'marks'], ...toneOfAxes(),
     series: seriesOfWindow(), axes: {x, y: {...y, ...formatter}},
   }));
+  charts.headroom = new Dygraph(byId('chart-headroom'), rowsOf(lines.headroom, 200), options({
+    labels: ['x', 'headroom', 'marks'], ...toneOfAxes(), series: seriesOfHeadroom(),
+    axes: {x: {...x, drawAxis: false}, y: {...y, ticker: () => roomTicks}},
+  }));
   charts.rtt = new Dygraph(byId('chart-rtt'), rowsOf(lines.rtt, 200), options({
     labels: ['x', 'smoothed', 'latest', 'least', 'lossDelay', 'timeout', 'marks'],
     ...toneOfAxes(), series: seriesOfRtt(), axes: {x, y: {...y, ...formatter}},
@@ -60,6 +67,7 @@ function recolor() {
   readColors();
   charts.packets.updateOptions(toneOfAxes(), true);
   charts.window.updateOptions({...toneOfAxes(), series: seriesOfWindow()}, true);
+  charts.headroom.updateOptions({...toneOfAxes(), series: seriesOfHeadroom()}, true);
   charts.rtt.updateOptions({...toneOfAxes(), series: seriesOfRtt()}, true);
   fillKeys();
   update();

@@ -121,6 +121,7 @@ function update() {
   const begun = performance.now();
   updatePackets();
   updateWindow();
+  updateHeadroom();
   updateRtt();
   updateStrip();
   lastFrame = performance.now() - begun;
@@ -160,7 +161,8 @@ function drawUnder(context, area) {
 }
 
 // Above the data: what departs, the line of the verdict and the one that ends the trace, with the
-// deadlines that decide, and the one selected.
+// deadlines that decide, and the one selected. The diagram has all flags, those of the verdict, or
+// where null is given none.
 function drawOver(context, area, hasLabels) {
   const to = scaleOf(area, [0, 1]), departed = drawDeparted(context, area, to);
   const verdicts = [[trace.verdictAt, trace.verdict], [trace.endAt, trace.end]];
@@ -174,7 +176,7 @@ function drawOver(context, area, hasLabels) {
     const flag = drawDeadline(context, area, to, verdict);
     if (flag && hasLabels) flags.push(flag);
   }
-  if (!hasLabels) return drawFlags(context, area, flags);
+  if (!hasLabels) return hasLabels === null || drawFlags(context, area, flags);
   flags.push(...departed);
   let before = -9, at = -1;
   for (const mark of trace.marks) {
