@@ -21,8 +21,9 @@ from .library import dygraphs, licence, resource, script
 from .payload import Part, packed, part_of, payload, shown, text_of
 from .program import PAST, STRICT, Mode, Run, UnknownOptionError, Verdict, find, verdict_by
 from .rows import rows_by
+from .silences import section_of as silences_of
 from .texts import count, html, milliseconds, pairs, plural
-from .timers import Silence, are_short, longest_silence
+from .timers import Silence, are_short, longest_silences
 from .trace import Trace, trace_of
 
 # Of the line of the verdict, as many characters stand above the diagrams.
@@ -111,7 +112,8 @@ def without_collector() -> Iterator[None]:
 
 def written(wanted: Wanted, library: str, trace: Trace, verdict: Verdict, part: Part) -> Made:
     """The whole page."""
-    basis, silence = basis_by(trace, verdict), longest_silence(trace, verdict.first_unjudged)
+    basis, silences = basis_by(trace, verdict), longest_silences(trace, verdict.first_unjudged)
+    silence = silences[0] if silences else None
     opens = opening_of(verdict, basis, silence, trace)
     with ThreadPoolExecutor() as pool:
         lines = pool.submit(lambda: packed(text_of(trace, part)))
@@ -133,6 +135,7 @@ def written(wanted: Wanted, library: str, trace: Trace, verdict: Verdict, part: 
         CONVERTED="".join(f'<p class="note">{html(note)}</p>' for note in notes),
         QUOTE=quote(trace, verdict),
         DEPARTURES=section_of(verdict, basis, trace.unit),
+        SILENCES=silences_of(silences, trace),
         OVERVIEW=pairs(overview(wanted, trace, verdict, part)),
         OPTIONS=pairs(options(trace)),
         LICENCE=html_of_lines(licence()),

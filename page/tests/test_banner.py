@@ -23,7 +23,7 @@ from qaudit_page.page import basis_by, opening_of
 from qaudit_page.program import Object, Verdict
 from qaudit_page.rows import OF_LOSS
 from qaudit_page.texts import span
-from qaudit_page.timers import late_timers, longest_silence
+from qaudit_page.timers import Silence, late_timers, longest_silences
 from qaudit_page.trace import Trace
 
 REAL = TRACES.parent / "real" / "traces"
@@ -362,6 +362,11 @@ class Words(unittest.TestCase):
             banner(Verdict(known | {"last": {"time_us": 0}}), Basis(), None, "us")
 
 
+def longest_silence(trace: Trace, unjudged: int | None) -> Silence | None:
+    """The longest silence."""
+    return next(iter(longest_silences(trace, unjudged)), None)
+
+
 class Opening(unittest.TestCase):
     """The line about which a page opens."""
 
@@ -440,6 +445,24 @@ class Timers(unittest.TestCase):
         )
         found, verdict = seen(joined(header, *packets, *trace))
         self.assertEqual((verdict.kind, [*late_timers(found)]), ("accepted", []))
+
+    def test_the_longest_are_listed(self) -> None:
+        """Twelve packets, each acknowledged 10 ms later than the one before: ten are listed."""
+        lines, time = [], 0
+        for number in range(1, 13):
+            lines += [sent(number, time), f'{{"event":"metrics","time":{time + 1}}}']
+            time += 1_000 + 1_000 * number
+            lines.append(acked(time, (number, number)))
+        data = joined(*TIMED[:2], *lines)
+        trace, _ = seen(data)
+        found = longest_silences(trace, None)
+        self.assertEqual([it.long for it in found], [1_000 * n for n in range(13, 3, -1)])
+        self.assertEqual([it.line for it in found], [3 * n + 2 for n in range(12, 2, -1)])
+        page = Page(made(data))
+        told = " ".join(page.by_id["silences"].split())
+        self.assertIn("13 ms, 1,200 B in flight, not past the probe timeout of app, until", told)
+        self.assertIn("until line 38 (ack)", told)
+        self.assertNotIn("silences", Page(made(joined(HEADER, sent(0)))).by_id)
 
     def test_a_report_ends_no_silence(self) -> None:
         reports = [f'{{"event":"metrics","time":{at}}}' for at in (1_000_000, 3_000_000)]

@@ -93,6 +93,26 @@ class Opening(Browsing):
             self.browser.resize(1200, 900)
             self.browser.dress(is_dark=False)
 
+    def test_silences_are_clicked(self) -> None:
+        self.show(corpus("ngtcp2-probe-count", REAL))
+        links = "return [...document.querySelectorAll('#silences a')].map(it => it.hash)"
+        hashes = self.browser.run(links)
+        self.assertEqual(len(hashes), 10)
+        click = "document.querySelectorAll('#silences a')[arguments[0]].click()"
+        for place, found in enumerate(hashes):
+            self.browser.run(click, place)
+            self.browser.settled()
+            self.assertEqual(f"#line={self.selected()}", found)
+        self.browser.run(click, 0)
+        self.browser.settled()
+        low, high = self.view()
+        # The first probe timeout was 2 s after the one before it.
+        self.assertTrue(low < 1_000 < 3_000 < high)
+        self.key("0")
+        self.browser.run(click, 0)
+        self.browser.settled()
+        self.assertEqual(self.view(), [low, high])
+
     def test_violations_are_folded_to_a_line(self) -> None:
         self.show(corpus("quic-go-past-window", REAL))
         self.assertLess(self.browser.run(TALL, "#departures"), 30)

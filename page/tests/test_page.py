@@ -203,8 +203,8 @@ class Departures(unittest.TestCase):
             ],
         )
         links = [found["href"] for tag, found in page.tags if tag == "a"]
-        # The verdict, the longest silence, and the table.
-        self.assertEqual(links, [f"#line={line}" for line in (13, 24, 13, 15, 17, 22, 24)])
+        # The verdict, the longest silence, and the table; then come the silences.
+        self.assertEqual(links[:7], [f"#line={line}" for line in (13, 24, 13, 15, 17, 22, 24)])
         told_of_all = " ".join(page.by_id["departures"].split())
         self.assertIn("The sender breaks rules 5 times in 22 events.", told_of_all)
         self.assertIn("Everything else in the trace follows RFC 9002.", told_of_all)

@@ -31,6 +31,12 @@ function followAddress() {
   return place >= 0;
 }
 
+// The same for a link of the page; the diagrams come into sight if they are below.
+function followLink() {
+  const isBelow = byId('chart-packets').getBoundingClientRect().top > innerHeight - 100;
+  if (followAddress() && isBelow) byId('main').scrollIntoView();
+}
+
 function changeAxis(event) {
   const isWhole = view.from <= view.low && view.to >= view.high;
   const first = placeAt(view.from), last = Math.max(first, placeAt(view.to) - 1);
@@ -89,7 +95,12 @@ function addControls() {
   byId('find').addEventListener('keydown', event =>
     event.key === 'Enter' && find(event.target.value));
   addEventListener('keydown', onKey);
-  addEventListener('hashchange', followAddress);
+  addEventListener('hashchange', followLink);
+  // A link to the line that is in the address leads there again.
+  addEventListener('click', event => {
+    const link = event.target.closest('a[href^="#line="]');
+    if (link && link.hash === location.hash) followLink();
+  });
   addEventListener('resize', redraw);
   byId('departures-bar').hidden = !trace.departed.size;
   byId('to-verdict').hidden = trace.opensAt < 0;
